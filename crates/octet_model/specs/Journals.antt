@@ -1,0 +1,67 @@
+-- The log of journals, and what a log lets a thread do next.
+use Rattle.std.specs.Prelude.{ℕ, suc, Bool, true, false, ◌==◌, nat_lt, if◌then◌else◌, List, [], ◌∷◌, length, map, Option, Some, None, slice_get}
+use Rattle.octet_model.specs.declared.command.Command.{Command}
+use Rattle.octet_model.specs.declared.event.Mark.{Mark}
+use Rattle.octet_model.specs.declared.event.Event.{Event}
+use Rattle.octet_model.specs.declared.event.Event.TheVariants.{Read, Write, Marked}
+use Rattle.octet_model.specs.declared.log.Gapped.{Gapped}
+use Rattle.octet_model.specs.declared.log.ThreadLog.{ThreadLog}
+use Rattle.octet_model.specs.Thread.{Configuration, Demand, ToRead, ToWrite, ToEnd, demanded, configuration_after}
+use Rattle.octet_model.specs.Machine.{Journals, Next, Wants, Finished, Misfit, MakeMark, MakeRead, MakeWrite}
+
+-- how many accesses
+abbrev pub access_count : List Event → ℕ
+access_count [] = 0
+access_count (Read object value ∷ journal) = suc (access_count journal)
+access_count (Write object value ∷ journal) = suc (access_count journal)
+access_count (Marked mark ∷ journal) = access_count journal
+
+-- how many marks
+abbrev pub mark_count : List Event → ℕ
+mark_count [] = 0
+mark_count (Read object value ∷ journal) = mark_count journal
+mark_count (Write object value ∷ journal) = mark_count journal
+mark_count (Marked mark ∷ journal) = suc (mark_count journal)
+
+-- the accesses since the last mark; where there is none, those of the journal and so many before it
+abbrev pub gap_after : ℕ → List Event → ℕ
+gap_after before [] = before
+gap_after before (Read object value ∷ journal) = gap_after (suc before) journal
+gap_after before (Write object value ∷ journal) = gap_after (suc before) journal
+gap_after before (Marked mark ∷ journal) = gap_after 0 journal
+
+-- the marks with their gaps, where so many accesses stand before the journal
+abbrev pub gapped_marks : ℕ → List Event → List Gapped
+gapped_marks before [] = []
+gapped_marks before (Read object value ∷ journal) = gapped_marks (suc before) journal
+gapped_marks before (Write object value ∷ journal) = gapped_marks (suc before) journal
+gapped_marks before (Marked mark ∷ journal) = record { gap = before; mark = mark } ∷ gapped_marks 0 journal
+
+-- the log of one journal, and of all
+abbrev pub log_of_journal : List Event → ThreadLog
+log_of_journal journal = record { accesses = access_count journal; marks = gapped_marks 0 journal }
+
+abbrev pub log_of : Journals → List ThreadLog
+log_of journals = map log_of_journal journals
+
+-- a mark is due where as many accesses as its gap were made since the mark before it
+abbrev pub due_mark : Option Gapped → ℕ → Option Mark
+due_mark None gap = None
+due_mark (Some next) gap = if next.gap == gap then Some next.mark else None
+
+-- the access that is demanded, where the log has one left; nothing more, where the end is demanded and no access and no mark is left
+abbrev pub next_access : Demand → Bool → Bool → Next
+next_access (ToRead object) true mark_left = Wants (MakeRead object)
+next_access (ToWrite object value) true mark_left = Wants (MakeWrite object value)
+next_access (ToEnd end) false false = Finished
+next_access _ _ _ = Misfit
+
+abbrev pub mark_first : Option Mark → Next → Next
+mark_first (Some mark) next = Wants (MakeMark mark)
+mark_first None next = next
+
+-- what is next for a thread by its log: its next mark where that is due, else its next access
+abbrev pub next_by_log : List Command → Configuration → ThreadLog → List Event → Next
+next_by_log commands c log journal =
+    mark_first (due_mark (slice_get log.marks (mark_count journal)) (gap_after 0 journal))
+    (next_access (demanded commands (configuration_after commands c journal)) (nat_lt (access_count journal) log.accesses) (nat_lt (mark_count journal) (length log.marks)))

@@ -1,0 +1,13 @@
+pub mod Name
+pub mod Script
+pub mod Log
+pub mod Thread
+pub mod Machine
+pub mod Journals
+pub mod HappensBefore
+pub mod Frugal
+pub mod Orders
+pub mod Plays
+pub mod Past
+pub mod Texts
+pub mod Laws

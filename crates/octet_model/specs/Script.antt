@@ -1,0 +1,51 @@
+-- Which fuels, objects and threads make a valid script, as a test that computes.
+use Rattle.std.specs.Prelude.{ℕ, zero, suc, ◌*◌, ◌^◌, ◌&&◌, List, [], ◌∷◌, length, Bool, true, false, nat_le, nat_lt, not, map}
+use Rattle.std.specs.List.{list_all, list_any}
+use Rattle.std.specs.Str.{bytes_eq}
+use Rattle.octet_model.specs.declared.command.Command.{Command}
+use Rattle.octet_model.specs.declared.command.Command.TheVariants.{Set, Copy, Add, Sub, Mul, Xor, Less, Same, Read, Write, Loop, Branch, Close, Safe, Pause}
+use Rattle.octet_model.specs.declared.object.Object.{Object}
+
+-- registers are below 16, objects below their number, and numbers below 2 ^ 64
+abbrev pub is_command : ℕ → Command → Bool
+is_command objects (Set to number) = nat_lt to 16 && nat_lt number (2 ^ 64)
+is_command objects (Copy to from) = nat_lt to 16 && nat_lt from 16
+is_command objects (Add to left right) = nat_lt to 16 && nat_lt left 16 && nat_lt right 16
+is_command objects (Sub to left right) = nat_lt to 16 && nat_lt left 16 && nat_lt right 16
+is_command objects (Mul to left right) = nat_lt to 16 && nat_lt left 16 && nat_lt right 16
+is_command objects (Xor to left right) = nat_lt to 16 && nat_lt left 16 && nat_lt right 16
+is_command objects (Less to left right) = nat_lt to 16 && nat_lt left 16 && nat_lt right 16
+is_command objects (Same to left right) = nat_lt to 16 && nat_lt left 16 && nat_lt right 16
+is_command objects (Read to object) = nat_lt to 16 && nat_lt object objects
+is_command objects (Write object from) = nat_lt from 16 && nat_lt object objects
+is_command objects (Loop test) = nat_lt test 16
+is_command objects (Branch test) = nat_lt test 16
+is_command objects Close = true
+is_command objects Safe = true
+is_command objects Pause = true
+
+-- behind so many open openers: each closer ends an opener, and each opener is ended
+abbrev pub is_nested : ℕ → List Command → Bool
+is_nested zero [] = true
+is_nested (suc depth) [] = false
+is_nested depth (Loop test ∷ rest) = is_nested (suc depth) rest
+is_nested depth (Branch test ∷ rest) = is_nested (suc depth) rest
+is_nested zero (Close ∷ rest) = false
+is_nested (suc depth) (Close ∷ rest) = is_nested depth rest
+is_nested depth (_ ∷ rest) = is_nested depth rest
+
+-- no name stands twice
+abbrev pub are_distinct : List (List ℕ) → Bool
+are_distinct [] = true
+are_distinct (n ∷ ns) = not (list_any (bytes_eq n) ns) && are_distinct ns
+
+abbrev pub is_thread : ℕ → List Command → Bool
+is_thread objects commands = list_all (is_command objects) commands && is_nested 0 commands
+
+abbrev pub is_script : ℕ → List Object → List (List Command) → Bool
+is_script fuel objects threads =
+    nat_le 1 fuel && nat_le fuel 262144
+    && nat_le (length objects) 1024 && are_distinct (map (λ o. o.name) objects)
+    && nat_le 1 (length threads) && nat_le (length threads) 16
+    && nat_le (length threads * fuel) 262144
+    && list_all (is_thread (length objects)) threads

@@ -1,0 +1,141 @@
+-- How one thread of a script runs by itself.
+use Rattle.std.specs.Prelude.{◌≡◌, ℕ, zero, suc, pred, ◌+◌, ◌-◌, ◌*◌, ◌%◌, ◌^◌, Bool, true, false, if◌then◌else◌, ◌==◌, ◌&&◌, nat_lt, bit_xor, List, [], ◌∷◌, drop, replicate, Option, Some, None, slice_get, slice_index, slice_set}
+use Rattle.octet_model.specs.declared.command.Command.{Command}
+use Rattle.octet_model.specs.declared.command.Command.TheVariants.{Set, Copy, Add, Sub, Mul, Xor, Less, Same, Read, Write, Loop, Branch, Close}
+use Rattle.octet_model.specs.declared.event.Event.{Event}
+use Rattle.octet_model.specs.declared.event.Event.TheVariants.{Read, Write, Marked}
+use Rattle.octet_model.specs.declared.outcome.End.{End}
+use Rattle.octet_model.specs.declared.outcome.End.TheVariants.{Done, Spent}
+
+-- where a thread stands: its place among its commands, its sixteen registers, and the fuel left
+pub record Configuration : Type 0 where
+  pub place : ℕ
+  pub registers : List ℕ
+  pub fuel : ℕ
+
+abbrev pub starting_configuration : ℕ → Configuration
+starting_configuration fuel = record { place = 0; registers = replicate 16 0; fuel = fuel }
+
+-- what a thread comes to: a read of an object, a write of a value to an object, or its end
+pub data Demand : Type 0 where
+  ToRead : (object : ℕ) → Demand
+  ToWrite : (object value : ℕ) → Demand
+  ToEnd : (end : End) → Demand
+
+abbrev pub is_opener : Command → Bool
+is_opener (Loop test) = true
+is_opener (Branch test) = true
+is_opener _ = false
+
+-- of the commands from this place on, with so many openers open: the first place at which as many closers as openers have come
+abbrev pub end_from : ℕ → ℕ → List Command → ℕ
+end_from depth place [] = place
+end_from depth place (Loop test ∷ commands) = end_from (suc depth) (suc place) commands
+end_from depth place (Branch test ∷ commands) = end_from (suc depth) (suc place) commands
+end_from zero place (Close ∷ commands) = place
+end_from (suc zero) place (Close ∷ commands) = place
+end_from (suc (suc depth)) place (Close ∷ commands) = end_from (suc depth) (suc place) commands
+end_from depth place (command ∷ commands) = end_from depth (suc place) commands
+
+-- the place of the end of the opener at a place
+abbrev pub matching_end : List Command → ℕ → ℕ
+matching_end commands place = end_from 0 place (drop place commands)
+
+-- whether an opener stands at the place, with its end there
+abbrev pub is_opened_at : List Command → ℕ → ℕ → Bool
+is_opened_at commands place end = elim (slice_get commands place) [ None ↦ false | Some command ↦ is_opener command && (matching_end commands place == end) ]
+
+-- the last place below that is an opener with its end there
+abbrev pub matching_opener : List Command → ℕ → ℕ → ℕ
+matching_opener commands end zero = zero
+matching_opener commands end (suc place) = elim (is_opened_at commands place end) [ true ↦ place | false ↦ matching_opener commands end place ]
+
+-- where the end of a loop leads, and that of a branch
+abbrev pub place_past_end : Option Command → ℕ → ℕ → ℕ
+place_past_end (Some (Loop test)) opener end = opener
+place_past_end _ opener end = suc end
+
+-- where the closer at a place leads
+abbrev pub place_after_close : List Command → ℕ → ℕ
+place_after_close commands end = place_past_end (slice_get commands (matching_opener commands end end)) (matching_opener commands end end) end
+
+-- with one fuel less, at this place
+abbrev pub moved_to : Configuration → ℕ → Configuration
+moved_to c place = record { place = place; registers = c.registers; fuel = pred c.fuel }
+
+-- with one fuel less, at the next place, and this value in a register
+abbrev pub with_register : Configuration → ℕ → ℕ → Configuration
+with_register c to value = record { place = suc c.place; registers = slice_set c.registers to value; fuel = pred c.fuel }
+
+-- past the end of the opener where the register is 0, else at the next place
+abbrev pub branched : List Command → Configuration → ℕ → Configuration
+branched commands c test = moved_to c (if slice_index c.registers test == 0 then suc (matching_end commands c.place) else suc c.place)
+
+-- after one command that is neither a read nor a write
+abbrev pub stepped : List Command → Configuration → Command → Configuration
+stepped commands c (Set to number) = with_register c to number
+stepped commands c (Copy to from) = with_register c to (slice_index c.registers from)
+stepped commands c (Add to left right) = with_register c to ((slice_index c.registers left + slice_index c.registers right) % 2 ^ 64)
+stepped commands c (Sub to left right) = with_register c to ((slice_index c.registers left + 2 ^ 64 - slice_index c.registers right) % 2 ^ 64)
+stepped commands c (Mul to left right) = with_register c to ((slice_index c.registers left * slice_index c.registers right) % 2 ^ 64)
+stepped commands c (Xor to left right) = with_register c to (bit_xor (slice_index c.registers left) (slice_index c.registers right))
+stepped commands c (Less to left right) = with_register c to (if nat_lt (slice_index c.registers left) (slice_index c.registers right) then 1 else 0)
+stepped commands c (Same to left right) = with_register c to (if slice_index c.registers left == slice_index c.registers right then 1 else 0)
+stepped commands c (Loop test) = branched commands c test
+stepped commands c (Branch test) = branched commands c test
+stepped commands c Close = moved_to c (place_after_close commands c.place)
+stepped commands c _ = moved_to c (suc c.place)
+
+abbrev pub is_access : Command → Bool
+is_access (Read to object) = true
+is_access (Write object from) = true
+is_access _ = false
+
+-- after all commands before the first at which it stops, with so much fuel at most
+abbrev pub run_to : (Command → Bool) → List Command → ℕ → Configuration → Configuration
+run_to stops commands zero c = c
+run_to stops commands (suc fuel) c =
+    elim (slice_get commands c.place) [
+      | None ↦ c
+      | Some command ↦ elim (stops command) [ true ↦ c | false ↦ run_to stops commands fuel (stepped commands c command) ]
+    ]
+
+-- run on to the next access, or to the thread's end
+abbrev pub settled : List Command → Configuration → Configuration
+settled commands c = run_to is_access commands c.fuel c
+
+abbrev pub demand_at : Option Command → Configuration → Demand
+demand_at None c = ToEnd Done
+demand_at (Some (Read to object)) c = elim c.fuel [ zero ↦ ToEnd Spent | suc fuel ↦ ToRead object ]
+demand_at (Some (Write object from)) c = elim c.fuel [ zero ↦ ToEnd Spent | suc fuel ↦ ToWrite object (slice_index c.registers from) ]
+demand_at (Some _) c = ToEnd Spent
+
+-- what a configuration comes to after all commands that are neither a read nor a write
+abbrev pub demanded : List Command → Configuration → Demand
+demanded commands c = let d = settled commands c in demand_at (slice_get commands d.place) d
+
+abbrev pub past_access : Option Command → Configuration → ℕ → Configuration
+past_access (Some (Read to object)) c value = with_register c to value
+past_access _ c value = moved_to c (suc c.place)
+
+-- past the access that it demands, with the value that a read gave
+abbrev pub past_demanded : List Command → Configuration → ℕ → Configuration
+past_demanded commands c value = let d = settled commands c in past_access (slice_get commands d.place) d value
+
+-- where a journal leaves a configuration
+abbrev pub configuration_after : List Command → Configuration → List Event → Configuration
+configuration_after commands c [] = c
+configuration_after commands c (Read object value ∷ journal) = configuration_after commands (past_demanded commands c value) journal
+configuration_after commands c (Write object value ∷ journal) = configuration_after commands (past_demanded commands c value) journal
+configuration_after commands c (Marked mark ∷ journal) = configuration_after commands c journal
+
+-- the journal's accesses, in order, are what the configuration demands
+abbrev pub FitsFrom : List Command → Configuration → List Event → Type 0
+FitsFrom commands c [] = Unit {0}
+FitsFrom commands c (Read object value ∷ journal) = (demanded commands c ≡ ToRead object) × FitsFrom commands (past_demanded commands c value) journal
+FitsFrom commands c (Write object value ∷ journal) = (demanded commands c ≡ ToWrite object value) × FitsFrom commands (past_demanded commands c value) journal
+FitsFrom commands c (Marked mark ∷ journal) = FitsFrom commands c journal
+
+-- and after them the thread is at its end
+abbrev pub FitsToEnd : List Command → Configuration → List Event → Type 0
+FitsToEnd commands c journal = FitsFrom commands c journal × ((end : End) × (demanded commands (configuration_after commands c journal) ≡ ToEnd end))

@@ -1,0 +1,34 @@
+//! The commands of a script's threads.
+
+/// A command of a thread. Registers are named by their number, below 16, and objects by their
+/// place in the script. Arithmetic is modulo 2^64.
+#[derive(Clone, Copy, Debug, PartialEq, Eq)]
+pub enum Command {
+    /// The register gets the number.
+    Set { to: u8, number: u64 },
+    /// The register gets another one's value.
+    Copy { to: u8, from: u8 },
+    Add { to: u8, left: u8, right: u8 },
+    Sub { to: u8, left: u8, right: u8 },
+    Mul { to: u8, left: u8, right: u8 },
+    /// Exclusive or, bit by bit.
+    Xor { to: u8, left: u8, right: u8 },
+    /// 1 where left is below right, else 0.
+    Less { to: u8, left: u8, right: u8 },
+    /// 1 where left and right are equal, else 0.
+    Same { to: u8, left: u8, right: u8 },
+    /// The register gets the object's value.
+    Read { to: u8, object: u16 },
+    /// The object gets the register's value.
+    Write { object: u16, from: u8 },
+    /// Where the register is 0, goes on behind its `Close`; its `Close` leads back here.
+    Loop { test: u8 },
+    /// Where the register is 0, goes on behind its `Close`.
+    Branch { test: u8 },
+    /// Ends the nearest open `Loop` or `Branch`.
+    Close,
+    /// A safe point.
+    Safe,
+    /// The thread is marked blocked, and then unblocked again.
+    Pause,
+}
