@@ -1,0 +1,5 @@
+pub mod Steps
+pub mod Fronts
+pub mod LowestThread
+pub mod Plays
+pub mod Logged

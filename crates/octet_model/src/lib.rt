@@ -2,6 +2,8 @@
 //! judged by. Its definitions stand in `specs/`, and its laws in `laws`.
 #![tactic(auto)]
 
+pub mod laws;
+
 mod clone;
 mod command;
 mod event;
