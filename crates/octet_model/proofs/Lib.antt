@@ -3,3 +3,5 @@ pub mod Fronts
 pub mod LowestThread
 pub mod Plays
 pub mod Logged
+pub mod Growing
+pub mod Pasts

@@ -1,12 +1,14 @@
--- The laws of orders and plays, as the public functions of laws.rt prove them.
-use Rattle.std.specs.Prelude.{◌≡◌, ℕ, List, ◌++◌, length}
+-- The laws of orders, plays and histories, as the public functions of laws.rt prove them.
+use Rattle.std.specs.Prelude.{◌≡◌, ℕ, ◌<◌, IsTrue, List, ◌++◌, length}
+use Rattle.octet_model.specs.declared.event.Event.{Event}
 use Rattle.octet_model.specs.declared.script.Script.{Script}
 use Rattle.octet_model.specs.declared.log.ThreadLog.{ThreadLog}
-use Rattle.octet_model.specs.Machine.{Journals}
+use Rattle.octet_model.specs.Machine.{Journals, no_events, is_enabled, event_made, heap_after, draws_after, appended}
 use Rattle.octet_model.specs.Journals.{log_of}
 use Rattle.octet_model.specs.HappensBefore.{IsOrdered}
-use Rattle.octet_model.specs.Orders.{IsLawfulFront, IsLawfulOrder, execution, journals_after, lowest_order, FitsScript, starting_heap}
-use Rattle.octet_model.specs.Plays.{MakesAll, state_after_play, lowest_play}
+use Rattle.octet_model.specs.Frugal.{IsFrugal}
+use Rattle.octet_model.specs.Orders.{IsLawfulFront, IsLawfulOrder, execution, journals_after, outcome_of, lowest_order, FitsScript, starting_heap, IsFaithful}
+use Rattle.octet_model.specs.Plays.{MakesAll, operation_of, state_after_play, lowest_play, IsOneHistory}
 
 -- all lawful orders have one execution, where the journals of one are ordered
 abbrev pub OneExecution : Type 0
@@ -43,3 +45,29 @@ LowestPlayIsLowestOrder = (script : Script) (journals : Journals) (play : List �
     → IsOrdered journals → MakesAll (starting_heap script) journals play
     → length script.threads ≡ length journals → FitsScript script journals
     → lowest_order script (log_of journals) ≡ lowest_play (starting_heap script) journals
+
+-- at the start there is one history, of no event
+abbrev pub HistoryBegins : Type 0
+HistoryBegins = (script : Script) → IsOneHistory (starting_heap script) (no_events script.threads) (starting_heap script) 0
+
+-- one more event that the heap and the marks allow, in journals that stay ordered, keeps one history
+abbrev pub HistoryGrows : Type 0
+HistoryGrows = (starts : List ℕ) (journals : Journals) (heap : List ℕ) (draws thread : ℕ) (event : Event)
+    → IsOneHistory starts journals heap draws → thread < length journals
+    → IsTrue (is_enabled (record { heap = heap; journals = journals; draws = draws }) (operation_of event))
+    → event_made (operation_of event) heap ≡ event → IsOrdered (appended journals thread event)
+    → IsOneHistory starts (appended journals thread event) (heap_after (operation_of event) heap) (draws_after (operation_of event) draws)
+
+-- ordered and frugal journals that fit a script to its threads' ends, and that some play makes whole, give a faithful recording
+abbrev pub PlayIsFaithful : Type 0
+PlayIsFaithful = (script : Script) (journals : Journals) (play : List ℕ)
+    → IsOrdered journals → IsFrugal journals → MakesAll (starting_heap script) journals play
+    → length script.threads ≡ length journals → FitsScript script journals
+    → IsFaithful script (log_of journals) (outcome_of script (state_after_play (starting_heap script) journals play))
+
+-- so do the journals of one history, with its heap
+abbrev pub HistoryIsFaithful : Type 0
+HistoryIsFaithful = (script : Script) (journals : Journals) (heap : List ℕ) (draws : ℕ)
+    → IsOneHistory (starting_heap script) journals heap draws → IsFrugal journals
+    → length script.threads ≡ length journals → FitsScript script journals
+    → IsFaithful script (log_of journals) (outcome_of script (record { heap = heap; journals = journals; draws = draws }))

@@ -1,0 +1,8 @@
+use Rattle.octet_model.proofs.Growing.{faithful_from_play, faithful_from_history}
+use Rattle.octet_model.proofs.laws.recording_is_faithful.Goals as goal
+
+pub returns-clause-play : goal.returns-clause-play
+returns-clause-play c = faithful_from_play
+
+pub returns-clause-history : goal.returns-clause-history
+returns-clause-history c = faithful_from_history
