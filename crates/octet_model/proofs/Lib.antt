@@ -5,3 +5,5 @@ pub mod Plays
 pub mod Logged
 pub mod Growing
 pub mod Pasts
+pub mod Owners
+pub mod Lowest
