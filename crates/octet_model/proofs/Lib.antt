@@ -7,3 +7,4 @@ pub mod Growing
 pub mod Pasts
 pub mod Owners
 pub mod Lowest
+pub mod MarksSeen

@@ -1,5 +1,5 @@
 -- The lowest front has steps enough, and there is only one.
-use Rattle.std.proofs.Common.{◌≡◌, ℕ, zero, suc, ◌+◌, ◌<◌, ◌≤◌, Bool, true, false, inl, inr, List, [], ◌∷◌, ◌++◌, length, nat_lt, Option, Some, None, IsTrue, IsFalse, slice_get, refl, sym, ap, ◌∙◌, subst, arith, length-append}
+use Rattle.std.proofs.Common.{◌≡◌, ℕ, zero, suc, ◌+◌, ◌<◌, ◌≤◌, Bool, true, false, inl, inr, List, [], ◌∷◌, ◌++◌, length, nat_lt, Option, Some, None, IsTrue, IsFalse, slice_get, refl, sym, ap, ◌∙◌, subst, arith, length-append, append-nil}
 use Rattle.std.proofs.lemmas.Bool.{cases_eq, cases_lt, ltb-true}
 use Rattle.std.proofs.lemmas.Option.{slice_get_within, slice_get_past}
 use Rattle.std.proofs.lemmas.List.{length-map}
@@ -13,12 +13,13 @@ use Rattle.octet_model.specs.declared.log.ThreadLog.{ThreadLog}
 use Rattle.octet_model.specs.declared.script.Script.{Script}
 use Rattle.octet_model.specs.Thread.{Configuration, Demand, ToRead, ToWrite, ToEnd, demanded, configuration_after, starting_configuration}
 use Rattle.octet_model.specs.Journals.{access_count, mark_count, gap_after, due_mark, next_access, mark_first, next_by_log}
-use Rattle.octet_model.specs.Machine.{Journals, journal_of, PlainState, starting_state, Operation, MakeMark, MakeRead, MakeWrite, Next, Wants, Finished, Misfit, Behavior, event_made, may_step, step, after}
-use Rattle.octet_model.specs.Orders.{commands_of, thread_log_of, by_log, opening_state, state_after, event_total, lowest_order, lowest, go_on, lowest_front, IsLowestFront}
+use Rattle.octet_model.specs.Machine.{Journals, journal_of, PlainState, starting_state, Operation, MakeMark, MakeRead, MakeWrite, Next, Wants, Finished, Misfit, Behavior, event_made, may_step, step, after, IsFront, IsOrder}
+use Rattle.octet_model.specs.Orders.{commands_of, starting_heap, journals_after, IsLawfulOrder, thread_log_of, by_log, opening_state, state_after, event_total, lowest_order, lowest, go_on, lowest_front, IsLowestFront}
+use Rattle.octet_model.specs.HappensBefore.{IsOrdered}
 use Rattle.octet_model.specs.Plays.{next_in, by_journals, lowest_play}
 use Rattle.octet_model.proofs.Steps.{Makes, what_it_makes, same_journal, other_step, as_many_step}
-use Rattle.octet_model.proofs.Fronts.{no_journal}
-use Rattle.octet_model.proofs.LowestThread.{lowest_may, none_lower, none_at_all}
+use Rattle.octet_model.proofs.Fronts.{no_journal, front_leads_on}
+use Rattle.octet_model.proofs.LowestThread.{lowest_may, none_lower, none_at_all, none_may}
 use Rattle.octet_model.proofs.Plays.{total, total_cons, total_step}
 use Rattle.octet_model.proofs.Logged.{accesses_split, marks_split, length_parts}
 
@@ -221,3 +222,24 @@ one_lowest behavior (t ∷ front) (u ∷ other) s p q =
             ap (λ (l : List ℕ). t ∷ l) (one_lowest behavior front other (step behavior s t) p.2 q') ∙ ap (λ (n : ℕ). n ∷ other) same
       ]
     ]
+
+pub lowest_is_front : (behavior : Behavior) (front : List ℕ) (s : PlainState) → IsLowestFront behavior s front → IsFront behavior s front
+lowest_is_front behavior [] s low = tt
+lowest_is_front behavior (t ∷ front) s low = (low.0, lowest_is_front behavior front (step behavior s t) low.2)
+
+front_split : (behavior : Behavior) (front rest : List ℕ) (s : PlainState) → IsFront behavior s (front ++ rest) → IsFront behavior (after behavior s front) rest
+front_split behavior [] rest s is = is
+front_split behavior (t ∷ front) rest s is = front_split behavior front rest (step behavior s t) is.1
+
+-- where the journals of one lawful order are ordered, the lowest order is a lawful order
+pub lowest_order_is_lawful : (script : Script) (log : List ThreadLog) (order : List ℕ)
+    → IsLawfulOrder script log order → IsOrdered (journals_after script log order) → IsLawfulOrder script log (lowest_order script log)
+lowest_order_is_lawful script log order lawful ordered =
+    let V = by_log script log in
+    let low = lowest_order script log in
+    let s = opening_state script in
+    let front = lowest_is_front V low s (lowest_order_is_lowest script log lawful.0) in
+    let on = front_leads_on V (starting_heap script) script.threads order low lawful.1 ordered front in
+    let none : on.0 ≡ [] = none_may V (after V s low) on.0 (lowest_order_is_full script log lawful.0) (front_split V low on.0 s on.1.0) in
+    let same : low ++ on.0 ≡ low = ap (λ (rest : List ℕ). low ++ rest) none ∙ append-nil low in
+    (lawful.0, subst (λ (o : List ℕ). IsOrder V s o) same on.1)

@@ -13,7 +13,7 @@ use Rattle.octet_model.specs.Plays.{operation_of, IsOneHistory}
 use Rattle.octet_model.specs.Past.{InPast, AreOwned}
 use Rattle.octet_model.proofs.Steps.{at, count, counts_new, grows, new_event}
 use Rattle.octet_model.proofs.Growing.{old_or_new, ordered_longer, new, history_grows}
-use Rattle.octet_model.proofs.Pasts.{first_lie, path_from_past, past_later, past_of_join, past_stays}
+use Rattle.octet_model.proofs.Pasts.{past_has_own, past_happens_before, past_grows, past_has_joined, past_stays}
 
 module _ (starts : List ℕ) (js : Journals) (heap : List ℕ) (draws t : ℕ) (lt : t < length js) (history : IsOneHistory starts js heap draws) where
   -- a mark that may be made keeps one history
@@ -41,13 +41,13 @@ module _ (starts : List ℕ) (js : Journals) (heap : List ℕ) (draws t : ℕ) (
             let second : c.second ≡ e = cc (c.is_second, new_event js t e lt) in
             let one : c.object ≡ object = cc (ap object_of second, c.of_same, of) in
             let lies = past a (c.first, old, c.of_one ∙ ap Some one) in
-            path_from_past (appended js t e) t (count js t) (count js t) a (past_stays js t t (count js t) e a lies) (omega arith) (e, new_event js t e lt)
+            past_happens_before (appended js t e) t (count js t) (count js t) a (past_stays js t t (count js t) e a lies) (omega arith) (e, new_event js t e lt)
       ]
 
 module _ (js : Journals) (t : ℕ) (lt : t < length js) (owner : ℕ → ℕ) (owned : AreOwned js owner) where
   old_stays : (e : Event) (object : ℕ) (a : Place) → Accesses js a object → InPast (appended js t e) (owner object) (count (appended js t e) (owner object)) a
   old_stays e object a is =
-      past_later (appended js t e) (owner object) (count js (owner object)) (count (appended js t e) (owner object)) a (grows js t (owner object) e)
+      past_grows (appended js t e) (owner object) (count js (owner object)) (count (appended js t e) (owner object)) a (grows js t (owner object) e)
       (past_stays js t (owner object) (count js (owner object)) e a (owned.by object a is))
 
   -- after an event of a thread that owns the event's object, if it has one, all are owned as before
@@ -61,7 +61,7 @@ module _ (js : Journals) (t : ℕ) (lt : t < length js) (owner : ℕ → ℕ) (o
               let at_new : event_at (appended js t e) (new js t e) ≡ Some is.0 = ap (event_at (appended js t e)) (sym a_new) ∙ is.1 in
               let one : is.0 ≡ e = cc in
               let own = mine object (ap object_of (sym one) ∙ is.2) in
-              let lies = first_lie (appended js t e) t (count (appended js t e) t) (count js t) (omega (arith, counts_new js t e lt)) (e, here) in
+              let lies = past_has_own (appended js t e) t (count (appended js t e) t) (count js t) (omega (arith, counts_new js t e lt)) (e, here) in
               let at_t : InPast (appended js t e) t (count (appended js t e) t) a = subst (λ (p : Place). InPast (appended js t e) t (count (appended js t e) t) p) (sym a_new) lies in
               subst (λ (u : ℕ). InPast (appended js t e) u (count (appended js t e) u) a) (sym own) at_t
         ];
@@ -82,7 +82,7 @@ module _ (js : Journals) (t : ℕ) (lt : t < length js) (owner : ℕ → ℕ) (o
             | inr differ ↦ subst (λ (u : ℕ). InPast J u (count J u) a) (sym (others o differ)) (old_stays e o a (is.0, old, is.2))
             | inl same ↦
                 let lies = past_stays js t (owner object) (count js (owner object)) e a (owned.by object a (is.0, old, is.2 ∙ ap Some same)) in
-                let joined = past_of_join J t (count J t) (count js t) (owner object) (count js (owner object)) a (omega (arith, counts_new js t e lt)) (new_event js t e lt) (grows js t (owner object) e) lies in
+                let joined = past_has_joined J t (count J t) (count js t) (owner object) (count js (owner object)) a (omega (arith, counts_new js t e lt)) (new_event js t e lt) (grows js t (owner object) e) lies in
                 subst (λ (u : ℕ). InPast J u (count J u) a) (sym (ap owner' same ∙ taken)) joined
           ]
         ];

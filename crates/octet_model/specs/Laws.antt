@@ -3,12 +3,12 @@ use Rattle.std.specs.Prelude.{◌≡◌, ℕ, ◌<◌, IsTrue, List, ◌++◌, l
 use Rattle.octet_model.specs.declared.event.Event.{Event}
 use Rattle.octet_model.specs.declared.script.Script.{Script}
 use Rattle.octet_model.specs.declared.log.ThreadLog.{ThreadLog}
-use Rattle.octet_model.specs.Machine.{Journals, no_events, is_enabled, event_made, heap_after, draws_after, appended}
+use Rattle.octet_model.specs.Machine.{Journals, PlainState, starting_state, Behavior, no_events, is_enabled, event_made, heap_after, draws_after, appended, IsFront}
 use Rattle.octet_model.specs.Journals.{log_of}
 use Rattle.octet_model.specs.HappensBefore.{IsOrdered}
 use Rattle.octet_model.specs.Frugal.{IsFrugal}
-use Rattle.octet_model.specs.Orders.{IsLawfulFront, IsLawfulOrder, execution, journals_after, outcome_of, lowest_order, FitsScript, starting_heap, IsFaithful}
-use Rattle.octet_model.specs.Plays.{MakesAll, operation_of, state_after_play, lowest_play, IsOneHistory}
+use Rattle.octet_model.specs.Orders.{IsLawfulFront, IsLawfulOrder, execution, journals_after, outcome_of, lowest_order, IsLowestFront, FitsScript, starting_heap, opening_state, by_log, IsFaithful}
+use Rattle.octet_model.specs.Plays.{MakesAll, by_journals, operation_of, state_after_play, lowest_play, IsOneHistory}
 
 -- all lawful orders have one execution, where the journals of one are ordered
 abbrev pub OneExecution : Type 0
@@ -45,6 +45,30 @@ LowestPlayIsLowestOrder = (script : Script) (journals : Journals) (play : List �
     → IsOrdered journals → MakesAll (starting_heap script) journals play
     → length script.threads ≡ length journals → FitsScript script journals
     → lowest_order script (log_of journals) ≡ lowest_play (starting_heap script) journals
+
+-- a lowest front is a front
+abbrev pub LowestFrontIsFront : Type 0
+LowestFrontIsFront = (behavior : Behavior) (state : PlainState) (front : List ℕ) → IsLowestFront behavior state front → IsFront behavior state front
+
+-- from one state there is only one
+abbrev pub OneLowestFront : Type 0
+OneLowestFront = (behavior : Behavior) (state : PlainState) (front other : List ℕ)
+    → IsLowestFront behavior state front → IsLowestFront behavior state other → front ≡ other
+
+-- the lowest order of a script and a log of equally many threads is the lowest front: its steps are enough
+abbrev pub LowestOrderIsLowest : Type 0
+LowestOrderIsLowest = (script : Script) (log : List ThreadLog)
+    → length script.threads ≡ length log → IsLowestFront (by_log script log) (opening_state script) (lowest_order script log)
+
+-- so is the lowest play of journals
+abbrev pub LowestPlayIsLowest : Type 0
+LowestPlayIsLowest = (heap : List ℕ) (journals : Journals)
+    → IsLowestFront (by_journals journals) (starting_state heap journals) (lowest_play heap journals)
+
+-- and where the journals of one lawful order are ordered, the lowest order is a lawful order
+abbrev pub LowestOrderIsLawful : Type 0
+LowestOrderIsLawful = (script : Script) (log : List ThreadLog) (order : List ℕ)
+    → IsLawfulOrder script log order → IsOrdered (journals_after script log order) → IsLawfulOrder script log (lowest_order script log)
 
 -- at the start there is one history, of no event
 abbrev pub HistoryBegins : Type 0

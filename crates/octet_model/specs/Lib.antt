@@ -11,3 +11,4 @@ pub mod Plays
 pub mod Past
 pub mod Texts
 pub mod Laws
+pub mod PastLaws

@@ -1,5 +1,6 @@
 //! The laws over the definitions, each the contract of a function that does nothing.
-ghost use Rattle.octet_model.specs.Laws.{OneExecution, OneSetOfJournals, FrontsContinue, LowestPlayMakesAll, LowestPlayGivesHeap, LowestPlayIsLowestOrder, HistoryBegins, HistoryGrows, PlayIsFaithful, HistoryIsFaithful};
+ghost use Rattle.octet_model.specs.Laws.{OneExecution, OneSetOfJournals, FrontsContinue, LowestPlayMakesAll, LowestPlayGivesHeap, LowestPlayIsLowestOrder, LowestFrontIsFront, OneLowestFront, LowestOrderIsLowest, LowestPlayIsLowest, LowestOrderIsLawful, HistoryBegins, HistoryGrows, PlayIsFaithful, HistoryIsFaithful};
+ghost use Rattle.octet_model.specs.PastLaws.{PathsStay, PastsStay, PastsGainNothing, PastHasOwn, PastHappensBefore, PastIsClosed, PastGrows, PastHasJoined, PastHasDraws, DrawsDifferInHistory};
 
 /// Where the journals of one lawful order are ordered, all lawful orders have one execution and
 /// the same journals, and every lawful front can be continued to a lawful order: no replay of
@@ -18,6 +19,43 @@ pub fn lowest_play_is_as_good()
     ensures makes_all { LowestPlayMakesAll }
     ensures heap { LowestPlayGivesHeap }
     ensures order { LowestPlayIsLowestOrder }
+{
+}
+
+/// A lowest front takes always the lowest thread that may step, until none may. There is one
+/// from each state, and it is a front. The lowest order of a script and a log, and the lowest
+/// play of journals, are lowest fronts: the number of steps that they may take is enough. Where
+/// the journals of one lawful order are ordered, the lowest order is a lawful order.
+pub fn lowest_is_one()
+    ensures front { LowestFrontIsFront }
+    ensures one { OneLowestFront }
+    ensures order { LowestOrderIsLowest }
+    ensures play { LowestPlayIsLowest }
+    ensures lawful { LowestOrderIsLawful }
+{
+}
+
+/// Journals that grow by one event keep their paths, and a past never changes: each event in it
+/// stays, and where heap and marks allow the new event, none comes into it.
+pub fn pasts_never_change()
+    ensures paths { PathsStay }
+    ensures stay { PastsStay }
+    ensures gain { PastsGainNothing }
+{
+}
+
+/// What lies in the past of a thread's first events: these themselves, what happens before one
+/// in it, the past of fewer events, behind a Join the past of the events that it names, and
+/// behind a Draw or a Fence each draw up to its number with its past, since in one history no
+/// two draws have one number. An event of a past happens before each later event of the thread.
+pub fn laws_of_the_past()
+    ensures own { PastHasOwn }
+    ensures later { PastHappensBefore }
+    ensures closed { PastIsClosed }
+    ensures grows { PastGrows }
+    ensures joined { PastHasJoined }
+    ensures draws { PastHasDraws }
+    ensures differ { DrawsDifferInHistory }
 {
 }
 
