@@ -8,3 +8,5 @@ pub mod Pasts
 pub mod Owners
 pub mod Lowest
 pub mod MarksSeen
+pub mod Rows
+pub mod Examples
