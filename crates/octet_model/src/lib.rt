@@ -15,6 +15,9 @@ mod outcome;
 mod script;
 mod text;
 
+#[cfg(test)]
+mod tests;
+
 pub use command::Command;
 pub use event::{Event, Mark, Place};
 pub use list::{List, OutOfMemory};
