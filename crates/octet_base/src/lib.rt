@@ -1,0 +1,19 @@
+//! The desk and the gate: all that the program is handed of the world outside. A desk has files
+//! and a place to say an answer; a gate is passed before each access of a running thread.
+#![tactic(auto)]
+
+mod desk;
+mod fail;
+mod gate;
+mod memory;
+mod real;
+mod stored;
+
+pub use desk::{Desk, DeskFault};
+pub use fail::Fail;
+pub use gate::{Gate, OpenGate};
+pub use memory::MemoryDesk;
+pub use real::RealDesk;
+
+#[cfg(test)]
+mod tests;
