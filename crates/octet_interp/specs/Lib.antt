@@ -1,0 +1,4 @@
+pub mod Leads
+pub mod Registers
+pub mod Told
+pub mod Progress

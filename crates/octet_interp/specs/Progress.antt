@@ -1,0 +1,45 @@
+-- Where a thread stands, as a configuration.
+use Rattle.std.specs.Prelude.{◌≡◌, ℕ, ◌<◌, ◌^◌, ◌==◌, Bool, true, false, List, slice_index}
+use Rattle.octet_model.specs.declared.command.Command.{Command}
+use Rattle.octet_model.specs.declared.command.Command.TheVariants.{Set, Copy, Add, Sub, Mul, Xor, Less, Same, Loop, Branch, Close}
+use Rattle.octet_model.specs.Thread.{Configuration, stepped, with_register}
+use Rattle.octet_interp.specs.declared.demand.Demand.{Demand}
+use Rattle.octet_interp.specs.declared.demand.Demand.TheVariants.{Read, Write, Safe, Pause, Ended}
+use Rattle.octet_interp.specs.declared.progress.Progress.{Progress}
+
+abbrev pub configuration_of : Progress → Configuration
+configuration_of progress = record { place = progress.place; registers = progress.registers; fuel = progress.fuel }
+
+-- the value of a write is below 2 ^ 64
+abbrev pub HasSmallValue : Demand → Type 0
+HasSmallValue (Write object value) = value < 2 ^ 64
+HasSmallValue _ = Unit {0}
+
+-- a command that gives a register a value by itself
+abbrev pub is_calculation : Command → Bool
+is_calculation (Set to number) = true
+is_calculation (Copy to from) = true
+is_calculation (Add to left right) = true
+is_calculation (Sub to left right) = true
+is_calculation (Mul to left right) = true
+is_calculation (Xor to left right) = true
+is_calculation (Less to left right) = true
+is_calculation (Same to left right) = true
+is_calculation _ = false
+
+-- with these registers, the command gives the register of the first number the value of the second
+abbrev pub Calculates : Command → List ℕ → ℕ × ℕ → Type 0
+Calculates command registers result =
+    (result.0 < 16) × ((commands : List Command) (c : Configuration) → c.registers ≡ registers → stepped commands c command ≡ with_register c result.0 result.1)
+
+-- an opener where its register is 0, and an end
+abbrev pub leads_away : Command → List ℕ → Bool
+leads_away (Loop test) registers = slice_index registers test == 0
+leads_away (Branch test) registers = slice_index registers test == 0
+leads_away Close registers = true
+leads_away _ registers = false
+
+-- but for the end, a demand leaves a command to go past, with fuel for it
+abbrev pub CanPass : Demand → ℕ → ℕ → ℕ → Type 0
+CanPass (Ended end) place fuel len = Unit {0}
+CanPass _ place fuel len = (0 < fuel) × (place < len)

@@ -1,0 +1,11 @@
+//! The interpreter of one thread of a script: it runs the thread's commands up to the next
+//! access, safe point, pause or end, and tells it.
+#![tactic(auto)]
+
+// mod config;
+mod demand;
+mod leads;
+mod progress;
+
+// pub use config::Config;
+pub use demand::Demand;
