@@ -1,2 +1,4 @@
 pub mod Matching
 pub mod Runs
+pub mod Valid
+pub mod Agreement

@@ -109,7 +109,7 @@ arrives_empty commands c none = stays_empty is_told commands c.fuel c none
 pub arrives_on : (commands : List Command) (c : Configuration) (command : Command) → slice_get commands c.place ≡ Some command → demand_of command c.registers ≡ None → 0 < c.fuel → arrived commands (stepped commands c command) ≡ arrived commands c
 arrives_on commands c command at is fuelled = goes_on is_told commands c command at (not_told_if command c.registers is) fuelled
 
-abbrev told_with : Command → List ℕ → ℕ → Demand
+abbrev pub told_with : Command → List ℕ → ℕ → Demand
 told_with command registers fuel = elim fuel [ zero ↦ Ended Spent | suc n ↦ unwrap_or (demand_of command registers) (Ended Spent) ]
 
 pub tells : (command : Command) (c : Configuration) (demand : Demand) → 0 < c.fuel → demand_of command c.registers ≡ Some demand → told_at (Some command) c ≡ demand

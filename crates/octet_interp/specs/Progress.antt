@@ -1,8 +1,10 @@
 -- Where a thread stands, as a configuration.
-use Rattle.std.specs.Prelude.{◌≡◌, ℕ, ◌<◌, ◌^◌, ◌==◌, Bool, true, false, List, slice_index}
+use Rattle.std.specs.Prelude.{◌≡◌, ℕ, ◌<◌, ◌^◌, ◌==◌, Bool, true, false, List, All, Option, Some, slice_get, slice_index}
 use Rattle.octet_model.specs.declared.command.Command.{Command}
-use Rattle.octet_model.specs.declared.command.Command.TheVariants.{Set, Copy, Add, Sub, Mul, Xor, Less, Same, Loop, Branch, Close}
+use Rattle.octet_model.specs.declared.command.Command.TheVariants.{Set, Copy, Add, Sub, Mul, Xor, Less, Same, Read, Loop, Branch, Close}
 use Rattle.octet_model.specs.Thread.{Configuration, stepped, with_register}
+use Rattle.octet_interp.specs.Leads.{IsLeadTable}
+use Rattle.octet_interp.specs.Registers.{HasRegisters, HasObject}
 use Rattle.octet_interp.specs.declared.demand.Demand.{Demand}
 use Rattle.octet_interp.specs.declared.demand.Demand.TheVariants.{Read, Write, Safe, Pause, Ended}
 use Rattle.octet_interp.specs.declared.progress.Progress.{Progress}
@@ -43,3 +45,15 @@ leads_away _ registers = false
 abbrev pub CanPass : Demand → ℕ → ℕ → ℕ → Type 0
 CanPass (Ended end) place fuel len = Unit {0}
 CanPass _ place fuel len = (0 < fuel) × (place < len)
+
+-- a read with fuel left
+abbrev pub WaitsAt : Option Command → ℕ → Type 0
+WaitsAt (Some (Read to object)) fuel = 0 < fuel
+WaitsAt _ fuel = ⊥
+
+-- commands of a thread of so many objects, with the table of their leads, and a read where one waits
+pub record IsSound (commands : List Command) (leads : List ℕ) (objects : ℕ) (progress : Progress) (waits : Bool) : Type 0 where
+  pub registers_there : All HasRegisters commands
+  pub objects_there : All (HasObject objects) commands
+  pub led : IsLeadTable commands leads
+  pub read_waits : waits ≡ true → WaitsAt (slice_get commands progress.place) progress.fuel

@@ -2,10 +2,11 @@
 //! access, safe point, pause or end, and tells it.
 #![tactic(auto)]
 
-// mod config;
+mod config;
 mod demand;
+pub mod laws;
 mod leads;
 mod progress;
 
-// pub use config::Config;
+pub use config::Config;
 pub use demand::Demand;

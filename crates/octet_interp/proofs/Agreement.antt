@@ -1,0 +1,84 @@
+-- What a thread is told to demand is what it demands.
+use Rattle.std.proofs.Common.{◌≡◌, ℕ, zero, suc, pred, ◌<◌, ◌≤◌, Bool, true, false, List, length, Option, Some, None, unwrap_or, slice_get, slice_index, refl, sym, ap, ◌∙◌, subst, arith}
+use Rattle.octet_model.specs.declared.command.Command.{Command}
+use Rattle.octet_model.specs.declared.command.Command.TheVariants.{Set, Copy, Add, Sub, Mul, Xor, Less, Same, Read, Write, Loop, Branch, Close, Safe, Pause}
+use Rattle.octet_model.specs.declared.outcome.End.TheVariants.{Done, Spent}
+use Rattle.octet_model.specs.Thread.{Configuration, run_to, stepped, moved_to, is_access, settled, demand_at, demanded, Demand as AccessDemand, past_access, past_demanded, ToRead, ToWrite, ToEnd}
+use Rattle.octet_interp.specs.declared.demand.Demand.{Demand}
+use Rattle.octet_interp.specs.declared.demand.Demand.TheVariants.{Read, Write, Safe, Pause, Ended}
+use Rattle.octet_interp.specs.Told.{Standing, is_told, arrived, demand_of, told_at, past_told, is_read, told, after_told, given, TakesFuel}
+use Rattle.octet_interp.specs.Laws.{Agrees, DemandsAreThoseOfTheThread, DemandsTakeFuel, DemandsFollowFromWhereItSettles}
+use Rattle.octet_interp.proofs.Runs.{one_fuel, told_with, goes_on, stays_at, stays_past, stays_empty, along, stopped}
+
+no_access : (command : Command) → is_told command ≡ false → is_access command ≡ false
+no_access (Read to object) is = absurd cc
+no_access (Write object from) is = absurd cc
+no_access _ is = refl
+
+-- a run to the next told command changes nothing of where the thread settles
+settles_alike : (commands : List Command) (c : Configuration) → settled commands (arrived commands c) ≡ settled commands c
+settles_alike commands c =
+    along is_told commands (λ a b. settled commands b ≡ settled commands a) (λ a. refl)
+    (λ a b command at plain fuelled alike. alike ∙ goes_on is_access commands a command at (no_access command plain) fuelled)
+    c.fuel c refl
+
+fuel_falls : (commands : List Command) (c : Configuration) → (arrived commands c).fuel ≤ c.fuel
+fuel_falls commands c =
+    along is_told commands (λ a b. b.fuel ≤ a.fuel) (λ a. omega arith)
+    (λ a b command at plain fuelled less. omega (arith, one_fuel commands a command))
+    c.fuel c refl
+
+-- the next told command is told where the thread stands
+arrives_once : (commands : List Command) (c : Configuration) → arrived commands (arrived commands c) ≡ arrived commands c
+arrives_once commands c =
+    along is_told commands (λ a b. arrived commands b ≡ arrived commands a) (λ a. refl)
+    (λ a b command at plain fuelled alike. alike ∙ goes_on is_told commands a command at plain fuelled)
+    c.fuel c refl
+
+demands_where : (commands : List Command) (c d : Configuration) → settled commands c ≡ d → demanded commands c ≡ demand_at (slice_get commands d.place) d
+demands_where commands c d is = ap (λ (x : Configuration). demand_at (slice_get commands x.place) x) is
+
+goes_past : (commands : List Command) (c d : Configuration) (value : ℕ) → settled commands c ≡ d → past_demanded commands c value ≡ past_access (slice_get commands d.place) d value
+goes_past commands c d value is = ap (λ (x : Configuration). past_access (slice_get commands x.place) x value) is
+
+pub follows : DemandsFollowFromWhereItSettles
+follows commands c d is =
+    (demands_where commands c (settled commands d) is, λ value. goes_past commands c (settled commands d) value is)
+
+spent : (command : Command) (d : Configuration) → d.fuel ≡ 0 → demand_at (Some command) d ≡ ToEnd Spent
+spent (Read to object) d none = ap (λ (fuel : ℕ). elim fuel as (λ n. AccessDemand) [ zero ↦ ToEnd Spent | suc n ↦ ToRead object ]) none
+spent (Write object from) d none = ap (λ (fuel : ℕ). elim fuel as (λ n. AccessDemand) [ zero ↦ ToEnd Spent | suc n ↦ ToWrite object (slice_index d.registers from) ]) none
+spent _ d none = refl
+
+with_fuel : (wanted : AccessDemand) (fuel : ℕ) → 0 < fuel → ◌≡◌ {A = AccessDemand} (elim fuel [ zero ↦ ToEnd Spent | suc n ↦ wanted ]) wanted
+with_fuel wanted zero fuelled = absurd (omega arith)
+with_fuel wanted (suc n) fuelled = refl
+
+-- which command stands where a demand is told
+IsToldBy : Demand → Command → List ℕ → Type 0
+IsToldBy (Read object) command registers = (to : ℕ) × (command ≡ Read to object)
+IsToldBy (Write object value) command registers = (from : ℕ) × (command ≡ Write object from) × (value ≡ slice_index registers from)
+IsToldBy Safe command registers = command ≡ Safe
+IsToldBy Pause command registers = command ≡ Pause
+IsToldBy (Ended end) command registers = (is_told command ≡ false) × (end ≡ Spent)
+
+told_by : (command : Command) (registers : List ℕ) → IsToldBy (unwrap_or (demand_of command registers) (Ended Spent)) command registers
+told_by (Read to object) registers = (to, refl)
+told_by (Write object from) registers = (from, refl, refl)
+told_by Safe registers = refl
+told_by Pause registers = refl
+told_by _ registers = (refl, refl)
+
+-- no command is left, or no fuel, or the command tells the demand
+data Tells (o : Option Command) (d : Configuration) : Demand → Type 0 where
+  NoCommand : o ≡ None → Tells o d (Ended Done)
+  NoFuel : (command : Command) → o ≡ Some command → d.fuel ≡ 0 → Tells o d (Ended Spent)
+  ByCommand : (command : Command) (demand : Demand) → o ≡ Some command → 0 < d.fuel → IsToldBy demand command d.registers → Tells o d demand
+
+tells : (o : Option Command) (d : Configuration) → Tells o d (told_at o d)
+tells None d = NoCommand refl
+tells (Some command) d = go d.fuel refl
+  where
+    go : (fuel : ℕ) → d.fuel ≡ fuel → Tells (Some command) d (told_with command d.registers fuel)
+    go zero is = NoFuel command refl is
+    go (suc fuel) is = ByCommand command (unwrap_or (demand_of command d.registers) (Ended Spent)) refl (omega arith) (told_by command d.registers)

@@ -1,0 +1,104 @@
+//! One thread of a script as it runs.
+ghost use Rattle.std.specs.Prelude.{◌≡◌, ◌<◌, true, false, [], get_or, length, IfOk, IsTrue};
+ghost use Rattle.octet_model.specs.Script.{is_thread};
+ghost use Rattle.octet_interp.specs.Told.{after_told, given, is_read, starting_standing, told, IsPossible, TakesFuel};
+
+use crate::Demand;
+use crate::leads::find_leads;
+use crate::progress::{Progress, advance, pass, set_register};
+use octet_model::{Command, OutOfMemory, Script};
+use std::alloc::Global;
+use std::marker::Model;
+
+/// One thread of a script, as far as it has run. A caller asks for the next demand, and gives
+/// each read its value.
+#[derive(Debug, Drop)]
+pub struct Config {
+    commands: Vec<Command>,
+    /// Where each command leads, if it leads away from the next place.
+    leads: Vec<usize>,
+    /// The number of the script's objects.
+    objects: usize,
+    progress: Progress,
+    /// Whether a read waits for its value.
+    waits: bool,
+}
+
+impl Model for Config {
+    ghost use Rattle.octet_interp.specs.Told.{Standing};
+
+    ghost Value = { Standing };
+
+    ghost use Rattle.octet_interp.specs.Progress.{configuration_of, IsSound};
+
+    ghost view = { λ c. record { commands = c.commands.items; at = configuration_of c.progress; waits = c.waits; objects = c.objects } };
+
+    ghost invariant = { λ c. IsSound c.commands.items c.leads.items c.objects c.progress c.waits };
+}
+
+fn is_read(demand: Demand) -> bool
+    ensures { result ≡ is_read demand }
+{
+    match demand {
+        Demand::Read { .. } => true,
+        _ => false,
+    }
+}
+
+// The commands of a thread of a script.
+#[tactic(auto, using(crate::proofs::Valid::thread_valid))]
+fn commands_of(script: &Script, thread: u8) -> &[Command]
+    requires { thread < length script.now.threads }
+    ensures commands { result.now ≡ get_or script.now.threads thread [] }
+    ensures valid { IsTrue (is_thread (length script.now.objects) result.now) }
+{
+    script.threads.as_slice()[thread as usize].as_slice()
+}
+
+impl Config {
+    /// The thread at its start. Takes time and memory in proportion to its commands.
+    pub fn new(alloc: Global, script: &Script, thread: u8) -> Result<Config, OutOfMemory>
+        requires { thread < length script.now.threads }
+        ensures { IfOk result (λ config. config ≡ starting_standing script.now thread) }
+    {
+        let commands = commands_of(script, thread);
+        Ok(Config {
+            leads: find_leads(alloc, commands)?,
+            commands: Vec::from_slice(alloc, commands)?,
+            objects: script.objects.len(),
+            progress: Progress {
+                place: 0,
+                registers: [0; 16],
+                fuel: script.fuel,
+            },
+            waits: false,
+        })
+    }
+
+    /// Runs to the next demand and tells it, in constant time per command. A read then waits
+    /// for its value.
+    pub fn next(&mut self) -> Demand
+        requires { self.old.waits ≡ false }
+        ensures told { result ≡ told self.old }
+        ensures standing { self.new ≡ after_told self.old }
+        ensures possible { IsPossible self.old.objects result }
+        ensures fuel { TakesFuel result self.old.at.fuel self.new.at.fuel }
+    {
+        let demand = advance(&self.commands, &self.leads, &mut self.progress);
+        pass(&mut self.progress, demand);
+        self.waits = is_read(demand);
+        demand
+    }
+
+    /// Gives the read that waits its value.
+    pub fn give(&mut self, value: u64)
+        requires { self.old.waits ≡ true }
+        ensures { self.new ≡ given self.old value }
+    {
+        let Command::Read { to, .. } = self.commands[self.progress.place] else {
+            unreachable!()
+        };
+        set_register(&mut self.progress, to, value);
+        self.waits = false;
+    }
+}
