@@ -55,7 +55,7 @@ with_fuel wanted zero fuelled = absurd (omega arith)
 with_fuel wanted (suc n) fuelled = refl
 
 -- which command stands where a demand is told
-IsToldBy : Demand → Command → List ℕ → Type 0
+abbrev IsToldBy : Demand → Command → List ℕ → Type 0
 IsToldBy (Read object) command registers = (to : ℕ) × (command ≡ Read to object)
 IsToldBy (Write object value) command registers = (from : ℕ) × (command ≡ Write object from) × (value ≡ slice_index registers from)
 IsToldBy Safe command registers = command ≡ Safe
@@ -82,3 +82,64 @@ tells (Some command) d = go d.fuel refl
     go : (fuel : ℕ) → d.fuel ≡ fuel → Tells (Some command) d (told_with command d.registers fuel)
     go zero is = NoFuel command refl is
     go (suc fuel) is = ByCommand command (unwrap_or (demand_of command d.registers) (Ended Spent)) refl (omega arith) (told_by command d.registers)
+
+-- where the thread stands as a demand is told
+abbrev standing_with : Standing → Demand → Standing
+standing_with s demand = record { commands = s.commands; at = past_told demand (arrived s.commands s.at); waits = is_read demand; objects = s.objects }
+
+agrees_by : (s : Standing) (command : Command) (demand : Demand) → slice_get s.commands (arrived s.commands s.at).place ≡ Some command → 0 < (arrived s.commands s.at).fuel
+    → IsToldBy demand command (arrived s.commands s.at).registers → Agrees demand s (standing_with s demand)
+agrees_by s command (Read object) at fuelled by =
+    let a = arrived s.commands s.at in
+    let here : slice_get s.commands a.place ≡ Some (Read by.0 object) = at ∙ ap (λ (x : Command). Some x) by.1 in
+    let settles : settled s.commands s.at ≡ a = sym (settles_alike s.commands s.at) ∙ stays_at is_access s.commands a.fuel a (Read by.0 object) here refl in (
+      demands_where s.commands s.at a settles ∙ ap (λ (o : Option Command). demand_at o a) here ∙ with_fuel (ToRead object) a.fuel fuelled,
+      λ value. sym (goes_past s.commands s.at a value settles),
+    )
+agrees_by s command (Write object value) at fuelled by =
+    let a = arrived s.commands s.at in
+    let here : slice_get s.commands a.place ≡ Some (Write object by.0) = at ∙ ap (λ (x : Command). Some x) by.1 in
+    let settles : settled s.commands s.at ≡ a = sym (settles_alike s.commands s.at) ∙ stays_at is_access s.commands a.fuel a (Write object by.0) here refl in (
+      demands_where s.commands s.at a settles ∙ ap (λ (o : Option Command). demand_at o a) here ∙ with_fuel (ToWrite object (slice_index a.registers by.0)) a.fuel fuelled ∙ ap (ToWrite object) (sym by.2),
+      λ any. sym (goes_past s.commands s.at a any settles ∙ ap (λ (o : Option Command). past_access o a any) here),
+    )
+agrees_by s command Safe at fuelled by =
+    let a = arrived s.commands s.at in
+    goes_on is_access s.commands a Safe (at ∙ ap (λ (x : Command). Some x) by) refl fuelled ∙ settles_alike s.commands s.at
+agrees_by s command Pause at fuelled by =
+    let a = arrived s.commands s.at in
+    goes_on is_access s.commands a Pause (at ∙ ap (λ (x : Command). Some x) by) refl fuelled ∙ settles_alike s.commands s.at
+agrees_by s command (Ended end) at fuelled by =
+    let stop : is_told command ≡ true = stopped is_told s.commands s.at.fuel s.at command refl fuelled at in
+    absurd (let none : true ≡ false = sym stop ∙ by.0 in cc)
+
+-- an end is told again where it was told
+told_again : (s : Standing) → told (standing_with s (Ended Done)) ≡ told s
+told_again s = ap (λ (x : Configuration). told_at (slice_get s.commands x.place) x) (arrives_once s.commands s.at)
+
+agrees_with : (s : Standing) (demand : Demand) → Tells (slice_get s.commands (arrived s.commands s.at).place) (arrived s.commands s.at) demand → told s ≡ demand → Agrees demand s (standing_with s demand)
+agrees_with s demand (NoCommand at) is =
+    let a = arrived s.commands s.at in
+    let settles : settled s.commands s.at ≡ a = sym (settles_alike s.commands s.at) ∙ stays_past is_access s.commands a.fuel a at in
+    (demands_where s.commands s.at a settles ∙ ap (λ (o : Option Command). demand_at o a) at, told_again s ∙ is)
+agrees_with s demand (NoFuel command at none) is =
+    let a = arrived s.commands s.at in
+    let settles : settled s.commands s.at ≡ a = sym (settles_alike s.commands s.at) ∙ stays_empty is_access s.commands a.fuel a none in
+    (demands_where s.commands s.at a settles ∙ ap (λ (o : Option Command). demand_at o a) at ∙ spent command a none, told_again s ∙ is)
+agrees_with s demand (ByCommand command other at fuelled by) is = agrees_by s command demand at fuelled by
+
+pub agrees : DemandsAreThoseOfTheThread
+agrees s = agrees_with s (told s) (tells (slice_get s.commands (arrived s.commands s.at).place) (arrived s.commands s.at)) refl
+
+takes_by : (s : Standing) (demand : Demand) → 0 < (arrived s.commands s.at).fuel → TakesFuel demand s.at.fuel (standing_with s demand).at.fuel
+takes_by s (Read object) fuelled = (fuelled, fuel_falls s.commands s.at)
+takes_by s (Ended end) fuelled = fuel_falls s.commands s.at
+takes_by s _ fuelled = let less : pred (arrived s.commands s.at).fuel < s.at.fuel = omega (arith, fuel_falls s.commands s.at) in less
+
+takes_with : (s : Standing) (demand : Demand) → Tells (slice_get s.commands (arrived s.commands s.at).place) (arrived s.commands s.at) demand → TakesFuel demand s.at.fuel (standing_with s demand).at.fuel
+takes_with s demand (NoCommand at) = fuel_falls s.commands s.at
+takes_with s demand (NoFuel command at none) = fuel_falls s.commands s.at
+takes_with s demand (ByCommand command other at fuelled by) = takes_by s demand fuelled
+
+pub takes : DemandsTakeFuel
+takes s = takes_with s (told s) (tells (slice_get s.commands (arrived s.commands s.at).place) (arrived s.commands s.at))
