@@ -10,3 +10,4 @@ pub mod Lowest
 pub mod MarksSeen
 pub mod Rows
 pub mod Examples
+pub mod Validity

@@ -1,8 +1,14 @@
--- The laws of orders, plays and histories, as the public functions of laws.rt prove them.
+-- The laws of orders, plays, histories and validity, as the public functions of laws.rt prove them.
 use Rattle.std.specs.Prelude.{◌≡◌, ℕ, ◌<◌, IsTrue, List, ◌++◌, length}
+use Rattle.std.specs.Bool.{Decides}
+use Rattle.octet_model.specs.declared.command.Command.{Command}
 use Rattle.octet_model.specs.declared.event.Event.{Event}
+use Rattle.octet_model.specs.declared.object.Object.{Object}
 use Rattle.octet_model.specs.declared.script.Script.{Script}
 use Rattle.octet_model.specs.declared.log.ThreadLog.{ThreadLog}
+use Rattle.octet_model.specs.Script.{is_script}
+use Rattle.octet_model.specs.Log.{is_log}
+use Rattle.octet_model.specs.Validity.{IsValidScript, IsValidLog}
 use Rattle.octet_model.specs.Machine.{Journals, PlainState, starting_state, Behavior, no_events, is_enabled, event_made, heap_after, draws_after, appended, IsFront}
 use Rattle.octet_model.specs.Journals.{log_of}
 use Rattle.octet_model.specs.HappensBefore.{IsOrdered}
@@ -95,3 +101,12 @@ HistoryIsFaithful = (script : Script) (journals : Journals) (heap : List ℕ) (d
     → IsOneHistory (starting_heap script) journals heap draws → IsFrugal journals
     → length script.threads ≡ length journals → FitsScript script journals
     → IsFaithful script (log_of journals) (outcome_of script (record { heap = heap; journals = journals; draws = draws }))
+
+-- the test that a script's type rests on is true exactly where the script is valid
+abbrev pub ScriptTestIsExact : Type 0
+ScriptTestIsExact = (fuel : ℕ) (objects : List Object) (threads : List (List Command))
+    → Decides (is_script fuel objects threads) (IsValidScript fuel objects threads)
+
+-- and that of a log exactly where the log is valid
+abbrev pub LogTestIsExact : Type 0
+LogTestIsExact = (log : List ThreadLog) → Decides (is_log log) (IsValidLog log)

@@ -10,5 +10,6 @@ pub mod Orders
 pub mod Plays
 pub mod Past
 pub mod Texts
+pub mod Validity
 pub mod Laws
 pub mod PastLaws

@@ -1,5 +1,5 @@
 //! The laws over the definitions, each the contract of a function that does nothing.
-ghost use Rattle.octet_model.specs.Laws.{OneExecution, OneSetOfJournals, FrontsContinue, LowestPlayMakesAll, LowestPlayGivesHeap, LowestPlayIsLowestOrder, LowestFrontIsFront, OneLowestFront, LowestOrderIsLowest, LowestPlayIsLowest, LowestOrderIsLawful, HistoryBegins, HistoryGrows, PlayIsFaithful, HistoryIsFaithful};
+ghost use Rattle.octet_model.specs.Laws.{OneExecution, OneSetOfJournals, FrontsContinue, LowestPlayMakesAll, LowestPlayGivesHeap, LowestPlayIsLowestOrder, LowestFrontIsFront, OneLowestFront, LowestOrderIsLowest, LowestPlayIsLowest, LowestOrderIsLawful, HistoryBegins, HistoryGrows, PlayIsFaithful, HistoryIsFaithful, ScriptTestIsExact, LogTestIsExact};
 ghost use Rattle.octet_model.specs.PastLaws.{PathsStay, PastsStay, PastsGainNothing, PastHasOwn, PastHappensBefore, PastIsClosed, PastGrows, PastHasJoined, PastHasDraws, DrawsDifferInHistory};
 
 /// Where the journals of one lawful order are ordered, all lawful orders have one execution and
@@ -75,5 +75,14 @@ pub fn history_grows()
 pub fn recording_is_faithful()
     ensures play { PlayIsFaithful }
     ensures history { HistoryIsFaithful }
+{
+}
+
+/// Scripts and logs are valid by their types, which rest on tests that compute. Each test is true
+/// exactly where the plain facts hold: limits, ranges, names that differ, and openers that are
+/// each closed.
+pub fn validity_is_exact()
+    ensures script { ScriptTestIsExact }
+    ensures log { LogTestIsExact }
 {
 }
