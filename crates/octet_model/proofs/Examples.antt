@@ -5,7 +5,7 @@ use Rattle.octet_model.specs.declared.event.Event.TheVariants.{Read, Write, Mark
 use Rattle.octet_model.specs.declared.event.Mark.{Mark}
 use Rattle.octet_model.specs.declared.event.Mark.TheVariants.{Join}
 use Rattle.octet_model.specs.declared.event.Place.{Place}
-use Rattle.octet_model.specs.Machine.{Journals, journal_of, no_events}
+use Rattle.octet_model.specs.Machine.{Journals, journal_of}
 use Rattle.octet_model.specs.HappensBefore.{event_at, Edge, ProgramOrder, Joined, Drawn, Fenced, IsPath, IsOrdered}
 use Rattle.octet_model.specs.Plays.{IsOneHistory}
 use Rattle.octet_model.specs.Past.{AreOwned}

@@ -1,5 +1,5 @@
 -- Every lawful front of a machine whose journals are ordered leads to one end.
-use Rattle.std.proofs.Common.{◌≡◌, ℕ, zero, suc, ◌<◌, ◌≤◌, ◌⊎◌, inl, inr, true, false, ◌||◌, List, [], ◌∷◌, ◌++◌, length, Some, IsTrue, slice_set, refl, sym, ap, ◌∙◌, subst, arith}
+use Rattle.std.proofs.Common.{◌≡◌, ℕ, zero, suc, ◌<◌, ◌≤◌, ◌⊎◌, inl, inr, ◌||◌, List, [], ◌∷◌, ◌++◌, length, Some, IsTrue, slice_set, refl, sym, ap, ◌∙◌, subst, arith}
 use Rattle.std.proofs.lemmas.List.{get_or-set_other, set_comm}
 use Rattle.std.proofs.lemmas.Bool.{cases_eq, cases_lt, leb-true, le-leb, eqb-true, eq-eqb}
 use Rattle.std.proofs.lemmas.Option.{slice_get_within}
@@ -7,7 +7,7 @@ use Rattle.octet_model.specs.declared.event.Mark.TheVariants.{Join, Draw, Fence}
 use Rattle.octet_model.specs.declared.event.Event.{Event}
 use Rattle.octet_model.specs.declared.event.Event.TheVariants.{Read, Marked}
 use Rattle.octet_model.specs.declared.event.Place.{Place}
-use Rattle.octet_model.specs.Machine.{Journals, journal_of, PlainState, Operation, MakeMark, MakeRead, MakeWrite, Wants, Finished, Behavior, is_enabled, event_made, heap_after, draws_after, appended, performed, next_of, may_step, step, after, IsFront, AllFinished, IsOrder, no_events, starting_state}
+use Rattle.octet_model.specs.Machine.{Journals, journal_of, PlainState, Operation, MakeMark, MakeRead, MakeWrite, Wants, Behavior, is_enabled, event_made, heap_after, draws_after, appended, performed, next_of, may_step, step, after, IsFront, AllFinished, IsOrder, no_events, starting_state}
 use Rattle.octet_model.specs.HappensBefore.{event_at, Edge, ProgramOrder, Joined, Drawn, Fenced, IsPath, object_of, is_write, Conflict, IsOrdered}
 use Rattle.octet_model.proofs.Steps.{at, count, other_journal, grows, at_same, draws_grow, drawn_next, joined_upto, fenced_upto, Makes, makes_from, what_it_makes, as_many_step, stays_step, other_step, grows_step, made_there, counts_step, where_made}
 

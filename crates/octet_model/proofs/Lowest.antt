@@ -13,7 +13,7 @@ use Rattle.octet_model.specs.declared.log.ThreadLog.{ThreadLog}
 use Rattle.octet_model.specs.declared.script.Script.{Script}
 use Rattle.octet_model.specs.Thread.{Configuration, Demand, ToRead, ToWrite, ToEnd, demanded, configuration_after, starting_configuration}
 use Rattle.octet_model.specs.Journals.{access_count, mark_count, gap_after, due_mark, next_access, mark_first, next_by_log}
-use Rattle.octet_model.specs.Machine.{Journals, journal_of, PlainState, starting_state, Operation, MakeMark, MakeRead, MakeWrite, Next, Wants, Finished, Misfit, Behavior, event_made, may_step, step, after, IsFront, IsOrder}
+use Rattle.octet_model.specs.Machine.{Journals, journal_of, PlainState, starting_state, Operation, MakeMark, MakeRead, MakeWrite, Next, Wants, Behavior, event_made, may_step, step, after, IsFront, IsOrder}
 use Rattle.octet_model.specs.Orders.{commands_of, starting_heap, journals_after, IsLawfulOrder, thread_log_of, by_log, opening_state, state_after, event_total, lowest_order, lowest, go_on, lowest_front, IsLowestFront}
 use Rattle.octet_model.specs.HappensBefore.{IsOrdered}
 use Rattle.octet_model.specs.Plays.{next_in, by_journals, lowest_play}
@@ -136,7 +136,7 @@ module _ (script : Script) (log : List ThreadLog) where
       record {
         as_many = as_many_step (by_log script log) s t ∙ within.as_many;
         each = each_journal (by_log script log) s t may (λ u j. Within j (thread_log_of log u)) within.each
-        (λ o m. within_more (commands_of script t) (starting_configuration script.fuel) (thread_log_of log t) (journal_of s.journals t) s.heap o m.wanted (within.each t));
+            (λ o m. within_more (commands_of script t) (starting_configuration script.fuel) (thread_log_of log t) (journal_of s.journals t) s.heap o m.wanted (within.each t));
       }
 
 -- after the lowest order no thread may step
@@ -194,7 +194,7 @@ step_part journals s t may part =
     record {
       as_many = as_many_step (by_journals journals) s t ∙ part.as_many;
       each = each_journal (by_journals journals) s t may (λ u j. length j ≤ length (journal_of journals u)) part.each
-      (λ o m. omega (arith, length-append (journal_of s.journals t) (event_made o s.heap ∷ []), next_within (journal_of journals t) (length (journal_of s.journals t)) o m.wanted));
+          (λ o m. omega (arith, length-append (journal_of s.journals t) (event_made o s.heap ∷ []), next_within (journal_of journals t) (length (journal_of s.journals t)) o m.wanted));
     }
 
 -- after the lowest play no thread may step

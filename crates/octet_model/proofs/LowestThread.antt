@@ -3,7 +3,6 @@ use Rattle.std.proofs.Common.{◌≡◌, ℕ, zero, suc, ◌+◌, ◌<◌, ◌�
 use Rattle.std.proofs.lemmas.Bool.{cases_eq, cases_lt, le-ltb}
 use Rattle.octet_model.specs.Machine.{PlainState, Behavior, next_of, may_proceed, may_step, IsFront}
 use Rattle.octet_model.specs.Orders.{first_from, lowest}
-use Rattle.octet_model.proofs.Steps.{what_it_makes}
 
 first_found : (b : Bool) (number : ℕ) (later : Option ℕ) (found : ℕ) → ◌≡◌ {A = Option ℕ} (elim b [ true ↦ Some number | false ↦ later ]) (Some found) → ((b ≡ true) × (number ≡ found)) ⊎ ((b ≡ false) × (later ≡ Some found))
 first_found true number later found is = inl (refl, cc)

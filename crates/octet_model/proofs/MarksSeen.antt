@@ -6,10 +6,10 @@ use Rattle.octet_model.specs.declared.event.Event.{Event}
 use Rattle.octet_model.specs.declared.event.Event.TheVariants.{Read, Marked}
 use Rattle.octet_model.specs.declared.event.Place.{Place}
 use Rattle.octet_model.specs.Machine.{Journals, journal_of, PlainState, no_events, Operation, MakeMark, MakeRead, MakeWrite, Behavior, is_enabled, event_made, draws_after, appended, step, after, IsFront}
-use Rattle.octet_model.specs.HappensBefore.{event_at, Edge, ProgramOrder, Joined, Drawn, Fenced, IsEvent, IsPath, HappensBefore}
+use Rattle.octet_model.specs.HappensBefore.{event_at, Edge, ProgramOrder, Joined, Drawn, Fenced, IsEvent, IsPath}
 use Rattle.octet_model.specs.Plays.{operation_of, by_journals, lowest_play, IsOneHistory}
 use Rattle.octet_model.specs.Past.{Reaches, InPast, DrawsDiffer}
-use Rattle.octet_model.proofs.Steps.{at, count, stays_appended, new_event, grows, draws_grow, drawn_next, joined_upto, fenced_upto, what_it_makes}
+use Rattle.octet_model.proofs.Steps.{count, stays_appended, new_event, grows, draws_grow, drawn_next, joined_upto, fenced_upto, what_it_makes}
 use Rattle.octet_model.proofs.Fronts.{no_journal}
 use Rattle.octet_model.proofs.Growing.{new, old_or_new}
 

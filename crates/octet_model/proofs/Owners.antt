@@ -1,5 +1,5 @@
 -- What a recorder in which each object has one owner keeps, event by event.
-use Rattle.std.proofs.Common.{◌≡◌, ℕ, ◌<◌, inl, inr, List, [], ◌∷◌, length, Some, IsTrue, refl, sym, ap, ◌∙◌, subst, arith}
+use Rattle.std.proofs.Common.{◌≡◌, ℕ, ◌<◌, inl, inr, List, length, Some, IsTrue, refl, sym, ap, ◌∙◌, subst, arith}
 use Rattle.std.proofs.lemmas.Bool.{cases_eq}
 use Rattle.octet_model.specs.declared.event.Event.{Event}
 use Rattle.octet_model.specs.declared.event.Event.TheVariants.{Marked}

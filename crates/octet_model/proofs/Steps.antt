@@ -1,5 +1,5 @@
 -- What one step of the plain machine makes, and what it leaves.
-use Rattle.std.proofs.Common.{◌≡◌, ℕ, zero, suc, ◌<◌, ◌≤◌, ◌⊎◌, inl, inr, Bool, true, false, List, [], ◌∷◌, ◌++◌, length, Option, Some, IsTrue, slice_get, slice_set, refl, sym, ap, ◌∙◌, subst, arith, length-append, length-set}
+use Rattle.std.proofs.Common.{◌≡◌, ℕ, zero, suc, ◌<◌, ◌≤◌, inl, inr, Bool, true, false, List, [], ◌∷◌, ◌++◌, length, Option, Some, IsTrue, slice_get, refl, sym, ap, ◌∙◌, subst, arith, length-append, length-set}
 use Rattle.std.proofs.lemmas.List.{get_or-set_same, get_or-set_other, set_past}
 use Rattle.std.proofs.lemmas.Bool.{cases_eq, cases_lt, and_parts, and_from, ltb-true, lt-ltb, leb-true, eqb-true}
 use Rattle.octet_model.specs.declared.event.Mark.TheVariants.{Join, Draw, Fence}
@@ -125,7 +125,7 @@ module _ (behavior : Behavior) where
   makes_from s t o within wanted enabled =
       let may : IsTrue (may_step behavior s t) = and_from _ _ (lt-ltb t (length s.journals) within) (ap (may_proceed s) wanted ∙ enabled) in
       let stepped : step behavior s t ≡ performed s t o = ap (chosen s t) may ∙ ap (proceeded s t) wanted in
-      record { within = within; wanted = wanted; enabled = enabled; may = may; stepped = stepped; appends = ap (λ (x : PlainState). x.journals) stepped; }
+      record { within = within; wanted = wanted; enabled = enabled; may = may; stepped = stepped; appends = ap (λ (x : PlainState). x.journals) stepped }
 
   -- a thread that may step makes an operation
   pub what_it_makes : (s : PlainState) (t : ℕ) → IsTrue (may_step behavior s t) → (o : Operation) × Makes behavior s t o

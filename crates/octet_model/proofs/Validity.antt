@@ -1,13 +1,13 @@
 -- The computing tests of scripts and logs hold exactly where the plain facts do.
-use Rattle.std.proofs.Common.{◌≡◌, ◌≢◌, ℕ, zero, suc, ◌+◌, ◌*◌, ◌^◌, ◌<◌, ◌≤◌, ◌⊎◌, inl, inr, Bool, true, false, not, cond, ◌&&◌, nat_le, nat_lt, ◌==◌, List, [], ◌∷◌, length, take, get_or, map, refl, sym, ap, ◌∙◌, arith, subst}
+use Rattle.std.proofs.Common.{◌≡◌, ℕ, zero, suc, ◌+◌, ◌*◌, ◌^◌, ◌<◌, ◌≤◌, Bool, true, false, cond, ◌&&◌, nat_le, nat_lt, List, [], ◌∷◌, length, take, map, refl, ap, ◌∙◌, arith, subst}
 use Rattle.std.proofs.lemmas.Bool.{leb-true, le-leb}
-use Rattle.std.proofs.lemmas.Bool.Decides.{Decides-at, Decides-like, Decides-not, Decides-and, Decides-ltb, Decides-eqb, Decides-by_and, Decides-by_or}
+use Rattle.std.proofs.lemmas.Bool.Decides.{Decides-like, Decides-not, Decides-and, Decides-ltb, Decides-eqb, Decides-by_and, Decides-by_or}
 use Rattle.std.proofs.Math.Seq.{take-nil}
 use Rattle.std.proofs.lemmas.List.{get_or_default}
 use Rattle.std.proofs.lemmas.List.Sums.{sum_by-cons}
 use Rattle.std.proofs.lemmas.Slice.Eq.{bytes_eq-Decides}
 use Rattle.std.specs.Bool.{Decides}
-use Rattle.std.specs.List.{All, HoldsAt, list_all, list_any, sum_by, count_by}
+use Rattle.std.specs.List.{HoldsAt, list_all, list_any, sum_by, count_by}
 use Rattle.std.specs.Str.{bytes_eq}
 use Rattle.octet_model.specs.declared.command.Command.{Command}
 use Rattle.octet_model.specs.declared.command.Command.TheVariants.{Set, Copy, Add, Sub, Mul, Xor, Less, Same, Read, Write, Loop, Branch, Close, Safe, Pause}
@@ -20,7 +20,7 @@ use Rattle.octet_model.specs.Thread.{is_opener}
 use Rattle.octet_model.specs.Orders.{thread_log_of}
 use Rattle.octet_model.specs.Script.{is_command, is_nested, are_distinct, is_thread, is_script}
 use Rattle.octet_model.specs.Log.{is_mark, is_thread_log, are_thread_logs, is_log}
-use Rattle.octet_model.specs.Validity.{IsRegister, IsNumber, IsCommand, is_closer, IsNested, IsValidThread, AreDistinct, IsValidScript, IsMark, IsValidThreadLog, IsValidLog}
+use Rattle.octet_model.specs.Validity.{IsRegister, IsCommand, is_closer, IsValidThread, AreDistinct, IsValidScript, IsMark, IsValidThreadLog, IsValidLog}
 
 at_most : (a b : ℕ) → Decides (nat_le a b) (a ≤ b)
 at_most a b = (leb-true a b, le-leb a b)

@@ -9,8 +9,7 @@ pub fn one_outcome()
     ensures execution { OneExecution }
     ensures journals { OneSetOfJournals }
     ensures continues { FrontsContinue }
-{
-}
+{}
 
 /// Where journals are ordered and some play makes every event of them and gives every read its
 /// value, the lowest play does so too and ends with the same heap. Where they fit a script to
@@ -19,8 +18,7 @@ pub fn lowest_play_is_as_good()
     ensures makes_all { LowestPlayMakesAll }
     ensures heap { LowestPlayGivesHeap }
     ensures order { LowestPlayIsLowestOrder }
-{
-}
+{}
 
 /// A lowest front takes always the lowest thread that may step, until none may. There is one
 /// from each state, and it is a front. The lowest order of a script and a log, and the lowest
@@ -32,8 +30,7 @@ pub fn lowest_is_one()
     ensures order { LowestOrderIsLowest }
     ensures play { LowestPlayIsLowest }
     ensures lawful { LowestOrderIsLawful }
-{
-}
+{}
 
 /// Journals that grow by one event keep their paths, and a past never changes: each event in it
 /// stays, and where heap and marks allow the new event, none comes into it.
@@ -41,8 +38,7 @@ pub fn pasts_never_change()
     ensures paths { PathsStay }
     ensures stay { PastsStay }
     ensures gain { PastsGainNothing }
-{
-}
+{}
 
 /// What lies in the past of a thread's first events: these themselves, what happens before one
 /// in it, the past of fewer events, behind a Join the past of the events that it names, and
@@ -56,8 +52,7 @@ pub fn laws_of_the_past()
     ensures joined { PastHasJoined }
     ensures draws { PastHasDraws }
     ensures differ { DrawsDifferInHistory }
-{
-}
+{}
 
 /// A step keeps one history. One history is what every state of a run keeps of its journals: the
 /// lowest play makes every event of them, gives every read its value and ends with the heap and
@@ -66,8 +61,7 @@ pub fn laws_of_the_past()
 pub fn history_grows()
     ensures begins { HistoryBegins }
     ensures grows { HistoryGrows }
-{
-}
+{}
 
 /// Where journals are ordered and frugal and fit a script to its threads' ends, and some play
 /// makes every event of them and gives every read its value, their log and that play's outcome
@@ -75,8 +69,7 @@ pub fn history_grows()
 pub fn recording_is_faithful()
     ensures play { PlayIsFaithful }
     ensures history { HistoryIsFaithful }
-{
-}
+{}
 
 /// Scripts and logs are valid by their types, which rest on tests that compute. Each test is true
 /// exactly where the plain facts hold: limits, ranges, names that differ, and openers that are
@@ -84,5 +77,4 @@ pub fn recording_is_faithful()
 pub fn validity_is_exact()
     ensures script { ScriptTestIsExact }
     ensures log { LogTestIsExact }
-{
-}
+{}

@@ -2,21 +2,19 @@
 //! judged by. Its definitions stand in `specs/`, and its laws in `laws`.
 #![tactic(auto)]
 
-pub mod laws;
-
 mod clone;
 mod command;
 mod event;
+pub mod laws;
 mod list;
 mod log;
 mod name;
 mod object;
 mod outcome;
 mod script;
-mod text;
-
 #[cfg(test)]
 mod tests;
+mod text;
 
 pub use command::Command;
 pub use event::{Event, Mark, Place};

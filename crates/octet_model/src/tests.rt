@@ -74,7 +74,10 @@ fn copies_a_script(rt: HostRuntime) -> Result<(), Fail> {
     let script = write_then_read(rt.alloc())?;
     let copy = script.try_clone(rt.alloc())?;
     assert_eq!(rt; copy.fuel, script.fuel);
-    assert_eq!(rt; format!(in rt.alloc(); "{copy:?}")?, format!(in rt.alloc(); "{script:?}")?);
+    assert_eq!(rt;
+        format!(in rt.alloc(); "{copy:?}")?,
+        format!(in rt.alloc(); "{script:?}")?
+    );
     Ok(())
 }
 
@@ -82,7 +85,10 @@ fn copies_a_script(rt: HostRuntime) -> Result<(), Fail> {
 fn copies_a_log(rt: HostRuntime) -> Result<(), Fail> {
     let log = write_then_read_log(rt.alloc())?;
     let copy = log.try_clone(rt.alloc())?;
-    assert_eq!(rt; format!(in rt.alloc(); "{copy:?}")?, format!(in rt.alloc(); "{log:?}")?);
+    assert_eq!(rt;
+        format!(in rt.alloc(); "{copy:?}")?,
+        format!(in rt.alloc(); "{log:?}")?
+    );
     Ok(())
 }
 
@@ -120,6 +126,9 @@ fn read_7(alloc: Global) -> Result<Outcome, OutOfMemory>
 fn says_an_outcome(rt: HostRuntime) -> Result<(), Fail> {
     let script = write_then_read(rt.alloc())?;
     let text = outcome_text(rt.alloc(), &script, &read_7(rt.alloc())?)?;
-    assert_eq!(rt; text.as_slice(), b"thread 0 done\nthread 1 done 7\nobject x 7\n".as_slice());
+    assert_eq!(rt;
+        text.as_slice(),
+        b"thread 0 done\nthread 1 done 7\nobject x 7\n".as_slice()
+    );
     Ok(())
 }
