@@ -1,12 +1,12 @@
 -- What a thread is told to demand is what it demands.
-use Rattle.std.proofs.Common.{◌≡◌, ℕ, zero, suc, pred, ◌<◌, ◌≤◌, Bool, true, false, List, length, Option, Some, None, unwrap_or, slice_get, slice_index, refl, sym, ap, ◌∙◌, subst, arith}
+use Rattle.std.proofs.Common.{◌≡◌, ℕ, zero, suc, pred, ◌<◌, ◌≤◌, true, false, List, Option, Some, None, unwrap_or, slice_get, slice_index, refl, sym, ap, ◌∙◌, arith}
 use Rattle.octet_model.specs.declared.command.Command.{Command}
-use Rattle.octet_model.specs.declared.command.Command.TheVariants.{Set, Copy, Add, Sub, Mul, Xor, Less, Same, Read, Write, Loop, Branch, Close, Safe, Pause}
+use Rattle.octet_model.specs.declared.command.Command.TheVariants.{Read, Write, Safe, Pause}
 use Rattle.octet_model.specs.declared.outcome.End.TheVariants.{Done, Spent}
-use Rattle.octet_model.specs.Thread.{Configuration, run_to, stepped, moved_to, is_access, settled, demand_at, demanded, Demand as AccessDemand, past_access, past_demanded, ToRead, ToWrite, ToEnd}
+use Rattle.octet_model.specs.Thread.{Configuration, is_access, settled, demand_at, demanded, Demand as AccessDemand, past_access, past_demanded, ToRead, ToWrite, ToEnd}
 use Rattle.octet_interp.specs.declared.demand.Demand.{Demand}
 use Rattle.octet_interp.specs.declared.demand.Demand.TheVariants.{Read, Write, Safe, Pause, Ended}
-use Rattle.octet_interp.specs.Told.{Standing, is_told, arrived, demand_of, told_at, past_told, is_read, told, after_told, given, TakesFuel}
+use Rattle.octet_interp.specs.Told.{Standing, is_told, arrived, demand_of, told_at, past_told, is_read, told, TakesFuel}
 use Rattle.octet_interp.specs.Laws.{Agrees, DemandsAreThoseOfTheThread, DemandsTakeFuel, DemandsFollowFromWhereItSettles}
 use Rattle.octet_interp.proofs.Runs.{one_fuel, told_with, goes_on, stays_at, stays_past, stays_empty, along, stopped}
 

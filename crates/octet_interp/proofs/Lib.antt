@@ -2,3 +2,5 @@ pub mod Matching
 pub mod Runs
 pub mod Valid
 pub mod Agreement
+pub mod OneThread
+pub mod Journaled

@@ -1,15 +1,15 @@
 -- The openers that are still open, as the commands are taken in one after another.
-use Rattle.std.proofs.Common.{◌≡◌, ℕ, zero, suc, ◌-◌, ◌<◌, ◌≤◌, ◌⊎◌, inl, inr, Bool, true, false, ◌&&◌, ◌==◌, List, [], ◌∷◌, ◌++◌, length, drop, Option, Some, None, slice_get, get_or, set, replicate, refl, sym, ap, ◌∙◌, subst, subst₂, arith}
+use Rattle.std.proofs.Common.{◌≡◌, ℕ, zero, suc, ◌-◌, ◌<◌, inl, inr, Bool, true, false, ◌&&◌, ◌==◌, List, [], ◌∷◌, ◌++◌, length, drop, Option, Some, None, slice_get, get_or, set, replicate, refl, sym, ap, ◌∙◌, subst, subst₂, arith}
 use Rattle.std.proofs.lemmas.Bool.{cases_eq, cases_lt, eqb-true, eq-eqb}
 use Rattle.std.proofs.lemmas.Bool.Decides.{eqb_tells}
 use Rattle.std.proofs.lemmas.List.{get_or_append_left, get_or_push, get_or_past, get_or-replicate, get_or-set_same, get_or-set_other, length_push, length-set, length-replicate, drop_all}
 use Rattle.std.proofs.lemmas.Option.{get_or_from_slice_get}
 use Rattle.std.proofs.Math.Seq.{drop-cons}
 use Rattle.octet_model.specs.declared.command.Command.{Command}
-use Rattle.octet_model.specs.declared.command.Command.TheVariants.{Set, Copy, Add, Sub, Mul, Xor, Less, Same, Read, Write, Loop, Branch, Close, Safe, Pause}
+use Rattle.octet_model.specs.declared.command.Command.TheVariants.{Loop, Branch, Close}
 use Rattle.octet_model.specs.Script.{is_nested}
 use Rattle.octet_model.specs.Thread.{is_opener, end_from, matching_end, is_opened_at, matching_opener, place_past_end, place_after_close}
-use Rattle.octet_interp.specs.Leads.{is_closer, lead_of, LeadsRight, IsLeadTable, IsAmongOpen, IsThrough, IsMatched}
+use Rattle.octet_interp.specs.Leads.{is_closer, lead_of, IsLeadTable, IsThrough, IsMatched}
 
 end_opener : (depth place : ℕ) (command : Command) (rest : List Command) → is_opener command ≡ true → end_from depth place (command ∷ rest) ≡ end_from (suc depth) (suc place) rest
 end_opener depth place (Loop test) rest is = refl
@@ -155,7 +155,7 @@ takes_opener commands here command opened leads m at within opener =
       open_here = λ j jn. elim (cases_lt j (length opened)) [
         | inl l ↦ moved commands _ _ _ _ (sym (old j l))
             (ap (end_from (length opened - j) here) d ∙ end_opener (length opened - j) here command tail opener
-              ∙ ap (λ (k : ℕ). end_from k (suc here) tail) (let e : suc (length opened - j) ≡ length (opened ++ here ∷ []) - j = omega arith in e))
+            ∙ ap (λ (k : ℕ). end_from k (suc here) tail) (let e : suc (length opened - j) ≡ length (opened ++ here ∷ []) - j = omega arith in e))
             (m.open_here j l)
         | inr g ↦ moved commands _ _ _ _ (sym (new j (omega arith)))
             (ap (λ (k : ℕ). end_from k (suc here) tail) (let e : 1 ≡ length (opened ++ here ∷ []) - j = omega arith in e))
@@ -165,9 +165,9 @@ takes_opener commands here command opened leads m at within opener =
       others = λ place lt. elim (cases_eq place here) [
         | inl e ↦ inl (length opened, omega arith, new (length opened) refl ∙ sym e)
         | inr apart ↦ elim (m.others place (omega arith)) [
-            | inl w ↦ inl (w.0, omega arith, old w.0 w.1 ∙ w.2)
-            | inr t ↦ inr (later commands leads here place t)
-          ]
+          | inl w ↦ inl (w.0, omega arith, old w.0 w.1 ∙ w.2)
+          | inr t ↦ inr (later commands leads here place t)
+        ]
       ];
     }
 
@@ -183,15 +183,15 @@ takes_closer commands here command rest opener leads past m at within closer lea
     let below : opener < here = omega (arith, m.below (length rest) (omega arith)) in
     let one : length (rest ++ opener ∷ []) - length rest ≡ 1 = omega arith in
     let here_opened : is_opened_at commands opener here ≡ true = moved commands _ _ _ _ top
-          (ap (λ (k : ℕ). end_from k here (drop here commands)) one ∙ ap (end_from 1 here) d ∙ end_here here command tail closer)
-          (m.open_here (length rest) (omega arith)) in
+    (ap (λ (k : ℕ). end_from k here (drop here commands)) one ∙ ap (end_from 1 here) d ∙ end_here here command tail closer)
+    (m.open_here (length rest) (omega arith)) in
     let between : (k : ℕ) → opener < k → k < here → is_opened_at commands k here ≡ false = λ k above lt. elim (m.others k lt) [
-          | inl w ↦ absurd (elim (cases_lt w.0 (length rest)) [
-              | inl l ↦ omega (arith, m.rising w.0 (length rest) l (omega arith), w.2, top)
-              | inr g ↦ let e : w.0 ≡ length rest = omega (arith, w.1) in omega (arith, ap (λ (i : ℕ). get_or (rest ++ opener ∷ []) i 0) e, w.2, top)
-            ])
-          | inr t ↦ t.ended here (omega arith)
-        ] in
+      | inl w ↦ absurd (elim (cases_lt w.0 (length rest)) [
+        | inl l ↦ omega (arith, m.rising w.0 (length rest) l (omega arith), w.2, top)
+        | inr g ↦ let e : w.0 ≡ length rest = omega (arith, w.1) in omega (arith, ap (λ (i : ℕ). get_or (rest ++ opener ∷ []) i 0) e, w.2, top)
+      ])
+      | inr t ↦ t.ended here (omega arith)
+    ] in
     let opener_is : matching_opener commands here here ≡ opener = found commands opener here here below here_opened between in
     let size : length (set leads opener (suc here)) ≡ length leads = length-set leads opener (suc here) in
     record {
@@ -200,36 +200,36 @@ takes_closer commands here command rest opener leads past m at within closer lea
       below = λ j lt. omega (arith, m.below j (omega arith), old j lt);
       rising = λ i j lt jn. omega (arith, m.rising i j lt (omega arith), old i (omega arith), old j jn);
       open_here = λ j jn. moved commands _ _ _ _ (old j jn)
-        (ap (end_from (length (rest ++ opener ∷ []) - j) here) d
+          (ap (end_from (length (rest ++ opener ∷ []) - j) here) d
           ∙ ap (λ (k : ℕ). end_from k here (command ∷ tail)) (let e : length (rest ++ opener ∷ []) - j ≡ suc (suc (length rest - suc j)) = omega arith in e)
           ∙ end_closer (length rest - suc j) here command tail closer
           ∙ ap (λ (k : ℕ). end_from k (suc here) tail) (let e : suc (length rest - suc j) ≡ length rest - j = omega arith in e))
-        (m.open_here j (omega arith));
+          (m.open_here j (omega arith));
       empty = λ place le. get_or-set_other (set leads opener (suc here)) here place past 0 (λ same. omega arith) ∙ get_or-set_other leads opener place (suc here) 0 (λ same. omega arith) ∙ m.empty place (omega arith);
       others = λ place lt. elim (cases_eq place here) [
         | inl e ↦ inr (subst (λ (k : ℕ). IsThrough commands (set (set leads opener (suc here)) here past) (suc here) k) (sym e) (record {
-            right = get_or-set_same (set leads opener (suc here)) here past 0 (omega (arith, m.len)) ∙ leads_past
+          right = get_or-set_same (set leads opener (suc here)) here past 0 (omega (arith, m.len)) ∙ leads_past
               ∙ ap (λ (k : ℕ). place_past_end (slice_get commands k) k here) (sym opener_is)
               ∙ sym (lead_closer commands here command closer) ∙ ap (lead_of commands here) (sym at);
-            ended = λ end le. opens_not commands here end command at (closer_opens_not command closer);
-          }))
+          ended = λ end le. opens_not commands here end command at (closer_opens_not command closer);
+        }))
         | inr apart ↦ elim (cases_eq place opener) [
-            | inl e ↦ inr (subst (λ (k : ℕ). IsThrough commands (set (set leads opener (suc here)) here past) (suc here) k) (sym e) (record {
-                right = get_or-set_other (set leads opener (suc here)) here opener past 0 (λ same. omega arith) ∙ get_or-set_same leads opener (suc here) 0 (omega (arith, m.len))
-                  ∙ sym (lead_opened commands opener here (slice_get commands opener) here_opened);
-                ended = λ end le. opened_once commands opener here end here_opened (λ same. omega arith);
-              }))
-            | inr not_opener ↦ elim (m.others place (omega arith)) [
-                | inl w ↦ inl (elim (cases_lt w.0 (length rest)) [
-                    | inl l ↦ (w.0, l, sym (old w.0 l) ∙ w.2)
-                    | inr g ↦ absurd (let e : w.0 ≡ length rest = omega (arith, w.1) in not_opener (sym w.2 ∙ ap (λ (i : ℕ). get_or (rest ++ opener ∷ []) i 0) e ∙ top))
-                  ])
-                | inr t ↦ inr (record {
-                    right = get_or-set_other (set leads opener (suc here)) here place past 0 apart ∙ get_or-set_other leads opener place (suc here) 0 not_opener ∙ t.right;
-                    ended = λ end le. t.ended end (omega arith);
-                  })
-              ]
+          | inl e ↦ inr (subst (λ (k : ℕ). IsThrough commands (set (set leads opener (suc here)) here past) (suc here) k) (sym e) (record {
+            right = get_or-set_other (set leads opener (suc here)) here opener past 0 (λ same. omega arith) ∙ get_or-set_same leads opener (suc here) 0 (omega (arith, m.len))
+                ∙ sym (lead_opened commands opener here (slice_get commands opener) here_opened);
+            ended = λ end le. opened_once commands opener here end here_opened (λ same. omega arith);
+          }))
+          | inr not_opener ↦ elim (m.others place (omega arith)) [
+            | inl w ↦ inl (elim (cases_lt w.0 (length rest)) [
+              | inl l ↦ (w.0, l, sym (old w.0 l) ∙ w.2)
+              | inr g ↦ absurd (let e : w.0 ≡ length rest = omega (arith, w.1) in not_opener (sym w.2 ∙ ap (λ (i : ℕ). get_or (rest ++ opener ∷ []) i 0) e ∙ top))
+            ])
+            | inr t ↦ inr (record {
+              right = get_or-set_other (set leads opener (suc here)) here place past 0 apart ∙ get_or-set_other leads opener place (suc here) 0 not_opener ∙ t.right;
+              ended = λ end le. t.ended end (omega arith);
+            })
           ]
+        ]
       ];
     }
 
@@ -245,14 +245,14 @@ takes_other commands here command opened leads m at within opener closer =
       below = λ j lt. omega (arith, m.below j lt);
       rising = m.rising;
       open_here = λ j jn. moved commands _ _ _ _ refl
-        (ap (end_from (length opened - j) here) d ∙ end_other (length opened - j) here command tail opener closer)
-        (m.open_here j jn);
+          (ap (end_from (length opened - j) here) d ∙ end_other (length opened - j) here command tail opener closer)
+          (m.open_here j jn);
       empty = λ place le. m.empty place (omega arith);
       others = λ place lt. elim (cases_eq place here) [
         | inl e ↦ inr (subst (λ (k : ℕ). IsThrough commands leads (suc here) k) (sym e) (record {
-            right = m.empty here (omega arith) ∙ sym (lead_other commands here command opener closer) ∙ ap (lead_of commands here) (sym at);
-            ended = λ end le. opens_not commands here end command at opener;
-          }))
+          right = m.empty here (omega arith) ∙ sym (lead_other commands here command opener closer) ∙ ap (lead_of commands here) (sym at);
+          ended = λ end le. opens_not commands here end command at opener;
+        }))
         | inr apart ↦ elim (m.others place (omega arith)) [ inl w ↦ inl w | inr t ↦ inr (later commands leads here place t) ]
       ];
     }

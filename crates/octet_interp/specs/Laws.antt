@@ -1,9 +1,12 @@
 -- The laws of what a thread is told to demand, as the public functions of laws.rt prove them.
-use Rattle.std.specs.Prelude.{◌≡◌, ℕ, List}
+use Rattle.std.specs.Prelude.{◌≡◌, ℕ, List, [], ◌∷◌, ◌++◌}
 use Rattle.octet_model.specs.declared.command.Command.{Command}
-use Rattle.octet_model.specs.Thread.{Configuration, settled, demanded, past_demanded, ToRead, ToWrite, ToEnd}
+use Rattle.octet_model.specs.declared.event.Event.{Event}
+use Rattle.octet_model.specs.declared.event.Event.TheVariants.{Read, Write, Marked}
+use Rattle.octet_model.specs.declared.event.Mark.{Mark}
+use Rattle.octet_model.specs.Thread.{Configuration, settled, demanded, past_demanded, configuration_after, FitsFrom, FitsToEnd, ToRead, ToWrite, ToEnd}
 use Rattle.octet_interp.specs.declared.demand.Demand.{Demand}
-use Rattle.octet_interp.specs.declared.demand.Demand.TheVariants.{Read, Write, Safe, Pause, Ended}
+use Rattle.octet_interp.specs.declared.demand.Demand.TheVariants.{Read, Write, Ended}
 use Rattle.octet_interp.specs.Told.{Standing, told, after_told, given, TakesFuel}
 
 -- an access or an end that is told is the one that the thread demands, and leaves it where that does; a safe point and a pause change nothing of where it settles; an end is told again
@@ -27,3 +30,23 @@ DemandsTakeFuel = (s : Standing) → TakesFuel (told s) s.at.fuel (after_told s)
 abbrev pub DemandsFollowFromWhereItSettles : Type 0
 DemandsFollowFromWhereItSettles = (commands : List Command) (c d : Configuration) → settled commands c ≡ settled commands d
     → (demanded commands c ≡ demanded commands d) × ((value : ℕ) → past_demanded commands c value ≡ past_demanded commands d value)
+
+-- from this start, the journal fits the thread and leaves it where it stands, but for commands that are no access
+pub record IsJournalOf (start : Configuration) (journal : List Event) (s : Standing) : Type 0 where
+  pub fits : FitsFrom s.commands start journal
+  pub settles : settled s.commands (configuration_after s.commands start journal) ≡ settled s.commands s.at
+
+-- with the event of the demand, the journal is one of the thread past the demand; at the end it fits the thread to its end
+abbrev pub IsJournalPast : Configuration → List Event → Demand → Standing → Type 0
+IsJournalPast start journal (Read object) after = (value : ℕ) → IsJournalOf start (journal ++ Read object value ∷ []) (given after value)
+IsJournalPast start journal (Write object value) after = IsJournalOf start (journal ++ Write object value ∷ []) after
+IsJournalPast start journal (Ended end) after = FitsToEnd after.commands start journal × (demanded after.commands (configuration_after after.commands start journal) ≡ ToEnd end)
+IsJournalPast start journal _ after = IsJournalOf start journal after
+
+-- a journal keeps up with its thread when it gets the event of each demand that is told
+abbrev pub JournalsKeepUp : Type 0
+JournalsKeepUp = (start : Configuration) (journal : List Event) (s : Standing) → IsJournalOf start journal s → IsJournalPast start journal (told s) (after_told s)
+
+-- and when it gets a mark
+abbrev pub JournalsTakeMarks : Type 0
+JournalsTakeMarks = (start : Configuration) (journal : List Event) (s : Standing) (mark : Mark) → IsJournalOf start journal s → IsJournalOf start (journal ++ Marked mark ∷ []) s

@@ -6,7 +6,7 @@ use Rattle.octet_model.specs.Thread.{Configuration, stepped, with_register}
 use Rattle.octet_interp.specs.Leads.{IsLeadTable}
 use Rattle.octet_interp.specs.Registers.{HasRegisters, HasObject}
 use Rattle.octet_interp.specs.declared.demand.Demand.{Demand}
-use Rattle.octet_interp.specs.declared.demand.Demand.TheVariants.{Read, Write, Safe, Pause, Ended}
+use Rattle.octet_interp.specs.declared.demand.Demand.TheVariants.{Read, Write, Ended}
 use Rattle.octet_interp.specs.declared.progress.Progress.{Progress}
 
 abbrev pub configuration_of : Progress → Configuration

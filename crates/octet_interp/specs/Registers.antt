@@ -1,7 +1,7 @@
 -- Which registers and objects a command names.
 use Rattle.std.specs.Prelude.{ℕ, ◌<◌}
 use Rattle.octet_model.specs.declared.command.Command.{Command}
-use Rattle.octet_model.specs.declared.command.Command.TheVariants.{Set, Copy, Add, Sub, Mul, Xor, Less, Same, Read, Write, Loop, Branch, Close, Safe, Pause}
+use Rattle.octet_model.specs.declared.command.Command.TheVariants.{Set, Copy, Add, Sub, Mul, Xor, Less, Same, Read, Write, Loop, Branch}
 
 -- its registers are below 16
 abbrev pub HasRegisters : Command → Type 0

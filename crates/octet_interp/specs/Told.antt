@@ -1,10 +1,10 @@
 -- What a thread demands, with safe points and pauses told.
-use Rattle.std.specs.Prelude.{◌≡◌, ℕ, zero, suc, ◌^◌, ◌<◌, ◌≤◌, Bool, true, false, List, [], length, Option, Some, None, unwrap_or, get_or, slice_get, slice_index}
+use Rattle.std.specs.Prelude.{ℕ, zero, suc, ◌^◌, ◌<◌, ◌≤◌, Bool, true, false, List, [], length, Option, Some, None, unwrap_or, get_or, slice_get, slice_index}
 use Rattle.octet_model.specs.declared.command.Command.{Command}
 use Rattle.octet_model.specs.declared.command.Command.TheVariants.{Read, Write, Safe, Pause}
 use Rattle.octet_model.specs.declared.outcome.End.TheVariants.{Done, Spent}
 use Rattle.octet_model.specs.declared.script.Script.{Script}
-use Rattle.octet_model.specs.Thread.{Configuration, starting_configuration, run_to, moved_to, past_access, demanded, past_demanded, settled, ToRead, ToWrite, ToEnd}
+use Rattle.octet_model.specs.Thread.{Configuration, starting_configuration, run_to, moved_to, past_access}
 use Rattle.octet_interp.specs.declared.demand.Demand.{Demand}
 use Rattle.octet_interp.specs.declared.demand.Demand.TheVariants.{Read, Write, Safe, Pause, Ended}
 

@@ -1,22 +1,30 @@
 //! The laws of what a thread is told to demand. Each is the contract of a function that does
 //! nothing.
-ghost use Rattle.octet_interp.specs.Laws.{DemandsAreThoseOfTheThread, DemandsFollowFromWhereItSettles, DemandsTakeFuel};
+ghost use Rattle.octet_interp.specs.Laws.{DemandsAreThoseOfTheThread, DemandsFollowFromWhereItSettles, DemandsTakeFuel, JournalsKeepUp, JournalsTakeMarks};
 
 /// With safe points and pauses left out, the demands that `Config::next` tells are those of the
 /// thread, and after `Ended` each further one is the same.
 pub fn demands_are_those_of_the_thread()
     ensures { DemandsAreThoseOfTheThread }
-{
-}
+{}
 
 /// Each demand takes fuel but the end, so a caller's loop ends.
 pub fn demands_take_fuel()
     ensures { DemandsTakeFuel }
-{
-}
+{}
 
 /// What a thread demands, and where it is past it, follow from where it settles.
 pub fn demands_follow_from_where_it_settles()
     ensures { DemandsFollowFromWhereItSettles }
-{
-}
+{}
+
+/// A journal that fits a thread's start and leaves it where it stands does so still with the
+/// event of each demand that is told; at the end it fits the thread to its end.
+pub fn journals_keep_up()
+    ensures { JournalsKeepUp }
+{}
+
+/// Marks change nothing of that.
+pub fn journals_take_marks()
+    ensures { JournalsTakeMarks }
+{}

@@ -10,3 +10,6 @@ mod progress;
 
 pub use config::Config;
 pub use demand::Demand;
+
+#[cfg(test)]
+mod tests;

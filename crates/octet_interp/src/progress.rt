@@ -35,8 +35,8 @@ pub(crate) fn set_register(progress: &mut Progress, to: u8, value: u64)
     ensures { configuration_of progress.new ≡ with_register (configuration_of progress.old) to value }
 {
     progress.registers[to as usize] = value;
-    progress.place += 1;
-    progress.fuel -= 1;
+    let next = progress.place + 1;
+    move_to(progress, next);
 }
 
 // The demand of a command that is told.

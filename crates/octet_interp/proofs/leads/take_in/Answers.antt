@@ -19,7 +19,7 @@ returns-then-is_closer c =
     let below : c.in-Some.opener < length c.args.commands.now = omega (arith, m.below (length c.pop.new.self.items) (omega (arith, length_push c.pop.new.self.items c.in-Some.opener)), get_or_push c.pop.new.self.items c.in-Some.opener 0 (length c.pop.new.self.items) refl, c.requires.within) in
     subst (λ (k : ℕ). IsMatched c.args.commands.now (suc c.args.place) c.pop.new.self.items (set (set c.args.leads.now c.in-Some.opener k) c.args.place c.place_past_end.result)) (sym (add-one c.args.place))
     (takes_closer c.args.commands.now c.args.place _ c.pop.new.self.items c.in-Some.opener c.args.leads.now c.place_past_end.result m (slice_get-get_or c.args.commands.now c.args.place _ c.requires.within) c.requires.within (sym c.if-is_closer.ensures)
-      (c.place_past_end.ensures ∙ ap (λ (o : Option Command). place_past_end o c.in-Some.opener c.args.place) (sym (slice_get-get_or c.args.commands.now c.in-Some.opener _ below))))
+    (c.place_past_end.ensures ∙ ap (λ (o : Option Command). place_past_end o c.in-Some.opener c.args.place) (sym (slice_get-get_or c.args.commands.now c.in-Some.opener _ below))))
 
 pub returns : goal.returns
 returns c = takes_other c.args.commands.now c.args.place _ c.args.opened.now.items c.args.leads.now c.requires.matched (slice_get-get_or c.args.commands.now c.args.place _ c.requires.within) c.requires.within (sym c.if-is_opener.ensures) (sym c.if-is_closer.ensures)

@@ -1,4 +1,4 @@
-use Rattle.std.proofs.Common.{◌≡◌, ◌≤◌, ℕ, pred, get_or, Some, Option, slice_get, refl, sym, ap, ◌∙◌, subst, arith}
+use Rattle.std.proofs.Common.{◌≡◌, pred, get_or, Option, sym, ap, ◌∙◌, arith}
 use Rattle.std.proofs.lemmas.Option.{slice_get-get_or, slice_get_past}
 use Rattle.octet_model.specs.declared.command.Command.{Command}
 use Rattle.octet_model.specs.declared.command.Command.TheVariants.{Set}
@@ -6,7 +6,7 @@ use Rattle.octet_model.specs.Thread.{Configuration, stepped}
 use Rattle.octet_interp.specs.Progress.{configuration_of}
 use Rattle.octet_interp.specs.Leads.{lead_of}
 use Rattle.octet_interp.specs.Told.{arrived, told_at}
-use Rattle.octet_interp.proofs.Runs.{one_fuel, arrives_at_told, arrives_past, arrives_empty, arrives_on, tells, tells_end, can_pass}
+use Rattle.octet_interp.proofs.Runs.{one_fuel, arrives_at_told, arrives_past, arrives_on, tells, can_pass}
 use Rattle.octet_interp.proofs.progress.advance.Goals as goal
 
 pub returns-in-Some-clause-arrived : goal.returns-in-Some-clause-arrived
@@ -17,7 +17,7 @@ returns-in-Some-clause-arrived c =
 pub returns-in-Some-clause-told : goal.returns-in-Some-clause-told
 returns-in-Some-clause-told c =
     sym (ap (λ (o : Option Command). told_at o (configuration_of c.loop-progress.progress)) (slice_get-get_or c.args.commands.now c.loop-progress.progress.place _ c.loop-progress-test.true)
-      ∙ tells _ (configuration_of c.loop-progress.progress) c.in-Some.demand (omega arith) (sym c.in-Some.ensures.demand))
+    ∙ tells _ (configuration_of c.loop-progress.progress) c.in-Some.demand (omega arith) (sym c.in-Some.ensures.demand))
 
 pub returns-in-Some-clause-ready : goal.returns-in-Some-clause-ready
 returns-in-Some-clause-ready c = can_pass c.in-Some.demand _ _ _ (omega arith) (omega arith)
@@ -36,8 +36,8 @@ loop-progress-smaller c = omega (arith, one_less c)
 pub loop-progress-preserved : goal.loop-progress-preserved
 loop-progress-preserved c = record {
   arrives = ap (arrived c.args.commands.now) (went_on c)
-    ∙ arrives_on c.args.commands.now (configuration_of c.loop-progress.progress) _ (slice_get-get_or c.args.commands.now c.loop-progress.progress.place (Set 0 0) c.loop-progress-test.true) (sym c.in_default.ensures.demand) (omega arith)
-    ∙ c.loop-progress.invariant.arrives;
+      ∙ arrives_on c.args.commands.now (configuration_of c.loop-progress.progress) _ (slice_get-get_or c.args.commands.now c.loop-progress.progress.place (Set 0 0) c.loop-progress-test.true) (sym c.in_default.ensures.demand) (omega arith)
+      ∙ c.loop-progress.invariant.arrives;
   fuel = omega (arith, one_less c);
 }
 
