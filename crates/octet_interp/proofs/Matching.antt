@@ -1,6 +1,7 @@
 -- The openers that are still open, as the commands are taken in one after another.
 use Rattle.std.proofs.Common.{◌≡◌, ℕ, zero, suc, ◌-◌, ◌<◌, inl, inr, Bool, true, false, ◌&&◌, ◌==◌, List, [], ◌∷◌, ◌++◌, length, drop, Option, Some, None, slice_get, get_or, set, replicate, refl, sym, ap, ◌∙◌, subst, subst₂, arith}
-use Rattle.std.proofs.lemmas.Bool.{cases_eq, cases_lt, eqb-true, eq-eqb}
+use Rattle.std.proofs.lemmas.Bool.{and_parts, cases_eq, cases_lt, eqb-true, eq-eqb}
+use Rattle.std.specs.Cmp.Derive.{both_true}
 use Rattle.std.proofs.lemmas.Bool.Decides.{eqb_tells}
 use Rattle.std.proofs.lemmas.List.{get_or_append_left, get_or_push, get_or_past, get_or-replicate, get_or-set_same, get_or-set_other, length_push, length-set, length-replicate, drop_all}
 use Rattle.std.proofs.lemmas.Option.{get_or_from_slice_get}
@@ -56,14 +57,6 @@ nested_end : (depth : ℕ) → is_nested depth [] ≡ true → depth ≡ zero
 nested_end zero nested = refl
 nested_end (suc depth) nested = absurd cc
 
-both : (b c : Bool) → (b && c) ≡ true → (b ≡ true) × (c ≡ true)
-both true c is = (refl, is)
-both false c is = absurd cc
-
-and_true : (b c : Bool) → b ≡ true → c ≡ true → (b && c) ≡ true
-and_true true c is also = also
-and_true false c is also = absurd cc
-
 and_false : (b c : Bool) → c ≡ false → (b && c) ≡ false
 and_false true c is = is
 and_false false c is = refl
@@ -77,7 +70,7 @@ opened_by o end place = elim o [ None ↦ false | Some command ↦ is_opener com
 once : (o : Option Command) (end a b : ℕ) → opened_by o end a ≡ true → (a ≡ b → ⊥) → opened_by o end b ≡ false
 once None end a b is apart = absurd cc
 once (Some command) end a b is apart =
-    let same : end ≡ a = eqb-true end a (both (is_opener command) (end == a) is).1 in
+    let same : end ≡ a = eqb-true end a (and_parts (is_opener command) (end == a) is).1 in
     and_false (is_opener command) (end == b) (apart_eqb end b (λ e. apart (sym same ∙ e)))
 
 opened_once : (commands : List Command) (place a b : ℕ) → is_opened_at commands place a ≡ true → (a ≡ b → ⊥) → is_opened_at commands place b ≡ false
@@ -86,7 +79,7 @@ opened_once commands place a b is apart = once (slice_get commands place) (match
 opens : (commands : List Command) (place end : ℕ) (command : Command) → slice_get commands place ≡ Some command → is_opener command ≡ true → matching_end commands place ≡ end → is_opened_at commands place end ≡ true
 opens commands place end command at opener is =
     ap (λ (o : Option Command). opened_by o (matching_end commands place) end) at
-    ∙ and_true (is_opener command) (matching_end commands place == end) opener (eq-eqb (matching_end commands place) end is)
+    ∙ both_true opener (eq-eqb (matching_end commands place) end is)
 
 opens_not : (commands : List Command) (place end : ℕ) (command : Command) → slice_get commands place ≡ Some command → is_opener command ≡ false → is_opened_at commands place end ≡ false
 opens_not commands place end command at opener =

@@ -5,6 +5,7 @@ use Rattle.octet_model.specs.declared.command.Command.TheVariants.{Loop, Branch,
 use Rattle.octet_model.specs.Script.{is_nested}
 use Rattle.octet_model.specs.Thread.{end_from, matching_end, is_opened_at, place_after_close}
 
+-- whether a command ends an opener
 abbrev pub is_closer : Command → Bool
 is_closer Close = true
 is_closer _ = false
@@ -16,6 +17,7 @@ lead_of commands place (Some (Branch test)) = suc (matching_end commands place)
 lead_of commands place (Some Close) = place_after_close commands place
 lead_of commands place _ = 0
 
+-- the table has the lead of the command at the place
 abbrev pub LeadsRight : List Command → List ℕ → ℕ → Type 0
 LeadsRight commands leads place = slice_index leads place ≡ lead_of commands place (slice_get commands place)
 

@@ -3,12 +3,13 @@ use Rattle.std.specs.Prelude.{◌≡◌, ℕ, ◌<◌, ◌^◌, ◌==◌, Bool, 
 use Rattle.octet_model.specs.declared.command.Command.{Command}
 use Rattle.octet_model.specs.declared.command.Command.TheVariants.{Set, Copy, Add, Sub, Mul, Xor, Less, Same, Read, Loop, Branch, Close}
 use Rattle.octet_model.specs.Thread.{Configuration, stepped, with_register}
-use Rattle.octet_interp.specs.Leads.{IsLeadTable}
+use Rattle.octet_interp.specs.Leads.{lead_of, IsLeadTable}
 use Rattle.octet_interp.specs.Registers.{HasRegisters, HasObject}
 use Rattle.octet_interp.specs.declared.demand.Demand.{Demand}
 use Rattle.octet_interp.specs.declared.demand.Demand.TheVariants.{Read, Write, Ended}
 use Rattle.octet_interp.specs.declared.progress.Progress.{Progress}
 
+-- the configuration that the code keeps
 abbrev pub configuration_of : Progress → Configuration
 configuration_of progress = record { place = progress.place; registers = progress.registers; fuel = progress.fuel }
 
@@ -41,6 +42,10 @@ leads_away (Branch test) registers = slice_index registers test == 0
 leads_away Close registers = true
 leads_away _ registers = false
 
+-- with this place where it may lead, the command takes the configuration to that after it
+abbrev pub Obeys : Command → ℕ → Configuration → Configuration → Type 0
+Obeys command lead before after = (commands : List Command) → lead ≡ lead_of commands before.place (Some command) → after ≡ stepped commands before command
+
 -- but for the end, a demand leaves a command to go past, with fuel for it
 abbrev pub CanPass : Demand → ℕ → ℕ → ℕ → Type 0
 CanPass (Ended end) place fuel len = Unit {0}
@@ -52,7 +57,7 @@ WaitsAt (Some (Read to object)) fuel = 0 < fuel
 WaitsAt _ fuel = ⊥
 
 -- commands of a thread of so many objects, with the table of their leads, and a read where one waits
-pub record IsSound (commands : List Command) (leads : List ℕ) (objects : ℕ) (progress : Progress) (waits : Bool) : Type 0 where
+pub record IsConsistent (commands : List Command) (leads : List ℕ) (objects : ℕ) (progress : Progress) (waits : Bool) : Type 0 where
   pub registers_there : All HasRegisters commands
   pub objects_there : All (HasObject objects) commands
   pub led : IsLeadTable commands leads

@@ -39,7 +39,7 @@ demand_of Safe registers = Some Safe
 demand_of Pause registers = Some Pause
 demand_of _ registers = None
 
--- done where no command is left, else spent where no fuel is left, else what the command demands
+-- done where no command is left, else spent where no fuel is left, else what the command demands; with fuel left, a run stops at no other command
 abbrev pub told_at : Option Command → Configuration → Demand
 told_at None c = Ended Done
 told_at (Some command) c = elim c.fuel [ zero ↦ Ended Spent | suc fuel ↦ unwrap_or (demand_of command c.registers) (Ended Spent) ]
@@ -50,6 +50,7 @@ past_told (Read object) c = c
 past_told (Ended end) c = c
 past_told _ c = moved_to c (suc c.place)
 
+-- whether a value is to be given
 abbrev pub is_read : Demand → Bool
 is_read (Read object) = true
 is_read _ = false

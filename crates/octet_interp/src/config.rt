@@ -29,11 +29,11 @@ impl Model for Config {
 
     ghost Value = { Standing };
 
-    ghost use Rattle.octet_interp.specs.Progress.{configuration_of, IsSound};
+    ghost use Rattle.octet_interp.specs.Progress.{configuration_of, IsConsistent};
 
     ghost view = { λ c. record { commands = c.commands.items; at = configuration_of c.progress; waits = c.waits; objects = c.objects } };
 
-    ghost invariant = { λ c. IsSound c.commands.items c.leads.items c.objects c.progress c.waits };
+    ghost invariant = { λ c. IsConsistent c.commands.items c.leads.items c.objects c.progress c.waits };
 }
 
 fn is_read(demand: Demand) -> bool

@@ -1,10 +1,9 @@
 //! Where a thread stands, and its run up to the next command that is told.
-ghost use Rattle.std.specs.Prelude.{◌≡◌, ◌<◌, ◌≤◌, ◌^◌, ◌+◌, suc, List, length, All, IfSome, IsNone, ◌↔◌, false, Some, slice_get, slice_index};
-ghost use Rattle.octet_model.specs.declared.command.Command.{Command};
-ghost use Rattle.octet_model.specs.Thread.{moved_to, stepped, with_register};
-ghost use Rattle.octet_interp.specs.Leads.{lead_of, IsLeadTable};
+ghost use Rattle.std.specs.Prelude.{◌≡◌, ◌<◌, ◌≤◌, ◌↔◌, false, length, slice_get, slice_index, All, IfSome, IsNone};
+ghost use Rattle.octet_model.specs.Thread.{moved_to, with_register};
+ghost use Rattle.octet_interp.specs.Leads.{IsLeadTable};
 ghost use Rattle.octet_interp.specs.Registers.{HasRegisters};
-ghost use Rattle.octet_interp.specs.Progress.{configuration_of, is_calculation, leads_away, Calculates, CanPass, HasSmallValue};
+ghost use Rattle.octet_interp.specs.Progress.{configuration_of, is_calculation, leads_away, Calculates, CanPass, HasSmallValue, Obeys};
 ghost use Rattle.octet_interp.specs.Told.{arrived, demand_of, past_told, told_at};
 
 use crate::Demand;
@@ -117,7 +116,7 @@ fn obey(progress: &mut Progress, command: Command, lead: usize)
     requires registers { HasRegisters command }
     requires fuelled { 0 < progress.old.fuel }
     requires room { progress.old.place < usize.MAX }
-    ensures { (commands : List Command) → lead ≡ lead_of commands progress.old.place (Some command) → configuration_of progress.new ≡ stepped commands (configuration_of progress.old) command }
+    ensures { Obeys command lead (configuration_of progress.old) (configuration_of progress.new) }
 {
     if let Some((to, value)) = calculated(command, &progress.registers) {
         set_register(progress, to, value);
