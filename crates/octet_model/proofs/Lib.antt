@@ -2,6 +2,7 @@ pub mod Steps
 pub mod Fronts
 pub mod LowestThread
 pub mod Plays
+pub mod Splits
 pub mod Logged
 pub mod Growing
 pub mod Pasts

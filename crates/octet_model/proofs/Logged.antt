@@ -10,35 +10,17 @@ use Rattle.octet_model.specs.declared.event.Mark.{Mark}
 use Rattle.octet_model.specs.declared.log.Gapped.{Gapped}
 use Rattle.octet_model.specs.declared.log.ThreadLog.{ThreadLog}
 use Rattle.octet_model.specs.declared.script.Script.{Script}
-use Rattle.octet_model.specs.Thread.{Configuration, Demand, ToRead, ToWrite, ToEnd, demanded, past_demanded, configuration_after, starting_configuration, FitsFrom, FitsToEnd}
+use Rattle.octet_model.specs.Thread.{Configuration, Demand, ToRead, ToWrite, ToEnd, demanded, configuration_after, starting_configuration, FitsToEnd}
 use Rattle.octet_model.specs.Journals.{access_count, mark_count, gap_after, gapped_marks, log_of_journal, log_of, due_mark, next_access, mark_first, next_by_log}
 use Rattle.octet_model.specs.Machine.{Journals, journal_of, PlainState, no_events, starting_state, Next, Behavior, event_made, appended, next_of, may_proceed, proceeded, may_step, step, after, IsFront, AllFinished}
 use Rattle.octet_model.specs.HappensBefore.{IsOrdered}
 use Rattle.octet_model.specs.Orders.{commands_of, by_log, starting_heap, opening_state, event_total, lowest_order, lowest, go_on, lowest_front, FitsScript}
 use Rattle.octet_model.specs.Plays.{next_in, by_journals, MakesAll, lowest_play}
+use Rattle.octet_model.proofs.Splits.{accesses_split, marks_split, length_parts, length-gapped_marks, configuration_split, fits_split}
 use Rattle.octet_model.proofs.Steps.{same_journal, other_journal, what_it_makes, by_step, as_many_step}
 use Rattle.octet_model.proofs.Fronts.{IsDownClosed, down_closed_at_start, remains}
 use Rattle.octet_model.proofs.LowestThread.{first_same, lowest_may}
 use Rattle.octet_model.proofs.Plays.{total, total_cons, all_finished}
-
--- an access counts
-pub accesses_split : (pre post : List Event) → access_count (pre ++ post) ≡ access_count pre + access_count post
-accesses_split [] post = omega arith
-accesses_split (Read object value ∷ pre) post = omega (arith, accesses_split pre post)
-accesses_split (Write object value ∷ pre) post = omega (arith, accesses_split pre post)
-accesses_split (Marked mark ∷ pre) post = accesses_split pre post
-
-pub marks_split : (pre post : List Event) → mark_count (pre ++ post) ≡ mark_count pre + mark_count post
-marks_split [] post = omega arith
-marks_split (Read object value ∷ pre) post = marks_split pre post
-marks_split (Write object value ∷ pre) post = marks_split pre post
-marks_split (Marked mark ∷ pre) post = omega (arith, marks_split pre post)
-
-length-gapped_marks : (before : ℕ) (journal : List Event) → length (gapped_marks before journal) ≡ mark_count journal
-length-gapped_marks before [] = refl
-length-gapped_marks before (Read object value ∷ journal) = length-gapped_marks (suc before) journal
-length-gapped_marks before (Write object value ∷ journal) = length-gapped_marks (suc before) journal
-length-gapped_marks before (Marked mark ∷ journal) = ap suc (length-gapped_marks 0 journal)
 
 -- the next mark of a log is the first of what is left of the journal
 next_gapped : (before : ℕ) (pre post : List Event) → slice_get (gapped_marks before (pre ++ post)) (mark_count pre) ≡ slice_get (gapped_marks (gap_after before pre) post) 0
@@ -58,18 +40,6 @@ is_due : (gap : ℕ) (mark : Mark) → due_mark (Some (record { gap = gap; mark 
 is_due gap mark = ap (λ (b : Bool). cond b (Some mark) None) (eq-eqb gap gap refl)
 
 module _ (commands : List Command) where
-  pub left_split : (c : Configuration) (pre post : List Event) → configuration_after commands c (pre ++ post) ≡ configuration_after commands (configuration_after commands c pre) post
-  left_split c [] post = refl
-  left_split c (Read object value ∷ pre) post = left_split (past_demanded commands c value) pre post
-  left_split c (Write object value ∷ pre) post = left_split (past_demanded commands c value) pre post
-  left_split c (Marked mark ∷ pre) post = left_split c pre post
-
-  fits_split : (c : Configuration) (pre post : List Event) → FitsFrom commands c (pre ++ post) → FitsFrom commands (configuration_after commands c pre) post
-  fits_split c [] post fits = fits
-  fits_split c (Read object value ∷ pre) post fits = fits_split (past_demanded commands c value) pre post fits.1
-  fits_split c (Write object value ∷ pre) post fits = fits_split (past_demanded commands c value) pre post fits.1
-  fits_split c (Marked mark ∷ pre) post fits = fits_split c pre post fits
-
   -- what is next by the log, from the four things that decide it
   next_parts : (c : Configuration) (log : ThreadLog) (journal : List Event) (mark : Option Mark) (d : Demand) (a m : Bool)
       → due_mark (slice_get log.marks (mark_count journal)) (gap_after 0 journal) ≡ mark
@@ -88,19 +58,19 @@ module _ (commands : List Command) where
   same_next c pre [] fits =
       next_parts c (log_of_journal (pre ++ [])) pre None (ToEnd fits.1.0) false false
       (ap (λ (o : Option Gapped). due_mark o (gap_after 0 pre)) (next_gapped 0 pre []))
-      (ap (demanded commands) (sym (left_split c pre [])) ∙ fits.1.1)
+      (ap (demanded commands) (sym (configuration_split commands c pre [])) ∙ fits.1.1)
       (le-ltb (access_count pre) (access_count (pre ++ [])) (omega (arith, accesses_split pre [])))
       (le-ltb (mark_count pre) (length (gapped_marks 0 (pre ++ []))) (omega (arith, marks_split pre [], length-gapped_marks 0 (pre ++ []))))
   same_next c pre (Read object value ∷ post) fits =
       next_parts c (log_of_journal (pre ++ Read object value ∷ post)) pre None (ToRead object) true (ltb (mark_count pre) (length (gapped_marks 0 (pre ++ Read object value ∷ post))))
       (ap (λ (o : Option Gapped). due_mark o (gap_after 0 pre)) (next_gapped 0 pre (Read object value ∷ post)) ∙ not_due_mark (gap_after 0 pre) (suc (gap_after 0 pre)) post (omega arith))
-      (fits_split c pre (Read object value ∷ post) fits.0).0
+      (fits_split commands c pre (Read object value ∷ post) fits.0).0
       (lt-ltb (access_count pre) (access_count (pre ++ Read object value ∷ post)) (omega (arith, accesses_split pre (Read object value ∷ post))))
       refl
   same_next c pre (Write object value ∷ post) fits =
       next_parts c (log_of_journal (pre ++ Write object value ∷ post)) pre None (ToWrite object value) true (ltb (mark_count pre) (length (gapped_marks 0 (pre ++ Write object value ∷ post))))
       (ap (λ (o : Option Gapped). due_mark o (gap_after 0 pre)) (next_gapped 0 pre (Write object value ∷ post)) ∙ not_due_mark (gap_after 0 pre) (suc (gap_after 0 pre)) post (omega arith))
-      (fits_split c pre (Write object value ∷ post) fits.0).0
+      (fits_split commands c pre (Write object value ∷ post) fits.0).0
       (lt-ltb (access_count pre) (access_count (pre ++ Write object value ∷ post)) (omega (arith, accesses_split pre (Write object value ∷ post))))
       refl
   same_next c pre (Marked mark ∷ post) fits =
@@ -134,12 +104,6 @@ as_many_after behavior (t ∷ order) s = as_many_after behavior order (step beha
 pub slice_get_split : (pre post : List Event) → slice_get (pre ++ post) (length pre) ≡ slice_get post 0
 slice_get_split [] post = refl
 slice_get_split (e ∷ pre) post = slice_get_split pre post
-
-pub length_parts : (journal : List Event) → length journal ≡ access_count journal + mark_count journal
-length_parts [] = omega arith
-length_parts (Read object value ∷ journal) = omega (arith, length_parts journal)
-length_parts (Write object value ∷ journal) = omega (arith, length_parts journal)
-length_parts (Marked mark ∷ journal) = omega (arith, length_parts journal)
 
 all_events : (journals : Journals) → event_total (log_of journals) ≡ total journals
 all_events [] = refl
@@ -223,16 +187,3 @@ lowest_play_is_lowest_order script journals play ordered all threads fit =
     ap (λ (n : ℕ). lowest_front V n (opening_state script)) (all_events journals)
     ∙ ap (λ (js : Journals). lowest_front V (total journals) (record { heap = heap; journals = js; draws = 0 })) (same_start script.threads journals threads)
     ∙ front_same script journals fit (total journals) play s all.makes (down_closed_at_start journals journals) ordered all.is_play (all_finished heap journals play all)
-
--- one more event of a journal
-pub since_push : (before : ℕ) (journal : List Event) (e : Event) → gap_after before (journal ++ e ∷ []) ≡ gap_after (gap_after before journal) (e ∷ [])
-since_push before [] e = refl
-since_push before (Read object value ∷ journal) e = since_push (suc before) journal e
-since_push before (Write object value ∷ journal) e = since_push (suc before) journal e
-since_push before (Marked mark ∷ journal) e = since_push 0 journal e
-
-pub fits_push : (commands : List Command) (c : Configuration) (journal : List Event) (e : Event) → FitsFrom commands c journal → FitsFrom commands (configuration_after commands c journal) (e ∷ []) → FitsFrom commands c (journal ++ e ∷ [])
-fits_push commands c [] e fits more = more
-fits_push commands c (Read object value ∷ journal) e fits more = (fits.0, fits_push commands (past_demanded commands c value) journal e fits.1 more)
-fits_push commands c (Write object value ∷ journal) e fits more = (fits.0, fits_push commands (past_demanded commands c value) journal e fits.1 more)
-fits_push commands c (Marked mark ∷ journal) e fits more = fits_push commands c journal e fits more

@@ -21,7 +21,7 @@ use Rattle.octet_model.proofs.Steps.{Makes, what_it_makes, same_journal, other_s
 use Rattle.octet_model.proofs.Fronts.{no_journal, front_leads_on}
 use Rattle.octet_model.proofs.LowestThread.{lowest_may, none_lower, none_at_all, none_may}
 use Rattle.octet_model.proofs.Plays.{total, total_cons, total_step}
-use Rattle.octet_model.proofs.Logged.{accesses_split, marks_split, length_parts}
+use Rattle.octet_model.proofs.Splits.{accesses_split, marks_split, length_parts}
 
 -- where every state that is reached keeps something that bounds its events, the lowest front of so many steps comes to its end
 module _ (behavior : Behavior) (Kept : PlainState → Type 0) (most : ℕ)
