@@ -4,25 +4,12 @@ use Rattle.octet_model.specs.declared.command.Command.{Command}
 use Rattle.octet_model.specs.declared.event.Event.{Event}
 use Rattle.octet_model.specs.declared.event.Event.TheVariants.{Read, Write, Marked}
 use Rattle.octet_model.specs.Thread.{Configuration, settled, past_demanded, configuration_after, FitsFrom}
+use Rattle.octet_model.proofs.Splits.{configuration_split, fits_join}
 use Rattle.octet_interp.specs.declared.demand.Demand.{Demand}
 use Rattle.octet_interp.specs.declared.demand.Demand.TheVariants.{Read, Write, Ended}
 use Rattle.octet_interp.specs.Told.{Standing, told, after_told}
 use Rattle.octet_interp.specs.Laws.{Agrees, IsJournalOf, IsJournalPast, JournalsKeepUp, JournalsTakeMarks}
 use Rattle.octet_interp.proofs.Agreement.{agrees, follows}
-
-left_after : (commands : List Command) (c : Configuration) (journal : List Event) (event : Event)
-    → configuration_after commands c (journal ++ event ∷ []) ≡ configuration_after commands (configuration_after commands c journal) (event ∷ [])
-left_after commands c [] event = refl
-left_after commands c (Read object value ∷ journal) event = left_after commands (past_demanded commands c value) journal event
-left_after commands c (Write object value ∷ journal) event = left_after commands (past_demanded commands c value) journal event
-left_after commands c (Marked mark ∷ journal) event = left_after commands c journal event
-
-fits_more : (commands : List Command) (c : Configuration) (journal : List Event) (event : Event)
-    → FitsFrom commands c journal → FitsFrom commands (configuration_after commands c journal) (event ∷ []) → FitsFrom commands c (journal ++ event ∷ [])
-fits_more commands c [] event fits last = last
-fits_more commands c (Read object value ∷ journal) event fits last = (fits.0, fits_more commands (past_demanded commands c value) journal event fits.1 last)
-fits_more commands c (Write object value ∷ journal) event fits last = (fits.0, fits_more commands (past_demanded commands c value) journal event fits.1 last)
-fits_more commands c (Marked mark ∷ journal) event fits last = fits_more commands c journal event fits last
 
 -- standing elsewhere
 abbrev moved : Standing → Configuration → Bool → Standing
@@ -34,15 +21,15 @@ keeps_with start journal s at waits (Read object) agrees kept =
     let after = configuration_after s.commands start journal in
     let alike = follows s.commands after s.at kept.settles in
     λ value. record {
-      fits = fits_more s.commands start journal (Read object value) kept.fits (alike.0 ∙ agrees.0, tt);
-      settles = ap (settled s.commands) (left_after s.commands start journal (Read object value) ∙ alike.1 value ∙ sym (agrees.1 value));
+      fits = fits_join s.commands start journal (Read object value ∷ []) kept.fits (alike.0 ∙ agrees.0, tt);
+      settles = ap (settled s.commands) (configuration_split s.commands start journal (Read object value ∷ []) ∙ alike.1 value ∙ sym (agrees.1 value));
     }
 keeps_with start journal s at waits (Write object value) agrees kept =
     let after = configuration_after s.commands start journal in
     let alike = follows s.commands after s.at kept.settles in
     record {
-      fits = fits_more s.commands start journal (Write object value) kept.fits (alike.0 ∙ agrees.0, tt);
-      settles = ap (settled s.commands) (left_after s.commands start journal (Write object value) ∙ alike.1 value ∙ sym (agrees.1 value));
+      fits = fits_join s.commands start journal (Write object value ∷ []) kept.fits (alike.0 ∙ agrees.0, tt);
+      settles = ap (settled s.commands) (configuration_split s.commands start journal (Write object value ∷ []) ∙ alike.1 value ∙ sym (agrees.1 value));
     }
 keeps_with start journal s at waits (Ended end) agrees kept =
     let after = configuration_after s.commands start journal in
@@ -55,6 +42,6 @@ keep_up start journal s kept = keeps_with start journal s (after_told s).at (aft
 
 pub take_marks : JournalsTakeMarks
 take_marks start journal s mark kept = record {
-  fits = fits_more s.commands start journal (Marked mark) kept.fits tt;
-  settles = ap (settled s.commands) (left_after s.commands start journal (Marked mark)) ∙ kept.settles;
+  fits = fits_join s.commands start journal (Marked mark ∷ []) kept.fits tt;
+  settles = ap (settled s.commands) (configuration_split s.commands start journal (Marked mark ∷ [])) ∙ kept.settles;
 }

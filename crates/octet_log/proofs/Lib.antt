@@ -1,0 +1,7 @@
+pub mod Valid
+pub mod Loops
+pub mod Fields
+pub mod Each
+pub mod Marks
+pub mod Threads
+pub mod Whole

@@ -1,0 +1,5 @@
+use Rattle.octet_log.proofs.Whole.{one_log}
+use Rattle.octet_log.proofs.laws.bytes_spell_one_log.Goals as goal
+
+pub returns : goal.returns
+returns c = one_log

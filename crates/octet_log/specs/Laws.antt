@@ -1,0 +1,36 @@
+-- The laws of the format: a number has one spelling in a field, bytes spell one log, and no log goes on where another ends.
+use Rattle.std.specs.Prelude.{◌≡◌, ℕ, ◌<◌, ◌≤◌, ◌↔◌, List, [], ◌++◌, length, slice_index, Ok, IsTrue}
+use Rattle.std.specs.Int.{Width, byte_len, from_be_bytes, to_be_bytes}
+use Rattle.octet_model.specs.declared.log.ThreadLog.{ThreadLog}
+use Rattle.octet_model.specs.Log.{is_log}
+use Rattle.octet_model.specs.Texts.{log_bytes}
+use Rattle.octet_log.specs.Judgement.{judgement}
+
+-- each item is a byte
+abbrev pub AreBytes : List ℕ → Type 0
+AreBytes bytes = (i : ℕ) → slice_index bytes i < 256
+
+-- bytes as they may be handed to a decoder
+pub record IsInput (bytes : List ℕ) : Type 0 where
+  pub fits : AreBytes bytes
+  pub short : length bytes ≤ 67108864
+
+-- a number below the limit is read again from its field
+abbrev pub NumberIsReadAgain : Width → ℕ → Type 0
+NumberIsReadAgain w limit = (number : ℕ) → number < limit → from_be_bytes w (to_be_bytes w number) ≡ number
+
+-- the bytes of a field are the only spelling of their number
+abbrev pub NumberHasOneSpelling : Width → Type 0
+NumberHasOneSpelling w = (bytes : List ℕ) (number : ℕ) → length bytes ≡ byte_len w → AreBytes bytes → from_be_bytes w bytes ≡ number → bytes ≡ to_be_bytes w number
+
+-- what is judged to be a log is spelled so and valid, and each valid log is judged so by its spelling
+abbrev pub JudgesLogs : Type 0
+JudgesLogs = (bytes : List ℕ) (logs : List ThreadLog) → IsInput bytes → (judgement bytes ≡ Ok logs) ↔ (bytes ≡ log_bytes logs × IsTrue (is_log logs))
+
+-- logs of one spelling are equal
+abbrev pub BytesSpellOneLog : Type 0
+BytesSpellOneLog = (one other : List ThreadLog) → IsTrue (is_log one) → IsTrue (is_log other) → log_bytes one ≡ log_bytes other → one ≡ other
+
+-- a log's spelling goes on in no other log's
+abbrev pub NoLogGoesOn : Type 0
+NoLogGoesOn = (one other : List ThreadLog) (rest : List ℕ) → IsTrue (is_log one) → IsTrue (is_log other) → log_bytes other ≡ log_bytes one ++ rest → rest ≡ []

@@ -1,0 +1,45 @@
+-- The text of a log, and the line that says why bytes are refused as a log.
+use Rattle.std.specs.Prelude.{ℕ, suc, List, [], ◌∷◌, ◌++◌, codes, length}
+use Rattle.std.specs.List.{flat_map}
+use Rattle.std.specs.Fmt.{decimal}
+use Rattle.octet_model.specs.declared.event.Mark.{Mark}
+use Rattle.octet_model.specs.declared.event.Mark.TheVariants.{Join, Draw, Fence}
+use Rattle.octet_model.specs.declared.log.Gapped.{Gapped}
+use Rattle.octet_model.specs.declared.log.ThreadLog.{ThreadLog}
+use Rattle.octet_log.specs.declared.cause.LogCause.{LogCause}
+use Rattle.octet_log.specs.declared.cause.LogCause.TheVariants.{NoMagic, BadVersion, BadThreads, CutShort, BadMark, TooManyAccesses, Trailing}
+
+abbrev pub mark_words : Mark → List ℕ
+mark_words (Join from upto) = codes "join " ++ decimal from ++ codes " " ++ decimal upto
+mark_words (Draw number) = codes "draw " ++ decimal number
+mark_words (Fence number) = codes "fence " ++ decimal number
+
+abbrev pub mark_line : Gapped → List ℕ
+mark_line gapped = codes "gap " ++ decimal gapped.gap ++ codes " " ++ mark_words gapped.mark ++ codes "\n"
+
+-- a line for the thread, and one for each of its marks
+abbrev pub thread_text : ℕ → ThreadLog → List ℕ
+thread_text thread log =
+    codes "thread " ++ decimal thread ++ codes " accesses " ++ decimal log.accesses ++ codes " marks " ++ decimal (length log.marks) ++ codes "\n"
+    ++ flat_map mark_line log.marks
+
+-- the texts of the threads from a number on
+abbrev pub thread_texts : ℕ → List ThreadLog → List ℕ
+thread_texts thread [] = []
+thread_texts thread (log ∷ logs) = thread_text thread log ++ thread_texts (suc thread) logs
+
+abbrev pub log_text : List ThreadLog → List ℕ
+log_text logs = codes "threads " ++ decimal (length logs) ++ codes "\n" ++ thread_texts 0 logs
+
+-- the number of a cause, what it is called, and its place where it has one
+abbrev pub refusal_words : LogCause → List ℕ
+refusal_words NoMagic = codes "1 no magic"
+refusal_words BadVersion = codes "2 bad version"
+refusal_words BadThreads = codes "3 bad threads"
+refusal_words (CutShort at) = codes "4 cut short at " ++ decimal at
+refusal_words (BadMark at) = codes "5 bad mark at " ++ decimal at
+refusal_words TooManyAccesses = codes "6 too many accesses"
+refusal_words (Trailing at) = codes "7 trailing at " ++ decimal at
+
+abbrev pub refusal_line : LogCause → List ℕ
+refusal_line cause = codes "log: " ++ refusal_words cause ++ codes "\n"

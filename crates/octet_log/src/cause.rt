@@ -1,0 +1,68 @@
+//! Why bytes are refused as a log.
+ghost use Rattle.std.specs.Prelude.{◌≡◌, ◌++◌, OnOk, IfOk};
+ghost use Rattle.std.specs.Fmt.{decimal};
+ghost use Rattle.octet_log.specs.declared.cause.LogFault.TheVariants.{OutOfMemory};
+
+use std::alloc::{AllocError, AllocFailed, Global};
+use thiserror::Error;
+
+/// What is wrong with the bytes: the first refusal from the front. A place counts bytes from 0.
+#[derive(Clone, Copy, Debug, PartialEq, Eq, Error)]
+pub enum LogCause {
+    /// The first four bytes are not `OCTL`, or there are fewer.
+    #[error("no magic")]
+    NoMagic,
+    /// The version is not 1.
+    #[error("bad version")]
+    BadVersion,
+    /// The number of threads is 0 or above 16.
+    #[error("bad threads")]
+    BadThreads,
+    /// A field or a mark goes past the end, which is at this place.
+    #[error("cut short at {at}")]
+    CutShort { at: u64 },
+    /// The mark at this place is none of its thread, or its gap is too long.
+    #[error("bad mark at {at}")]
+    BadMark { at: u64 },
+    /// The accesses sum to more than 262,144.
+    #[error("too many accesses")]
+    TooManyAccesses,
+    /// A byte stands behind the last thread, at this place.
+    #[error("trailing at {at}")]
+    Trailing { at: u64 },
+}
+
+/// Why bytes were not read as a log.
+#[derive(Clone, Copy, Debug, PartialEq, Eq, Error)]
+pub enum LogFault {
+    #[error("{cause}")]
+    Refused { cause: LogCause },
+    #[error("out of memory")]
+    OutOfMemory,
+}
+
+impl From<AllocError> for LogFault {
+    ghost from_gives = { λ _ e. e ≡ OutOfMemory };
+
+    fn from(_: AllocError) -> Self {
+        LogFault::OutOfMemory
+    }
+}
+
+impl<T: Drop> From<AllocFailed<T>> for LogFault {
+    ghost from_gives = { λ _ e. e ≡ OutOfMemory };
+
+    fn from(_: AllocFailed<T>) -> Self {
+        LogFault::OutOfMemory
+    }
+}
+
+impl From<LogCause> for LogFault {
+    ghost use Rattle.octet_log.specs.declared.cause.LogFault.TheVariants.{Refused};
+
+    ghost from_gives = { λ cause e. e ≡ Refused cause };
+
+    fn from(cause: LogCause) -> Self {
+        LogFault::Refused { cause }
+    }
+}

@@ -1,0 +1,209 @@
+//! Bytes as a log.
+ghost use Rattle.std.specs.Prelude.{◌≡◌, ◌+◌, ◌≤◌, length, IfOk};
+ghost use Rattle.octet_model.specs.Log.{is_mark};
+ghost use Rattle.octet_model.specs.Texts.{log_bytes};
+ghost use Rattle.octet_log.specs.Judgement.{Gives, ReadsSpelling, spelled_mark, judged_mark, mark_at, marks_at, thread_at, threads_at, body_at, judgement};
+
+use crate::field::{cut_short, read_u8, read_u32, read_u64};
+use crate::{LogCause, LogFault};
+use octet_model::{Gapped, List, Log, Mark, ThreadLog};
+use std::alloc::Global;
+
+const MOST_ACCESSES: u64 = 262_144;
+
+// The mark that the fields spell, if they spell one.
+fn mark_of(kind: u8, thread: u8, number: u64) -> Option<Mark>
+    ensures { result ≡ spelled_mark kind thread number }
+{
+    match (kind, thread) {
+        (1, from) => Some(Mark::Join { from, upto: number }),
+        (2, 0) => Some(Mark::Draw { number }),
+        (3, 0) => Some(Mark::Fence { number }),
+        _ => None,
+    }
+}
+
+// Whether the mark is one of that thread, among so many.
+fn is_mark(threads: u8, thread: u8, mark: Mark) -> bool
+    ensures { result ≡ is_mark threads thread mark }
+{
+    match mark {
+        Mark::Join { from, .. } => from < threads && from != thread,
+        Mark::Draw { number } | Mark::Fence { number } => number >= 1,
+    }
+}
+
+// The mark with its gap, where the thread has so many accesses left.
+fn gapped(
+    place: usize,
+    threads: u8,
+    thread: u8,
+    left: u32,
+    gap: u32,
+    mark: Option<Mark>,
+) -> Result<Gapped, LogFault>
+    ensures judged { Gives (λ x. x) result (judged_mark place threads thread left gap mark) }
+    ensures gap { IfOk result (λ x. x.gap ≤ left) }
+{
+    match mark {
+        Some(mark) if gap <= left && is_mark(threads, thread, mark) => Ok(Gapped { gap, mark }),
+        _ => Err(LogFault::Refused {
+            cause: LogCause::BadMark { at: place as u64 },
+        }),
+    }
+}
+
+#[tactic(auto, unfolding(crate::specs::Judgement::mark_at))]
+fn read_mark(
+    total: usize,
+    threads: u8,
+    thread: u8,
+    left: u32,
+    bytes: &[u8],
+) -> Result<(Gapped, &[u8]), LogFault>
+    requires { length bytes.now ≤ total }
+    ensures judged { Gives (λ x. (x.0, x.1.now)) result (mark_at total threads thread left bytes.now) }
+    ensures shorter { IfOk result (λ x. length x.1.now ≤ length bytes.now) }
+    ensures gap { IfOk result (λ x. x.0.gap ≤ left) }
+{
+    if bytes.len() < 14 {
+        return Err(cut_short(total));
+    }
+    let (kind, rest) = read_u8(total, bytes)?;
+    let (gap, rest) = read_u32(total, rest)?;
+    let (named, rest) = read_u8(total, rest)?;
+    let (number, rest) = read_u64(total, rest)?;
+    let mark = mark_of(kind, named, number);
+    let gapped = gapped(total - bytes.len(), threads, thread, left, gap, mark)?;
+    Ok((gapped, rest))
+}
+
+fn read_marks(
+    alloc: Global,
+    total: usize,
+    threads: u8,
+    thread: u8,
+    accesses: u32,
+    count: u32,
+    bytes: &[u8],
+) -> Result<(Vec<Gapped>, &[u8]), LogFault>
+    requires { length bytes.now ≤ total }
+    ensures judged { Gives (λ x. (x.0.items, x.1.now)) result (marks_at total threads thread accesses count bytes.now) }
+    ensures shorter { IfOk result (λ x. length x.1.now ≤ length bytes.now) }
+{
+    let mut marks = Vec::new(alloc);
+    let mut left = accesses;
+    let mut rest = bytes;
+    for _ in 0..count {
+        let (gapped, after) = read_mark(total, threads, thread, left, rest)?;
+        left -= gapped.gap;
+        marks.push(gapped)?;
+        rest = after;
+    }
+    Ok((marks, rest))
+}
+
+#[tactic(auto, unfolding(crate::specs::Judgement::thread_at))]
+fn read_thread(
+    alloc: Global,
+    total: usize,
+    threads: u8,
+    thread: u8,
+    before: u64,
+    bytes: &[u8],
+) -> Result<(ThreadLog, &[u8]), LogFault>
+    requires within { length bytes.now ≤ total }
+    requires before { before ≤ 262144 }
+    ensures judged { Gives (λ x. (x.0, x.1.now)) result (thread_at total threads thread before bytes.now) }
+    ensures shorter { IfOk result (λ x. length x.1.now ≤ length bytes.now) }
+    ensures sum { IfOk result (λ x. before + x.0.accesses ≤ 262144) }
+{
+    let (accesses, rest) = read_u32(total, bytes)?;
+    if before + u64::from(accesses) > MOST_ACCESSES {
+        return Err(LogFault::Refused {
+            cause: LogCause::TooManyAccesses,
+        });
+    }
+    let (count, rest) = read_u32(total, rest)?;
+    let (marks, rest) = read_marks(alloc, total, threads, thread, accesses, count, rest)?;
+    let marks = List::from_vec(marks);
+    Ok((ThreadLog { accesses, marks }, rest))
+}
+
+fn read_threads(
+    alloc: Global,
+    total: usize,
+    threads: u8,
+    bytes: &[u8],
+) -> Result<(Vec<ThreadLog>, &[u8]), LogFault>
+    requires { length bytes.now ≤ total }
+    ensures judged { Gives (λ x. (x.0.items, x.1.now)) result (threads_at total threads bytes.now) }
+    ensures shorter { IfOk result (λ x. length x.1.now ≤ length bytes.now) }
+{
+    let mut logs = Vec::new(alloc);
+    let mut before = 0;
+    let mut rest = bytes;
+    for thread in 0..threads {
+        let (log, after) = read_thread(alloc, total, threads, thread, before, rest)?;
+        before += u64::from(log.accesses);
+        logs.push(log)?;
+        rest = after;
+    }
+    Ok((logs, rest))
+}
+
+#[tactic(auto, unfolding(crate::specs::Judgement::body_at))]
+fn read_body(alloc: Global, total: usize, bytes: &[u8]) -> Result<Vec<ThreadLog>, LogFault>
+    requires { length bytes.now ≤ total }
+    ensures { Gives (λ logs. logs.items) result (body_at total bytes.now) }
+{
+    let (version, rest) = read_u8(total, bytes)?;
+    if version != 1 {
+        return Err(LogFault::Refused {
+            cause: LogCause::BadVersion,
+        });
+    }
+    let (threads, rest) = read_u8(total, rest)?;
+    if threads < 1 || threads > 16 {
+        return Err(LogFault::Refused {
+            cause: LogCause::BadThreads,
+        });
+    }
+    let (logs, rest) = read_threads(alloc, total, threads, rest)?;
+    if !rest.is_empty() {
+        let at = (total - rest.len()) as u64;
+        return Err(LogFault::Refused {
+            cause: LogCause::Trailing { at },
+        });
+    }
+    Ok(logs)
+}
+
+#[tactic(auto, unfolding(crate::specs::Judgement::judgement))]
+fn read_log(alloc: Global, bytes: &[u8]) -> Result<Vec<ThreadLog>, LogFault>
+    ensures { Gives (λ logs. logs.items) result (judgement bytes.now) }
+{
+    let Some(rest) = bytes.strip_prefix(b"OCTL") else {
+        return Err(LogFault::Refused {
+            cause: LogCause::NoMagic,
+        });
+    };
+    read_body(alloc, bytes.len(), rest)
+}
+
+/// The log that the bytes spell, all of them; else the first refusal from the front, with its
+/// place. The bytes are at most 67,108,864. Room is taken as marks are met, and not by a number
+/// that the bytes merely claim.
+pub fn decode(alloc: Global, bytes: &[u8]) -> Result<Log, LogFault>
+    requires { length bytes.now ≤ 67108864 }
+
+    // What is read is spelled so.
+    ensures spelled { IfOk result (λ log. bytes.now ≡ log_bytes log.threads) }
+    // What spells a log is read, unless memory runs out.
+    ensures read { ReadsSpelling (λ log. log.threads) bytes.now result }
+    // Which refusal it is, and where.
+    ensures judged { Gives (λ log. log.threads) result (judgement bytes.now) }
+{
+    let threads = List::from_vec(read_log(alloc, bytes)?);
+    Ok(Log { threads })
+}

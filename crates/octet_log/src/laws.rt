@@ -1,0 +1,27 @@
+//! Laws of the format. Their functions have no parameters and do nothing: each contract is the law.
+ghost use Rattle.std.specs.Prelude.{◌^◌};
+ghost use Rattle.std.specs.Int.{w32, w64};
+ghost use Rattle.octet_log.specs.Laws.{NumberIsReadAgain, NumberHasOneSpelling, JudgesLogs, BytesSpellOneLog, NoLogGoesOn};
+
+/// The bytes of a field are the one spelling of their number, and give it back.
+pub fn field_has_one_spelling()
+    ensures four_bytes { NumberHasOneSpelling w32 }
+    ensures eight_bytes { NumberHasOneSpelling w64 }
+    ensures four_bytes_again { NumberIsReadAgain w32 (2 ^ 32) }
+    ensures eight_bytes_again { NumberIsReadAgain w64 (2 ^ 64) }
+{}
+
+/// Bytes are judged to be a log exactly where they are the spelling of that valid log.
+pub fn judgement_accepts_spellings_alone()
+    ensures { JudgesLogs }
+{}
+
+/// Two logs of one spelling are equal.
+pub fn bytes_spell_one_log()
+    ensures { BytesSpellOneLog }
+{}
+
+/// No log's spelling is a proper prefix of another's.
+pub fn no_log_is_a_prefix()
+    ensures { NoLogGoesOn }
+{}

@@ -1,0 +1,22 @@
+//! Logs as bytes and as text: the one spelling of a log, the log that bytes spell, or the first
+//! cause to refuse them with its place.
+#![tactic(auto)]
+
+mod cause;
+mod decoder;
+mod encoder;
+mod field;
+mod laws;
+mod text;
+
+pub use cause::{LogCause, LogFault};
+pub use decoder::decode;
+pub use encoder::encode_v1;
+pub use laws::{
+    bytes_spell_one_log, field_has_one_spelling, judgement_accepts_spellings_alone,
+    no_log_is_a_prefix,
+};
+pub use text::{refusal_line, show};
+
+#[cfg(test)]
+mod tests;

@@ -1,0 +1,10 @@
+pub mod Keywords
+pub mod Cut
+pub mod Numbers
+pub mod Judged
+pub mod Printed
+pub mod Steps
+pub mod Valid
+pub mod Sound
+pub mod Spelled
+pub mod Complete

@@ -1,0 +1,6 @@
+use Rattle.std.proofs.Common.{rules, ◌≡◌, ◌∙◌, sym, ap, arith}
+use Rattle.octet_script.proofs.Judged.{valid_bytes}
+use Rattle.octet_script.proofs.parser.judge_bytes.Goals as goal
+
+pub returns-in-Ok : goal.returns-in-Ok
+returns-in-Ok c = valid_bytes c.args.text.now c.in-Ok.ensures.cases.1

@@ -1,0 +1,5 @@
+pub mod Causes
+pub mod Words
+pub mod Spelling
+pub mod Judgement
+pub mod Building

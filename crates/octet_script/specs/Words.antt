@@ -1,0 +1,37 @@
+-- The lines of a text, and the words of a line.
+use Rattle.std.specs.Prelude.{ℕ, ◌||◌, ◌==◌, List, [], ◌∷◌, Bool, true, false, map}
+use Rattle.std.specs.List.{slice_split, before_first, filter}
+
+-- LF ends a line; what stands behind the last LF is a line too
+abbrev pub is_line_end : ℕ → Bool
+is_line_end b = b == 10
+
+abbrev pub lines : List ℕ → List (List ℕ)
+lines text = slice_split is_line_end text
+
+abbrev pub is_comment_start : ℕ → Bool
+is_comment_start b = b == 35
+
+-- what is read of a line: all that stands before its first #
+abbrev pub uncommented : List ℕ → List ℕ
+uncommented line = before_first is_comment_start line
+
+-- a blank, a tab or CR
+abbrev pub is_blank : ℕ → Bool
+is_blank b = b == 32 || b == 9 || b == 13
+
+abbrev pub is_filled : {X : Type 0} → List X → Bool
+is_filled [] = false
+is_filled (x ∷ xs) = true
+
+-- what stands between blanks, tabs and CRs
+abbrev pub words : List ℕ → List (List ℕ)
+words text = filter is_filled (slice_split is_blank text)
+
+-- the words of a line
+abbrev pub words_of_line : List ℕ → List (List ℕ)
+words_of_line line = words (uncommented line)
+
+-- the words of each line that has any
+abbrev pub speaking_lines : List ℕ → List (List (List ℕ))
+speaking_lines text = filter is_filled (map words_of_line (lines text))

@@ -1,0 +1,20 @@
+//! What the lines so far have said.
+ghost use Rattle.std.specs.Prelude.{◌≤◌, length, unwrap_or};
+
+use octet_model::{Command, List, Object};
+
+/// What the lines so far have said.
+#[derive(Drop)]
+pub(crate) struct Builder {
+    pub fuel: Option<u32>,
+    pub objects: List<Object>,
+    // Whether a `thread` came; the threads before the present one, and its commands.
+    pub started: bool,
+    pub threads: List<List<Command>>,
+    pub commands: List<Command>,
+    // The lines of its open `while`s and `if`s, the innermost last.
+    pub openers: Vec<u32>,
+    pub ghost few_objects: { length objects ≤ 1024 },
+    pub ghost few_threads: { length threads ≤ 16 },
+    pub ghost bounded_fuel: { unwrap_or fuel 16384 ≤ 262144 },
+}

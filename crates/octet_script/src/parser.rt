@@ -1,0 +1,75 @@
+//! From a text to the script that it spells.
+ghost use Rattle.std.specs.Prelude.{◌≡◌, ◌≤◌, ℕ, length, count_by, IfOk};
+ghost use Rattle.octet_script.specs.Words.{lines, is_line_end};
+ghost use Rattle.octet_script.specs.Spelling.{Spells, contents};
+ghost use Rattle.octet_script.specs.Judgement.{Gives, judged_bytes, judged_lines, judgement};
+ghost use Rattle.octet_script.specs.Building.{progress};
+
+use crate::builder::Builder;
+use crate::line::Line;
+use crate::words::{cut_line, uncommented};
+use crate::{ScriptCause, ScriptFault};
+use octet_model::Script;
+use std::alloc::Global;
+
+fn judge_bytes(text: &[u8]) -> Result<(), ScriptFault>
+    requires { length text.now ≤ 1048576 }
+    ensures { Gives (λ _. tt) result (judged_bytes text.now) }
+{
+    match str::from_utf8(text) {
+        Ok(_) => Ok(()),
+        Err(fault) => Err(ScriptFault::Refused {
+            line: 1 + count_line_ends(&text[..fault.valid_up_to()]) as u32,
+            cause: ScriptCause::NotUtf8,
+        }),
+    }
+}
+
+fn count_line_ends(text: &[u8]) -> usize
+    ensures { result ≡ count_by is_line_end text.now }
+{
+    text.iter().filter(|byte| **byte == b'\n').count()
+}
+
+// Judges all lines, and gives the number of the last.
+fn judge_lines(alloc: Global, builder: &mut Builder, text: &[u8]) -> Result<u32, ScriptFault>
+    requires { length text.now ≤ 1048576 }
+    ensures said { Gives (λ _. progress builder.new) result (judged_lines (lines text.now) (progress builder.old) 1) }
+    ensures last { IfOk result (λ last. last ≡ length (lines text.now)) }
+{
+    let mut number = 1;
+    let mut rest = text;
+    while let Some((line, after)) = cut_line(rest) {
+        let text = uncommented(line);
+        builder.judge(alloc, Line { number, text })?;
+        number += 1;
+        rest = after;
+    }
+    let text = uncommented(rest);
+    builder.judge(alloc, Line { number, text })?;
+    Ok(number)
+}
+
+// The script of the text, or the first refusal.
+fn read(alloc: Global, text: &[u8]) -> Result<Script, ScriptFault>
+    requires { length text.now ≤ 1048576 }
+    ensures { Gives contents result (judgement text.now) }
+{
+    judge_bytes(text)?;
+    let mut builder = Builder::new(alloc);
+    let last = judge_lines(alloc, &mut builder, text)?;
+    builder.finish(alloc, last)
+}
+
+/// The script that a text spells, or the first refusal of the text.
+pub fn parse(alloc: Global, text: &[u8]) -> Result<Script, ScriptFault>
+    requires { length text.now ≤ 1048576 }
+    // Which script, or which refusal, it is.
+    ensures exact { Gives contents result (judgement text.now) }
+    // What is read is spelled so.
+    ensures ok { IfOk result (λ script. Spells text.now script) }
+    // What is spelled so is read, unless memory is refused.
+    ensures only { (script : Script) → Spells text.now script → Gives (λ s. s) result (Ok script) }
+{
+    read(alloc, text)
+}

@@ -1,0 +1,5 @@
+pub mod Files
+pub mod Promises
+pub mod Requests
+pub mod Takes
+pub mod Words

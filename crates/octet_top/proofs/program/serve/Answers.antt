@@ -1,0 +1,27 @@
+use Rattle.octet_top.specs.Request.{texts}
+use Rattle.octet_top.proofs.Promises.{headline, not_a_command_at_1, script_refused_at_2, log_refused_at_3, read_at_5, write_at_6, too_long_at_8, complete}
+use Rattle.octet_top.proofs.program.serve.Goals as goal
+
+pub returns-clause-headline : goal.returns-clause-headline
+returns-clause-headline g c = headline (texts c.args.words.now) _ _ _ c.answer_words.ensures
+
+pub returns-clause-words : goal.returns-clause-words
+returns-clause-words g c = not_a_command_at_1 (texts c.args.words.now) _ _ _ c.answer_words.ensures
+
+pub returns-clause-script : goal.returns-clause-script
+returns-clause-script g c = script_refused_at_2 (texts c.args.words.now) _ _ _ c.answer_words.ensures
+
+pub returns-clause-log : goal.returns-clause-log
+returns-clause-log g c = log_refused_at_3 (texts c.args.words.now) _ _ _ c.answer_words.ensures
+
+pub returns-clause-read : goal.returns-clause-read
+returns-clause-read g c = read_at_5 (texts c.args.words.now) _ _ _ c.answer_words.ensures
+
+pub returns-clause-write : goal.returns-clause-write
+returns-clause-write g c = write_at_6 (texts c.args.words.now) _ _ _ c.answer_words.ensures
+
+pub returns-clause-too_long : goal.returns-clause-too_long
+returns-clause-too_long g c = too_long_at_8 (texts c.args.words.now) _ _ _ c.answer_words.ensures
+
+pub returns-clause-complete : goal.returns-clause-complete
+returns-clause-complete g c = complete (texts c.args.words.now) _ _ _ c.answer_words.ensures

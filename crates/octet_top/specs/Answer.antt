@@ -1,0 +1,58 @@
+-- What a command answers: its status, the files that it writes, and the text that it says.
+use Rattle.std.specs.Prelude.{ℕ, List, [], ◌∷◌, ◌++◌, map, codes, string_bytes}
+use Rattle.std.specs.Fmt.{decimal}
+use Rattle.octet_script.specs.declared.cause.ScriptCause.{ScriptCause}
+use Rattle.octet_script.specs.Causes.{cause_number, cause_text}
+use Rattle.octet_log.specs.declared.cause.LogCause.{LogCause}
+use Rattle.octet_log.specs.Texts.{refusal_line}
+use Rattle.octet_top.specs.declared.reply.Status.{Status}
+use Rattle.octet_top.specs.declared.reply.Status.TheVariants.{Done, Words, Script, Log, Read, Write, Memory, TooLong}
+use Rattle.octet_top.specs.declared.reply.Output.{Output}
+use Rattle.octet_top.specs.declared.reply.Reply.{Reply}
+
+-- the exit status
+abbrev pub code_of : Status → ℕ
+code_of Done = 0
+code_of Words = 1
+code_of Script = 2
+code_of Log = 3
+code_of Read = 5
+code_of Write = 6
+code_of Memory = 7
+code_of TooLong = 8
+
+-- the files are pairs of a name and its bytes, in the order in which they are written
+pub record Answer : Type 0 where
+  pub status : Status
+  pub files : List (List ℕ × List ℕ)
+  pub text : List ℕ
+
+abbrev pub file_of : Output → List ℕ × List ℕ
+file_of output = (string_bytes output.name, output.bytes)
+
+abbrev pub answer_of : Reply → Answer
+answer_of reply = record { status = reply.status; files = map file_of reply.outputs; text = reply.text }
+
+-- a line is said and no file is written
+abbrev pub told : Status → List ℕ → Answer
+told status text = record { status = status; files = []; text = text }
+
+-- a file is written, and then a text is said
+abbrev pub writes_and_tells : List ℕ → List ℕ → List ℕ → Answer
+writes_and_tells name bytes text = record { status = Done; files = (name, bytes) ∷ []; text = text }
+
+abbrev pub not_a_command : Answer
+not_a_command = told Words (codes "words: not a command\n")
+
+abbrev pub read_failed : Answer
+read_failed = told Read (codes "read: failed\n")
+
+abbrev pub too_long : List ℕ → ℕ → Answer
+too_long name limit = told TooLong (codes "long: " ++ name ++ codes " over " ++ decimal limit ++ codes " bytes\n")
+
+abbrev pub script_refused : ℕ → ScriptCause → Answer
+script_refused line cause =
+    told Script (codes "script: line " ++ decimal line ++ codes ": " ++ decimal (cause_number cause) ++ codes " " ++ cause_text cause ++ codes "\n")
+
+abbrev pub log_refused : LogCause → Answer
+log_refused cause = told Log (refusal_line cause)

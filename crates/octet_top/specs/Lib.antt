@@ -1,0 +1,6 @@
+pub mod Answer
+pub mod Taking
+pub mod Serving
+pub mod Request
+pub mod Commands
+pub mod Promises

@@ -1,0 +1,87 @@
+-- What the top call promises of each status.
+use Rattle.std.specs.Prelude.{ℕ, ◌≡◌, ◌≤◌, ◌++◌, ◌⊎◌, List, length, Option, None, Some, IsSomeAnd}
+use Rattle.std.specs.FinMap.{get}
+use Rattle.octet_base.specs.Desk.{Files}
+use Rattle.octet_model.specs.declared.script.Script.{Script}
+use Rattle.octet_model.specs.declared.log.Log.{Log}
+use Rattle.octet_model.specs.declared.outcome.Outcome.{Outcome}
+use Rattle.octet_model.specs.Texts.{log_bytes, outcome_text}
+use Rattle.octet_model.specs.Orders.{IsFaithful}
+use Rattle.octet_script.specs.declared.cause.ScriptCause.{ScriptCause}
+use Rattle.octet_script.specs.Spelling.{Spells}
+use Rattle.octet_log.specs.declared.cause.LogCause.{LogCause}
+use Rattle.octet_top.specs.Request.{NamesScript, NamesLog}
+use Rattle.octet_top.specs.Taking.{script_limit, log_limit, IsTaken, IsAbsent, IsTooLong, Refuses, RefusesLog}
+use Rattle.octet_top.specs.Serving.{DeskState}
+
+-- the file of the script, as it was, spells a script; that of the log, as it is, has the bytes of a log; what was said grew by the text of an outcome; and the three are a faithful recording
+pub record IsFaithfulRun (script_name log_name : List ℕ) (files files' : Files) (said said' : List ℕ) : Type 0 where
+  pub text : List ℕ
+  pub script : Script
+  pub log : Log
+  pub outcome : Outcome
+  pub taken : get files script_name ≡ Some text
+  pub spelled : Spells text script
+  pub written : get files' log_name ≡ Some (log_bytes log.threads)
+  pub told : said' ≡ said ++ outcome_text script outcome
+  pub faithful : IsFaithful script log.threads outcome
+
+-- where the desk tells its contents
+abbrev pub RunsFaithfully : List ℕ → List ℕ → DeskState → DeskState → Type 0
+RunsFaithfully script_name log_name before after =
+    (files files' : Files) (said said' : List ℕ) → before.files ≡ Some files → after.files ≡ Some files' → before.said ≡ Some said → after.said ≡ Some said'
+    → IsFaithfulRun script_name log_name files files' said said'
+
+-- the words say that a file of this name is taken, of at most so many bytes
+abbrev pub SaysToTake : List (List ℕ) → List ℕ → ℕ → Type 0
+SaysToTake words name limit = (NamesScript words name × (limit ≡ script_limit)) ⊎ (NamesLog words name × (limit ≡ log_limit))
+
+-- a script's file is taken, and its text is refused
+pub record IsScriptRefused (words : List (List ℕ)) (files : Option Files) : Type 0 where
+  pub name : List ℕ
+  pub text : List ℕ
+  pub line : ℕ
+  pub cause : ScriptCause
+  pub named : NamesScript words name
+  pub taken : IsTaken files name script_limit text
+  pub refused : Refuses text line cause
+
+-- a log's file is taken, and its bytes are refused
+pub record IsLogRefused (words : List (List ℕ)) (files : Option Files) : Type 0 where
+  pub name : List ℕ
+  pub bytes : List ℕ
+  pub cause : LogCause
+  pub named : NamesLog words name
+  pub taken : IsTaken files name log_limit bytes
+  pub refused : RefusesLog bytes cause
+
+-- files are told, and one that is to be taken is not there
+abbrev pub IsFileAbsent : List (List ℕ) → Option Files → Type 0
+IsFileAbsent words files = (name : List ℕ) × (limit : ℕ) × SaysToTake words name limit × IsAbsent files name
+
+-- a file that is to be taken is over its limit, where files are told
+abbrev pub IsFileTooLong : List (List ℕ) → Option Files → Type 0
+IsFileTooLong words files = (name : List ℕ) × (limit : ℕ) × SaysToTake words name limit × IsTooLong files name limit
+
+-- files are told, and one of this name is there with these bytes, within the limit
+abbrev pub IsThere : Option Files → List ℕ → ℕ → List ℕ → Type 0
+IsThere files name limit bytes = IsSomeAnd files (λ fs. get fs name ≡ Some bytes) × (length bytes ≤ limit)
+
+-- the script is there, in its grammar
+pub record HasScript (files : Option Files) (name : List ℕ) : Type 0 where
+  pub text : List ℕ
+  pub script : Script
+  pub there : IsThere files name script_limit text
+  pub spelled : Spells text script
+
+-- the log is there, by its bytes
+pub record HasLog (files : Option Files) (name : List ℕ) : Type 0 where
+  pub bytes : List ℕ
+  pub log : Log
+  pub there : IsThere files name log_limit bytes
+  pub spelled : bytes ≡ log_bytes log.threads
+
+-- the words are a command, files are told, and each file to be taken is there, within its limit and in its format
+pub data IsWellMet (words : List (List ℕ)) (files : Option Files) : Type 0 where
+  ScriptMet : (name : List ℕ) → NamesScript words name → HasScript files name → IsWellMet words files
+  LogMet : (name : List ℕ) → NamesLog words name → HasLog files name → IsWellMet words files

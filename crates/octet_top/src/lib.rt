@@ -1,0 +1,16 @@
+//! The program's commands: words, files and a desk in, an exit status out.
+#![tactic(auto)]
+
+mod deliver;
+mod program;
+mod refusal;
+mod reply;
+mod request;
+mod run;
+mod show;
+mod take;
+#[cfg(test)]
+mod tests;
+mod tidy;
+
+pub use program::serve;

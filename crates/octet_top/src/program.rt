@@ -1,0 +1,99 @@
+//! The top call: words in, an exit status out.
+ghost use Rattle.std.specs.Prelude.{◌≡◌, ◌≤◌, ◌⊎◌, ℕ, List, None, IfOk};
+ghost use Rattle.octet_base.specs.Desk.{Rose};
+ghost use Rattle.octet_top.specs.Answer.{answer_of};
+ghost use Rattle.octet_top.specs.Request.{texts, IsRun, IsNotACommand};
+ghost use Rattle.octet_top.specs.Commands.{IsAnswer, RequestAnswers};
+ghost use Rattle.octet_top.specs.Serving.{DeskState, IsServed};
+ghost use Rattle.octet_top.specs.Promises.{RunsFaithfully, IsScriptRefused, IsLogRefused, IsFileAbsent, IsFileTooLong, IsWellMet};
+
+use crate::deliver::deliver;
+use crate::refusal::not_a_command;
+use crate::reply::{Reply, Status};
+use crate::request::{Request, request_of};
+use crate::run::run;
+use crate::show::show;
+use crate::tidy::tidy;
+use octet_base::{Desk, Gate};
+use octet_model::OutOfMemory;
+use std::alloc::Global;
+use std::sync::Wait;
+use std::thread::Threads;
+
+/// Does what the words of a command line say, over the desk, and answers the exit status. The
+/// words are those after the program's name.
+pub fn serve<R: Threads + Wait + Sync, D: Desk, G: Gate>(
+    _rt: &R,
+    alloc: Global,
+    words: &[String],
+    desk: &mut D,
+    _gate: &G,
+) -> u8
+    requires { D.begun desk.old ≡ None }
+
+    // What is read aloud of `run`: status 0 comes with a faithful recording.
+    ensures headline { let before : DeskState = record { files = D.files desk.old; begun = D.begun desk.old; said = D.said desk.old; take_faults = D.take_faults desk.old; write_faults = D.write_faults desk.old } in
+        let after : DeskState = record { files = D.files desk.new; begun = D.begun desk.new; said = D.said desk.new; take_faults = D.take_faults desk.new; write_faults = D.write_faults desk.new } in
+        (script_name log_name : List ℕ) → IsRun (texts words.now) script_name log_name → result ≡ 0 → RunsFaithfully script_name log_name before after }
+
+    // All that is written, said and answered, for each command and each status.
+    ensures served { let before : DeskState = record { files = D.files desk.old; begun = D.begun desk.old; said = D.said desk.old; take_faults = D.take_faults desk.old; write_faults = D.write_faults desk.old } in
+        let after : DeskState = record { files = D.files desk.new; begun = D.begun desk.new; said = D.said desk.new; take_faults = D.take_faults desk.new; write_faults = D.write_faults desk.new } in
+        IsServed (IsAnswer (texts words.now) before.files before.take_faults after.take_faults) before after result }
+
+    // When each status comes.
+    ensures words { result ≡ 1 → IsNotACommand (texts words.now) }
+    ensures script { result ≡ 2 → IsScriptRefused (texts words.now) (D.files desk.old) }
+    ensures log { result ≡ 3 → IsLogRefused (texts words.now) (D.files desk.old) }
+    ensures read { result ≡ 5 → Rose (D.take_faults desk.old) (D.take_faults desk.new) ⊎ IsFileAbsent (texts words.now) (D.files desk.old) }
+    ensures write { result ≡ 6 → Rose (D.write_faults desk.old) (D.write_faults desk.new) }
+    ensures too_long { result ≡ 8 → IsFileTooLong (texts words.now) (D.files desk.old) }
+    ensures complete { IsWellMet (texts words.now) (D.files desk.old) → ¬ Rose (D.take_faults desk.old) (D.take_faults desk.new) → ¬ Rose (D.write_faults desk.old) (D.write_faults desk.new)
+        → (result ≡ 0) ⊎ (result ≡ 7) }
+{
+    answer_words(alloc, words, desk)
+}
+
+fn answer_words<D: Desk>(alloc: Global, words: &[String], desk: &mut D) -> u8
+    requires { D.begun desk.old ≡ None }
+    ensures { let before : DeskState = record { files = D.files desk.old; begun = D.begun desk.old; said = D.said desk.old; take_faults = D.take_faults desk.old; write_faults = D.write_faults desk.old } in
+        let after : DeskState = record { files = D.files desk.new; begun = D.begun desk.new; said = D.said desk.new; take_faults = D.take_faults desk.new; write_faults = D.write_faults desk.new } in
+        IsServed (IsAnswer (texts words.now) before.files before.take_faults after.take_faults) before after result }
+{
+    match reply_to(alloc, desk, words) {
+        Ok(reply) => deliver(alloc, desk, &reply),
+        Err(OutOfMemory) => Status::Memory.code(),
+    }
+}
+
+/// The reply to the words. Files are taken, and nothing is written or said yet.
+fn reply_to<D: Desk>(alloc: Global, desk: &mut D, words: &[String]) -> Result<Reply, OutOfMemory>
+    ensures answers { IfOk result (λ reply. IsAnswer (texts words.now) (D.files desk.old) (D.take_faults desk.old) (D.take_faults desk.new) (answer_of reply)) }
+    ensures same_files { D.files desk.new ≡ D.files desk.old }
+    ensures same_begun { D.begun desk.new ≡ D.begun desk.old }
+    ensures same_said { D.said desk.new ≡ D.said desk.old }
+    ensures same_faults { D.write_faults desk.new ≡ D.write_faults desk.old }
+{
+    match request_of(words) {
+        Some(request) => carry_out(alloc, desk, request),
+        None => not_a_command(alloc),
+    }
+}
+
+fn carry_out<D: Desk>(
+    alloc: Global,
+    desk: &mut D,
+    request: Request<'_>,
+) -> Result<Reply, OutOfMemory>
+    ensures answers { IfOk result (λ reply. RequestAnswers request.entry (D.files desk.old) (D.take_faults desk.old) (D.take_faults desk.new) (answer_of reply)) }
+    ensures same_files { D.files desk.new ≡ D.files desk.old }
+    ensures same_begun { D.begun desk.new ≡ D.begun desk.old }
+    ensures same_said { D.said desk.new ≡ D.said desk.old }
+    ensures same_faults { D.write_faults desk.new ≡ D.write_faults desk.old }
+{
+    match request {
+        Request::Run { script, log } => run(alloc, desk, script, log),
+        Request::Tidy { script } => tidy(alloc, desk, script),
+        Request::Show { log } => show(alloc, desk, log),
+    }
+}
