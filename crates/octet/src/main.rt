@@ -17,7 +17,10 @@ fn main(rt: HostRuntime) -> ExitCode {
         Ok(args) => args.skip(1).collect::<Vec<String>>(alloc),
         Err(_) => Ok(Vec::new(alloc)),
     };
-    let (Ok(words), Ok(files)) = (words, rt.clone()) else {
+    let Ok(words) = words else {
+        return ExitCode::from(MEMORY);
+    };
+    let Ok(files) = rt.clone() else {
         return ExitCode::from(MEMORY);
     };
     let mut desk = RealDesk::new(files);
