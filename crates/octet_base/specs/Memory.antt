@@ -8,12 +8,15 @@ use Rattle.octet_base.specs.Stored.{files_of}
 use Rattle.octet_base.specs.Failures.{failure_at, next_count}
 use Rattle.octet_base.specs.declared.memory.MemoryDesk.{MemoryDesk}
 
+-- the files of the desk
 abbrev pub files_in : MemoryDesk → Option Files
 files_in desk = Some (files_of desk.files.items)
 
+-- the name that is being written
 abbrev pub begun_in : MemoryDesk → Option (List ℕ)
 begun_in desk = option_map (λ name. string_bytes name) desk.begun
 
+-- the bytes said so far
 abbrev pub said_in : MemoryDesk → Option (List ℕ)
 said_in desk = Some desk.said.items
 
