@@ -5,3 +5,4 @@ pub mod Each
 pub mod Marks
 pub mod Threads
 pub mod Whole
+pub mod Cuts

@@ -1,10 +1,10 @@
 -- A mark that is read is the mark that was written, and what was written is read again.
-use Rattle.std.proofs.Common.{◌≡◌, ℕ, zero, suc, ◌+◌, ◌-◌, ◌*◌, ◌^◌, ◌<◌, ◌≤◌, ◌&&◌, Bool, true, false, cond, eqb, leb, List, [], ◌∷◌, ◌++◌, length, Option, Some, None, Result, Ok, Err, refl, sym, ap, subst, ◌∙◌, append_assoc, arith}
+use Rattle.std.proofs.Common.{◌≡◌, ℕ, ◌+◌, ◌-◌, ◌*◌, ◌^◌, ◌<◌, ◌≤◌, ◌&&◌, true, false, cond, eqb, leb, List, [], ◌∷◌, ◌++◌, length, Option, Some, None, Ok, Err, refl, sym, ap, subst, ◌∙◌, arith}
 use Rattle.std.specs.List.{flat_map, list_all}
 use Rattle.std.specs.Int.{w32, w64, to_be_bytes}
 use Rattle.std.specs.Prelude.{sum_by}
 use Rattle.std.proofs.lemmas.List.Sums.{sum_by-cons}
-use Rattle.std.proofs.lemmas.Bool.{eqb-true, leb-true, le-leb, false≢true, ltb-true}
+use Rattle.std.proofs.lemmas.Bool.{eqb-true, leb-true, le-leb, ltb-true}
 use Rattle.std.proofs.lemmas.List.{length-append}
 use Rattle.std.proofs.lemmas.List.Concat.{flat_map-cons}
 use Rattle.octet_model.specs.declared.event.Mark.{Mark}
@@ -12,9 +12,8 @@ use Rattle.octet_model.specs.declared.event.Mark.TheVariants.{Join, Draw, Fence}
 use Rattle.octet_model.specs.declared.log.Gapped.{Gapped}
 use Rattle.octet_model.specs.Log.{is_mark}
 use Rattle.octet_model.specs.Texts.{mark_fields, bytes_of_mark, mark_bytes}
-use Rattle.octet_log.specs.declared.cause.LogCause.{LogCause}
 use Rattle.octet_log.specs.declared.cause.LogCause.TheVariants.{CutShort, BadMark}
-use Rattle.octet_log.specs.Judgement.{◌>>=◌, wanted, byte_at, number_at, spelled_mark, judged_mark, mark_at, marks_at}
+use Rattle.octet_log.specs.Judgement.{◌>>=◌, byte_at, number_at, spelled_mark, judged_mark, mark_at, marks_at}
 use Rattle.octet_log.specs.Laws.{IsInput}
 use Rattle.octet_log.proofs.Valid.{and_first, and_second}
 use Rattle.octet_log.proofs.Fields.{bind_ok, wanted_ok, ok_is, Takes, Takes-then, byte_takes, wide32, wide64, number_takes, number_again}
@@ -88,7 +87,7 @@ fields_again total threads thread left kind gap named number rest small fits =
     let whole : leb 14 (length (mark_fields kind gap named number ++ rest)) ≡ true = le-leb 14 _ (omega (arith, length-append (mark_fields kind gap named number) rest)) in
     rw (whole, number_again w32 (2 ^ 32) wide32 total gap (named ∷ to_be_bytes w64 number ++ rest) small, number_again w64 (2 ^ 64) wide64 total number rest fits) refl
 
-mark_again_at : (total threads thread left gap : ℕ) (mark : Mark) (rest : List ℕ) → left < 2 ^ 32 → gap ≤ left → is_mark threads thread mark ≡ true → mark_at total threads thread left (bytes_of_mark gap mark ++ rest) ≡ Ok (record { gap = gap; mark = mark }, rest)
+pub mark_again_at : (total threads thread left gap : ℕ) (mark : Mark) (rest : List ℕ) → left < 2 ^ 32 → gap ≤ left → is_mark threads thread mark ≡ true → mark_at total threads thread left (bytes_of_mark gap mark ++ rest) ≡ Ok (record { gap = gap; mark = mark }, rest)
 mark_again_at total threads thread left gap (Join from upto) rest small within is =
     fields_again total threads thread left 1 gap from upto rest (omega (arith, small, within)) (ltb-true _ _ (and_second _ _ is))
     ∙ ap (λ r. r >>= λ mark. Ok (mark, rest)) (judged_again (total - length (mark_fields 1 gap from upto ++ rest)) threads thread left (record { gap = gap; mark = Join from upto }) (record { gap = within; mark = is }))
@@ -100,7 +99,7 @@ mark_again_at total threads thread left gap (Fence number) rest small within is 
     ∙ ap (λ r. r >>= λ mark. Ok (mark, rest)) (judged_again (total - length (mark_fields 3 gap 0 number ++ rest)) threads thread left (record { gap = gap; mark = Fence number }) (record { gap = within; mark = is }))
 
 -- a mark has 14 bytes
-length-bytes_of_mark : (gap : ℕ) (mark : Mark) → length (bytes_of_mark gap mark) ≡ 14
+pub length-bytes_of_mark : (gap : ℕ) (mark : Mark) → length (bytes_of_mark gap mark) ≡ 14
 length-bytes_of_mark gap (Join from upto) = refl
 length-bytes_of_mark gap (Draw number) = refl
 length-bytes_of_mark gap (Fence number) = refl
@@ -137,7 +136,7 @@ pub record GoodMark32 (threads thread left : ℕ) (gapped : Gapped) : Type 0 whe
   pub good : GoodMark threads thread left gapped
   pub small : left < 2 ^ 32
 
-all_small : (threads thread left : ℕ) (marks : List Gapped) → left < 2 ^ 32 → GoodMarks threads thread left marks → AllGood (GoodMark32 threads thread) left_behind left marks
+pub all_small : (threads thread left : ℕ) (marks : List Gapped) → left < 2 ^ 32 → GoodMarks threads thread left marks → AllGood (GoodMark32 threads thread) left_behind left marks
 all_small threads thread left [] small good = tt
 all_small threads thread left (m ∷ ms) small good = (record { good = good.0; small = small }, all_small threads thread (left - m.gap) ms (omega (arith, small)) good.1)
 

@@ -1,5 +1,5 @@
 -- A thread's log that is read is the one that was written, and what was written is read again.
-use Rattle.std.proofs.Common.{◌≡◌, ℕ, zero, suc, ◌+◌, ◌-◌, ◌*◌, ◌^◌, ◌<◌, ◌≤◌, ◌&&◌, Bool, true, false, cond, leb, ltb, List, [], ◌∷◌, ◌++◌, length, Result, Ok, Err, refl, sym, ap, subst, ◌∙◌, append_assoc, arith}
+use Rattle.std.proofs.Common.{◌≡◌, ℕ, suc, ◌+◌, ◌^◌, ◌<◌, ◌≤◌, ◌&&◌, true, leb, ltb, List, [], ◌∷◌, ◌++◌, length, Ok, refl, sym, ap, subst, ◌∙◌, append_assoc, arith}
 use Rattle.std.specs.List.{flat_map, list_all}
 use Rattle.std.specs.Int.{w32, to_be_bytes}
 use Rattle.std.specs.Prelude.{sum_by}
@@ -10,7 +10,6 @@ use Rattle.octet_model.specs.declared.log.Gapped.{Gapped}
 use Rattle.octet_model.specs.declared.log.ThreadLog.{ThreadLog}
 use Rattle.octet_model.specs.Log.{is_mark, is_thread_log, are_thread_logs}
 use Rattle.octet_model.specs.Texts.{mark_bytes, thread_bytes}
-use Rattle.octet_log.specs.declared.cause.LogCause.{LogCause}
 use Rattle.octet_log.specs.declared.cause.LogCause.TheVariants.{TooManyAccesses}
 use Rattle.octet_log.specs.Judgement.{◌>>=◌, wanted, number_at, marks_at, thread_at, threads_at}
 use Rattle.octet_log.specs.Laws.{IsInput}
@@ -53,22 +52,38 @@ thread_takes total threads thread before bytes x is e =
     subst (λ (y : ThreadLog × List ℕ). Takes bytes (thread_bytes y.0) y.1 × GoodThread threads (thread, before) y.0) (ok_is (log, c.0.1) x c.2)
     (whole, record { sum = leb-true (before + a.0.0) 262144 w.0; valid = valid_thread threads thread log (few b.0.1 c.0.1 c.0.0 t1.rest_is t2.0) t2.2 })
 
-pub thread_again : (total threads thread before : ℕ) (log : ThreadLog) (rest : List ℕ) → GoodThread threads (thread, before) log → thread_at total threads thread before (thread_bytes log ++ rest) ≡ Ok (log, rest)
-unfolding thread_at
-thread_again total threads thread before log rest good =
+-- what a good log of a thread comes to
+pub record Parts (threads thread before : ℕ) (log : ThreadLog) : Type 0 where
+  pub sum : leb (before + log.accesses) 262144 ≡ true
+  pub small : log.accesses < 2 ^ 32
+  pub few : length log.marks < 2 ^ 32
+  pub marks : GoodMarks threads thread log.accesses log.marks
+
+pub parts : (threads thread before : ℕ) (log : ThreadLog) → GoodThread threads (thread, before) log → Parts threads thread before log
+parts threads thread before log good =
     let n = length log.marks in
     let gaps = sum_by (λ m. m.gap) log.marks in
     let all = list_all (λ m. is_mark threads thread m.mark) log.marks in
     let first : (ltb n (2 ^ 31) && leb gaps log.accesses) ≡ true = and_first (ltb n (2 ^ 31) && leb gaps log.accesses) all good.valid in
     let short : n < 2 ^ 31 = ltb-true n (2 ^ 31) (and_first (ltb n (2 ^ 31)) (leb gaps log.accesses) first) in
     let sum : gaps ≤ log.accesses = leb-true gaps log.accesses (and_second (ltb n (2 ^ 31)) (leb gaps log.accesses) first) in
-    let small : log.accesses < 2 ^ 32 = omega (arith, good.sum) in
-    let marks : GoodMarks threads thread log.accesses log.marks = are_marks threads thread log.accesses log.marks sum (and_second (ltb n (2 ^ 31) && leb gaps log.accesses) all good.valid) in
+    record {
+      sum = le-leb (before + log.accesses) 262144 good.sum;
+      small = omega (arith, good.sum);
+      few = omega (arith, short);
+      marks = are_marks threads thread log.accesses log.marks sum (and_second (ltb n (2 ^ 31) && leb gaps log.accesses) all good.valid);
+    }
+
+pub thread_again : (total threads thread before : ℕ) (log : ThreadLog) (rest : List ℕ) → GoodThread threads (thread, before) log → thread_at total threads thread before (thread_bytes log ++ rest) ≡ Ok (log, rest)
+unfolding thread_at
+thread_again total threads thread before log rest good =
+    let p = parts threads thread before log good in
+    let sum = p.sum in
     let regrouped : thread_bytes log ++ rest ≡ to_be_bytes w32 log.accesses ++ (to_be_bytes w32 (length log.marks) ++ (flat_map mark_bytes log.marks ++ rest)) =
     append_assoc (to_be_bytes w32 log.accesses) (to_be_bytes w32 (length log.marks) ++ flat_map mark_bytes log.marks) rest
     ∙ ap (λ (x : List ℕ). to_be_bytes w32 log.accesses ++ x) (append_assoc (to_be_bytes w32 (length log.marks)) (flat_map mark_bytes log.marks) rest) in
     ap (thread_at total threads thread before) regrouped
-    ∙ rw (number_again w32 (2 ^ 32) wide32 total log.accesses (to_be_bytes w32 (length log.marks) ++ (flat_map mark_bytes log.marks ++ rest)) small, le-leb (before + log.accesses) 262144 good.sum, number_again w32 (2 ^ 32) wide32 total (length log.marks) (flat_map mark_bytes log.marks ++ rest) (omega (arith, short)), marks_again total threads thread log.accesses log.marks rest small marks) refl
+    ∙ rw (number_again w32 (2 ^ 32) wide32 total log.accesses (to_be_bytes w32 (length log.marks) ++ (flat_map mark_bytes log.marks ++ rest)) p.small, sum, number_again w32 (2 ^ 32) wide32 total (length log.marks) (flat_map mark_bytes log.marks ++ rest) p.few, marks_again total threads thread log.accesses log.marks rest p.small p.marks) refl
 
 abbrev pub GoodThreads : ℕ → ℕ → ℕ → List ThreadLog → Type 0
 GoodThreads threads thread before logs = AllGood (GoodThread threads) next_thread (thread, before) logs

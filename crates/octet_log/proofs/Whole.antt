@@ -1,10 +1,10 @@
 -- Bytes that are judged to be a log are its spelling, and each log's spelling is judged so.
-use Rattle.std.proofs.Common.{◌≡◌, ℕ, zero, suc, ◌+◌, ◌-◌, ◌≤◌, ◌&&◌, Bool, true, false, cond, leb, eqb, List, [], ◌∷◌, ◌++◌, length, take, drop, Result, Ok, Err, refl, sym, ap, subst, ◌∙◌, append_assoc, arith}
+use Rattle.std.proofs.Common.{◌≡◌, ℕ, ◌-◌, ◌≤◌, ◌&&◌, true, false, leb, eqb, List, [], ◌∷◌, ◌++◌, length, take, drop, Result, Ok, Err, refl, sym, ap, subst, ◌∙◌, arith}
 use Rattle.std.specs.Prelude.{codes, sum_by}
 use Rattle.std.specs.Str.{bytes_eq}
 use Rattle.std.specs.List.{flat_map}
-use Rattle.std.proofs.lemmas.Bool.{eqb-true, leb-true, le-leb}
-use Rattle.std.proofs.lemmas.List.{append-nil, nil_from_length, take-append-drop}
+use Rattle.std.proofs.lemmas.Bool.{eqb-true, ne_eqb, leb-true, le-leb}
+use Rattle.std.proofs.lemmas.List.{append-nil, nil_from_length, take-append-drop, length-append}
 use Rattle.std.proofs.lemmas.Slice.Eq.{bytes_eq-Decides}
 use Rattle.octet_model.specs.declared.log.ThreadLog.{ThreadLog}
 use Rattle.octet_model.specs.Log.{is_log, are_thread_logs}
@@ -15,7 +15,7 @@ use Rattle.octet_log.specs.declared.cause.LogFault.{LogFault}
 use Rattle.octet_log.specs.Judgement.{◌>>=◌, wanted, byte_at, threads_at, body_at, judgement, Gives, ReadsSpelling}
 use Rattle.octet_log.specs.Laws.{IsInput}
 use Rattle.octet_log.proofs.Valid.{and_first, and_second}
-use Rattle.octet_log.proofs.Fields.{bind_ok, wanted_ok, ok_is, Takes, Takes-then, byte_takes, IsInput-drop}
+use Rattle.octet_log.proofs.Fields.{bind_ok, wanted_ok, ok_is, Takes-then, byte_takes, IsInput-drop}
 use Rattle.octet_log.proofs.Threads.{GoodThreads, threads_are, are_threads, threads_take, threads_again}
 
 valid_log : (threads : ℕ) (logs : List ThreadLog) → (leb 1 threads && leb threads 16) ≡ true → length logs ≡ threads → GoodThreads threads 0 0 logs → is_log logs ≡ true
@@ -54,15 +54,21 @@ judgement_takes bytes logs is e =
     let magic : take 4 bytes ≡ codes "OCTL" = (bytes_eq-Decides (take 4 bytes) (codes "OCTL")).0 m.0 in
     (sym (take-append-drop 4 bytes) ∙ ap (λ (x : List ℕ). x ++ drop 4 bytes) magic ∙ ap (λ (x : List ℕ). codes "OCTL" ++ x) b.0, b.1)
 
-body_again : (total : ℕ) (logs : List ThreadLog) (rest : List ℕ) → is_log logs ≡ true → body_at total (body logs ++ rest) ≡ (wanted (eqb (length rest) 0) (Trailing (total - length rest)) >>= λ ended. Ok logs)
-unfolding body_at
-body_again total logs rest valid =
+-- a valid log has an allowed number of threads, each of them good
+pub good_log : (logs : List ThreadLog) → is_log logs ≡ true → ((leb 1 (length logs) && leb (length logs) 16) ≡ true) × GoodThreads (length logs) 0 0 logs
+good_log logs valid =
     let n = length logs in
     let accesses = sum_by (λ log. log.accesses) logs in
     let first : ((leb 1 n && leb n 16) && leb accesses 262144) ≡ true = and_first ((leb 1 n && leb n 16) && leb accesses 262144) (are_thread_logs n 0 logs) valid in
-    let allowed : (leb 1 n && leb n 16) ≡ true = and_first (leb 1 n && leb n 16) (leb accesses 262144) first in
     let sum : accesses ≤ 262144 = leb-true accesses 262144 (and_second (leb 1 n && leb n 16) (leb accesses 262144) first) in
-    let good : GoodThreads n 0 0 logs = are_threads n 0 0 logs (omega (arith, sum)) (and_second ((leb 1 n && leb n 16) && leb accesses 262144) (are_thread_logs n 0 logs) valid) in
+    (and_first (leb 1 n && leb n 16) (leb accesses 262144) first, are_threads n 0 0 logs (omega (arith, sum)) (and_second ((leb 1 n && leb n 16) && leb accesses 262144) (are_thread_logs n 0 logs) valid))
+
+body_again : (total : ℕ) (logs : List ThreadLog) (rest : List ℕ) → is_log logs ≡ true → body_at total (body logs ++ rest) ≡ (wanted (eqb (length rest) 0) (Trailing (total - length rest)) >>= λ ended. Ok logs)
+unfolding body_at
+body_again total logs rest valid =
+    let p = good_log logs valid in
+    let allowed = p.0 in
+    let good = p.1 in
     rw (allowed, threads_again total logs rest good) refl
 
 -- behind a log's spelling nothing may stand
@@ -84,3 +90,10 @@ goes_nowhere one other rest valid other_valid same =
 -- a reading that gives what the judgement says gives the log that is spelled
 pub reads_spelling : {X : Type 0} (view : X → List ThreadLog) (bytes : List ℕ) (r : Result X LogFault) → Gives view r (judgement bytes) → ReadsSpelling view bytes r
 reads_spelling view bytes r given logs valid is = subst (λ (judged : Result (List ThreadLog) LogCause). Gives view r judged) (ap judgement is ∙ judgement_is logs valid) given
+
+-- a byte behind a log is judged as trailing, at its place
+pub trailing : (logs : List ThreadLog) (next : ℕ) (rest : List ℕ) → is_log logs ≡ true → judgement (log_bytes logs ++ next ∷ rest) ≡ Err (Trailing (length (log_bytes logs)))
+trailing logs next rest valid =
+    let place : length (log_bytes logs ++ next ∷ rest) - length (next ∷ rest) ≡ length (log_bytes logs) = omega (arith, length-append (log_bytes logs) (next ∷ rest)) in
+    let more : eqb (length (next ∷ rest)) 0 ≡ false = ne_eqb (length (next ∷ rest)) 0 (λ e. absurd (omega (arith, e))) in
+    judgement_again logs (next ∷ rest) valid ∙ ap (λ b. wanted b (Trailing (length (log_bytes logs ++ next ∷ rest) - length (next ∷ rest))) >>= λ ended. Ok logs) more ∙ ap (λ n. Err (Trailing n)) place

@@ -100,11 +100,12 @@ judgement bytes = do
   magic ← wanted (bytes_eq (take 4 bytes) (codes "OCTL")) NoMagic
   body_at (length bytes) (drop 4 bytes)
 
--- what a call returned, seen by view, is what the judgement says, unless memory ran out
+-- a fault is the cause that the judgement has, or want of memory
 abbrev pub Fails : {Y : Type 0} → LogFault → Result Y LogCause → Type 0
 Fails faults.OutOfMemory judged = Unit {0}
 Fails (faults.Refused cause) judged = judged ≡ Err cause
 
+-- what a call returned, seen by view, is what the judgement says, unless memory ran out
 abbrev pub Gives : {X Y : Type 0} → (X → Y) → Result X LogFault → Result Y LogCause → Type 0
 Gives view (Ok x) judged = judged ≡ Ok (view x)
 Gives view (Err fault) judged = Fails fault judged

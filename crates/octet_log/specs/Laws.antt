@@ -1,9 +1,11 @@
 -- The laws of the format: a number has one spelling in a field, bytes spell one log, and no log goes on where another ends.
-use Rattle.std.specs.Prelude.{◌≡◌, ℕ, ◌<◌, ◌≤◌, ◌↔◌, List, [], ◌++◌, length, slice_index, Ok, IsTrue}
+use Rattle.std.specs.Prelude.{◌≡◌, ℕ, ◌<◌, ◌≤◌, ◌↔◌, List, [], ◌∷◌, ◌++◌, length, slice_index, Ok, Err, IsTrue, nat_lt, if◌then◌else◌}
 use Rattle.std.specs.Int.{Width, byte_len, from_be_bytes, to_be_bytes}
 use Rattle.octet_model.specs.declared.log.ThreadLog.{ThreadLog}
 use Rattle.octet_model.specs.Log.{is_log}
 use Rattle.octet_model.specs.Texts.{log_bytes}
+use Rattle.octet_log.specs.declared.cause.LogCause.{LogCause}
+use Rattle.octet_log.specs.declared.cause.LogCause.TheVariants.{NoMagic, CutShort, Trailing}
 use Rattle.octet_log.specs.Judgement.{judgement}
 
 -- each item is a byte
@@ -34,3 +36,15 @@ BytesSpellOneLog = (one other : List ThreadLog) → IsTrue (is_log one) → IsTr
 -- a log's spelling goes on in no other log's
 abbrev pub NoLogGoesOn : Type 0
 NoLogGoesOn = (one other : List ThreadLog) (rest : List ℕ) → IsTrue (is_log one) → IsTrue (is_log other) → log_bytes other ≡ log_bytes one ++ rest → rest ≡ []
+
+-- within its first four bytes a spelling lacks its word, and behind them a field or a mark
+abbrev pub cut_cause : List ℕ → LogCause
+cut_cause front = if nat_lt (length front) 4 then NoMagic else CutShort (length front)
+
+-- a log's spelling without some of its last bytes is cut where it ends
+abbrev pub FrontIsCut : Type 0
+FrontIsCut = (logs : List ThreadLog) (front : List ℕ) (next : ℕ) (rest : List ℕ) → IsTrue (is_log logs) → log_bytes logs ≡ front ++ next ∷ rest → judgement front ≡ Err (cut_cause front)
+
+-- a byte behind a log's spelling is trailing, at its place
+abbrev pub ByteBehindIsTrailing : Type 0
+ByteBehindIsTrailing = (logs : List ThreadLog) (next : ℕ) (rest : List ℕ) → IsTrue (is_log logs) → judgement (log_bytes logs ++ next ∷ rest) ≡ Err (Trailing (length (log_bytes logs)))

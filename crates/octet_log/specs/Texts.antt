@@ -9,11 +9,13 @@ use Rattle.octet_model.specs.declared.log.ThreadLog.{ThreadLog}
 use Rattle.octet_log.specs.declared.cause.LogCause.{LogCause}
 use Rattle.octet_log.specs.declared.cause.LogCause.TheVariants.{NoMagic, BadVersion, BadThreads, CutShort, BadMark, TooManyAccesses, Trailing}
 
+-- the word of a mark, and its numbers
 abbrev pub mark_words : Mark → List ℕ
 mark_words (Join from upto) = codes "join " ++ decimal from ++ codes " " ++ decimal upto
 mark_words (Draw number) = codes "draw " ++ decimal number
 mark_words (Fence number) = codes "fence " ++ decimal number
 
+-- a mark with its gap
 abbrev pub mark_line : Gapped → List ℕ
 mark_line gapped = codes "gap " ++ decimal gapped.gap ++ codes " " ++ mark_words gapped.mark ++ codes "\n"
 
@@ -28,6 +30,7 @@ abbrev pub thread_texts : ℕ → List ThreadLog → List ℕ
 thread_texts thread [] = []
 thread_texts thread (log ∷ logs) = thread_text thread log ++ thread_texts (suc thread) logs
 
+-- how many threads there are, and the text of each
 abbrev pub log_text : List ThreadLog → List ℕ
 log_text logs = codes "threads " ++ decimal (length logs) ++ codes "\n" ++ thread_texts 0 logs
 
@@ -41,5 +44,6 @@ refusal_words (BadMark at) = codes "5 bad mark at " ++ decimal at
 refusal_words TooManyAccesses = codes "6 too many accesses"
 refusal_words (Trailing at) = codes "7 trailing at " ++ decimal at
 
+-- the line that says why
 abbrev pub refusal_line : LogCause → List ℕ
 refusal_line cause = codes "log: " ++ refusal_words cause ++ codes "\n"

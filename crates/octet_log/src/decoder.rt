@@ -11,6 +11,12 @@ use std::alloc::Global;
 
 const MOST_ACCESSES: u64 = 262_144;
 
+const MOST_THREADS: u8 = 16;
+
+const MARK_LEN: usize = 14;
+
+const VERSION: u8 = 1;
+
 // The mark that the fields spell, if they spell one.
 fn mark_of(kind: u8, thread: u8, number: u64) -> Option<Mark>
     ensures { result ≡ spelled_mark kind thread number }
@@ -47,9 +53,7 @@ fn gapped(
 {
     match mark {
         Some(mark) if gap <= left && is_mark(threads, thread, mark) => Ok(Gapped { gap, mark }),
-        _ => Err(LogFault::Refused {
-            cause: LogCause::BadMark { at: place as u64 },
-        }),
+        _ => Err(LogCause::BadMark { at: place as u64 }.into()),
     }
 }
 
@@ -66,7 +70,7 @@ fn read_mark(
     ensures shorter { IfOk result (λ x. length x.1.now ≤ length bytes.now) }
     ensures gap { IfOk result (λ x. x.0.gap ≤ left) }
 {
-    if bytes.len() < 14 {
+    if bytes.len() < MARK_LEN {
         return Err(cut_short(total));
     }
     let (kind, rest) = read_u8(total, bytes)?;
@@ -120,9 +124,7 @@ fn read_thread(
 {
     let (accesses, rest) = read_u32(total, bytes)?;
     if before + u64::from(accesses) > MOST_ACCESSES {
-        return Err(LogFault::Refused {
-            cause: LogCause::TooManyAccesses,
-        });
+        return Err(LogCause::TooManyAccesses.into());
     }
     let (count, rest) = read_u32(total, rest)?;
     let (marks, rest) = read_marks(alloc, total, threads, thread, accesses, count, rest)?;
@@ -158,23 +160,17 @@ fn read_body(alloc: Global, total: usize, bytes: &[u8]) -> Result<Vec<ThreadLog>
     ensures { Gives (λ logs. logs.items) result (body_at total bytes.now) }
 {
     let (version, rest) = read_u8(total, bytes)?;
-    if version != 1 {
-        return Err(LogFault::Refused {
-            cause: LogCause::BadVersion,
-        });
+    if version != VERSION {
+        return Err(LogCause::BadVersion.into());
     }
     let (threads, rest) = read_u8(total, rest)?;
-    if threads < 1 || threads > 16 {
-        return Err(LogFault::Refused {
-            cause: LogCause::BadThreads,
-        });
+    if threads < 1 || threads > MOST_THREADS {
+        return Err(LogCause::BadThreads.into());
     }
     let (logs, rest) = read_threads(alloc, total, threads, rest)?;
     if !rest.is_empty() {
         let at = (total - rest.len()) as u64;
-        return Err(LogFault::Refused {
-            cause: LogCause::Trailing { at },
-        });
+        return Err(LogCause::Trailing { at }.into());
     }
     Ok(logs)
 }
@@ -184,9 +180,7 @@ fn read_log(alloc: Global, bytes: &[u8]) -> Result<Vec<ThreadLog>, LogFault>
     ensures { Gives (λ logs. logs.items) result (judgement bytes.now) }
 {
     let Some(rest) = bytes.strip_prefix(b"OCTL") else {
-        return Err(LogFault::Refused {
-            cause: LogCause::NoMagic,
-        });
+        return Err(LogCause::NoMagic.into());
     };
     read_body(alloc, bytes.len(), rest)
 }

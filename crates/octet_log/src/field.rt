@@ -11,9 +11,7 @@ use octet_model::OutOfMemory;
 pub(crate) fn cut_short(total: usize) -> LogFault
     ensures { result ≡ LogFault.Refused (LogCause.CutShort total) }
 {
-    LogFault::Refused {
-        cause: LogCause::CutShort { at: total as u64 },
-    }
+    LogCause::CutShort { at: total as u64 }.into()
 }
 
 pub(crate) fn read_u8(total: usize, bytes: &[u8]) -> Result<(u8, &[u8]), LogFault>

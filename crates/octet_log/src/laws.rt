@@ -1,7 +1,7 @@
 //! Laws of the format. Their functions have no parameters and do nothing: each contract is the law.
 ghost use Rattle.std.specs.Prelude.{◌^◌};
 ghost use Rattle.std.specs.Int.{w32, w64};
-ghost use Rattle.octet_log.specs.Laws.{NumberIsReadAgain, NumberHasOneSpelling, JudgesLogs, BytesSpellOneLog, NoLogGoesOn};
+ghost use Rattle.octet_log.specs.Laws.{NumberIsReadAgain, NumberHasOneSpelling, JudgesLogs, BytesSpellOneLog, NoLogGoesOn, FrontIsCut, ByteBehindIsTrailing};
 
 /// The bytes of a field are the one spelling of their number, and give it back.
 pub fn field_has_one_spelling()
@@ -24,4 +24,14 @@ pub fn bytes_spell_one_log()
 /// No log's spelling is a proper prefix of another's.
 pub fn no_log_is_a_prefix()
     ensures { NoLogGoesOn }
+{}
+
+/// A log's spelling without some of its last bytes is refused as cut, where it ends.
+pub fn front_of_log_is_cut()
+    ensures { FrontIsCut }
+{}
+
+/// A log's spelling with more bytes is refused for the first of these, at its place.
+pub fn byte_behind_log_is_trailing()
+    ensures { ByteBehindIsTrailing }
 {}

@@ -13,8 +13,8 @@ pub use cause::{LogCause, LogFault};
 pub use decoder::decode;
 pub use encoder::encode_v1;
 pub use laws::{
-    bytes_spell_one_log, field_has_one_spelling, judgement_accepts_spellings_alone,
-    no_log_is_a_prefix,
+    byte_behind_log_is_trailing, bytes_spell_one_log, field_has_one_spelling, front_of_log_is_cut,
+    judgement_accepts_spellings_alone, no_log_is_a_prefix,
 };
 pub use text::{refusal_line, show};
 

@@ -1,6 +1,5 @@
-use Rattle.std.proofs.Common.{◌≡◌, ◌∙◌, ap, sym, arith, Ok, List}
+use Rattle.std.proofs.Common.{◌∙◌, ap, sym, arith, Ok}
 use Rattle.std.proofs.lemmas.Result.{err_from_is_err_and}
-use Rattle.octet_log.specs.Judgement.{judgement}
 use Rattle.octet_log.proofs.Whole.{judgement_takes, reads_spelling}
 use Rattle.octet_log.proofs.decoder.decode.Goals as goal
 

@@ -1,4 +1,4 @@
-use Rattle.std.proofs.Common.{◌≡◌, ◌-◌, arith}
+use Rattle.std.proofs.Common.{◌-◌, arith}
 use Rattle.std.proofs.lemmas.Result.{err_from_is_err_and}
 use Rattle.octet_log.specs.Judgement.{mark_at, marks_at}
 use Rattle.octet_log.proofs.Loops.{goes_on, ends, is_done}

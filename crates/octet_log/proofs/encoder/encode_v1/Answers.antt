@@ -1,4 +1,4 @@
-use Rattle.std.proofs.Common.{◌≡◌, ◌∙◌, ap, get_or, length}
+use Rattle.std.proofs.Common.{◌∙◌, ap, get_or}
 use Rattle.octet_log.proofs.Valid.{marks_at}
 use Rattle.octet_log.proofs.encoder.encode_v1.Goals as goal
 
