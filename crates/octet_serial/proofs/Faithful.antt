@@ -1,10 +1,10 @@
 -- What is recorded at the start, and that what is recorded at the end is faithful.
-use Rattle.std.proofs.Common.{◌≡◌, ◌≢◌, ℕ, zero, suc, ◌+◌, ◌*◌, ◌<◌, ◌≤◌, ◌^◌, ◌⊎◌, inl, inr, Bool, true, false, ltb, leb, List, [], ◌∷◌, ◌++◌, length, map, replicate, get_or, All, Option, Some, None, IsTrue, slice_get, slice_index, sum_by, refl, sym, ap, ◌∙◌, subst, arith}
+use Rattle.std.proofs.Common.{◌≡◌, ℕ, suc, ◌+◌, ◌*◌, ◌<◌, ◌≤◌, ◌^◌, inl, inr, true, List, [], ◌∷◌, length, map, replicate, get_or, All, Some, IsTrue, slice_get, slice_index, sum_by, refl, sym, ap, ◌∙◌, subst, arith}
 use Rattle.std.specs.List.{list_all}
 use Rattle.std.proofs.lemmas.Bool.{cases_lt, and_parts, and_from, leb-true, le-leb, lt-ltb}
 use Rattle.std.proofs.lemmas.List.{length-map, length-replicate, get_or-map, get_or-replicate, get_or_past}
 use Rattle.std.proofs.lemmas.List.Sums.{sum_by-cons, sum_by-le}
-use Rattle.std.proofs.lemmas.Option.{slice_get-get_or, slice_get_within}
+use Rattle.std.proofs.lemmas.Option.{slice_get-get_or}
 use Rattle.octet_model.specs.declared.command.Command.{Command}
 use Rattle.octet_model.specs.declared.event.Event.{Event}
 use Rattle.octet_model.specs.declared.event.Event.TheVariants.{Read, Write, Marked}
@@ -16,19 +16,19 @@ use Rattle.octet_model.specs.declared.log.ThreadLog.{ThreadLog}
 use Rattle.octet_model.specs.declared.object.Object.{Object}
 use Rattle.octet_model.specs.declared.outcome.End.{End}
 use Rattle.octet_model.specs.declared.outcome.End.TheVariants.{Done}
-use Rattle.octet_model.specs.declared.outcome.Outcome.{Outcome}
 use Rattle.octet_model.specs.declared.script.Script.{Script}
-use Rattle.octet_model.specs.Script.{is_script, are_distinct, is_thread}
+use Rattle.octet_model.specs.Script.{is_script}
 use Rattle.octet_model.specs.Log.{is_mark, is_thread_log, are_thread_logs, is_log}
-use Rattle.octet_model.specs.Thread.{Demand, ToEnd, demanded, configuration_after, starting_configuration}
+use Rattle.octet_model.specs.Thread.{ToEnd, demanded, configuration_after, starting_configuration}
 use Rattle.octet_model.specs.Machine.{Journals, journal_of, no_events}
-use Rattle.octet_model.specs.Journals.{access_count, mark_count, gap_after, gapped_marks, log_of, log_of_journal}
+use Rattle.octet_model.specs.Journals.{access_count, gapped_marks, log_of, log_of_journal}
 use Rattle.octet_model.specs.HappensBefore.{event_at}
-use Rattle.octet_model.specs.Frugal.{marks_at_end, Accesses, IsFrugal}
+use Rattle.octet_model.specs.Frugal.{Accesses, IsFrugal}
 use Rattle.octet_model.specs.Orders.{starting_heap, end_of, ends_of, values_read, FitsScript, IsFaithful}
 use Rattle.octet_model.proofs.Fronts.{no_journal}
 use Rattle.octet_model.proofs.Growing.{history_begins, faithful_from_history}
-use Rattle.octet_serial.specs.Recorded.{IsPaired, HasValidMarks, IsRecorded, HasEnded, HaveEnded}
+use Rattle.octet_model.proofs.Splits.{length-gapped_marks}
+use Rattle.octet_serial.specs.Recorded.{IsPaired, IsRecorded, HaveEnded}
 
 -- the bounds of a valid script
 pub record IsBounded (fuel : ℕ) (threads : ℕ) : Type 0 where
@@ -111,13 +111,7 @@ frugal script js heap owners r =
       none_after = λ thread. (r.is_paired thread).none_after;
     }
 
--- the marks of a journal, and their gaps
-as_many_marks : (before : ℕ) (journal : List Event) → length (gapped_marks before journal) ≡ mark_count journal
-as_many_marks before [] = refl
-as_many_marks before (Read object value ∷ journal) = as_many_marks (suc before) journal
-as_many_marks before (Write object value ∷ journal) = as_many_marks (suc before) journal
-as_many_marks before (Marked mark ∷ journal) = ap suc (as_many_marks 0 journal)
-
+-- the gaps of marks sum to at most the accesses
 gaps_in_all : (before : ℕ) (journal : List Event) → sum_by (λ m. m.gap) (gapped_marks before journal) ≤ before + access_count journal
 gaps_in_all before [] = omega arith
 gaps_in_all before (Read object value ∷ journal) = omega (arith, gaps_in_all (suc before) journal)
@@ -134,7 +128,7 @@ thread_log_valid : (threads thread fuel : ℕ) (journal : List Event) → fuel �
     → ((k : ℕ) (mark : Mark) → slice_get journal k ≡ Some (Marked mark) → IsTrue (is_mark threads thread mark)) → is_thread_log threads thread (log_of_journal journal) ≡ true
 thread_log_valid threads thread fuel journal small paired valid =
     let marks = gapped_marks 0 journal in
-    let few : length marks < 2 ^ 31 = omega (arith, as_many_marks 0 journal, paired.few_marks, paired.fuelled) in
+    let few : length marks < 2 ^ 31 = omega (arith, length-gapped_marks 0 journal, paired.few_marks, paired.fuelled) in
     and_from _ _
     (and_from _ _ (lt-ltb (length marks) (2 ^ 31) few) (le-leb (sum_by (λ m. m.gap) marks) (access_count journal) (omega (arith, gaps_in_all 0 journal))))
     (marks_valid threads thread 0 journal valid)

@@ -1,5 +1,5 @@
 -- What stays when journals grow by one event.
-use Rattle.std.proofs.Common.{◌≡◌, ℕ, zero, suc, ◌+◌, ◌<◌, ◌≤◌, ◌⊎◌, inl, inr, List, [], ◌∷◌, ◌++◌, length, take, Some, None, IsTrue, slice_get, slice_index, refl, sym, ap, ◌∙◌, subst, arith}
+use Rattle.std.proofs.Common.{◌≡◌, ℕ, ◌<◌, ◌≤◌, ◌⊎◌, inl, inr, List, [], ◌∷◌, ◌++◌, length, take, Some, IsTrue, refl, sym, ap, ◌∙◌, subst, arith}
 use Rattle.std.proofs.lemmas.Bool.{cases_eq}
 use Rattle.std.proofs.lemmas.List.{take-append-le}
 use Rattle.std.proofs.lemmas.Option.{slice_get_within}
@@ -14,7 +14,7 @@ use Rattle.octet_model.specs.Frugal.{marks_since, marks_at_end, marks_before, Ac
 use Rattle.octet_model.specs.Log.{is_mark}
 use Rattle.octet_model.proofs.Steps.{at, count, same_journal, other_journal, as_many, stays_appended, new_event}
 use Rattle.octet_model.proofs.Growing.{old_or_new, new}
-use Rattle.octet_serial.specs.Recorded.{HasAccessed, IsUntouched, IsOwnerJoined, HasOwnerMarks, HasValidMarks}
+use Rattle.octet_serial.specs.Recorded.{HasAccessed, IsOwnerJoined, HasOwnerMarks, HasValidMarks}
 
 -- a mark stands behind those since the last access; an access has none behind it
 pub since_mark : (marks : List Mark) (journal : List Event) (mark : Mark) → marks_since marks (journal ++ Marked mark ∷ []) ≡ marks_since marks journal ++ mark ∷ []

@@ -1,5 +1,5 @@
 -- An access behind the Join of its object's owner keeps what the recorder keeps.
-use Rattle.std.proofs.Common.{◌≡◌, ◌≢◌, ℕ, zero, suc, ◌+◌, ◌<◌, ◌≤◌, ◌^◌, ◌⊎◌, inl, inr, Bool, true, false, eqb, cond, not, List, [], ◌∷◌, ◌++◌, length, Some, IsTrue, slice_index, slice_set, refl, sym, ap, ◌∙◌, subst, subst₂, arith, length-append}
+use Rattle.std.proofs.Common.{◌≡◌, ℕ, suc, ◌<◌, ◌≤◌, ◌^◌, ◌⊎◌, inl, inr, Bool, cond, not, List, [], ◌∷◌, ◌++◌, length, Some, IsTrue, slice_index, slice_set, refl, sym, ap, ◌∙◌, subst, arith}
 use Rattle.std.proofs.lemmas.Bool.{cases_eq, eq-eqb, ne_eqb, lt-ltb, le-leb, and_from}
 use Rattle.std.proofs.lemmas.List.{length-set, get_or-set_same, get_or-set_other, set-get_or}
 use Rattle.octet_model.specs.declared.event.Event.{Event}
@@ -10,18 +10,18 @@ use Rattle.octet_model.specs.declared.event.Place.{Place}
 use Rattle.octet_model.specs.declared.script.Script.{Script}
 use Rattle.octet_model.specs.Machine.{Journals, journal_of, PlainState, MakeMark, is_enabled, event_made, heap_after, draws_after, appended}
 use Rattle.octet_model.specs.Journals.{access_count, mark_count}
-use Rattle.octet_model.specs.HappensBefore.{event_at, object_of}
-use Rattle.octet_model.specs.Frugal.{marks_since, marks_at_end, marks_before, Accesses, IsFirstOf}
+use Rattle.octet_model.specs.HappensBefore.{object_of}
+use Rattle.octet_model.specs.Frugal.{marks_since, marks_at_end, marks_before}
 use Rattle.octet_model.specs.Log.{is_mark}
 use Rattle.octet_model.specs.Orders.{starting_heap}
 use Rattle.octet_model.specs.Past.{InPast, AreOwned}
 use Rattle.octet_model.specs.Plays.{IsOneHistory, operation_of}
-use Rattle.octet_model.proofs.Steps.{at, count, same_journal, other_journal, as_many, new_event}
+use Rattle.octet_model.proofs.Steps.{count, same_journal, other_journal, as_many, new_event}
 use Rattle.octet_model.proofs.Growing.{new}
 use Rattle.octet_model.proofs.Splits.{accesses_split, marks_split, length_parts}
 use Rattle.octet_model.proofs.Owners.{history_with_mark, history_with_access, owned_with_event, owned_with_join}
-use Rattle.octet_serial.specs.Recording.{join_of_all, with_join, with_event}
-use Rattle.octet_serial.specs.Recorded.{HasAccessed, IsUntouched, IsOwnerJoined, IsPaired, HasOwners, HasOwnerMarks, HasValidMarks, IsRecorded}
+use Rattle.octet_serial.specs.Recording.{join_of_all, with_event}
+use Rattle.octet_serial.specs.Recorded.{HasAccessed, IsOwnerJoined, IsPaired, HasOwners, HasOwnerMarks, HasValidMarks, IsRecorded}
 use Rattle.octet_serial.proofs.Grown.{since_mark, since_access, each_journal, marks_of_new, accessed_stays, old_access, owner_marks_stay, valid_marks_stay}
 
 -- a read of what the heap holds, or a write

@@ -1,5 +1,5 @@
 -- Each demand of a thread keeps what is recorded while it runs.
-use Rattle.std.proofs.Common.{◌≡◌, ◌≢◌, ℕ, zero, suc, pred, ◌+◌, ◌<◌, ◌≤◌, ◌⊎◌, inl, inr, Bool, true, false, eqb, cond, List, [], ◌∷◌, ◌++◌, length, Option, Some, None, slice_index, slice_set, refl, sym, ap, ◌∙◌, subst, arith}
+use Rattle.std.proofs.Common.{◌≡◌, ℕ, suc, pred, ◌<◌, ◌≤◌, ◌⊎◌, inl, inr, Bool, false, cond, List, [], ◌∷◌, length, Option, Some, None, slice_index, slice_set, refl, sym, ap, ◌∙◌, subst, arith}
 use Rattle.std.proofs.lemmas.Bool.{cases_eq, eq-eqb, ne_eqb}
 use Rattle.octet_model.specs.declared.command.Command.{Command}
 use Rattle.octet_model.specs.declared.command.Command.TheVariants.{Read}
@@ -8,7 +8,7 @@ use Rattle.octet_model.specs.declared.event.Event.TheVariants.{Read, Write, Mark
 use Rattle.octet_model.specs.declared.event.Mark.{Mark}
 use Rattle.octet_model.specs.declared.outcome.End.{End}
 use Rattle.octet_model.specs.declared.script.Script.{Script}
-use Rattle.octet_model.specs.Thread.{Configuration, Demand, ToRead, ToWrite, ToEnd, starting_configuration, past_access, demanded, past_demanded, configuration_after, settled, FitsFrom}
+use Rattle.octet_model.specs.Thread.{Configuration, ToRead, ToWrite, starting_configuration, past_access, demanded, past_demanded, configuration_after, settled, FitsFrom}
 use Rattle.octet_model.specs.Machine.{Journals, journal_of, heap_after, appended}
 use Rattle.octet_model.specs.Journals.{access_count}
 use Rattle.octet_model.specs.HappensBefore.{object_of}

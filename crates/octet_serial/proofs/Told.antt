@@ -1,5 +1,5 @@
 -- What the calls tell, as what the thread demands.
-use Rattle.std.proofs.Common.{◌≡◌, ℕ, ◌<◌, ◌≤◌, ◌⊎◌, inl, inr, List, length, slice_index, slice_set, refl, sym, ap, ◌∙◌, subst, arith}
+use Rattle.std.proofs.Common.{◌≡◌, ℕ, ◌<◌, ◌≤◌, ◌⊎◌, inl, inr, List, length, slice_index, slice_set, sym, ap, ◌∙◌, subst, arith}
 use Rattle.octet_model.specs.declared.event.Event.TheVariants.{Read, Write}
 use Rattle.octet_model.specs.declared.outcome.End.{End}
 use Rattle.octet_model.specs.declared.script.Script.{Script}

@@ -6,5 +6,7 @@
 mod recording;
 mod results;
 mod serial;
+#[cfg(test)]
+mod tests;
 
 pub use serial::run_serially;
