@@ -1,25 +1,24 @@
 -- A text that spells what a script says is judged good, and says that.
-use Rattle.std.proofs.Common.{◌≡◌, ℕ, zero, suc, ◌+◌, ◌*◌, ◌<◌, ◌≤◌, ◌==◌, ◌&&◌, ◌||◌, Bool, true, false, not, cond, List, [], ◌∷◌, ◌++◌, map, length, Option, Some, None, Result, Ok, Err, refl, ap, sym, ◌∙◌, subst, arith, append_assoc}
-use Rattle.std.specs.Prelude.{codes, nat_lt, nat_le, unwrap_or}
-use Rattle.std.specs.Option.{ok_or, option_to_list, is_some}
-use Rattle.std.specs.List.{AllZip, flat_map, filter, list_all, list_any, position, position_or_len}
+use Rattle.std.proofs.Common.{◌≡◌, ℕ, suc, ◌+◌, ◌*◌, ◌<◌, ◌≤◌, ◌==◌, Bool, true, false, not, cond, List, [], ◌∷◌, ◌++◌, map, length, Option, Some, None, Result, Ok, Err, refl, ap, sym, ◌∙◌, subst, arith, append_assoc}
+use Rattle.std.specs.Prelude.{codes, unwrap_or}
+use Rattle.std.specs.Option.{option_to_list}
+use Rattle.std.specs.List.{AllZip, flat_map, filter, list_all, list_any, position_or_len}
 use Rattle.std.specs.Str.{bytes_eq}
-use Rattle.std.proofs.lemmas.Bool.{false≢true, le-ltb, lt-leb, lt-ltb, ne_eqb, not-true}
+use Rattle.std.proofs.lemmas.Bool.{false≢true, le-ltb, lt-leb, ne_eqb, not-true}
 use Rattle.std.proofs.lemmas.List.Folds.{list_any-append}
 use Rattle.std.proofs.Math.Nat.{mul-le-mul_right}
-use Rattle.std.proofs.lemmas.List.{map-append, append-nil, length-append, length-map}
+use Rattle.std.proofs.lemmas.List.{map-append, append-nil, length-append}
 use Rattle.octet_model.specs.declared.command.Command.{Command}
 use Rattle.octet_model.specs.declared.command.Command.TheVariants as command
-use Rattle.octet_model.specs.Name.{IsName, is_name}
 use Rattle.octet_model.specs.Script.{is_nested, are_distinct}
 use Rattle.octet_script.specs.declared.cause.ScriptFault.{ScriptFault}
 use Rattle.octet_script.specs.declared.cause.ScriptFault.TheVariants.{Refused}
 use Rattle.octet_script.specs.declared.cause.ScriptCause.TheVariants.{NoThread}
-use Rattle.octet_script.specs.Words.{lines, words_of_line, speaking_lines, is_filled}
-use Rattle.octet_script.specs.Spelling.{Part, Word, Number, Register, Known, New, IsPart, Head, FuelHead, ObjectHead, head_form, command_form, thread_forms, script_forms, fuels, declared, Declaration, declared_names, IsFuel, Contents, AreForms, SpellsContents, number_of, register_of, object_of}
-use Rattle.octet_script.specs.Judgement.{◌>>=◌, Progress, start, judgement, judged_bytes, judged_end, judged_lines, judged_line, judged_name, with_fuel, with_object, with_command, with_thread, begun, added, closed, all_closed, threads_of, contents_of, fuel_of, names_of}
+use Rattle.octet_script.specs.Words.{lines, words_of_line, is_filled}
+use Rattle.octet_script.specs.Spelling.{Word, IsPart, Head, FuelHead, ObjectHead, head_form, command_form, thread_forms, fuels, declared, Declaration, declared_names, IsFuel, Contents, AreForms, SpellsContents, object_of}
+use Rattle.octet_script.specs.Judgement.{◌>>=◌, Progress, start, judgement, judged_end, judged_lines, judged_line, with_fuel, with_command, with_thread, added, all_closed, threads_of, contents_of, fuel_of, names_of}
 use Rattle.octet_script.proofs.Judged.{valid_bytes}
-use Rattle.octet_script.proofs.Steps.{bytes_same, same_bytes, both_true, either_false}
+use Rattle.octet_script.proofs.Steps.{apart, both_true, either_false}
 use Rattle.octet_script.proofs.Sound.{started_threads}
 use Rattle.octet_script.proofs.Valid.{none_yet, is_plain, with_plain, plain_nested, loop_nested, branch_nested}
 
@@ -270,8 +269,8 @@ any_in_middle test before name behind none =
     (either_false (test name) (list_any test behind) both.1).0
 
 fresh_here : (name n : List ℕ) (names : List (List ℕ)) (q : Bool) → bytes_eq name n ≡ q → bytes_eq n name ≡ false → length names ≤ position_or_len (bytes_eq name) names → suc (length names) ≤ cond (not q) (1 + position_or_len (bytes_eq name) names) 0
-fresh_here name n names true same apart rest = absurd (false≢true (sym apart ∙ bytes_same n name (sym (same_bytes name n same))))
-fresh_here name n names false same apart rest = omega arith
+fresh_here name n names true same differ rest = absurd (false≢true (sym (apart n name true same differ)))
+fresh_here name n names false same differ rest = omega arith
 
 not_before : (names : List (List ℕ)) (name : List ℕ) (more : List (List ℕ)) → are_distinct (names ++ name ∷ more) ≡ true → length names ≤ position_or_len (bytes_eq name) names
 not_before [] name more distinct = omega arith

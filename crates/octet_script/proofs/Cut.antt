@@ -1,7 +1,7 @@
 -- Lines and words, cut where the code cuts them.
-use Rattle.std.proofs.Common.{◌≡◌, ℕ, zero, suc, ◌+◌, ◌-◌, ◌<◌, ◌≤◌, Bool, true, false, not, cond, List, [], ◌∷◌, ◌++◌, map, length, get_or, take, drop, Option, Some, None, refl, ap, sym, ◌∙◌, arith, subst, length-drop, drop-cons}
+use Rattle.std.proofs.Common.{◌≡◌, ℕ, zero, suc, ◌+◌, ◌-◌, ◌<◌, ◌≤◌, Bool, true, false, not, cond, List, [], ◌∷◌, map, length, get_or, take, drop, Some, None, refl, ap, sym, ◌∙◌, arith, length-drop, drop-cons}
 use Rattle.std.specs.Prelude.{slice_index_or}
-use Rattle.std.specs.List.{slice_split, onto_first, before_first, after_first, position, position_or_len, filter, prefix_len}
+use Rattle.std.specs.List.{slice_split, onto_first, position, position_or_len, filter, prefix_len}
 use Rattle.std.proofs.lemmas.List.{length-map, drop_all, get_or-drop}
 use Rattle.std.proofs.lemmas.List.Splits.{slice_split_first}
 use Rattle.std.proofs.lemmas.List.Sums.{passes_at_first}
@@ -9,8 +9,8 @@ use Rattle.std.proofs.lemmas.Bool.{false≢true}
 use Rattle.std.proofs.lemmas.Bool.Decides.{nat_tests}
 use Rattle.std.specs.Str.{bytes_eq}
 use Rattle.octet_model.specs.declared.object.Object.{Object}
-use Rattle.octet_script.specs.Spelling.{Declaration, declaration, object_names, object_of}
-use Rattle.octet_script.specs.Words.{words, is_blank, is_filled, uncommented, lines, is_line_end}
+use Rattle.octet_script.specs.Spelling.{declaration, object_names, object_of}
+use Rattle.octet_script.specs.Words.{words, is_blank, is_filled}
 
 prefix-map : {X Y : Type 0} (p : Y → Bool) (f : X → Y) (xs : List X) → prefix_len p (map f xs) ≡ prefix_len (λ x. p (f x)) xs
 prefix-map p f [] = refl
@@ -40,7 +40,7 @@ position_none p xs e =
     let failed = chosen_none _ (position_or_len p xs) e in
     grind (arith, nat_tests)
 
-filled : (xs : List ℕ) → 0 < length xs → is_filled xs ≡ true
+pub filled : (xs : List ℕ) → 0 < length xs → is_filled xs ≡ true
 filled [] some = absurd (omega arith)
 filled (x ∷ xs) some = refl
 

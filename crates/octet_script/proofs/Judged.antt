@@ -1,5 +1,5 @@
 -- How the judgement of lines goes on, and how it stops.
-use Rattle.std.proofs.Common.{◌≡◌, ℕ, suc, ◌+◌, ◌<◌, ◌≤◌, Bool, true, false, cond, List, [], ◌∷◌, ◌++◌, length, take, drop, Option, Some, None, Result, Ok, Err, refl, ap, sym, ◌∙◌, arith, length-drop}
+use Rattle.std.proofs.Common.{◌≡◌, ℕ, suc, ◌+◌, ◌<◌, true, false, List, [], ◌∷◌, length, take, drop, Some, None, Result, Ok, Err, refl, ap, sym, ◌∙◌, arith, length-drop}
 use Rattle.std.specs.Prelude.{nat_lt}
 use Rattle.std.specs.List.{position}
 use Rattle.std.specs.Str.{IsUtf8}
@@ -15,7 +15,7 @@ use Rattle.octet_script.specs.declared.cause.ScriptCause.TheVariants.{NameTwice}
 use Rattle.octet_script.specs.declared.cause.ScriptFault.{ScriptFault}
 use Rattle.octet_script.specs.declared.cause.ScriptFault.TheVariants.{Refused, OutOfMemory}
 use Rattle.octet_script.specs.Words.{lines, is_line_end, words_of_line}
-use Rattle.octet_script.specs.Judgement.{Progress, judged_line, judged_lines, judged_bytes, judged_name, Fails, Gives}
+use Rattle.octet_script.specs.Judgement.{Progress, judged_line, judged_lines, judged_bytes, judged_name, Fails}
 use Rattle.octet_script.proofs.Cut.{position_some, position_none, split_none}
 
 pub valid_bytes : (text : List ℕ) → IsUtf8 text → judged_bytes text ≡ Ok tt

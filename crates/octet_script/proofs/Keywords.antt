@@ -1,5 +1,5 @@
 -- Words of six letters.
-use Rattle.std.proofs.Common.{◌≡◌, ℕ, List, [], ◌∷◌, length, get_or, Some, refl, ap, sym, ◌∙◌, arith}
+use Rattle.std.proofs.Common.{◌≡◌, ℕ, List, [], ◌∷◌, length, get_or, Some, refl, ap, arith}
 use Rattle.octet_script.specs.declared.keyword.Keyword.TheVariants.{Object, Thread}
 use Rattle.octet_script.specs.Judgement.{keyword}
 

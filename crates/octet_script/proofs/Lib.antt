@@ -8,3 +8,4 @@ pub mod Valid
 pub mod Sound
 pub mod Spelled
 pub mod Complete
+pub mod Canonical

@@ -1,5 +1,5 @@
 -- What `parse` reads as a number of the language.
-use Rattle.std.proofs.Common.{◌≡◌, ℕ, ◌+◌, ◌^◌, ◌<◌, ◌≤◌, Bool, true, false, ◌&&◌, cond, List, [], ◌∷◌, length, Option, Some, None, Result, Ok, Err, nat_le, nat_lt, refl, ap, sym, ◌∙◌, arith}
+use Rattle.std.proofs.Common.{◌≡◌, ℕ, ◌^◌, ◌<◌, ◌≤◌, Bool, true, false, ◌&&◌, cond, List, [], ◌∷◌, length, Some, None, Result, Ok, Err, nat_le, nat_lt, refl, ap, sym, ◌∙◌, arith}
 use Rattle.std.specs.List.{list_all}
 use Rattle.std.specs.Char.{is_ascii_digit}
 use Rattle.std.specs.Result.{result_ok, OkIff}
@@ -9,7 +9,7 @@ use Rattle.std.specs.Str.Parse.{ParsesUnsigned, digits_value}
 use Rattle.std.proofs.lemmas.Str.{IsUtf8-from_ascii}
 use Rattle.std.proofs.lemmas.Fmt.{IsAscii-from_digits}
 use Rattle.std.proofs.lemmas.Str.Parse.{IsNumeralModel, numerals_by_value, tells_all_ascii_digits, parse_digits}
-use Rattle.octet_script.specs.Spelling.{number_of, is_number}
+use Rattle.octet_script.specs.Spelling.{number_of}
 
 pub numerals : IsNumeralModel (λ ds. all_ascii_digits ds ≡ true) (digits_value 10)
 numerals = numerals_by_value _ tells_all_ascii_digits
@@ -25,7 +25,7 @@ unread true true false d v never = refl
 unread true true true false v never = refl
 unread true true true true v never = absurd (never refl refl refl refl)
 
-read : (a b c d : Bool) (v x : ℕ) → a ≡ true → b ≡ true → c ≡ true → d ≡ true → x ≡ v → Some x ≡ cond (((a && b) && c) && d) (Some v) None
+pub read : (a b c d : Bool) (v x : ℕ) → a ≡ true → b ≡ true → c ≡ true → d ≡ true → x ≡ v → Some x ≡ cond (((a && b) && c) && d) (Some v) None
 read a b c d v x ea eb ec ed e = rw (ea, eb, ec, ed) (ap (λ n. Some n) e)
 
 pub number_too_long : (word : List ℕ) → 20 < length word → number_of word ≡ None

@@ -1,5 +1,5 @@
 -- The canonical text, in the order in which it is written.
-use Rattle.std.proofs.Common.{◌≡◌, ℕ, zero, suc, ◌+◌, ◌<◌, List, [], ◌∷◌, ◌++◌, map, length, get_or, drop, refl, ap, sym, ◌∙◌, arith, append_assoc}
+use Rattle.std.proofs.Common.{◌≡◌, ℕ, zero, suc, ◌<◌, List, [], ◌∷◌, ◌++◌, map, length, get_or, refl, ap, sym, ◌∙◌, arith}
 use Rattle.std.specs.Prelude.{codes}
 use Rattle.std.specs.Fmt.{decimal}
 use Rattle.std.specs.List.{flat_map}
@@ -8,7 +8,7 @@ use Rattle.std.proofs.lemmas.List.Folds.{flat_map-map}
 use Rattle.octet_model.specs.declared.command.Command.{Command}
 use Rattle.octet_model.specs.declared.object.Object.{Object}
 use Rattle.octet_model.specs.declared.script.Script.{Script}
-use Rattle.octet_script.specs.Spelling.{Head, FuelHead, ObjectHead, Part, Declaration, declaration, object_names, object_word, canonical_line, canonical_text, head_form, thread_forms, contents}
+use Rattle.octet_script.specs.Spelling.{FuelHead, ObjectHead, declaration, object_names, object_word, canonical_line, canonical_text, head_form, thread_forms}
 
 pub names_at : (objects : List Object) (k : ℕ) (o : Object) → k < length objects → o ≡ get_or objects k o → o.name ≡ object_word (object_names objects) k
 names_at [] k o here is = absurd (omega arith)

@@ -1,12 +1,12 @@
 -- A text that is judged good spells what it says.
-use Rattle.std.proofs.Common.{◌≡◌, ℕ, zero, suc, ◌+◌, ◌*◌, ◌<◌, ◌≤◌, ◌==◌, ◌||◌, Bool, true, false, cond, List, [], ◌∷◌, ◌++◌, map, length, take, drop, get_or, Option, Some, None, Result, Ok, Err, refl, ap, sym, ◌∙◌, subst, arith, append_assoc, take_all}
+use Rattle.std.proofs.Common.{◌≡◌, ℕ, zero, suc, ◌*◌, ◌≤◌, ◌==◌, ◌||◌, Bool, true, false, cond, List, [], ◌∷◌, ◌++◌, map, length, take, Option, Some, None, Ok, Err, refl, ap, sym, ◌∙◌, subst, arith, append_assoc, take_all}
 use Rattle.std.specs.Prelude.{codes, nat_lt, nat_le, unwrap_or}
-use Rattle.std.specs.Option.{ok_or, option_to_list, is_some}
+use Rattle.std.specs.Option.{option_to_list, is_some}
 use Rattle.std.specs.List.{AllZip, flat_map, filter}
 use Rattle.std.specs.Str.{IsUtf8, is_utf8, bytes_eq}
 use Rattle.std.specs.Str.Lossy.{utf8_valid_len, valid_len_up_to}
 use Rattle.std.proofs.lemmas.Str.{IsUtf8-from_is_utf8}
-use Rattle.std.proofs.lemmas.Bool.{false≢true, ltb-false}
+use Rattle.std.proofs.lemmas.Bool.{ltb-false}
 use Rattle.std.proofs.lemmas.List.{map-append, append-nil}
 use Rattle.std.proofs.lemmas.List.Concat.{flat_map-append}
 use Rattle.octet_model.specs.declared.command.Command.{Command}
@@ -14,18 +14,18 @@ use Rattle.octet_model.specs.declared.command.Command.TheVariants as command
 use Rattle.octet_model.specs.Name.{IsName, is_name}
 use Rattle.octet_script.specs.declared.cause.ScriptFault.{ScriptFault}
 use Rattle.octet_script.specs.declared.cause.ScriptFault.TheVariants.{Refused}
-use Rattle.octet_script.specs.declared.cause.ScriptCause.TheVariants.{NotUtf8, BadNumber, BadRegister, NoSuchObject, NoThread, BadFuel, TooMany}
+use Rattle.octet_script.specs.declared.cause.ScriptCause.TheVariants.{BadNumber, BadRegister, NoSuchObject, NoThread, BadFuel, TooMany}
 use Rattle.octet_script.specs.declared.keyword.Keyword.{Keyword}
 use Rattle.octet_script.specs.declared.keyword.Keyword.TheVariants.{Fuel, Object as ObjectWord, Thread, Command as CommandWord}
 use Rattle.octet_script.specs.declared.keyword.Verb.{Verb}
 use Rattle.octet_script.specs.declared.keyword.Verb.TheVariants as verb
 use Rattle.octet_script.specs.declared.keyword.Operation.{Operation}
 use Rattle.octet_script.specs.declared.keyword.Operation.TheVariants as operation
-use Rattle.octet_script.specs.Words.{lines, words_of_line, speaking_lines, is_filled, is_line_end}
-use Rattle.octet_script.specs.Spelling.{Part, Word, Number, Register, Known, New, IsPart, Head, FuelHead, ObjectHead, head_form, command_form, thread_forms, script_forms, fuels, declared, Declaration, declared_names, IsFuel, Contents, AreForms, SpellsContents, number_of, register_of, object_of}
-use Rattle.octet_script.specs.Judgement.{◌>>=◌, Progress, start, keywords, named_in, keyword, word_count, is_misplaced, judgement, judged_bytes, judged_end, judged_lines, judged_line, judged_keyword, judged_arguments, number_at, register_at, object_at, name_at, word_at, with_fuel, with_object, with_command, with_thread, begun, added, closed, all_closed, command_of, operation_command, threads_of, contents_of, fuel_of, names_of}
+use Rattle.octet_script.specs.Words.{lines, words_of_line, is_filled}
+use Rattle.octet_script.specs.Spelling.{Word, Register, IsPart, Head, FuelHead, ObjectHead, head_form, command_form, thread_forms, script_forms, fuels, declared, Declaration, declared_names, IsFuel, Contents, AreForms, SpellsContents, number_of, register_of, object_of}
+use Rattle.octet_script.specs.Judgement.{◌>>=◌, Progress, start, keywords, named_in, keyword, word_count, is_misplaced, judgement, judged_bytes, judged_end, judged_lines, judged_line, judged_arguments, number_at, register_at, object_at, name_at, word_at, with_fuel, with_object, with_command, begun, added, closed, all_closed, command_of, operation_command, threads_of, contents_of, fuel_of, names_of}
 use Rattle.octet_script.specs.Building.{IsValidSoFar}
-use Rattle.octet_script.proofs.Steps.{bind_ok, guard_ok, ok_or_ok, closed_ok, not_false, none_of, either_false, same_bytes, name_new, keyword_ok, TakesKeyword}
+use Rattle.octet_script.proofs.Steps.{bind_ok, guard_ok, ok_or_ok, not_false, none_of, either_false, same_bytes, name_new, keyword_ok}
 use Rattle.octet_script.proofs.Valid.{start_valid, line_valid, none_yet, is_plain, with_plain}
 
 -- the word of a keyword

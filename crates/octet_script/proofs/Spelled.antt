@@ -1,5 +1,5 @@
 -- What parsing answers, in the grammar's own terms.
-use Rattle.std.proofs.Common.{◌≡◌, ℕ, ◌*◌, ◌^◌, ◌<◌, ◌≤◌, Bool, true, false, ◌&&◌, List, [], ◌∷◌, map, length, Result, Ok, Err, refl, ap, sym, ◌∙◌, arith}
+use Rattle.std.proofs.Common.{◌≡◌, ℕ, ◌*◌, ◌^◌, ◌<◌, true, ◌&&◌, List, [], ◌∷◌, map, length, Result, Ok, Err, refl, ap, sym, ◌∙◌, arith}
 use Rattle.std.specs.Prelude.{IfOk, IsTrue, nat_le}
 use Rattle.std.specs.List.{list_all}
 use Rattle.std.proofs.lemmas.Bool.{leb-true}
@@ -12,7 +12,7 @@ use Rattle.octet_model.specs.declared.script.Script.{Script}
 use Rattle.octet_model.specs.Script.{is_script, is_thread, is_command, is_nested, are_distinct}
 use Rattle.octet_script.specs.declared.cause.ScriptFault.{ScriptFault}
 use Rattle.octet_script.specs.declared.cause.ScriptFault.TheVariants.{Refused, OutOfMemory}
-use Rattle.octet_script.specs.Spelling.{Spells, Contents, Declaration, declaration, declared_names, contents}
+use Rattle.octet_script.specs.Spelling.{Spells, Contents, Declaration, declaration, contents}
 use Rattle.octet_script.specs.Judgement.{judgement, Gives}
 use Rattle.octet_script.proofs.Steps.{both_true}
 use Rattle.octet_script.proofs.Valid.{same_names}
@@ -52,6 +52,11 @@ nested_threads k (t ∷ ts) good =
     let parts = both_true (is_thread k t) (list_all (is_thread k) ts) good in
     let first = both_true (list_all (is_command k) t) (is_nested 0 t) parts.0 in
     rw (first.1, nested_threads k ts parts.1) refl
+
+-- its threads are threads over its objects
+pub script_threads : (s : Script) → list_all (is_thread (length s.objects)) s.threads ≡ true
+script_threads s =
+    (both_true (nat_le 1 s.fuel && nat_le s.fuel 262144 && nat_le (length s.objects) 1024 && are_distinct (map (λ (o : Object). o.name) s.objects) && nat_le 1 (length s.threads) && nat_le (length s.threads) 16 && nat_le (length s.threads * s.fuel) 262144) (list_all (is_thread (length s.objects)) s.threads) s.valid).1
 
 pub script_says : (s : Script) → IsValidContents (contents s)
 script_says s =

@@ -1,12 +1,11 @@
 -- What follows where a judgement goes on.
-use Rattle.std.proofs.Common.{◌≡◌, ℕ, zero, suc, ◌+◌, ◌*◌, ◌^◌, ◌<◌, ◌≤◌, ◌==◌, Bool, true, false, not, cond, ◌&&◌, ◌||◌, List, [], ◌∷◌, ◌++◌, map, length, get_or, Option, Some, None, Result, Ok, Err, refl, ap, sym, ◌∙◌, arith}
-use Rattle.std.specs.Prelude.{nat_lt, nat_le, codes}
+use Rattle.std.proofs.Common.{◌∙◌, ◌≡◌, ℕ, ◌^◌, ◌<◌, ◌==◌, Bool, true, false, not, cond, ◌&&◌, ◌||◌, List, [], ◌∷◌, length, Option, Some, None, Result, Ok, Err, refl, sym, arith}
+use Rattle.std.specs.Prelude.{nat_lt, nat_le}
 use Rattle.std.specs.Option.{ok_or, is_some}
-use Rattle.std.specs.List.{position}
 use Rattle.std.specs.Str.{bytes_eq, all_ascii_digits}
 use Rattle.std.specs.Str.Parse.{digits_value}
 use Rattle.std.proofs.lemmas.Slice.Eq.{bytes_eq-Decides}
-use Rattle.std.proofs.lemmas.Bool.{false≢true, eqb-true, ltb-true, leb-true, ltb-false, leb-false, lt-ltb, le-leb}
+use Rattle.std.proofs.lemmas.Bool.{false≢true, eqb-true, ltb-true}
 use Rattle.octet_model.specs.Name.{is_name}
 use Rattle.octet_script.specs.declared.cause.ScriptFault.{ScriptFault}
 use Rattle.octet_script.specs.declared.cause.ScriptFault.TheVariants.{Refused}
@@ -44,6 +43,11 @@ same_bytes a b is = (bytes_eq-Decides a b).0 is
 
 pub bytes_same : (a b : List ℕ) → a ≡ b → bytes_eq a b ≡ true
 bytes_same a b is = (bytes_eq-Decides a b).1 is
+
+-- that bytes differ goes both ways
+pub apart : (a b : List ℕ) (q : Bool) → bytes_eq b a ≡ q → bytes_eq a b ≡ false → q ≡ false
+apart a b false e differ = refl
+apart a b true e differ = absurd (false≢true (sym differ ∙ bytes_same a b (sym (same_bytes b a e))))
 
 pub register_small : (word : List ℕ) (r : ℕ) → register_of word ≡ Some r → r < 16
 register_small word r is = (position_some (bytes_eq word) register_words r is).1

@@ -1,17 +1,17 @@
 -- What has been judged so far is valid so far.
-use Rattle.std.proofs.Common.{◌≡◌, ℕ, zero, suc, ◌+◌, ◌*◌, ◌^◌, ◌<◌, ◌≤◌, ◌==◌, Bool, true, false, not, cond, ◌&&◌, ◌||◌, List, [], ◌∷◌, ◌++◌, map, length, get_or, Option, Some, None, Result, Ok, Err, refl, ap, sym, ◌∙◌, subst, arith, append_assoc}
+use Rattle.std.proofs.Common.{◌≡◌, ℕ, zero, suc, ◌+◌, ◌*◌, ◌^◌, ◌<◌, ◌≤◌, ◌==◌, Bool, true, false, not, cond, ◌&&◌, ◌||◌, List, [], ◌∷◌, ◌++◌, map, length, Option, Some, None, Ok, refl, ap, sym, ◌∙◌, subst, arith, append_assoc}
 use Rattle.std.specs.Prelude.{nat_lt, nat_le, unwrap_or, IsTrue, IfSome}
 use Rattle.std.specs.Option.{is_some}
 use Rattle.std.specs.List.{list_all, list_any, position_or_len}
 use Rattle.std.specs.Str.{bytes_eq}
 use Rattle.std.proofs.lemmas.Bool.{false≢true, eqb-false, ltb-false, leb-false, lt-ltb, le-leb}
+use Rattle.std.proofs.lemmas.Simd.{map-map}
 use Rattle.std.proofs.lemmas.List.{length-map, length-append, map-append, append-nil}
 use Rattle.std.proofs.lemmas.List.Folds.{list_all-append, list_any-append}
 use Rattle.octet_model.specs.declared.command.Command.{Command}
 use Rattle.octet_model.specs.declared.command.Command.TheVariants as command
 use Rattle.octet_model.specs.declared.object.Object.{Object}
 use Rattle.octet_model.specs.Script.{is_command, is_nested, is_thread, is_script, are_distinct}
-use Rattle.octet_script.specs.declared.cause.ScriptFault.{ScriptFault}
 use Rattle.octet_script.specs.declared.cause.ScriptFault.TheVariants.{Refused}
 use Rattle.octet_script.specs.declared.cause.ScriptCause.TheVariants.{BadFuel, TooMany, BadNumber, BadRegister, NoSuchObject}
 use Rattle.octet_script.specs.declared.keyword.Keyword.{Keyword}
@@ -22,10 +22,10 @@ use Rattle.octet_script.specs.declared.keyword.Operation.{Operation}
 use Rattle.octet_script.specs.declared.keyword.Operation.TheVariants as operation
 use Rattle.octet_script.specs.Words.{words_of_line}
 use Rattle.octet_script.specs.Spelling.{Declaration, declaration, declared_names, object_of, number_of, register_of}
-use Rattle.octet_script.specs.Judgement.{◌>>=◌, Progress, start, keyword, word_count, is_misplaced, judged_lines, judged_line, judged_keyword, judged_arguments, number_at, register_at, object_at, name_at, word_at, with_fuel, with_object, with_command, with_thread, begun, added, closed, all_closed, command_of, operation_command, threads_of, fuel_of, names_of}
+use Rattle.octet_script.specs.Judgement.{◌>>=◌, Progress, start, is_misplaced, judged_lines, judged_line, judged_arguments, number_at, register_at, object_at, name_at, word_at, with_fuel, with_object, with_command, with_thread, begun, added, closed, all_closed, command_of, operation_command, threads_of, fuel_of, names_of}
 use Rattle.octet_script.specs.Building.{IsValidSoFar}
 use Rattle.octet_script.proofs.Cut.{position_none}
-use Rattle.octet_script.proofs.Steps.{bind_ok, guard_ok, ok_or_ok, closed_ok, not_false, either_false, same_bytes, bytes_same, name_new, number_small, register_small, object_there, keyword_ok}
+use Rattle.octet_script.proofs.Steps.{apart, bind_ok, guard_ok, ok_or_ok, closed_ok, not_false, either_false, name_new, number_small, register_small, object_there, keyword_ok}
 
 pub start_valid : IsValidSoFar start
 start_valid = record {
@@ -69,16 +69,12 @@ fuel_valid p q line words started is valid =
     let same : record p { fuel = Some fuel } ≡ q = cc in
     subst IsValidSoFar same (fuel_given p fuel started (omega (arith, eqb-false fuel 0 low.1)) (omega (arith, ltb-false 262144 fuel high.1)) valid)
 
-other_bytes : (a b : List ℕ) (q : Bool) → bytes_eq b a ≡ q → bytes_eq a b ≡ false → q ≡ false
-other_bytes a b false e no_same = refl
-other_bytes a b true e no_same = absurd (false≢true (sym no_same ∙ bytes_same a b (sym (same_bytes b a e))))
-
 fresh_step : (n : List ℕ) (names : List (List ℕ)) (name : List ℕ) (q r : Bool) → bytes_eq name n ≡ q → list_any (bytes_eq n) names ≡ r → (length names ≤ position_or_len (bytes_eq name) names → are_distinct names ≡ true → are_distinct (names ++ name ∷ []) ≡ true) → suc (length names) ≤ cond (not q) (1 + position_or_len (bytes_eq name) names) 0 → (not r && are_distinct names) ≡ true → are_distinct (n ∷ (names ++ name ∷ [])) ≡ true
 fresh_step n names name true r eq er ih h d = absurd (omega arith)
 fresh_step n names name false true eq er ih h d = absurd (false≢true d)
 fresh_step n names name false false eq er ih h d =
-    let apart = other_bytes name n (bytes_eq n name) refl eq in
-    rw (list_any-append (bytes_eq n) names (name ∷ []), er, apart) (ih (omega arith) d)
+    let differ = apart name n (bytes_eq n name) refl eq in
+    rw (list_any-append (bytes_eq n) names (name ∷ []), er, differ) (ih (omega arith) d)
 
 fresh : (names : List (List ℕ)) (name : List ℕ) → length names ≤ position_or_len (bytes_eq name) names → are_distinct names ≡ true → are_distinct (names ++ name ∷ []) ≡ true
 fresh [] name h d = refl
@@ -356,8 +352,7 @@ some_thread : (p : Progress) → p.started ≡ true → 1 ≤ length (threads_of
 some_thread p started = rw started (omega (arith, length-append p.threads (p.commands ∷ [])))
 
 pub same_names : (objects : List Object) → map (λ (o : Object). o.name) objects ≡ declared_names (map declaration objects)
-same_names [] = refl
-same_names (o ∷ objects) = ap (λ names. o.name ∷ names) (same_names objects)
+same_names objects = sym (map-map (λ (o : Declaration). o.name) declaration objects)
 
 pub script_valid : (p : Progress) (fuel : ℕ) (objects : List Object) (threads : List (List Command)) → IsValidSoFar p → fuel ≡ fuel_of p → map declaration objects ≡ p.objects → threads ≡ threads_of p → p.started ≡ true → p.openers ≡ [] → IsTrue (is_script fuel objects threads)
 script_valid p fuel objects threads valid fuel_is objects_are threads_are started none =

@@ -1,5 +1,5 @@
 -- A builder as what the lines so far have said, and what makes it a script.
-use Rattle.std.specs.Prelude.{◌≡◌, ℕ, ◌*◌, ◌≤◌, Bool, true, false, map, reverse, length, List, [], ◌∷◌, ◌++◌, IfSome}
+use Rattle.std.specs.Prelude.{◌≡◌, ◌*◌, ◌≤◌, true, false, map, reverse, length, List, [], ◌++◌, IfSome}
 use Rattle.std.specs.List.{list_all}
 use Rattle.octet_model.specs.declared.command.Command.{Command}
 use Rattle.octet_model.specs.Script.{is_command, is_nested, is_thread, are_distinct}

@@ -3,3 +3,4 @@ pub mod Words
 pub mod Spelling
 pub mod Judgement
 pub mod Building
+pub mod Laws

@@ -1,5 +1,5 @@
 -- The grammar of scripts: which texts spell a script, and the one canonical text of a script.
-use Rattle.std.specs.Prelude.{◌≡◌, ℕ, ◌^◌, ◌&&◌, ◌⊎◌, if◌then◌else◌, Bool, nat_le, nat_lt, List, [], ◌∷◌, ◌++◌, codes, length, map, Option, Some, None, slice_index_or}
+use Rattle.std.specs.Prelude.{◌≡◌, ℕ, ◌^◌, ◌&&◌, if◌then◌else◌, Bool, nat_le, nat_lt, List, [], ◌∷◌, ◌++◌, codes, length, map, Option, Some, None, slice_index_or}
 use Rattle.std.specs.List.{AllZip, flat_map, position, join_with_byte}
 use Rattle.std.specs.Fmt.{decimal}
 use Rattle.std.specs.Str.{IsUtf8, bytes_eq, all_ascii_digits}

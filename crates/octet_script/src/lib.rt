@@ -4,6 +4,7 @@
 mod builder;
 mod cause;
 mod keyword;
+mod laws;
 mod line;
 mod parser;
 mod printer;
@@ -13,5 +14,8 @@ mod tests;
 mod words;
 
 pub use cause::{ScriptCause, ScriptFault};
+pub use laws::{
+    a_text_spells_one_script, canonical_text_spells_its_script, judgement_is_the_grammar,
+};
 pub use parser::parse;
 pub use printer::print;

@@ -175,40 +175,34 @@ impl<'a> Line<'a> {
         ensures { result ≡ command_of (object_names objects.now) self.now.number (words self.now.text.now) verb }
     {
         match verb {
-            Verb::Set => {
-                let to = self.register_at(1)?;
-                let number = self.number_at(2)?;
-                Ok(Command::Set { to, number })
-            }
-            Verb::Copy => {
-                let to = self.register_at(1)?;
-                let from = self.register_at(2)?;
-                Ok(Command::Copy { to, from })
-            }
+            Verb::Set => Ok(Command::Set {
+                to: self.register_at(1)?,
+                number: self.number_at(2)?,
+            }),
+            Verb::Copy => Ok(Command::Copy {
+                to: self.register_at(1)?,
+                from: self.register_at(2)?,
+            }),
             Verb::Operation(operation) => {
                 let to = self.register_at(1)?;
                 let left = self.register_at(2)?;
                 let right = self.register_at(3)?;
                 Ok(operation.command(to, left, right))
             }
-            Verb::Read => {
-                let to = self.register_at(1)?;
-                let object = self.object_at(objects, 2)?;
-                Ok(Command::Read { to, object })
-            }
-            Verb::Write => {
-                let object = self.object_at(objects, 1)?;
-                let from = self.register_at(2)?;
-                Ok(Command::Write { object, from })
-            }
-            Verb::While => {
-                let test = self.register_at(1)?;
-                Ok(Command::Loop { test })
-            }
-            Verb::If => {
-                let test = self.register_at(1)?;
-                Ok(Command::Branch { test })
-            }
+            Verb::Read => Ok(Command::Read {
+                to: self.register_at(1)?,
+                object: self.object_at(objects, 2)?,
+            }),
+            Verb::Write => Ok(Command::Write {
+                object: self.object_at(objects, 1)?,
+                from: self.register_at(2)?,
+            }),
+            Verb::While => Ok(Command::Loop {
+                test: self.register_at(1)?,
+            }),
+            Verb::If => Ok(Command::Branch {
+                test: self.register_at(1)?,
+            }),
             Verb::End => Ok(Command::Close),
             Verb::Safe => Ok(Command::Safe),
             Verb::Pause => Ok(Command::Pause),

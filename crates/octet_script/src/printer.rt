@@ -2,7 +2,8 @@
 ghost use Rattle.std.specs.Prelude.{◌≡◌, ◌++◌, [], IfOk, OnOk, codes};
 ghost use Rattle.std.specs.List.{flat_map};
 ghost use Rattle.std.specs.Fmt.{decimal};
-ghost use Rattle.octet_script.specs.Spelling.{declaration, object_names, object_word, register_word, canonical_words, canonical_line, canonical_text, command_form, head_form, thread_forms, ObjectHead};
+ghost use Rattle.octet_script.specs.Spelling.{declaration, object_names, object_word, register_word, canonical_words, canonical_line, canonical_text, command_form, head_form, thread_forms, ObjectHead, Spells};
+ghost use Rattle.octet_model.specs.Name.{IsName};
 
 use octet_model::{Command, List, Object, OutOfMemory, Script};
 use std::alloc::Global;
@@ -111,10 +112,12 @@ fn push_command(
 }
 
 fn push_object(alloc: Global, out: &mut Vec<u8>, object: &Object) -> Result<(), OutOfMemory>
-    ensures { OnOk result (out.new.items ≡ out.old.items ++ canonical_line [] (head_form (ObjectHead (declaration object.now)))) }
+    ensures text { OnOk result (out.new.items ≡ out.old.items ++ canonical_line [] (head_form (ObjectHead (declaration object.now)))) }
+    ensures name { IsName object.now.name }
 {
+    let name = object.name.as_bytes();
     out.extend_from_slice(b"object ")?;
-    out.extend_from_slice(object.name.as_bytes())?;
+    out.extend_from_slice(name)?;
     out.extend_from_slice(b" ")?;
     push_number(alloc, out, object.start)?;
     out.extend_from_slice(b"\n")?;
@@ -138,7 +141,9 @@ fn push_thread(
 
 /// The canonical text of a script: the fuel, each object, then each thread with its commands.
 pub fn print(alloc: Global, script: &Script) -> Result<Vec<u8>, OutOfMemory>
-    ensures { IfOk result (λ text. text.items ≡ canonical_text script.now) }
+    ensures text { IfOk result (λ text. text.items ≡ canonical_text script.now) }
+    // It spells the script, so that parsing gives the script back.
+    ensures spells { IfOk result (λ text. Spells text.items script.now) }
 {
     let mut out = Vec::new(alloc);
     out.extend_from_slice(b"fuel ")?;

@@ -1,4 +1,5 @@
 use super::*;
+use std::alloc::{AllocError, Global};
 use std::test::*;
 
 // A text, and the line and the number of its first refusal.
@@ -118,11 +119,25 @@ const SPELLINGS: [(&[u8], &[u8]); 4] = [
 
 // The line and the number of the refusal, or 0 for none.
 fn judged(rt: HostRuntime, text: &[u8]) -> (u32, u8) {
+    if text.len() > 1_048_576 {
+        return (0, 254);
+    }
     match parse(rt.alloc(), text) {
         Err(ScriptFault::Refused { line, cause }) => (line, cause.number()),
         Err(ScriptFault::OutOfMemory) => (0, 255),
         Ok(_) => (0, 0),
     }
+}
+
+// Lines of so many objects, and then these.
+fn with_objects(alloc: Global, count: u32, last: &[u8]) -> Result<Vec<u8>, AllocError> {
+    let mut text = Vec::new(alloc);
+    for number in 0..count {
+        let line = format!(in alloc; "object o{number} {number}\n")?;
+        text.extend_from_slice(line.as_bytes())?;
+    }
+    text.extend_from_slice(last)?;
+    Ok(text)
 }
 
 #[test]
@@ -147,15 +162,10 @@ fn repeated_lines(rt: HostRuntime) -> Result<(), Fail> {
 
 #[test]
 fn at_most_1024_objects(rt: HostRuntime) -> Result<(), Fail> {
-    let mut text = Vec::new(rt.alloc());
-    for number in 0..1025u32 {
-        let line = format!(in rt.alloc(); "object o{number} {number}\n")?;
-        text.extend_from_slice(line.as_bytes())?;
-    }
-    assert_eq!(rt; judged(rt, text.as_slice()), (1025, 12));
-    text.truncate(text.len() - b"object o1024 1024\n".len());
-    text.extend_from_slice(b"thread\nread r0 o1023\nread r0 o1024")?;
-    assert_eq!(rt; judged(rt, text.as_slice()), (1027, 7));
+    let many = with_objects(rt.alloc(), 1025, b"")?;
+    assert_eq!(rt; judged(rt, many.as_slice()), (1025, 12));
+    let most = with_objects(rt.alloc(), 1024, b"thread\nread r0 o1023\nread r0 o1024")?;
+    assert_eq!(rt; judged(rt, most.as_slice()), (1027, 7));
     Ok(())
 }
 

@@ -1,5 +1,4 @@
-use Rattle.std.proofs.Common.{rules, ◌≡◌, ◌∙◌, sym, ap, arith, subst}
-use Rattle.std.specs.Str.Parse.{ParsesUnsigned}
+use Rattle.std.proofs.Common.{◌∙◌, sym, arith}
 use Rattle.octet_script.proofs.Numbers.{number_too_long, number_without_digits, number_read, digits_are_utf8}
 use Rattle.octet_script.proofs.line.number_of.Goals as goal
 

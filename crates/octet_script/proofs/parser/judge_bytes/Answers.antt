@@ -1,4 +1,3 @@
-use Rattle.std.proofs.Common.{rules, ◌≡◌, ◌∙◌, sym, ap, arith}
 use Rattle.octet_script.proofs.Judged.{valid_bytes}
 use Rattle.octet_script.proofs.parser.judge_bytes.Goals as goal
 

@@ -1,4 +1,4 @@
-use Rattle.std.proofs.Common.{rules, ◌≡◌, ◌∙◌, sym, ap, arith, subst}
+use Rattle.std.proofs.Common.{sym, subst}
 use Rattle.octet_script.specs.Words.{lines}
 use Rattle.octet_script.specs.Building.{IsValidSoFar, progress}
 use Rattle.octet_script.proofs.Valid.{start_valid, lines_valid}

@@ -1,4 +1,4 @@
-use Rattle.std.proofs.Common.{rules, ◌≡◌, ◌∙◌, sym, ap, arith}
+use Rattle.std.proofs.Common.{◌∙◌, sym}
 use Rattle.std.proofs.lemmas.Bool.{ltb-true}
 use Rattle.octet_script.proofs.Printed.{names_at}
 use Rattle.octet_script.proofs.printer.name_of.Goals as goal

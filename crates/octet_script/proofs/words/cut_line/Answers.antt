@@ -1,4 +1,4 @@
-use Rattle.std.proofs.Common.{rules, ◌≡◌, ◌∙◌, sym, ap, arith}
+use Rattle.std.proofs.Common.{◌∙◌, sym}
 use Rattle.octet_script.proofs.Judged.{line_cut, line_last}
 use Rattle.octet_script.proofs.words.cut_line.Goals as goal
 

@@ -1,4 +1,4 @@
-use Rattle.std.proofs.Common.{rules, ◌≡◌, arith, sym, ◌∙◌}
+use Rattle.std.proofs.Common.{sym, ◌∙◌}
 use Rattle.octet_script.proofs.Cut.{no_word, one_word, word_then, word_shorter}
 use Rattle.octet_script.proofs.words.first_word.Goals as goal
 

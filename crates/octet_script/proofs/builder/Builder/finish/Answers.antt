@@ -1,4 +1,4 @@
-use Rattle.std.proofs.Common.{rules, ◌≡◌, ◌∙◌, sym, ap, arith}
+use Rattle.std.proofs.Common.{◌∙◌, ap}
 use Rattle.octet_script.specs.Judgement.{Progress, fuel_of}
 use Rattle.octet_script.specs.Building.{progress}
 use Rattle.octet_script.proofs.Steps.{closed_ok}

@@ -1,4 +1,4 @@
-use Rattle.std.proofs.Common.{rules, ◌≡◌, sym, arith}
+use Rattle.std.proofs.Common.{sym, arith}
 use Rattle.octet_script.proofs.Keywords.{is_object, is_thread}
 use Rattle.octet_script.proofs.keyword.Keyword.of.Goals as goal
 

@@ -1,0 +1,23 @@
+-- Statements of laws about the grammar.
+use Rattle.std.specs.Prelude.{◌≡◌, ◌↔◌, ℕ, List, Ok, IsTrue}
+use Rattle.std.specs.List.{list_all}
+use Rattle.octet_model.specs.declared.script.Script.{Script}
+use Rattle.octet_model.specs.Name.{is_name}
+use Rattle.octet_script.specs.Spelling.{Spells, contents, object_names, canonical_text}
+use Rattle.octet_script.specs.Judgement.{judgement}
+
+-- a text is judged to say what a script says exactly where it spells the script
+abbrev pub JudgedIsSpelled : Type 0
+JudgedIsSpelled = (text : List ℕ) (script : Script) → (judgement text ≡ Ok (contents script)) ↔ Spells text script
+
+-- a text spells one script at most
+abbrev pub OneScript : Type 0
+OneScript = (text : List ℕ) (script other : Script) → Spells text script → Spells text other → other ≡ script
+
+-- the objects' names have the form of names; each `Name` has it by its type
+abbrev pub AreNamed : Script → Type 0
+AreNamed script = IsTrue (list_all is_name (object_names script.objects))
+
+-- the canonical text of a script spells it
+abbrev pub CanonicalSpells : Type 0
+CanonicalSpells = (script : Script) → AreNamed script → Spells (canonical_text script) script

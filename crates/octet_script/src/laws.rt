@@ -1,0 +1,17 @@
+//! Laws about the grammar.
+ghost use Rattle.octet_script.specs.Laws.{CanonicalSpells, OneScript, JudgedIsSpelled};
+
+/// A text is judged to say what a script says exactly where it spells the script.
+pub fn judgement_is_the_grammar()
+    ensures { JudgedIsSpelled }
+{}
+
+/// A text spells one script at most.
+pub fn a_text_spells_one_script()
+    ensures { OneScript }
+{}
+
+/// The canonical text of a script spells it.
+pub fn canonical_text_spells_its_script()
+    ensures { CanonicalSpells }
+{}
