@@ -1,0 +1,59 @@
+-- What a thread that is asked for its next access or its end tells.
+use Rattle.std.proofs.Common.{◌≡◌, ℕ, ◌⊎◌, inl, inr, false, List, sym, ap, ◌∙◌, subst}
+use Rattle.octet_model.specs.declared.command.Command.{Command}
+use Rattle.octet_model.specs.declared.outcome.End.{End}
+use Rattle.octet_model.specs.Thread.{Configuration, settled}
+use Rattle.octet_interp.specs.declared.demand.Demand.{Demand}
+use Rattle.octet_interp.specs.declared.demand.Demand.TheVariants.{Read, Write, Safe, Pause, Ended}
+use Rattle.octet_interp.specs.Told.{Standing, told, after_told, is_read}
+use Rattle.octet_interp.specs.Laws.{Agrees}
+use Rattle.octet_interp.proofs.Agreement.{agrees, follows}
+use Rattle.octet_replay.specs.declared.thread.Coming.TheVariants.{Read as ReadComing, Write as WriteComing, Ended as EndComing}
+use Rattle.octet_replay.specs.Coming.{IsComing}
+
+-- the thread settles as the configuration does, and was told this
+pub record Asked (commands : List Command) (c : Configuration) (s : Standing) (demand : Demand) (after : Standing) : Type 0 where
+  pub runs : s.commands ≡ commands
+  pub settles : settled commands s.at ≡ settled commands c
+  pub tells : demand ≡ told s
+  pub stands : after ≡ after_told s
+
+module _ (commands : List Command) (c : Configuration) (s after : Standing) where
+  agrees_here : (demand : Demand) → Asked commands c s demand after → Agrees demand (record s { commands = commands }) after
+  agrees_here demand a =
+      let at_told : Agrees (told s) s after = subst (λ (x : Standing). Agrees (told s) s x) (sym a.stands) (agrees s) in
+      let at_demand : Agrees demand s after = subst (λ (d : Demand). Agrees d s after) (sym a.tells) at_told in
+      subst (λ (x : List Command). Agrees demand (record s { commands = x }) after) a.runs at_demand
+
+  pub asked_read : (object : ℕ) → Asked commands c s (Read object) after → IsComing commands c (ReadComing object) after
+  asked_read object a =
+      let here = agrees_here (Read object) a in
+      let on = follows commands s.at c a.settles in
+      record {
+        demands = sym on.0 ∙ here.0;
+        stands = (ap (λ (x : Standing). x.waits) a.stands ∙ ap is_read (sym a.tells), λ value. here.1 value ∙ on.1 value);
+      }
+
+  pub asked_write : (object value : ℕ) → Asked commands c s (Write object value) after → IsComing commands c (WriteComing object value) after
+  asked_write object value a =
+      let here = agrees_here (Write object value) a in
+      let on = follows commands s.at c a.settles in
+      record {
+        demands = sym on.0 ∙ here.0;
+        stands = (ap (λ (x : Standing). x.waits) a.stands ∙ ap is_read (sym a.tells), λ any. here.1 any ∙ on.1 any);
+      }
+
+  pub asked_end : (end : End) → Asked commands c s (Ended end) after → IsComing commands c (EndComing end) after
+  asked_end end a =
+      let here = agrees_here (Ended end) a in
+      let on = follows commands s.at c a.settles in
+      record { demands = sym on.0 ∙ here.0; stands = tt }
+
+  -- a safe point and a pause change nothing of where it settles
+  pub asked_on : (demand : Demand) → (demand ≡ Safe) ⊎ (demand ≡ Pause) → Asked commands c s demand after → (after.waits ≡ false) × (settled commands after.at ≡ settled commands c)
+  asked_on demand (inl is) a =
+      let at_safe = subst (λ (d : Demand). Asked commands c s d after) is a in
+      (ap (λ (x : Standing). x.waits) a.stands ∙ ap is_read (sym at_safe.tells), agrees_here Safe at_safe ∙ a.settles)
+  asked_on demand (inr is) a =
+      let at_pause = subst (λ (d : Demand). Asked commands c s d after) is a in
+      (ap (λ (x : Standing). x.waits) a.stands ∙ ap is_read (sym at_pause.tells), agrees_here Pause at_pause ∙ a.settles)

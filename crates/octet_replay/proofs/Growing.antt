@@ -1,0 +1,144 @@
+-- One thread that makes one event more.
+use Rattle.std.proofs.Common.{◌≡◌, ℕ, suc, ◌+◌, ◌^◌, ◌<◌, ◌≤◌, Bool, true, false, nat_lt, List, [], ◌∷◌, length, Option, Some, None, slice_get, slice_index, refl, sym, ap, ◌∙◌, subst, arith}
+use Rattle.std.proofs.lemmas.Bool.{ltb-true}
+use Rattle.std.proofs.lemmas.Option.{same_Some, slice_get_within}
+use Rattle.octet_model.specs.declared.command.Command.{Command}
+use Rattle.octet_model.specs.declared.event.Mark.{Mark}
+use Rattle.octet_model.specs.declared.event.Event.{Event}
+use Rattle.octet_model.specs.declared.event.Event.TheVariants.{Read, Write, Marked}
+use Rattle.octet_model.specs.declared.log.Gapped.{Gapped}
+use Rattle.octet_model.specs.declared.log.ThreadLog.{ThreadLog}
+use Rattle.octet_model.specs.Thread.{Configuration, Demand, configuration_after}
+use Rattle.octet_model.specs.Machine.{Operation, MakeMark, MakeRead, MakeWrite, event_made}
+use Rattle.octet_model.specs.Journals.{access_count, mark_count, gap_after, due_mark, next_access, mark_first, next_by_log}
+use Rattle.octet_model.specs.Plays.{operation_of}
+use Rattle.octet_model.proofs.Splits.{accesses_split, marks_split, gap_split, configuration_split}
+use Rattle.octet_interp.specs.Told.{Standing, given}
+use Rattle.octet_replay.specs.declared.thread.Coming.{Coming}
+use Rattle.octet_replay.specs.declared.thread.Coming.TheVariants.{Read as ReadComing, Write as WriteComing, Ended as EndComing}
+use Rattle.octet_replay.specs.declared.thread.ThreadReplay.{ThreadReplay}
+use Rattle.octet_replay.specs.Coming.{demand_of, StandsBefore, IsComing, NamesObject}
+use Rattle.octet_replay.specs.Threads.{next_by_counts, next_event, ComesPast, Grown, HasRoomFor, IsReplayOf, StandsFor, WritesWithin}
+
+-- the event comes of what is coming
+abbrev ComesOf : Event → Coming → Type 0
+ComesOf (Read object value) coming = coming ≡ ReadComing object
+ComesOf (Write object value) coming = coming ≡ WriteComing object value
+ComesOf (Marked mark) coming = Unit {0}
+
+-- what the log has left for the event
+abbrev HasLeft : Event → Option Mark → Bool → Type 0
+HasLeft (Marked mark) due left = due ≡ Some mark
+HasLeft _ due left = left ≡ true
+
+record Came (event : Event) (due : Option Mark) (coming : Coming) (left : Bool) : Type 0 where
+  comes : ComesOf event coming
+  has : HasLeft event due left
+
+came : (due : Option Mark) (coming : Coming) (left marks : Bool) (heap : List ℕ) (event : Event)
+    → next_event (mark_first due (next_access (demand_of coming) left marks)) heap ≡ Some event → Came event due coming left
+came (Some mark) coming left marks heap event is =
+    subst (λ (e : Event). Came e (Some mark) coming left) (same_Some (Marked mark) event is) (record { comes = tt; has = refl })
+came None (ReadComing object) true marks heap event is =
+    subst (λ (e : Event). Came e None (ReadComing object) true) (same_Some (Read object (slice_index heap object)) event is) (record { comes = refl; has = refl })
+came None (ReadComing object) false marks heap event is = absurd cc
+came None (WriteComing object value) true marks heap event is =
+    subst (λ (e : Event). Came e None (WriteComing object value) true) (same_Some (Write object value) event is) (record { comes = refl; has = refl })
+came None (WriteComing object value) false marks heap event is = absurd cc
+came None (EndComing end) true marks heap event is = absurd cc
+came None (EndComing end) false true heap event is = absurd cc
+came None (EndComing end) false false heap event is = absurd cc
+
+-- the same, of a thread's counts
+came_here : (log : ThreadLog) (t : ThreadReplay) (heap : List ℕ) (event : Event) → next_event (next_by_counts log t) heap ≡ Some event
+    → Came event (due_mark (slice_get log.marks t.marks) t.gap) t.coming (nat_lt t.accesses log.accesses)
+came_here log t heap event is =
+    came (due_mark (slice_get log.marks t.marks) t.gap) t.coming (nat_lt t.accesses log.accesses) (nat_lt t.marks (length log.marks)) heap event is
+
+-- the operation of an event that is made
+pub same_operation : (operation : Operation) (heap : List ℕ) → operation_of (event_made operation heap) ≡ operation
+same_operation (MakeMark mark) heap = refl
+same_operation (MakeRead object) heap = refl
+same_operation (MakeWrite object value) heap = refl
+
+gap_within : (before : ℕ) (journal : List Event) → gap_after before journal ≤ before + access_count journal
+gap_within before [] = omega arith
+gap_within before (Read object value ∷ journal) = omega (arith, gap_within (suc before) journal)
+gap_within before (Write object value ∷ journal) = omega (arith, gap_within (suc before) journal)
+gap_within before (Marked mark ∷ journal) = omega (arith, gap_within 0 journal)
+
+due_there : (o : Option Gapped) (gap : ℕ) (mark : Mark) → due_mark o gap ≡ Some mark → (g : Gapped) × (o ≡ Some g)
+due_there None gap mark is = absurd cc
+due_there (Some g) gap mark is = (g, refl)
+
+-- what is next, from the four things that decide it
+next_from : {m m' : Option Mark} {d d' : Demand} {a a' k k' : Bool} → m ≡ m' → d ≡ d' → a ≡ a' → k ≡ k' → mark_first m (next_access d a k) ≡ mark_first m' (next_access d' a' k')
+next_from p q r s = rw (p, q, r, s) refl
+
+module _ (commands : List Command) (start : Configuration) (objects : ℕ) (t : ThreadReplay) (replay : IsReplayOf commands start objects t) where
+  -- by the counts is next what is next by the log
+  pub by_counts : (log : ThreadLog) → next_by_log commands start log t.journal ≡ next_by_counts log t
+  by_counts log =
+      next_from (ap (λ (k : ℕ). due_mark (slice_get log.marks k) (gap_after 0 t.journal)) (sym replay.counts.counts_marks) ∙ ap (λ (gap : ℕ). due_mark (slice_get log.marks t.marks) gap) (sym replay.counts.counts_gap))
+      replay.comes.demands
+      (ap (λ (k : ℕ). nat_lt k log.accesses) (sym replay.counts.counts_accesses))
+      (ap (λ (k : ℕ). nat_lt k (length log.marks)) (sym replay.counts.counts_marks))
+
+  module _ (log : ThreadLog) (heap : List ℕ) where
+    pub stands_for : (event : Event) → next_event (next_by_counts log t) heap ≡ Some event → StandsFor event t
+    stands_for (Read object value) is =
+        let here = subst (λ (x : Coming). StandsBefore commands (configuration_after commands start t.journal) x t.config) (came_here log t heap (Read object value) is).comes replay.comes.stands in
+        here.0
+    stands_for (Write object value) is =
+        let here = subst (λ (x : Coming). StandsBefore commands (configuration_after commands start t.journal) x t.config) (came_here log t heap (Write object value) is).comes replay.comes.stands in
+        here.0
+    stands_for (Marked mark) is = tt
+
+    pub writes_within : (event : Event) → next_event (next_by_counts log t) heap ≡ Some event → WritesWithin objects event
+    writes_within (Read object value) is = tt
+    writes_within (Write object value) is = subst (λ (x : Coming). NamesObject objects x) (came_here log t heap (Write object value) is).comes replay.names
+    writes_within (Marked mark) is = tt
+
+    room_of_access : nat_lt t.accesses log.accesses ≡ true → log.accesses ≤ 262144 → (suc t.accesses < 2 ^ 32) × (suc t.gap < 2 ^ 32)
+    room_of_access left few =
+        let below = ltb-true t.accesses log.accesses left in
+        (omega arith, omega (arith, gap_within 0 t.journal, replay.counts.counts_gap, replay.counts.counts_accesses))
+
+    pub has_room : (event : Event) → next_event (next_by_counts log t) heap ≡ Some event → log.accesses ≤ 262144 → length log.marks < 2 ^ 31 → HasRoomFor event t
+    has_room (Read object value) is few marks = room_of_access (came_here log t heap (Read object value) is).has few
+    has_room (Write object value) is few marks = room_of_access (came_here log t heap (Write object value) is).has few
+    has_room (Marked mark) is few marks =
+        let there = due_there (slice_get log.marks t.marks) t.gap mark (came_here log t heap (Marked mark) is).has in
+        omega (arith, slice_get_within log.marks t.marks there.0 there.1)
+
+    -- the thread that made the event is again a thread as far as it is replayed
+    pub grows : (event : Event) (after : ThreadReplay) → next_event (next_by_counts log t) heap ≡ Some event → Grown t event after → IsReplayOf commands start objects after
+    grows event after is grown = record {
+      counts = record {
+        counts_marks = grown.marks ∙ omega (arith, replay.counts.counts_marks, marks_split t.journal (event ∷ [])) ∙ ap mark_count (sym grown.journal);
+        counts_accesses = grown.accesses ∙ omega (arith, replay.counts.counts_accesses, accesses_split t.journal (event ∷ [])) ∙ ap access_count (sym grown.journal);
+        counts_gap = grown.gap ∙ ap (λ (gap : ℕ). gap_after gap (event ∷ [])) replay.counts.counts_gap ∙ sym (gap_split 0 t.journal (event ∷ [])) ∙ ap (gap_after 0) (sym grown.journal);
+      };
+      comes =
+          let there = subst (λ (c : Configuration). IsComing commands c after.coming after.config) (sym (configuration_split commands start t.journal (event ∷ []))) (moved event (came_here log t heap event is).comes grown.comes) in
+          subst (λ (j : List Event). IsComing commands (configuration_after commands start j) after.coming after.config) (sym grown.journal) there;
+      runs = grown.runs ∙ replay.runs;
+      has = grown.has ∙ replay.has;
+      names = subst (λ (n : ℕ). NamesObject n after.coming) replay.has (grown.names (subst (λ (n : ℕ). NamesObject n t.coming) (sym replay.has) replay.names));
+    }
+      where
+        here : Configuration
+        here = configuration_after commands start t.journal
+
+        moved : (e : Event) → ComesOf e t.coming → ComesPast e t after → IsComing commands (configuration_after commands here (e ∷ [])) after.coming after.config
+        moved (Read object value) of past =
+            let stands = subst (λ (x : Coming). StandsBefore commands here x t.config) of replay.comes.stands in
+            let there = subst (λ (x : List Command). IsComing x (given t.config value).at after.coming after.config) replay.runs past in
+            subst (λ (c : Configuration). IsComing commands c after.coming after.config) (stands.1 value) there
+        moved (Write object value) of past =
+            let stands = subst (λ (x : Coming). StandsBefore commands here x t.config) of replay.comes.stands in
+            let there = subst (λ (x : List Command). IsComing x t.config.at after.coming after.config) replay.runs past in
+            subst (λ (c : Configuration). IsComing commands c after.coming after.config) (stands.1 value) there
+        moved (Marked mark) of past =
+            let there = subst (λ (x : Coming). IsComing commands here x t.config) (sym past.0) replay.comes in
+            subst (λ (s : Standing). IsComing commands here after.coming s) (sym past.1) there

@@ -1,0 +1,14 @@
+use Rattle.std.proofs.Common.{◌≡◌, false}
+use Rattle.octet_model.specs.Thread.{settled}
+use Rattle.octet_replay.proofs.thread.ask.Given as goal
+
+abbrev pub invariant-loop-object : goal.invariant-loop-object
+invariant-loop-object l = record {
+  runs : l.config.commands ≡ l.fn.config.commands;
+  has : l.config.objects ≡ l.fn.config.objects;
+  asked : l.config.waits ≡ false;
+  settles : settled l.fn.config.commands l.config.at ≡ settled l.fn.config.commands l.fn.config.at;
+}
+
+abbrev pub decreases-loop-object : goal.decreases-loop-object
+decreases-loop-object l = l.config.at.fuel

@@ -1,0 +1,91 @@
+-- What becomes of a script and a log that are replayed in the lowest order.
+use Rattle.std.specs.Prelude.{◌≡◌, ◌≢◌, ℕ, suc, ◌<◌, ◌≤◌, ◌⊎◌, List, length, map}
+use Rattle.octet_model.specs.declared.event.Event.{Event}
+use Rattle.octet_model.specs.declared.script.Script.{Script}
+use Rattle.octet_model.specs.declared.log.ThreadLog.{ThreadLog}
+use Rattle.octet_model.specs.Thread.{Demand, ToEnd, demanded, configuration_after, starting_configuration}
+use Rattle.octet_model.specs.Machine.{journal_of, PlainState, next_of, Finished}
+use Rattle.octet_model.specs.Journals.{access_count, mark_count}
+use Rattle.octet_model.specs.Orders.{commands_of, thread_log_of, by_log, lowest_order, state_after, IsLawfulOrder}
+use Rattle.octet_replay.specs.declared.fault.ReplayFault.{ReplayFault}
+use Rattle.octet_replay.specs.declared.fault.ReplayFault.TheVariants.{ThreadsDiffer, Stuck, Misfit, OutOfMemory}
+
+-- the lowest order of the script and the log is lawful
+abbrev pub IsLawful : Script → List ThreadLog → Type 0
+IsLawful script log = IsLawfulOrder script log (lowest_order script log)
+
+-- the state in which no thread may step any more
+abbrev pub last_state : Script → List ThreadLog → PlainState
+last_state script log = state_after script log (lowest_order script log)
+
+abbrev pub last_journal : Script → List ThreadLog → ℕ → List Event
+last_journal script log thread = journal_of (last_state script log).journals thread
+
+-- what the thread demands then
+abbrev pub last_demand : Script → List ThreadLog → ℕ → Demand
+last_demand script log thread =
+    demanded (commands_of script thread) (configuration_after (commands_of script thread) (starting_configuration script.fuel) (last_journal script log thread))
+
+abbrev pub DemandsEnd : Demand → Type 0
+DemandsEnd (ToEnd end) = Unit {0}
+DemandsEnd _ = ⊥
+
+abbrev pub DemandsAccess : Demand → Type 0
+DemandsAccess (ToEnd end) = ⊥
+DemandsAccess _ = Unit {0}
+
+-- a thread that is at its end too early: it demands its end, and has made fewer accesses than its log says
+pub record EndsEarly (demand : Demand) (log : ThreadLog) (journal : List Event) : Type 0 where
+  pub ends : DemandsEnd demand
+  pub fewer : access_count journal < log.accesses
+
+-- a thread that goes on too long: it has made as many accesses as its log says and no mark of it is left, and it demands one more access
+pub record GoesOn (demand : Demand) (log : ThreadLog) (journal : List Event) : Type 0 where
+  pub demands : DemandsAccess demand
+  pub made : access_count journal ≡ log.accesses
+  pub no_mark_left : length log.marks ≤ mark_count journal
+
+-- so many accesses are found of a thread that does not fit its log: those that it made where it ends early, and one more than its log says where it goes on
+abbrev pub Finds : Demand → ThreadLog → List Event → ℕ → Type 0
+Finds demand log journal found =
+    (EndsEarly demand log journal × (found ≡ access_count journal)) ⊎ (GoesOn demand log journal × (found ≡ suc log.accesses))
+
+-- when no thread may step, the thread does not fit its log, and so many accesses are found of it
+abbrev pub FindsOf : Script → List ThreadLog → ℕ → ℕ → Type 0
+FindsOf script log thread found = Finds (last_demand script log thread) (thread_log_of log thread) (last_journal script log thread) found
+
+-- a misfit, for any number of accesses that is found
+abbrev pub IsMisfitThread : Script → List ThreadLog → ℕ → Type 0
+IsMisfitThread script log thread = (found : ℕ) × FindsOf script log thread found
+
+-- the thread is through: it demands its end, and no access and no mark of its log is left
+abbrev pub IsThrough : Script → List ThreadLog → ℕ → Type 0
+IsThrough script log thread = next_of (by_log script log) (last_state script log) thread ≡ Finished
+
+-- the script and the log have so many threads, and not equally many
+pub record IsThreadsDiffer (script : Script) (log : List ThreadLog) (of_script of_log : ℕ) : Type 0 where
+  pub script_has : of_script ≡ length script.threads
+  pub log_has : of_log ≡ length log
+  pub differ : of_script ≢ of_log
+
+-- the thread is the lowest misfit: so many accesses are wanted by its log, and so many are found
+pub record IsMisfit (script : Script) (log : List ThreadLog) (thread wanted found : ℕ) : Type 0 where
+  pub agree : length script.threads ≡ length log
+  pub within : thread < length log
+  pub wants : wanted ≡ (thread_log_of log thread).accesses
+  pub finds : FindsOf script log thread found
+  pub lowest : (lower : ℕ) → lower < thread → ¬ IsMisfitThread script log lower
+
+-- no thread is a misfit, some thread is not through, and these are the numbers of events that the threads made
+pub record IsStuck (script : Script) (log : List ThreadLog) (positions : List ℕ) : Type 0 where
+  pub agree : length script.threads ≡ length log
+  pub fit : (thread : ℕ) → thread < length log → ¬ IsMisfitThread script log thread
+  pub waits : (thread : ℕ) × (thread < length log) × ¬ IsThrough script log thread
+  pub made : positions ≡ map (λ journal. length journal) (last_state script log).journals
+
+-- when a replay is refused so. Want of memory alone may come at any time
+abbrev pub HasCause : Script → List ThreadLog → ReplayFault → Type 0
+HasCause script log (ThreadsDiffer of_script of_log) = IsThreadsDiffer script log of_script of_log
+HasCause script log (Stuck positions) = IsStuck script log positions
+HasCause script log (Misfit thread wanted found) = IsMisfit script log thread wanted found
+HasCause script log OutOfMemory = Unit {0}

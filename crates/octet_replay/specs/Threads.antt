@@ -1,0 +1,81 @@
+-- How far one thread is replayed.
+use Rattle.std.specs.Prelude.{◌≡◌, ℕ, suc, ◌+◌, ◌^◌, ◌<◌, true, false, List, [], ◌∷◌, ◌++◌, length, nat_lt, Option, Some, None, slice_get}
+use Rattle.octet_model.specs.declared.command.Command.{Command}
+use Rattle.octet_model.specs.declared.event.Event.{Event}
+use Rattle.octet_model.specs.declared.event.Event.TheVariants.{Read, Write, Marked}
+use Rattle.octet_model.specs.declared.log.ThreadLog.{ThreadLog}
+use Rattle.octet_model.specs.Thread.{Configuration, configuration_after}
+use Rattle.octet_model.specs.Machine.{Next, Wants, event_made}
+use Rattle.octet_model.specs.Journals.{access_count, mark_count, gap_after, due_mark, next_access, mark_first}
+use Rattle.octet_interp.specs.Told.{given}
+use Rattle.octet_replay.specs.declared.thread.ThreadReplay.{ThreadReplay}
+use Rattle.octet_replay.specs.Coming.{demand_of, IsComing, NamesObject}
+
+-- the counts are those of the journal
+pub record HasCounts (t : ThreadReplay) : Type 0 where
+  pub counts_marks : t.marks ≡ mark_count t.journal
+  pub counts_accesses : t.accesses ≡ access_count t.journal
+  pub counts_gap : t.gap ≡ gap_after 0 t.journal
+
+-- a thread with these commands, after its journal from the start: its counts are those of the journal, and what is coming is what it demands then
+pub record IsReplayOf (commands : List Command) (start : Configuration) (objects : ℕ) (t : ThreadReplay) : Type 0 where
+  pub counts : HasCounts t
+  pub comes : IsComing commands (configuration_after commands start t.journal) t.coming t.config
+  pub runs : t.config.commands ≡ commands
+  pub has : t.config.objects ≡ objects
+  pub names : NamesObject objects t.coming
+
+-- what is next by the log, from the counts and what is coming
+abbrev pub next_by_counts : ThreadLog → ThreadReplay → Next
+next_by_counts log t =
+    mark_first (due_mark (slice_get log.marks t.marks) t.gap)
+    (next_access (demand_of t.coming) (nat_lt t.accesses log.accesses) (nat_lt t.marks (length log.marks)))
+
+-- the event that is next on this heap, if an operation is next
+abbrev pub next_event : Next → List ℕ → Option Event
+next_event (Wants operation) heap = Some (event_made operation heap)
+next_event _ heap = None
+
+-- the thread stands before the event: a read waits for its value, and a write does not
+abbrev pub StandsFor : Event → ThreadReplay → Type 0
+StandsFor (Read object value) t = t.config.waits ≡ true
+StandsFor (Write object value) t = t.config.waits ≡ false
+StandsFor (Marked mark) t = Unit {0}
+
+-- there is room to count the event
+abbrev pub HasRoomFor : Event → ThreadReplay → Type 0
+HasRoomFor (Marked mark) t = suc t.marks < 2 ^ 64
+HasRoomFor _ t = (suc t.accesses < 2 ^ 32) × (suc t.gap < 2 ^ 32)
+
+-- a write names one of so many objects
+abbrev pub WritesWithin : ℕ → Event → Type 0
+WritesWithin objects (Write object value) = object < objects
+WritesWithin objects _ = Unit {0}
+
+-- after an access the thread comes to what it demands past it; a mark changes nothing of that
+abbrev pub ComesPast : Event → ThreadReplay → ThreadReplay → Type 0
+ComesPast (Read object value) before after = IsComing before.config.commands (given before.config value).at after.coming after.config
+ComesPast (Write object value) before after = IsComing before.config.commands before.config.at after.coming after.config
+ComesPast (Marked mark) before after = (after.coming ≡ before.coming) × (after.config ≡ before.config)
+
+-- one thread before an event and after it
+pub record Grown (before : ThreadReplay) (event : Event) (after : ThreadReplay) : Type 0 where
+  pub journal : after.journal ≡ before.journal ++ event ∷ []
+  pub marks : after.marks ≡ before.marks + mark_count (event ∷ [])
+  pub accesses : after.accesses ≡ before.accesses + access_count (event ∷ [])
+  pub gap : after.gap ≡ gap_after before.gap (event ∷ [])
+  pub comes : ComesPast event before after
+  pub runs : after.config.commands ≡ before.config.commands
+  pub has : after.config.objects ≡ before.config.objects
+  pub names : NamesObject before.config.objects before.coming → NamesObject before.config.objects after.coming
+
+-- one thread before an access is counted and after it
+pub record Counted (before after : ThreadReplay) : Type 0 where
+  pub journal : after.journal ≡ before.journal
+  pub marks : after.marks ≡ before.marks
+  pub accesses : after.accesses ≡ suc before.accesses
+  pub gap : after.gap ≡ suc before.gap
+  pub comes : IsComing before.config.commands before.config.at after.coming after.config
+  pub runs : after.config.commands ≡ before.config.commands
+  pub has : after.config.objects ≡ before.config.objects
+  pub names : NamesObject before.config.objects after.coming

@@ -1,0 +1,49 @@
+//! Why a replay is refused.
+ghost use Rattle.std.specs.Prelude.{◌≡◌};
+ghost use Rattle.octet_replay.specs.declared.fault.ReplayFault.TheVariants.{OutOfMemory as Refused};
+
+use octet_model::{List, OutOfMemory};
+use std::alloc::{AllocError, AllocFailed};
+use thiserror::Error;
+
+/// Why a log is not replayed. Want of memory alone may come at any time; the others say why the
+/// log does not fit the script.
+#[derive(Debug, Drop, Error)]
+pub enum ReplayFault {
+    /// The script and the log have these numbers of threads, which differ.
+    #[error("{script} threads in the script, {log} in the log")]
+    ThreadsDiffer { script: u32, log: u32 },
+    /// No thread may step and some thread is not through. Each thread has made so many events.
+    #[error("stuck")]
+    Stuck { positions: List<u64> },
+    /// When no thread may step, this is the lowest thread that ended with fewer accesses than
+    /// the log says, or demands one more than it says.
+    #[error("thread {thread} wants {wanted} accesses, found {found}")]
+    Misfit { thread: u8, wanted: u32, found: u32 },
+    #[error("out of memory")]
+    OutOfMemory,
+}
+
+impl From<OutOfMemory> for ReplayFault {
+    ghost from_gives = { λ _ e. e ≡ Refused };
+
+    fn from(_: OutOfMemory) -> Self {
+        ReplayFault::OutOfMemory
+    }
+}
+
+impl From<AllocError> for ReplayFault {
+    ghost from_gives = { λ _ e. e ≡ Refused };
+
+    fn from(_: AllocError) -> Self {
+        ReplayFault::OutOfMemory
+    }
+}
+
+impl<T: Drop> From<AllocFailed<T>> for ReplayFault {
+    ghost from_gives = { λ _ e. e ≡ Refused };
+
+    fn from(_: AllocFailed<T>) -> Self {
+        ReplayFault::OutOfMemory
+    }
+}

@@ -1,0 +1,18 @@
+//! The replayer: it follows the lowest order of a script and a log, in which always the lowest
+//! thread steps that may, and answers what the threads read and how they ended, or why the log
+//! does not fit the script.
+#![tactic(auto)]
+
+mod fault;
+mod judge;
+pub mod laws;
+mod line;
+mod order;
+mod state;
+#[cfg(test)]
+mod tests;
+mod thread;
+
+pub use fault::ReplayFault;
+pub use line::fit_line;
+pub use order::{journals, replay};

@@ -1,0 +1,318 @@
+//! Logs that are replayed or refused, made by hand.
+ghost use Rattle.std.specs.Prelude.{◌≡◌, ◌∷◌, ◌^◌, ◌<◌, [], replicate, IfOk, IsTrue};
+ghost use Rattle.octet_model.specs.Log.{is_log};
+ghost use Rattle.octet_model.specs.Script.{is_script};
+
+use super::*;
+use octet_model::{
+    Command, Event, Gapped, List, Log, Mark, Name, Object, OutOfMemory, Script, ThreadLog,
+    outcome_text,
+};
+use std::alloc::Global;
+use std::test::*;
+
+fn object_x(alloc: Global, start: u64) -> Result<Object, OutOfMemory> {
+    Ok(Object {
+        name: Name::new(alloc, b"x")?,
+        start,
+    })
+}
+
+fn script_of(
+    alloc: Global,
+    fuel: u32,
+    object: Object,
+    threads: List<List<Command>>,
+) -> Result<Script, OutOfMemory>
+    requires { IsTrue (is_script fuel (object ∷ []) threads) }
+{
+    let mut objects = List::new(alloc);
+    objects.push(object)?;
+    Ok(Script {
+        fuel,
+        objects,
+        threads,
+    })
+}
+
+fn commands_of(alloc: Global, commands: &[Command]) -> Result<List<Command>, OutOfMemory>
+    ensures { IfOk result (λ list. list ≡ commands.now) }
+{
+    Ok(List::from_vec(Vec::from_slice(alloc, commands)?))
+}
+
+const READ: Command = Command::Read { to: 0, object: 0 };
+
+const READ_AGAIN: Command = Command::Read { to: 1, object: 0 };
+
+fn read(alloc: Global) -> Result<Script, OutOfMemory> {
+    let mut threads = List::new(alloc);
+    threads.push(commands_of(alloc, &[READ])?)?;
+    script_of(alloc, 16384, object_x(alloc, 5)?, threads)
+}
+
+fn write_and_read(alloc: Global) -> Result<Script, OutOfMemory> {
+    let write = [
+        Command::Set { to: 0, number: 7 },
+        Command::Write { object: 0, from: 0 },
+    ];
+    let mut threads = List::new(alloc);
+    threads.push(commands_of(alloc, &write)?)?;
+    threads.push(commands_of(alloc, &[READ])?)?;
+    script_of(alloc, 16384, object_x(alloc, 5)?, threads)
+}
+
+fn loop_of_reads(alloc: Global) -> Result<Script, OutOfMemory> {
+    let commands = [
+        Command::Set { to: 0, number: 1 },
+        Command::Loop { test: 0 },
+        READ_AGAIN,
+        Command::Close,
+    ];
+    let mut threads = List::new(alloc);
+    threads.push(commands_of(alloc, &commands)?)?;
+    script_of(alloc, 5, object_x(alloc, 0)?, threads)
+}
+
+fn shared_reads(alloc: Global) -> Result<Script, OutOfMemory> {
+    let mut threads = List::new(alloc);
+    threads.push(List::new(alloc))?;
+    threads.push(commands_of(alloc, &[READ, READ_AGAIN])?)?;
+    threads.push(commands_of(alloc, &[READ])?)?;
+    script_of(alloc, 16384, object_x(alloc, 9)?, threads)
+}
+
+const NO_MARKS: &[Gapped] = &[];
+
+fn thread_log(alloc: Global, accesses: u32, marks: &[Gapped]) -> Result<ThreadLog, OutOfMemory>
+    ensures { IfOk result (λ log. log ≡ record { accesses = accesses; marks = marks.now }) }
+{
+    Ok(ThreadLog {
+        accesses,
+        marks: List::from_vec(Vec::from_slice(alloc, marks)?),
+    })
+}
+
+fn log_of_one(alloc: Global, accesses: u32, marks: &[Gapped]) -> Result<Log, OutOfMemory>
+    requires { IsTrue (is_log (record { accesses = accesses; marks = marks.now } ∷ [])) }
+{
+    let mut threads = List::new(alloc);
+    threads.push(thread_log(alloc, accesses, marks)?)?;
+    Ok(Log { threads })
+}
+
+fn log_of_two(
+    alloc: Global,
+    accesses: u32,
+    marks: &[Gapped],
+    others_accesses: u32,
+    others_marks: &[Gapped],
+) -> Result<Log, OutOfMemory>
+    requires { IsTrue (is_log (record { accesses = accesses; marks = marks.now } ∷ record { accesses = others_accesses; marks = others_marks.now } ∷ [])) }
+{
+    let mut threads = List::new(alloc);
+    threads.push(thread_log(alloc, accesses, marks)?)?;
+    threads.push(thread_log(alloc, others_accesses, others_marks)?)?;
+    Ok(Log { threads })
+}
+
+fn said(alloc: Global, script: &Script, log: &Log) -> Result<Vec<u8>, OutOfMemory> {
+    match replay(alloc, script, log) {
+        Ok(outcome) => outcome_text(alloc, script, &outcome),
+        Err(fault) => fit_line(alloc, &fault),
+    }
+}
+
+const READ_7: &[u8] = b"thread 0 done\nthread 1 done 7\nobject x 7\n";
+
+const BEHIND_THE_WRITE: Gapped = Gapped {
+    gap: 0,
+    mark: Mark::Join { from: 0, upto: 1 },
+};
+
+#[test]
+fn lawful_orders_are_replayed(rt: HostRuntime) -> Result<(), Fail> {
+    let alloc = rt.alloc();
+    let log = log_of_one(alloc, 1, NO_MARKS)?;
+    assert_eq!(rt;
+        said(alloc, &read(alloc)?, &log)?.as_slice(),
+        b"thread 0 done 5\nobject x 5\n".as_slice()
+    );
+    assert_eq!(rt;
+        said(alloc, &loop_of_reads(alloc)?, &log)?.as_slice(),
+        b"thread 0 spent 0\nobject x 0\n".as_slice()
+    );
+    let script = write_and_read(alloc)?;
+    let log = log_of_two(alloc, 1, NO_MARKS, 1, &[BEHIND_THE_WRITE])?;
+    assert_eq!(rt; said(alloc, &script, &log)?.as_slice(), READ_7);
+    let log = log_of_two(alloc, 1, NO_MARKS, 1, NO_MARKS)?;
+    assert_eq!(rt; said(alloc, &script, &log)?.as_slice(), READ_7);
+    Ok(())
+}
+
+#[test]
+fn stuck_threads_are_refused(rt: HostRuntime) -> Result<(), Fail> {
+    let alloc = rt.alloc();
+    let behind_the_read = Gapped {
+        gap: 0,
+        mark: Mark::Join { from: 1, upto: 1 },
+    };
+    let log = log_of_two(alloc, 1, &[behind_the_read], 1, &[BEHIND_THE_WRITE])?;
+    assert_eq!(rt;
+        said(alloc, &write_and_read(alloc)?, &log)?.as_slice(),
+        b"fit: stuck at 0 0\n".as_slice()
+    );
+    let draw = Gapped {
+        gap: 0,
+        mark: Mark::Draw { number: 1 },
+    };
+    let log = log_of_one(alloc, 1, &[draw, draw])?;
+    assert_eq!(rt;
+        said(alloc, &read(alloc)?, &log)?.as_slice(),
+        b"fit: stuck at 1\n".as_slice()
+    );
+    Ok(())
+}
+
+#[test]
+fn misfits_are_refused(rt: HostRuntime) -> Result<(), Fail> {
+    let alloc = rt.alloc();
+    let script = read(alloc)?;
+    let log = log_of_two(alloc, 1, NO_MARKS, 1, NO_MARKS)?;
+    assert_eq!(rt;
+        said(alloc, &script, &log)?.as_slice(),
+        b"fit: threads 1 in the script, 2 in the log\n".as_slice()
+    );
+    assert_eq!(rt;
+        said(alloc, &script, &log_of_one(alloc, 2, NO_MARKS)?)?.as_slice(),
+        b"fit: thread 0 wants 2 accesses, found 1\n".as_slice()
+    );
+    assert_eq!(rt;
+        said(alloc, &script, &log_of_one(alloc, 0, NO_MARKS)?)?.as_slice(),
+        b"fit: thread 0 wants 0 accesses, found 1\n".as_slice()
+    );
+    Ok(())
+}
+
+#[test]
+fn misfits_come_before_stuck_threads(rt: HostRuntime) -> Result<(), Fail> {
+    let alloc = rt.alloc();
+    let never = Gapped {
+        gap: 1,
+        mark: Mark::Join { from: 0, upto: 9 },
+    };
+    let log = log_of_two(alloc, 1, NO_MARKS, 2, &[never])?;
+    assert_eq!(rt;
+        said(alloc, &write_and_read(alloc)?, &log)?.as_slice(),
+        b"fit: thread 1 wants 2 accesses, found 1\n".as_slice()
+    );
+    let never = Gapped {
+        gap: 0,
+        mark: Mark::Fence { number: 1 },
+    };
+    let log = log_of_two(alloc, 1, &[never], 2, NO_MARKS)?;
+    assert_eq!(rt;
+        said(alloc, &write_and_read(alloc)?, &log)?.as_slice(),
+        b"fit: thread 1 wants 2 accesses, found 1\n".as_slice()
+    );
+    Ok(())
+}
+
+fn shared_log(alloc: Global) -> Result<Log, OutOfMemory> {
+    let first = [
+        Gapped {
+            gap: 0,
+            mark: Mark::Join { from: 0, upto: 0 },
+        },
+        Gapped {
+            gap: 1,
+            mark: Mark::Fence { number: 1 },
+        },
+    ];
+    let second = [
+        Gapped {
+            gap: 0,
+            mark: Mark::Join { from: 1, upto: 1 },
+        },
+        Gapped {
+            gap: 0,
+            mark: Mark::Draw { number: 1 },
+        },
+    ];
+    let mut threads = List::new(alloc);
+    threads.push(thread_log(alloc, 0, NO_MARKS)?)?;
+    threads.push(thread_log(alloc, 2, &first)?)?;
+    threads.push(thread_log(alloc, 1, &second)?)?;
+    Ok(Log { threads })
+}
+
+fn marked(mark: Mark) -> Event {
+    Event::Marked { mark }
+}
+
+#[test]
+fn journals_have_marks_and_values(rt: HostRuntime) -> Result<(), Fail> {
+    let alloc = rt.alloc();
+    let journals = journals(alloc, &shared_reads(alloc)?, &shared_log(alloc)?)?;
+    let read_9 = Event::Read {
+        object: 0,
+        value: 9,
+    };
+    let first = [
+        marked(Mark::Join { from: 0, upto: 0 }),
+        read_9,
+        marked(Mark::Fence { number: 1 }),
+        read_9,
+    ];
+    let second = [
+        marked(Mark::Join { from: 1, upto: 1 }),
+        marked(Mark::Draw { number: 1 }),
+        read_9,
+    ];
+    assert_eq!(rt; journals.len(), 3);
+    for (thread, events) in [
+        (0, [].as_slice()),
+        (1, first.as_slice()),
+        (2, second.as_slice()),
+    ] {
+        assert_eq!(rt;
+            journals.get(thread).map(|journal| journal.as_slice()),
+            Some(events)
+        );
+    }
+    Ok(())
+}
+
+fn repeated(alloc: Global, mark: Gapped, count: usize) -> Result<List<Gapped>, OutOfMemory>
+    ensures { IfOk result (λ marks. marks ≡ replicate count mark) }
+{
+    Ok(List::from_vec(vec![in alloc; mark; count]?))
+}
+
+// Two threads, the second with so many marks that wait for nothing.
+fn log_of_many_marks(alloc: Global, count: usize) -> Result<Log, OutOfMemory>
+    requires { count < 2 ^ 31 }
+{
+    let mark = Gapped {
+        gap: 0,
+        mark: Mark::Join { from: 0, upto: 0 },
+    };
+    let mut threads = List::new(alloc);
+    threads.push(thread_log(alloc, 1, NO_MARKS)?)?;
+    threads.push(ThreadLog {
+        accesses: 1,
+        marks: repeated(alloc, mark, count)?,
+    })?;
+    Ok(Log { threads })
+}
+
+#[test]
+fn many_marks_are_replayed(rt: HostRuntime) -> Result<(), Fail> {
+    let alloc = rt.alloc();
+    let log = log_of_many_marks(alloc, 10_000)?;
+    assert_eq!(rt;
+        said(alloc, &write_and_read(alloc)?, &log)?.as_slice(),
+        READ_7
+    );
+    Ok(())
+}
