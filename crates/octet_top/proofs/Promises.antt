@@ -1,39 +1,36 @@
 -- From what is served to what each status promises.
-use Rattle.std.proofs.Common.{◌≡◌, ◌∙◌, ◌≤◌, ◌<◌, ◌++◌, ◌⊎◌, ℕ, List, [], ◌∷◌, length, Option, None, Some, Err, IfSome, IsSomeAnd, inl, inr, sym, ap, subst, refl, arith, codes}
-use Rattle.std.specs.Option.{option_map, unwrap_or}
-use Rattle.std.specs.FinMap.{get, insert}
+use Rattle.std.proofs.Common.{◌≡◌, ◌∙◌, ◌≢◌, ◌≤◌, ◌<◌, ◌++◌, ◌⊎◌, ℕ, List, length, Option, None, Some, Ok, Err, IfSome, IsSomeAnd, inl, inr, sym, ap, subst, refl, arith}
+use Rattle.std.specs.FinMap.{get}
 use Rattle.octet_base.specs.Desk.{Files, Rose, spoken}
 use Rattle.octet_model.specs.declared.script.Script.{Script}
 use Rattle.octet_model.specs.declared.log.Log.{Log}
-use Rattle.octet_log.specs.declared.cause.LogCause.{LogCause}
-use Rattle.octet_log.specs.Texts.{log_text}
-use Rattle.octet_log.specs.Judgement.{judgement}
-use Rattle.octet_script.proofs.Complete.{spelled_judged}
-use Rattle.octet_script.proofs.Spelled.{script_says}
-use Rattle.octet_log.proofs.Whole.{judgement_is}
+use Rattle.octet_model.specs.declared.log.ThreadLog.{ThreadLog}
 use Rattle.octet_model.specs.Texts.{log_bytes, outcome_text}
+use Rattle.octet_model.specs.Orders.{execution, lowest_order}
 use Rattle.octet_script.specs.declared.cause.ScriptCause.{ScriptCause}
 use Rattle.octet_script.specs.Spelling.{Spells, contents, canonical_text}
+use Rattle.octet_script.proofs.Spelled.{spells_judged, one_script}
+use Rattle.octet_log.specs.declared.cause.LogCause.{LogCause}
+use Rattle.octet_log.specs.Judgement.{judgement}
+use Rattle.octet_log.specs.Texts.{log_text}
+use Rattle.octet_log.proofs.Whole.{judgement_is, one_log}
+use Rattle.octet_replay.specs.declared.fault.ReplayFault.{ReplayFault}
+use Rattle.octet_replay.specs.declared.fault.ReplayFault.TheVariants.{OutOfMemory}
+use Rattle.octet_replay.specs.Judged.{HasCause, IsLawful}
+use Rattle.octet_replay.proofs.Answered.{faithful, not_refused}
 use Rattle.octet_top.specs.declared.reply.Status.{Status}
 use Rattle.octet_top.specs.declared.reply.Status.TheVariants.{Done}
-use Rattle.octet_top.specs.Answer.{Answer, code_of, told, writes_and_tells, not_a_command, read_failed, too_long, script_refused, log_refused}
+use Rattle.octet_top.specs.Answer.{Answer, code_of, told, writes_and_tells, not_a_command, read_failed, too_long, script_refused, log_refused, does_not_fit}
 use Rattle.octet_top.specs.Taking.{TakingScript, TakingLog, IsTaken, IsAbsent, IsTooLong, Refuses, RefusesLog, script_limit, log_limit}
-use Rattle.octet_top.specs.Request.{IsRun, IsTidy, IsShow, IsNotACommand, NamesScript, NamesLog}
-use Rattle.octet_top.specs.Commands.{IsAnswer, IsRecording}
-use Rattle.octet_top.specs.Serving.{DeskState, put, written, IsGiven, IsCutShort, IsUntouched, IsDelivered, IsServed}
-use Rattle.octet_top.specs.Promises.{RunsFaithfully, SaysToTake, IsScriptRefused, IsLogRefused, IsFileAbsent, IsFileTooLong, HasScript, HasLog, IsThere, IsWellMet, ScriptMet, LogMet}
+use Rattle.octet_top.specs.Request.{Command, Run, Tidy, Show, Replay, words_of, script_taken, log_taken, IsNotACommand, NamesScript, NamesLog}
+use Rattle.octet_top.specs.Commands.{IsAnswer, CommandAnswers, IsRecording, IsReplayed, Fitting}
+use Rattle.octet_top.specs.Serving.{DeskState, put, written, IsGiven, IsDelivered, IsServed}
+use Rattle.octet_top.specs.Promises.{RunsFaithfully, SaysToTake, IsScriptRefused, IsLogRefused, IsMisfitting, IsFileAbsent, IsFileTooLong, HasScript, HasLog, HasFiles, IsThere, IsWellMet}
 use Rattle.octet_top.proofs.Files.{get-inserted}
-use Rattle.octet_top.proofs.Words.{cases_text, others}
+use Rattle.octet_top.proofs.Words.{one_command}
 
 same_value : {A : Type 0} (x y : A) → Some x ≡ Some y → x ≡ y
 same_value x y is = cc
-
--- the words are one of the commands, or none
-pub data Kind (words : List (List ℕ)) : Type 0 where
-  OfRun : (script_name log_name : List ℕ) → IsRun words script_name log_name → Kind words
-  OfTidy : (script_name : List ℕ) → IsTidy words script_name → Kind words
-  OfShow : (log_name : List ℕ) → IsShow words log_name → Kind words
-  OfNone : IsNotACommand words → Kind words
 
 -- a status that is none of a failed write or of refused memory is that of the answer
 own_status : (answer : Answer) (before after : DeskState) (code : ℕ) → (code ≡ 6 → ⊥) → (code ≡ 7 → ⊥) → IsDelivered answer before after code → IsGiven answer before after code
@@ -41,15 +38,26 @@ own_status answer before after code no_write no_memory (inl given) = given
 own_status answer before after code no_write no_memory (inr cut) = absurd (elim cut.status [ inl failed ↦ no_write failed.0 | inr memory ↦ no_memory memory ])
 
 -- the answer that was given, at such a status
-pub record Given (words : List (List ℕ)) (before after : DeskState) (code : ℕ) : Type 0 where
-  pub answer : Answer
-  pub answers : IsAnswer words before.files before.take_faults after.take_faults answer
-  pub given : IsGiven answer before after code
+record Given (words : List (List ℕ)) (before after : DeskState) (code : ℕ) : Type 0 where
+  answer : Answer
+  answers : IsAnswer words before.files before.take_faults after.take_faults answer
+  given : IsGiven answer before after code
 
-pub given_at : (words : List (List ℕ)) (before after : DeskState) (code : ℕ) → (code ≡ 6 → ⊥) → (code ≡ 7 → ⊥)
+given_at : (words : List (List ℕ)) (before after : DeskState) (code : ℕ) → (code ≡ 6 → ⊥) → (code ≡ 7 → ⊥)
     → IsServed (IsAnswer words before.files before.take_faults after.take_faults) before after code → Given words before after code
 given_at words before after code no_write no_memory (inl untouched) = absurd (no_memory untouched.status)
 given_at words before after code no_write no_memory (inr served) = record { answer = served.0; answers = served.1; given = own_status served.0 before after code no_write no_memory served.2 }
+
+-- a status as its answer's
+status_is : (answer told : Answer) (before after : DeskState) (code : ℕ) → answer ≡ told → IsGiven answer before after code → code ≡ code_of told.status
+status_is answer told before after code is given = given.status ∙ ap (λ (a : Answer). code_of a.status) is
+
+-- the answers to a command that words ask for
+answers_to : (words : List (List ℕ)) (command : Command) (files : Option Files) (before after : ℕ) (answer : Answer) → words ≡ words_of command
+    → IsAnswer words files before after answer → CommandAnswers command files before after answer
+answers_to words command files before after answer asked (inl (other, is, answers)) =
+    subst (λ (c : Command). CommandAnswers c files before after answer) (one_command words other command is asked) answers
+answers_to words command files before after answer asked (inr (none, is)) = absurd (none command asked)
 
 -- what a recording leaves, where the desk tells its contents
 recorded : (script_name log_name text : List ℕ) (script : Script) (answer : Answer) (before after : DeskState) (code : ℕ) → IsTaken before.files script_name script_limit text → Spells text script
@@ -73,15 +81,11 @@ recorded script_name log_name text script answer before after code taken spells 
       faithful = recording.2;
     }
 
--- a status as its answer's
-status_is : (answer told : Answer) (before after : DeskState) (code : ℕ) → answer ≡ told → IsGiven answer before after code → code ≡ code_of told.status
-status_is answer told before after code is given = given.status ∙ ap (λ (a : Answer). code_of a.status) is
-
 pub headline : (words : List (List ℕ)) (before after : DeskState) (code : ℕ) → IsServed (IsAnswer words before.files before.take_faults after.take_faults) before after code
-    → (script_name log_name : List ℕ) → IsRun words script_name log_name → code ≡ 0 → RunsFaithfully script_name log_name before after
+    → (script_name log_name : List ℕ) → words ≡ words_of (Run script_name log_name) → code ≡ 0 → RunsFaithfully script_name log_name before after
 headline words before after code served script_name log_name run zero =
     let g = given_at words before after code (λ e. omega arith) (λ e. omega arith) served in
-    elim (g.answers.run script_name log_name run) [
+    elim (answers_to words (Run script_name log_name) before.files before.take_faults after.take_faults g.answer run g.answers) [
       | inl failed ↦ absurd (omega (arith, status_is g.answer read_failed before after code failed.0 g.given))
       | inr (inl long) ↦ absurd (omega (arith, status_is g.answer (too_long script_name script_limit) before after code long.0 g.given))
       | inr (inr taken) ↦ elim taken.2 [
@@ -94,159 +98,195 @@ headline words before after code served script_name log_name run zero =
 pub data Cause (words : List (List ℕ)) (before after : DeskState) (answer : Answer) : Type 0 where
   ByRead : (name : List ℕ) (limit : ℕ) → SaysToTake words name limit → answer ≡ read_failed → Rose before.take_faults after.take_faults ⊎ IsAbsent before.files name → Cause words before after answer
   ByLength : (name : List ℕ) (limit : ℕ) → SaysToTake words name limit → answer ≡ too_long name limit → IsTooLong before.files name limit → Cause words before after answer
-  ByScript : (line : ℕ) (cause : ScriptCause) (name text : List ℕ) → NamesScript words name → IsTaken before.files name script_limit text → Refuses text line cause → answer ≡ script_refused line cause → Cause words before after answer
-  ByLog : (cause : LogCause) (name bytes : List ℕ) → NamesLog words name → IsTaken before.files name log_limit bytes → RefusesLog bytes cause → answer ≡ log_refused cause → Cause words before after answer
+  ByScript : (line : ℕ) (cause : ScriptCause) → answer ≡ script_refused line cause → IsScriptRefused words before.files → Cause words before after answer
+  ByLog : (cause : LogCause) → answer ≡ log_refused cause → IsLogRefused words before.files → Cause words before after answer
+  ByFit : (fault : ReplayFault) → answer ≡ does_not_fit fault → IsMisfitting words before.files → Cause words before after answer
   BySuccess : answer.status ≡ Done → Cause words before after answer
-  ByWords : IsNotACommand words → answer ≡ not_a_command → Cause words before after answer
-
-of_script : (words : List (List ℕ)) (before after : DeskState) (answer : Answer) (name : List ℕ) (Onward : Script → Answer → Type 0)
-    → ((script : Script) → Onward script answer → Cause words before after answer) → NamesScript words name
-    → TakingScript before.files before.take_faults after.take_faults name Onward answer → Cause words before after answer
-of_script words before after answer name Onward on named (inl failed) = ByRead name script_limit (inl (named, refl)) failed.0 failed.1
-of_script words before after answer name Onward on named (inr (inl long)) = ByLength name script_limit (inl (named, refl)) long.0 long.1
-of_script words before after answer name Onward on named (inr (inr taken)) =
-    elim taken.2 [
-      | inl refused ↦ ByScript refused.0 refused.1 name taken.0 named taken.1 refused.2 refused.3
-      | inr parsed ↦ on parsed.0 parsed.2
-    ]
-
-of_log : (words : List (List ℕ)) (before after : DeskState) (answer : Answer) (name : List ℕ) (Onward : Log → Answer → Type 0)
-    → ((log : Log) → Onward log answer → Cause words before after answer) → NamesLog words name
-    → TakingLog before.files before.take_faults after.take_faults name Onward answer → Cause words before after answer
-of_log words before after answer name Onward on named (inl failed) = ByRead name log_limit (inr (named, refl)) failed.0 failed.1
-of_log words before after answer name Onward on named (inr (inl long)) = ByLength name log_limit (inr (named, refl)) long.0 long.1
-of_log words before after answer name Onward on named (inr (inr taken)) =
-    elim taken.2 [
-      | inl refused ↦ ByLog refused.0 name taken.0 named taken.1 refused.1 refused.2
-      | inr decoded ↦ on decoded.0 decoded.2
-    ]
-
-done_by : (words : List (List ℕ)) (before after : DeskState) (answer told : Answer) → answer ≡ told → told.status ≡ Done → Cause words before after answer
-done_by words before after answer told is done = BySuccess (ap (λ (a : Answer). a.status) is ∙ done)
-
-cause_of : (words : List (List ℕ)) (before after : DeskState) (answer : Answer) → IsAnswer words before.files before.take_faults after.take_faults answer → Kind words → Cause words before after answer
-cause_of words before after answer answers (OfRun script_name log_name is) =
-    of_script words before after answer script_name (IsRecording log_name)
-    (λ script recording. done_by words before after answer (writes_and_tells log_name (log_bytes recording.0.threads) (outcome_text script recording.1)) recording.3 refl)
-    (inl (log_name, is)) (answers.run script_name log_name is)
-cause_of words before after answer answers (OfTidy script_name is) =
-    of_script words before after answer script_name (λ script answer. answer ≡ told Done (canonical_text script))
-    (λ script tidy. done_by words before after answer (told Done (canonical_text script)) tidy refl)
-    (inr is) (answers.tidy script_name is)
-cause_of words before after answer answers (OfShow log_name is) =
-    of_log words before after answer log_name (λ log answer. answer ≡ told Done (log_text log.threads))
-    (λ log shown. done_by words before after answer (told Done (log_text log.threads)) shown refl)
-    is (answers.show log_name is)
-cause_of words before after answer answers (OfNone none) = ByWords none (answers.other none)
-
--- which of the commands words are
-kind_of : (words : List (List ℕ)) → Kind words
-kind_of [] = OfNone (record { run = λ s l is. cc; tidy = λ s is. cc; show = λ l is. cc })
-kind_of (a ∷ []) = OfNone (record { run = λ s l is. cc; tidy = λ s is. cc; show = λ l is. cc })
-kind_of (a ∷ b ∷ []) = elim (cases_text a (codes "tidy")) [
-  | inl is ↦ OfTidy b (ap (λ (w : List ℕ). w ∷ b ∷ []) is)
-  | inr no_tidy ↦ elim (cases_text a (codes "show")) [
-    | inl is ↦ OfShow b (ap (λ (w : List ℕ). w ∷ b ∷ []) is)
-    | inr no_show ↦ OfNone (record { run = λ s l is. cc; tidy = λ s is. no_tidy cc; show = λ l is. no_show cc })
-  ]
-]
-kind_of (a ∷ b ∷ c ∷ []) = elim (cases_text a (codes "run")) [
-  | inl is ↦ OfRun b c (ap (λ (w : List ℕ). w ∷ b ∷ c ∷ []) is)
-  | inr no_run ↦ OfNone (record { run = λ s l is. no_run cc; tidy = λ s is. cc; show = λ l is. cc })
-]
-kind_of (a ∷ b ∷ c ∷ d ∷ more) = OfNone (record { run = λ s l is. cc; tidy = λ s is. cc; show = λ l is. cc })
-
--- the answer, and how it came about, at such a status
-pub record Explained (words : List (List ℕ)) (before after : DeskState) (code : ℕ) : Type 0 where
-  pub answer : Answer
-  pub given : IsGiven answer before after code
-  pub cause : Cause words before after answer
-
-explained : (words : List (List ℕ)) (before after : DeskState) (code : ℕ) → (code ≡ 6 → ⊥) → (code ≡ 7 → ⊥)
-    → IsServed (IsAnswer words before.files before.take_faults after.take_faults) before after code → Explained words before after code
-explained words before after code no_write no_memory served =
-    let g = given_at words before after code no_write no_memory served in
-    record { answer = g.answer; given = g.given; cause = cause_of words before after g.answer g.answers (kind_of words) }
+  ByWords : answer ≡ not_a_command → IsNotACommand words → Cause words before after answer
 
 -- the status that a cause comes with
 abbrev status_of : (words : List (List ℕ)) (before after : DeskState) (answer : Answer) → Cause words before after answer → ℕ
 status_of words before after answer (ByRead name limit named is fault) = 5
 status_of words before after answer (ByLength name limit named is long) = 8
-status_of words before after answer (ByScript line cause name text named taken refused is) = 2
-status_of words before after answer (ByLog cause name bytes named taken refused is) = 3
+status_of words before after answer (ByScript line cause is refused) = 2
+status_of words before after answer (ByLog cause is refused) = 3
+status_of words before after answer (ByFit fault is misfits) = 4
 status_of words before after answer (BySuccess done) = 0
-status_of words before after answer (ByWords none is) = 1
+status_of words before after answer (ByWords is none) = 1
 
 status_comes : (words : List (List ℕ)) (before after : DeskState) (code : ℕ) (answer : Answer) (cause : Cause words before after answer) → IsGiven answer before after code → code ≡ status_of words before after answer cause
 status_comes words before after code answer (ByRead name limit named is fault) given = status_is answer read_failed before after code is given
 status_comes words before after code answer (ByLength name limit named is long) given = status_is answer (too_long name limit) before after code is given
-status_comes words before after code answer (ByScript line cause name text named taken refused is) given = status_is answer (script_refused line cause) before after code is given
-status_comes words before after code answer (ByLog cause name bytes named taken refused is) given = status_is answer (log_refused cause) before after code is given
+status_comes words before after code answer (ByScript line cause is refused) given = status_is answer (script_refused line cause) before after code is given
+status_comes words before after code answer (ByLog cause is refused) given = status_is answer (log_refused cause) before after code is given
+status_comes words before after code answer (ByFit fault is misfits) given = status_is answer (does_not_fit fault) before after code is given
 status_comes words before after code answer (BySuccess done) given = given.status ∙ ap code_of done
-status_comes words before after code answer (ByWords none is) given = status_is answer not_a_command before after code is given
+status_comes words before after code answer (ByWords is none) given = status_is answer not_a_command before after code is given
+
+module _ (words : List (List ℕ)) (before after : DeskState) (answer : Answer) where
+  done_by : (told : Answer) → answer ≡ told → told.status ≡ Done → Cause words before after answer
+  done_by told is done = BySuccess (ap (λ (a : Answer). a.status) is ∙ done)
+
+  of_script : (name : List ℕ) (Onward : Script → Answer → Type 0) → NamesScript words name
+      → ((text : List ℕ) (script : Script) → IsTaken before.files name script_limit text → Spells text script → Onward script answer → Cause words before after answer)
+      → TakingScript before.files before.take_faults after.take_faults name Onward answer → Cause words before after answer
+  of_script name Onward named on (inl failed) = ByRead name script_limit (inl (named, refl)) failed.0 failed.1
+  of_script name Onward named on (inr (inl long)) = ByLength name script_limit (inl (named, refl)) long.0 long.1
+  of_script name Onward named on (inr (inr taken)) =
+      elim taken.2 [
+        | inl refused ↦ ByScript refused.0 refused.1 refused.3 (record { name = name; text = taken.0; line = refused.0; cause = refused.1; named = named; taken = taken.1; refused = refused.2 })
+        | inr parsed ↦ on taken.0 parsed.0 taken.1 parsed.1 parsed.2
+      ]
+
+  of_log : (name : List ℕ) (Onward : Log → Answer → Type 0) → NamesLog words name
+      → ((bytes : List ℕ) (log : Log) → IsTaken before.files name log_limit bytes → bytes ≡ log_bytes log.threads → Onward log answer → Cause words before after answer)
+      → TakingLog before.files before.take_faults after.take_faults name Onward answer → Cause words before after answer
+  of_log name Onward named on (inl failed) = ByRead name log_limit (inr (named, refl)) failed.0 failed.1
+  of_log name Onward named on (inr (inl long)) = ByLength name log_limit (inr (named, refl)) long.0 long.1
+  of_log name Onward named on (inr (inr taken)) =
+      elim taken.2 [
+        | inl refused ↦ ByLog refused.0 refused.2 (record { name = name; bytes = taken.0; cause = refused.0; named = named; taken = taken.1; refused = refused.1 })
+        | inr decoded ↦ on taken.0 decoded.0 taken.1 decoded.1 decoded.2
+      ]
+
+  -- of a command that takes a script and a log and judges whether they fit
+  of_both : (script_name log_name : List ℕ) (Onward : Script → Log → Answer → Type 0) → NamesScript words script_name → NamesLog words log_name
+      → ((script : Script) (log : Log) → Onward script log answer → Cause words before after answer)
+      → TakingScript before.files before.take_faults after.take_faults script_name
+      (λ script answer. TakingLog before.files before.take_faults after.take_faults log_name (λ log answer. Fitting (Onward script log) script log answer) answer) answer
+      → Cause words before after answer
+  of_both script_name log_name Onward script_named log_named on answers =
+      of_script script_name (λ script answer. TakingLog before.files before.take_faults after.take_faults log_name (λ log answer. Fitting (Onward script log) script log answer) answer) script_named
+      (λ text script taken spells.
+      of_log log_name (λ log answer. Fitting (Onward script log) script log answer) log_named (λ bytes log log_is_taken spelled fitting.
+      elim fitting [
+        | inl refused ↦ ByFit refused.0 refused.3 (record {
+          script_name = script_name;
+          log_name = log_name;
+          text = text;
+          bytes = bytes;
+          script = script;
+          log = log;
+          fault = refused.0;
+          script_named = script_named;
+          log_named = log_named;
+          script_taken = taken;
+          log_taken = log_is_taken;
+          script_spelled = spells;
+          log_spelled = spelled;
+          has_cause = refused.2;
+          not_memory = refused.1;
+        })
+        | inr fits ↦ on script log fits.1
+      ])) answers
+
+  of_command : (command : Command) → words ≡ words_of command → CommandAnswers command before.files before.take_faults after.take_faults answer → Cause words before after answer
+  of_command (Run script_name log_name) is answers =
+      of_script script_name (IsRecording log_name) (record { command = Run script_name log_name; asked = is; takes = refl })
+      (λ text script taken spells recording. done_by (writes_and_tells log_name (log_bytes recording.0.threads) (outcome_text script recording.1)) recording.3 refl) answers
+  of_command (Tidy script_name) is answers =
+      of_script script_name (λ script answer. answer ≡ told Done (canonical_text script)) (record { command = Tidy script_name; asked = is; takes = refl })
+      (λ text script taken spells tidy. done_by (told Done (canonical_text script)) tidy refl) answers
+  of_command (Show log_name) is answers =
+      of_log log_name (λ log answer. answer ≡ told Done (log_text log.threads)) (record { command = Show log_name; asked = is; takes = refl })
+      (λ bytes log taken spelled shown. done_by (told Done (log_text log.threads)) shown refl) answers
+  of_command (Replay script_name log_name) is answers =
+      of_both script_name log_name (λ script log answer. answer ≡ told Done (outcome_text script (execution script log.threads (lowest_order script log.threads))))
+      (record { command = Replay script_name log_name; asked = is; takes = refl }) (record { command = Replay script_name log_name; asked = is; takes = refl })
+      (λ script log replayed. done_by (told Done (outcome_text script (execution script log.threads (lowest_order script log.threads)))) replayed refl) answers
+
+  cause_of : IsAnswer words before.files before.take_faults after.take_faults answer → Cause words before after answer
+  cause_of (inl (command, is, answers)) = of_command command is answers
+  cause_of (inr (none, is)) = ByWords is none
+
+-- the answer, and how it came about, at such a status
+record Explained (words : List (List ℕ)) (before after : DeskState) (code : ℕ) : Type 0 where
+  answer : Answer
+  cause : Cause words before after answer
+  comes : code ≡ status_of words before after answer cause
 
 module _ (words : List (List ℕ)) (before after : DeskState) (code : ℕ) (served : IsServed (IsAnswer words before.files before.take_faults after.take_faults) before after code) where
-  at_status : (status : ℕ) → code ≡ status → (status ≡ 6 → ⊥) → (status ≡ 7 → ⊥) → Explained words before after code
-  at_status status is no_write no_memory = explained words before after code (λ e. no_write (sym is ∙ e)) (λ e. no_memory (sym is ∙ e)) served
+  explained : (status : ℕ) → code ≡ status → (status ≡ 6 → ⊥) → (status ≡ 7 → ⊥) → Explained words before after code
+  explained status is no_write no_memory =
+      let g = given_at words before after code (λ e. no_write (sym is ∙ e)) (λ e. no_memory (sym is ∙ e)) served in
+      let cause = cause_of words before after g.answer g.answers in
+      record { answer = g.answer; cause = cause; comes = status_comes words before after code g.answer cause g.given }
 
   -- a cause comes with its own status alone
   other : {A : Type 0} (status own : ℕ) → code ≡ status → code ≡ own → (status ≡ own → ⊥) → A
   other status own is comes differ = absurd (differ (sym is ∙ comes))
 
   pub not_a_command_at_1 : code ≡ 1 → IsNotACommand words
-  not_a_command_at_1 one = let x = at_status 1 one (λ e. omega arith) (λ e. omega arith) in by x.answer x.cause (status_comes words before after code x.answer x.cause x.given)
+  not_a_command_at_1 one = let x = explained 1 one (λ e. omega arith) (λ e. omega arith) in by x.answer x.cause x.comes
     where
       by : (answer : Answer) (cause : Cause words before after answer) → code ≡ status_of words before after answer cause → IsNotACommand words
       by answer (ByRead name limit named is fault) comes = other 1 5 one comes (λ e. omega arith)
       by answer (ByLength name limit named is long) comes = other 1 8 one comes (λ e. omega arith)
-      by answer (ByScript line cause name text named taken refused is) comes = other 1 2 one comes (λ e. omega arith)
-      by answer (ByLog cause name bytes named taken refused is) comes = other 1 3 one comes (λ e. omega arith)
+      by answer (ByScript line cause is refused) comes = other 1 2 one comes (λ e. omega arith)
+      by answer (ByLog cause is refused) comes = other 1 3 one comes (λ e. omega arith)
+      by answer (ByFit fault is misfits) comes = other 1 4 one comes (λ e. omega arith)
       by answer (BySuccess done) comes = other 1 0 one comes (λ e. omega arith)
-      by answer (ByWords none is) comes = none
+      by answer (ByWords is none) comes = none
 
   pub script_refused_at_2 : code ≡ 2 → IsScriptRefused words before.files
-  script_refused_at_2 two = let x = at_status 2 two (λ e. omega arith) (λ e. omega arith) in by x.answer x.cause (status_comes words before after code x.answer x.cause x.given)
+  script_refused_at_2 two = let x = explained 2 two (λ e. omega arith) (λ e. omega arith) in by x.answer x.cause x.comes
     where
       by : (answer : Answer) (cause : Cause words before after answer) → code ≡ status_of words before after answer cause → IsScriptRefused words before.files
       by answer (ByRead name limit named is fault) comes = other 2 5 two comes (λ e. omega arith)
       by answer (ByLength name limit named is long) comes = other 2 8 two comes (λ e. omega arith)
-      by answer (ByScript line cause name text named taken refused is) comes = record { name = name; text = text; line = line; cause = cause; named = named; taken = taken; refused = refused }
-      by answer (ByLog cause name bytes named taken refused is) comes = other 2 3 two comes (λ e. omega arith)
+      by answer (ByScript line cause is refused) comes = refused
+      by answer (ByLog cause is refused) comes = other 2 3 two comes (λ e. omega arith)
+      by answer (ByFit fault is misfits) comes = other 2 4 two comes (λ e. omega arith)
       by answer (BySuccess done) comes = other 2 0 two comes (λ e. omega arith)
-      by answer (ByWords none is) comes = other 2 1 two comes (λ e. omega arith)
+      by answer (ByWords is none) comes = other 2 1 two comes (λ e. omega arith)
 
   pub log_refused_at_3 : code ≡ 3 → IsLogRefused words before.files
-  log_refused_at_3 three = let x = at_status 3 three (λ e. omega arith) (λ e. omega arith) in by x.answer x.cause (status_comes words before after code x.answer x.cause x.given)
+  log_refused_at_3 three = let x = explained 3 three (λ e. omega arith) (λ e. omega arith) in by x.answer x.cause x.comes
     where
       by : (answer : Answer) (cause : Cause words before after answer) → code ≡ status_of words before after answer cause → IsLogRefused words before.files
       by answer (ByRead name limit named is fault) comes = other 3 5 three comes (λ e. omega arith)
       by answer (ByLength name limit named is long) comes = other 3 8 three comes (λ e. omega arith)
-      by answer (ByScript line cause name text named taken refused is) comes = other 3 2 three comes (λ e. omega arith)
-      by answer (ByLog cause name bytes named taken refused is) comes = record { name = name; bytes = bytes; cause = cause; named = named; taken = taken; refused = refused }
+      by answer (ByScript line cause is refused) comes = other 3 2 three comes (λ e. omega arith)
+      by answer (ByLog cause is refused) comes = refused
+      by answer (ByFit fault is misfits) comes = other 3 4 three comes (λ e. omega arith)
       by answer (BySuccess done) comes = other 3 0 three comes (λ e. omega arith)
-      by answer (ByWords none is) comes = other 3 1 three comes (λ e. omega arith)
+      by answer (ByWords is none) comes = other 3 1 three comes (λ e. omega arith)
+
+  pub misfitting_at_4 : code ≡ 4 → IsMisfitting words before.files
+  misfitting_at_4 four = let x = explained 4 four (λ e. omega arith) (λ e. omega arith) in by x.answer x.cause x.comes
+    where
+      by : (answer : Answer) (cause : Cause words before after answer) → code ≡ status_of words before after answer cause → IsMisfitting words before.files
+      by answer (ByRead name limit named is fault) comes = other 4 5 four comes (λ e. omega arith)
+      by answer (ByLength name limit named is long) comes = other 4 8 four comes (λ e. omega arith)
+      by answer (ByScript line cause is refused) comes = other 4 2 four comes (λ e. omega arith)
+      by answer (ByLog cause is refused) comes = other 4 3 four comes (λ e. omega arith)
+      by answer (ByFit fault is misfits) comes = misfits
+      by answer (BySuccess done) comes = other 4 0 four comes (λ e. omega arith)
+      by answer (ByWords is none) comes = other 4 1 four comes (λ e. omega arith)
 
   pub read_at_5 : code ≡ 5 → Rose before.take_faults after.take_faults ⊎ IsFileAbsent words before.files
-  read_at_5 five = let x = at_status 5 five (λ e. omega arith) (λ e. omega arith) in by x.answer x.cause (status_comes words before after code x.answer x.cause x.given)
+  read_at_5 five = let x = explained 5 five (λ e. omega arith) (λ e. omega arith) in by x.answer x.cause x.comes
     where
       by : (answer : Answer) (cause : Cause words before after answer) → code ≡ status_of words before after answer cause → Rose before.take_faults after.take_faults ⊎ IsFileAbsent words before.files
       by answer (ByRead name limit named is fault) comes = elim fault [ inl rose ↦ inl rose | inr absent ↦ inr (name, limit, named, absent) ]
       by answer (ByLength name limit named is long) comes = other 5 8 five comes (λ e. omega arith)
-      by answer (ByScript line cause name text named taken refused is) comes = other 5 2 five comes (λ e. omega arith)
-      by answer (ByLog cause name bytes named taken refused is) comes = other 5 3 five comes (λ e. omega arith)
+      by answer (ByScript line cause is refused) comes = other 5 2 five comes (λ e. omega arith)
+      by answer (ByLog cause is refused) comes = other 5 3 five comes (λ e. omega arith)
+      by answer (ByFit fault is misfits) comes = other 5 4 five comes (λ e. omega arith)
       by answer (BySuccess done) comes = other 5 0 five comes (λ e. omega arith)
-      by answer (ByWords none is) comes = other 5 1 five comes (λ e. omega arith)
+      by answer (ByWords is none) comes = other 5 1 five comes (λ e. omega arith)
 
   pub too_long_at_8 : code ≡ 8 → IsFileTooLong words before.files
-  too_long_at_8 eight = let x = at_status 8 eight (λ e. omega arith) (λ e. omega arith) in by x.answer x.cause (status_comes words before after code x.answer x.cause x.given)
+  too_long_at_8 eight = let x = explained 8 eight (λ e. omega arith) (λ e. omega arith) in by x.answer x.cause x.comes
     where
       by : (answer : Answer) (cause : Cause words before after answer) → code ≡ status_of words before after answer cause → IsFileTooLong words before.files
       by answer (ByRead name limit named is fault) comes = other 8 5 eight comes (λ e. omega arith)
       by answer (ByLength name limit named is long) comes = (name, limit, named, long)
-      by answer (ByScript line cause name text named taken refused is) comes = other 8 2 eight comes (λ e. omega arith)
-      by answer (ByLog cause name bytes named taken refused is) comes = other 8 3 eight comes (λ e. omega arith)
+      by answer (ByScript line cause is refused) comes = other 8 2 eight comes (λ e. omega arith)
+      by answer (ByLog cause is refused) comes = other 8 3 eight comes (λ e. omega arith)
+      by answer (ByFit fault is misfits) comes = other 8 4 eight comes (λ e. omega arith)
       by answer (BySuccess done) comes = other 8 0 eight comes (λ e. omega arith)
-      by answer (ByWords none is) comes = other 8 1 eight comes (λ e. omega arith)
+      by answer (ByWords is none) comes = other 8 1 eight comes (λ e. omega arith)
 
   pub write_at_6 : code ≡ 6 → Rose before.write_faults after.write_faults
   write_at_6 six = by served
@@ -254,42 +294,18 @@ module _ (words : List (List ℕ)) (before after : DeskState) (code : ℕ) (serv
       at_cause : (answer : Answer) (cause : Cause words before after answer) → code ≡ status_of words before after answer cause → Rose before.write_faults after.write_faults
       at_cause answer (ByRead name limit named is fault) comes = other 6 5 six comes (λ e. omega arith)
       at_cause answer (ByLength name limit named is long) comes = other 6 8 six comes (λ e. omega arith)
-      at_cause answer (ByScript line cause name text named taken refused is) comes = other 6 2 six comes (λ e. omega arith)
-      at_cause answer (ByLog cause name bytes named taken refused is) comes = other 6 3 six comes (λ e. omega arith)
+      at_cause answer (ByScript line cause is refused) comes = other 6 2 six comes (λ e. omega arith)
+      at_cause answer (ByLog cause is refused) comes = other 6 3 six comes (λ e. omega arith)
+      at_cause answer (ByFit fault is misfits) comes = other 6 4 six comes (λ e. omega arith)
       at_cause answer (BySuccess done) comes = other 6 0 six comes (λ e. omega arith)
-      at_cause answer (ByWords none is) comes = other 6 1 six comes (λ e. omega arith)
+      at_cause answer (ByWords is none) comes = other 6 1 six comes (λ e. omega arith)
 
       by : IsServed (IsAnswer words before.files before.take_faults after.take_faults) before after code → Rose before.write_faults after.write_faults
       by (inl untouched) = other 6 7 six untouched.status (λ e. omega arith)
       by (inr (answer, answers, inr cut)) = elim cut.status [ inl failed ↦ failed.1 | inr memory ↦ other 6 7 six memory (λ e. omega arith) ]
       by (inr (answer, answers, inl given)) =
-          let cause = cause_of words before after answer answers (kind_of words) in
+          let cause = cause_of words before after answer answers in
           at_cause answer cause (status_comes words before after code answer cause given)
-
--- a text that spells a script is not refused
-exclusive : (text : List ℕ) (script : Script) (line : ℕ) (cause : ScriptCause) → Spells text script → Refuses text line cause → ⊥
-exclusive text script line cause spells refused = let judged = sym refused ∙ spelled_judged text (contents script) (script_says script) spells in cc
-
--- words name one file of a script
-one_script : (words : List (List ℕ)) (name other : List ℕ) → NamesScript words name → NamesScript words other → name ≡ other
-one_script words name other (inl a) (inl b) = let both = sym a.1 ∙ b.1 in cc
-one_script words name other (inl a) (inr b) = let both = sym a.1 ∙ b in absurd cc
-one_script words name other (inr a) (inl b) = let both = sym a ∙ b.1 in absurd cc
-one_script words name other (inr a) (inr b) = let both = sym a ∙ b in cc
-
--- words that name a file of a script are a command
-names_command : (words : List (List ℕ)) (name : List ℕ) → NamesScript words name → IsNotACommand words → ⊥
-names_command words name (inl run) none = none.run name run.0 run.1
-names_command words name (inr tidy) none = none.tidy name tidy
-
--- the words of a command that takes a script take no log, by now
-script_or_log : (words : List (List ℕ)) (name other : List ℕ) → NamesScript words name → NamesLog words other → ⊥
-script_or_log words name other (inl a) b = others (codes "run") (codes "show") _ _ refl (sym a.1 ∙ b)
-script_or_log words name other (inr a) b = others (codes "tidy") (codes "show") _ _ refl (sym a ∙ b)
-
--- words name one file of a log
-one_log : (words : List (List ℕ)) (name other : List ℕ) → NamesLog words name → NamesLog words other → name ≡ other
-one_log words name other a b = let both = sym a ∙ b in cc
 
 -- a file that is there
 taken_is : (files : Option Files) (name bytes taken : List ℕ) (limit : ℕ) → IsThere files name limit bytes → IsTaken files name limit taken → bytes ≡ taken
@@ -308,46 +324,58 @@ not_too_long (Some fs) name bytes limit there long = go (get fs name) there.0 lo
     go (Some b) is h = omega (arith, h, ap (λ (x : List ℕ). length x) (same_value b bytes is), there.1)
 not_too_long None name bytes limit there long = there.0
 
--- bytes of a log are not refused
-log_accepted : (log : Log) (bytes : List ℕ) (cause : LogCause) → bytes ≡ log_bytes log.threads → RefusesLog bytes cause → ⊥
-log_accepted log bytes cause spelled refused = let judged = sym refused ∙ ap judgement spelled ∙ judgement_is log.threads log.valid in cc
+module _ (files : Option Files) (faults faults' : ℕ) (none : ¬ Rose faults faults') where
+  -- a script that is there is taken
+  goes_on_with_script : (name : List ℕ) (Onward : Script → Answer → Type 0) (answer : Answer) (has : HasScript files name) → TakingScript files faults faults' name Onward answer → Onward has.script answer
+  goes_on_with_script name Onward answer has (inl (is, inl rose)) = absurd (none rose)
+  goes_on_with_script name Onward answer has (inl (is, inr absent)) = absurd (not_absent files name has.text script_limit has.there absent)
+  goes_on_with_script name Onward answer has (inr (inl (is, long))) = absurd (not_too_long files name has.text script_limit has.there long)
+  goes_on_with_script name Onward answer has (inr (inr (text, taken, parsing))) =
+      let spelled = subst (λ (t : List ℕ). Spells t has.script) (taken_is files name has.text text script_limit has.there taken) has.spelled in
+      elim parsing [
+        | inl (line, cause, refused, is) ↦ absurd (let judged = sym refused ∙ spells_judged text has.script spelled in cc)
+        | inr (script, spells, on) ↦ subst (λ (s : Script). Onward s answer) (one_script text has.script script spelled spells) on
+      ]
 
-module _ (words : List (List ℕ)) (before after : DeskState) (code : ℕ) (no_read : ¬ Rose before.take_faults after.take_faults) where
-  of_met_script : (name : List ℕ) → NamesScript words name → HasScript before.files name → (answer : Answer) (cause : Cause words before after answer) → code ≡ status_of words before after answer cause → code ≡ 0
-  of_met_script name named has answer (ByRead other limit takes is (inl rose)) comes = absurd (no_read rose)
-  of_met_script name named has answer (ByRead other limit (inl takes) is (inr absent)) comes = absurd (not_absent before.files name has.text script_limit has.there (subst (λ (n : List ℕ). IsAbsent before.files n) (one_script words other name takes.0 named) absent))
-  of_met_script name named has answer (ByRead other limit (inr takes) is (inr absent)) comes = absurd (script_or_log words name other named takes.0)
-  of_met_script name named has answer (ByLength other limit (inl takes) is long) comes =
-      absurd (not_too_long before.files name has.text script_limit has.there (subst (λ (n : List ℕ). IsTooLong before.files n script_limit) (one_script words other name takes.0 named) (subst (λ (l : ℕ). IsTooLong before.files other l) takes.1 long)))
-  of_met_script name named has answer (ByLength other limit (inr takes) is long) comes = absurd (script_or_log words name other named takes.0)
-  of_met_script name named has answer (ByScript line cause other text takes taken refused is) comes =
-      let here = subst (λ (n : List ℕ). IsTaken before.files n script_limit text) (one_script words other name takes named) taken in
-      absurd (exclusive text has.script line cause (subst (λ (t : List ℕ). Spells t has.script) (taken_is before.files name has.text text script_limit has.there here) has.spelled) refused)
-  of_met_script name named has answer (ByLog cause other bytes takes taken refused is) comes = absurd (script_or_log words name other named takes)
-  of_met_script name named has answer (BySuccess done) comes = comes
-  of_met_script name named has answer (ByWords none is) comes = absurd (names_command words name named none)
+  goes_on_with_log : (name : List ℕ) (Onward : List ThreadLog → Answer → Type 0) (answer : Answer) (has : HasLog files name)
+      → TakingLog files faults faults' name (λ log. Onward log.threads) answer → Onward has.log.threads answer
+  goes_on_with_log name Onward answer has (inl (is, inl rose)) = absurd (none rose)
+  goes_on_with_log name Onward answer has (inl (is, inr absent)) = absurd (not_absent files name has.bytes log_limit has.there absent)
+  goes_on_with_log name Onward answer has (inr (inl (is, long))) = absurd (not_too_long files name has.bytes log_limit has.there long)
+  goes_on_with_log name Onward answer has (inr (inr (bytes, taken, decoding))) =
+      let spelled = sym (taken_is files name has.bytes bytes log_limit has.there taken) ∙ has.spelled in
+      elim decoding [
+        | inl (cause, refused, is) ↦ absurd (let judged = sym refused ∙ ap judgement spelled ∙ judgement_is has.log.threads has.log.valid in cc)
+        | inr (log, bytes_are, on) ↦ subst (λ (l : List ThreadLog). Onward l answer) (one_log log.threads has.log.threads log.valid has.log.valid (sym bytes_are ∙ spelled)) on
+      ]
 
-  of_met_log : (name : List ℕ) → NamesLog words name → HasLog before.files name → (answer : Answer) (cause : Cause words before after answer) → code ≡ status_of words before after answer cause → code ≡ 0
-  of_met_log name named has answer (ByRead other limit takes is (inl rose)) comes = absurd (no_read rose)
-  of_met_log name named has answer (ByRead other limit (inl takes) is (inr absent)) comes = absurd (script_or_log words other name takes.0 named)
-  of_met_log name named has answer (ByRead other limit (inr takes) is (inr absent)) comes = absurd (not_absent before.files name has.bytes log_limit has.there (subst (λ (n : List ℕ). IsAbsent before.files n) (one_log words other name takes.0 named) absent))
-  of_met_log name named has answer (ByLength other limit (inl takes) is long) comes = absurd (script_or_log words other name takes.0 named)
-  of_met_log name named has answer (ByLength other limit (inr takes) is long) comes =
-      absurd (not_too_long before.files name has.bytes log_limit has.there (subst (λ (n : List ℕ). IsTooLong before.files n log_limit) (one_log words other name takes.0 named) (subst (λ (l : ℕ). IsTooLong before.files other l) takes.1 long)))
-  of_met_log name named has answer (ByScript line cause other text takes taken refused is) comes = absurd (script_or_log words other name takes named)
-  of_met_log name named has answer (ByLog cause other bytes takes taken refused is) comes =
-      let here = subst (λ (n : List ℕ). IsTaken before.files n log_limit bytes) (one_log words other name takes named) taken in
-      absurd (log_accepted has.log bytes cause (sym (taken_is before.files name has.bytes bytes log_limit has.there here) ∙ has.spelled) refused)
-  of_met_log name named has answer (BySuccess done) comes = comes
-  of_met_log name named has answer (ByWords none is) comes = absurd (none.show name named)
+  done_at : (answer told : Answer) → answer ≡ told → told.status ≡ Done → answer.status ≡ Done
+  done_at answer told is done = ap (λ (a : Answer). a.status) is ∙ done
 
--- a command over files that are there, in their formats and within their limits, is done, unless memory was refused
+  -- a command that has its files is done
+  done : (command : Command) (answer : Answer) → HasFiles command files → CommandAnswers command files faults faults' answer → answer.status ≡ Done
+  done (Run script_name log_name) answer has answers =
+      let recording = goes_on_with_script script_name (IsRecording log_name) answer has answers in
+      done_at answer (writes_and_tells log_name (log_bytes recording.0.threads) (outcome_text has.script recording.1)) recording.3 refl
+  done (Tidy script_name) answer has answers =
+      done_at answer (told Done (canonical_text has.script)) (goes_on_with_script script_name (λ script answer. answer ≡ told Done (canonical_text script)) answer has answers) refl
+  done (Show log_name) answer has answers =
+      done_at answer (told Done (log_text has.log.threads)) (goes_on_with_log log_name (λ log answer. answer ≡ told Done (log_text log)) answer has answers) refl
+  done (Replay script_name log_name) answer has answers =
+      let script = has.script.script in
+      let fitting = goes_on_with_log log_name
+      (λ log answer. ((fault : ReplayFault) × (fault ≢ OutOfMemory) × HasCause script log fault × (answer ≡ does_not_fit fault)) ⊎ (IsLawful script log × (answer ≡ told Done (outcome_text script (execution script log (lowest_order script log))))))
+      answer has.log
+      (goes_on_with_script script_name (λ script answer. TakingLog files faults faults' log_name (IsReplayed script) answer) answer has.script answers) in
+      elim fitting [
+        | inl refused ↦ absurd (not_refused script has.log.log.threads refused.0 (faithful script has.log.log.threads has.outcome has.faithful).0 refused.1 refused.2)
+        | inr replayed ↦ done_at answer (told Done (outcome_text script (execution script has.log.log.threads (lowest_order script has.log.log.threads)))) replayed.1 refl
+      ]
+
+-- a command over files that are there as they should be is done, unless memory was refused
 pub complete : (words : List (List ℕ)) (before after : DeskState) (code : ℕ) → IsServed (IsAnswer words before.files before.take_faults after.take_faults) before after code
     → IsWellMet words before.files → ¬ Rose before.take_faults after.take_faults → ¬ Rose before.write_faults after.write_faults → (code ≡ 0) ⊎ (code ≡ 7)
 complete words before after code (inl untouched) met no_read no_write = inr untouched.status
 complete words before after code (inr (answer, answers, inr cut)) met no_read no_write = elim cut.status [ inl failed ↦ absurd (no_write failed.1) | inr memory ↦ inr memory ]
-complete words before after code (inr (answer, answers, inl given)) met no_read no_write = inl (by met)
-  where
-    by : IsWellMet words before.files → code ≡ 0
-    by (ScriptMet name named has) = of_met_script words before after code no_read name named has answer (cause_of words before after answer answers (kind_of words)) (status_comes words before after code answer (cause_of words before after answer answers (kind_of words)) given)
-    by (LogMet name named has) = of_met_log words before after code no_read name named has answer (cause_of words before after answer answers (kind_of words)) (status_comes words before after code answer (cause_of words before after answer answers (kind_of words)) given)
+complete words before after code (inr (answer, answers, inl given)) (command, asked, has) no_read no_write =
+    inl (given.status ∙ ap code_of (done before.files before.take_faults after.take_faults no_read command answer has (answers_to words command before.files before.take_faults after.take_faults answer asked answers)))

@@ -5,8 +5,10 @@ use Rattle.octet_script.specs.declared.cause.ScriptCause.{ScriptCause}
 use Rattle.octet_script.specs.Causes.{cause_number, cause_text}
 use Rattle.octet_log.specs.declared.cause.LogCause.{LogCause}
 use Rattle.octet_log.specs.Texts.{refusal_line}
+use Rattle.octet_replay.specs.declared.fault.ReplayFault.{ReplayFault}
+use Rattle.octet_replay.specs.Line.{fit_line}
 use Rattle.octet_top.specs.declared.reply.Status.{Status}
-use Rattle.octet_top.specs.declared.reply.Status.TheVariants.{Done, Words, Script, Log, Read, Write, Memory, TooLong}
+use Rattle.octet_top.specs.declared.reply.Status.TheVariants.{Done, Words, Script, Log, Fit, Read, Write, Memory, TooLong}
 use Rattle.octet_top.specs.declared.reply.Output.{Output}
 use Rattle.octet_top.specs.declared.reply.Reply.{Reply}
 
@@ -16,6 +18,7 @@ code_of Done = 0
 code_of Words = 1
 code_of Script = 2
 code_of Log = 3
+code_of Fit = 4
 code_of Read = 5
 code_of Write = 6
 code_of Memory = 7
@@ -56,3 +59,6 @@ script_refused line cause =
 
 abbrev pub log_refused : LogCause → Answer
 log_refused cause = told Log (refusal_line cause)
+
+abbrev pub does_not_fit : ReplayFault → Answer
+does_not_fit fault = told Fit (fit_line fault)

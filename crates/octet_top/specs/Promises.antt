@@ -1,5 +1,5 @@
 -- What the top call promises of each status.
-use Rattle.std.specs.Prelude.{ℕ, ◌≡◌, ◌≤◌, ◌++◌, ◌⊎◌, List, length, Option, None, Some, IsSomeAnd}
+use Rattle.std.specs.Prelude.{ℕ, ◌≡◌, ◌≢◌, ◌≤◌, ◌++◌, ◌⊎◌, List, length, Option, None, Some, IsSomeAnd}
 use Rattle.std.specs.FinMap.{get}
 use Rattle.octet_base.specs.Desk.{Files}
 use Rattle.octet_model.specs.declared.script.Script.{Script}
@@ -10,7 +10,10 @@ use Rattle.octet_model.specs.Orders.{IsFaithful}
 use Rattle.octet_script.specs.declared.cause.ScriptCause.{ScriptCause}
 use Rattle.octet_script.specs.Spelling.{Spells}
 use Rattle.octet_log.specs.declared.cause.LogCause.{LogCause}
-use Rattle.octet_top.specs.Request.{NamesScript, NamesLog}
+use Rattle.octet_replay.specs.declared.fault.ReplayFault.{ReplayFault}
+use Rattle.octet_replay.specs.declared.fault.ReplayFault.TheVariants.{OutOfMemory}
+use Rattle.octet_replay.specs.Judged.{HasCause}
+use Rattle.octet_top.specs.Request.{Command, Run, Tidy, Show, Replay, words_of, NamesScript, NamesLog}
 use Rattle.octet_top.specs.Taking.{script_limit, log_limit, IsTaken, IsAbsent, IsTooLong, Refuses, RefusesLog}
 use Rattle.octet_top.specs.Serving.{DeskState}
 
@@ -55,6 +58,24 @@ pub record IsLogRefused (words : List (List ℕ)) (files : Option Files) : Type 
   pub taken : IsTaken files name log_limit bytes
   pub refused : RefusesLog bytes cause
 
+-- a script and a log are taken, and the log does not fit the script: a replay of the two is refused
+pub record IsMisfitting (words : List (List ℕ)) (files : Option Files) : Type 0 where
+  pub script_name : List ℕ
+  pub log_name : List ℕ
+  pub text : List ℕ
+  pub bytes : List ℕ
+  pub script : Script
+  pub log : Log
+  pub fault : ReplayFault
+  pub script_named : NamesScript words script_name
+  pub log_named : NamesLog words log_name
+  pub script_taken : IsTaken files script_name script_limit text
+  pub log_taken : IsTaken files log_name log_limit bytes
+  pub script_spelled : Spells text script
+  pub log_spelled : bytes ≡ log_bytes log.threads
+  pub has_cause : HasCause script log.threads fault
+  pub not_memory : fault ≢ OutOfMemory
+
 -- files are told, and one that is to be taken is not there
 abbrev pub IsFileAbsent : List (List ℕ) → Option Files → Type 0
 IsFileAbsent words files = (name : List ℕ) × (limit : ℕ) × SaysToTake words name limit × IsAbsent files name
@@ -67,21 +88,34 @@ IsFileTooLong words files = (name : List ℕ) × (limit : ℕ) × SaysToTake wor
 abbrev pub IsThere : Option Files → List ℕ → ℕ → List ℕ → Type 0
 IsThere files name limit bytes = IsSomeAnd files (λ fs. get fs name ≡ Some bytes) × (length bytes ≤ limit)
 
--- the script is there, in its grammar
+-- the file of a script is there, and its text spells one
 pub record HasScript (files : Option Files) (name : List ℕ) : Type 0 where
   pub text : List ℕ
   pub script : Script
   pub there : IsThere files name script_limit text
   pub spelled : Spells text script
 
--- the log is there, by its bytes
+-- the file of a log is there, with the bytes of one
 pub record HasLog (files : Option Files) (name : List ℕ) : Type 0 where
   pub bytes : List ℕ
   pub log : Log
   pub there : IsThere files name log_limit bytes
   pub spelled : bytes ≡ log_bytes log.threads
 
--- the words are a command, files are told, and each file to be taken is there, within its limit and in its format
-pub data IsWellMet (words : List (List ℕ)) (files : Option Files) : Type 0 where
-  ScriptMet : (name : List ℕ) → NamesScript words name → HasScript files name → IsWellMet words files
-  LogMet : (name : List ℕ) → NamesLog words name → HasLog files name → IsWellMet words files
+-- the files of a script and of a log are there, and the log is of a faithful recording of the script, as each that `run` writes
+pub record HasRecording (files : Option Files) (script_name log_name : List ℕ) : Type 0 where
+  pub script : HasScript files script_name
+  pub log : HasLog files log_name
+  pub outcome : Outcome
+  pub faithful : IsFaithful script.script log.log.threads outcome
+
+-- all that a command takes is there as it should be
+abbrev pub HasFiles : Command → Option Files → Type 0
+HasFiles (Run script log) files = HasScript files script
+HasFiles (Tidy script) files = HasScript files script
+HasFiles (Show log) files = HasLog files log
+HasFiles (Replay script log) files = HasRecording files script log
+
+-- the words ask for a command that has its files
+abbrev pub IsWellMet : List (List ℕ) → Option Files → Type 0
+IsWellMet words files = (command : Command) × (words ≡ words_of command) × HasFiles command files

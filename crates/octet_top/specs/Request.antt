@@ -1,38 +1,60 @@
--- Which words are which command.
-use Rattle.std.specs.Prelude.{ℕ, ◌≡◌, ◌⊎◌, List, [], ◌∷◌, map, codes, String, string_bytes}
+-- Which words ask for which command.
+use Rattle.std.specs.Prelude.{ℕ, ◌≡◌, List, [], ◌∷◌, map, codes, Option, Some, None, String, string_bytes}
 use Rattle.std.specs.Global.{Global}
 use Rattle.octet_top.specs.declared.request.Request.{Request}
-use Rattle.octet_top.specs.declared.request.Request.TheVariants.{Run, Tidy, Show}
+use Rattle.octet_top.specs.declared.request.Request.TheVariants as request
 
 -- the bytes of each word
 abbrev pub texts : List (String Global) → List (List ℕ)
 texts words = map (λ word. string_bytes word) words
 
-abbrev pub IsRun : List (List ℕ) → List ℕ → List ℕ → Type 0
-IsRun words script_name log_name = words ≡ codes "run" ∷ script_name ∷ log_name ∷ []
+-- a command, with the names of its files
+pub data Command : Type 0 where
+  Run : (script log : List ℕ) → Command
+  Tidy : (script : List ℕ) → Command
+  Show : (log : List ℕ) → Command
+  Replay : (script log : List ℕ) → Command
 
-abbrev pub IsTidy : List (List ℕ) → List ℕ → Type 0
-IsTidy words script_name = words ≡ codes "tidy" ∷ script_name ∷ []
+-- the words that ask for it
+abbrev pub words_of : Command → List (List ℕ)
+words_of (Run script log) = codes "run" ∷ script ∷ log ∷ []
+words_of (Tidy script) = codes "tidy" ∷ script ∷ []
+words_of (Show log) = codes "show" ∷ log ∷ []
+words_of (Replay script log) = codes "replay" ∷ script ∷ log ∷ []
 
-abbrev pub IsShow : List (List ℕ) → List ℕ → Type 0
-IsShow words log_name = words ≡ codes "show" ∷ log_name ∷ []
+-- the file that it takes as a script, if any
+abbrev pub script_taken : Command → Option (List ℕ)
+script_taken (Run script log) = Some script
+script_taken (Tidy script) = Some script
+script_taken (Show log) = None
+script_taken (Replay script log) = Some script
 
--- the words are none of the commands
-pub record IsNotACommand (words : List (List ℕ)) : Type 0 where
-  pub run : (script_name log_name : List ℕ) → IsRun words script_name log_name → ⊥
-  pub tidy : (script_name : List ℕ) → IsTidy words script_name → ⊥
-  pub show : (log_name : List ℕ) → IsShow words log_name → ⊥
+-- the file that it takes as a log, if any
+abbrev pub log_taken : Command → Option (List ℕ)
+log_taken (Run script log) = None
+log_taken (Tidy script) = None
+log_taken (Show log) = Some log
+log_taken (Replay script log) = Some log
 
--- the words give this name to the script's file that is taken
-abbrev pub NamesScript : List (List ℕ) → List ℕ → Type 0
-NamesScript words name = ((log_name : List ℕ) × IsRun words name log_name) ⊎ IsTidy words name
+-- the words ask for no command
+abbrev pub IsNotACommand : List (List ℕ) → Type 0
+IsNotACommand words = (command : Command) → words ≡ words_of command → ⊥
 
--- the words give this name to the log's file that is taken
-abbrev pub NamesLog : List (List ℕ) → List ℕ → Type 0
-NamesLog words name = IsShow words name
+-- the words name this file, which is taken as a script
+pub record NamesScript (words : List (List ℕ)) (name : List ℕ) : Type 0 where
+  pub command : Command
+  pub asked : words ≡ words_of command
+  pub takes : script_taken command ≡ Some name
 
--- the words of a command
-abbrev pub words_of : Request → List (List ℕ)
-words_of (Run script log) = codes "run" ∷ script.now ∷ log.now ∷ []
-words_of (Tidy script) = codes "tidy" ∷ script.now ∷ []
-words_of (Show log) = codes "show" ∷ log.now ∷ []
+-- the words name this file, which is taken as a log
+pub record NamesLog (words : List (List ℕ)) (name : List ℕ) : Type 0 where
+  pub command : Command
+  pub asked : words ≡ words_of command
+  pub takes : log_taken command ≡ Some name
+
+-- a request as a command
+abbrev pub command_of : Request → Command
+command_of (request.Run script log) = Run script.now log.now
+command_of (request.Tidy script) = Tidy script.now
+command_of (request.Show log) = Show log.now
+command_of (request.Replay script log) = Replay script.now log.now

@@ -4,6 +4,7 @@
 mod deliver;
 mod program;
 mod refusal;
+mod replay;
 mod reply;
 mod request;
 mod run;

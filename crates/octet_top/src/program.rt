@@ -2,13 +2,14 @@
 ghost use Rattle.std.specs.Prelude.{◌≡◌, ◌≤◌, ◌⊎◌, ℕ, List, None, IfOk};
 ghost use Rattle.octet_base.specs.Desk.{Rose};
 ghost use Rattle.octet_top.specs.Answer.{answer_of};
-ghost use Rattle.octet_top.specs.Request.{texts, IsRun, IsNotACommand};
-ghost use Rattle.octet_top.specs.Commands.{IsAnswer, RequestAnswers};
+ghost use Rattle.octet_top.specs.Request.{texts, command_of, words_of, Run, IsNotACommand};
+ghost use Rattle.octet_top.specs.Commands.{IsAnswer, CommandAnswers};
 ghost use Rattle.octet_top.specs.Serving.{DeskState, IsServed};
-ghost use Rattle.octet_top.specs.Promises.{RunsFaithfully, IsScriptRefused, IsLogRefused, IsFileAbsent, IsFileTooLong, IsWellMet};
+ghost use Rattle.octet_top.specs.Promises.{RunsFaithfully, IsScriptRefused, IsLogRefused, IsMisfitting, IsFileAbsent, IsFileTooLong, IsWellMet};
 
 use crate::deliver::deliver;
 use crate::refusal::not_a_command;
+use crate::replay::replay;
 use crate::reply::{Reply, Status};
 use crate::request::{Request, request_of};
 use crate::run::run;
@@ -34,7 +35,7 @@ pub fn serve<R: Threads + Wait + Sync, D: Desk, G: Gate>(
     // What is read aloud of `run`: status 0 comes with a faithful recording.
     ensures headline { let before : DeskState = record { files = D.files desk.old; begun = D.begun desk.old; said = D.said desk.old; take_faults = D.take_faults desk.old; write_faults = D.write_faults desk.old } in
         let after : DeskState = record { files = D.files desk.new; begun = D.begun desk.new; said = D.said desk.new; take_faults = D.take_faults desk.new; write_faults = D.write_faults desk.new } in
-        (script_name log_name : List ℕ) → IsRun (texts words.now) script_name log_name → result ≡ 0 → RunsFaithfully script_name log_name before after }
+        (script_name log_name : List ℕ) → texts words.now ≡ words_of (Run script_name log_name) → result ≡ 0 → RunsFaithfully script_name log_name before after }
 
     // All that is written, said and answered, for each command and each status.
     ensures served { let before : DeskState = record { files = D.files desk.old; begun = D.begun desk.old; said = D.said desk.old; take_faults = D.take_faults desk.old; write_faults = D.write_faults desk.old } in
@@ -45,6 +46,7 @@ pub fn serve<R: Threads + Wait + Sync, D: Desk, G: Gate>(
     ensures words { result ≡ 1 → IsNotACommand (texts words.now) }
     ensures script { result ≡ 2 → IsScriptRefused (texts words.now) (D.files desk.old) }
     ensures log { result ≡ 3 → IsLogRefused (texts words.now) (D.files desk.old) }
+    ensures fit { result ≡ 4 → IsMisfitting (texts words.now) (D.files desk.old) }
     ensures read { result ≡ 5 → Rose (D.take_faults desk.old) (D.take_faults desk.new) ⊎ IsFileAbsent (texts words.now) (D.files desk.old) }
     ensures write { result ≡ 6 → Rose (D.write_faults desk.old) (D.write_faults desk.new) }
     ensures too_long { result ≡ 8 → IsFileTooLong (texts words.now) (D.files desk.old) }
@@ -85,7 +87,7 @@ fn carry_out<D: Desk>(
     desk: &mut D,
     request: Request<'_>,
 ) -> Result<Reply, OutOfMemory>
-    ensures answers { IfOk result (λ reply. RequestAnswers request.entry (D.files desk.old) (D.take_faults desk.old) (D.take_faults desk.new) (answer_of reply)) }
+    ensures answers { IfOk result (λ reply. CommandAnswers (command_of request.entry) (D.files desk.old) (D.take_faults desk.old) (D.take_faults desk.new) (answer_of reply)) }
     ensures same_files { D.files desk.new ≡ D.files desk.old }
     ensures same_begun { D.begun desk.new ≡ D.begun desk.old }
     ensures same_said { D.said desk.new ≡ D.said desk.old }
@@ -95,5 +97,6 @@ fn carry_out<D: Desk>(
         Request::Run { script, log } => run(alloc, desk, script, log),
         Request::Tidy { script } => tidy(alloc, desk, script),
         Request::Show { log } => show(alloc, desk, log),
+        Request::Replay { script, log } => replay(alloc, desk, script, log),
     }
 }

@@ -1,10 +1,11 @@
 //! The replies of commands that refuse their words, their files or their script.
 ghost use Rattle.std.specs.Prelude.{◌≡◌, IfOk};
-ghost use Rattle.octet_top.specs.Answer.{answer_of, not_a_command, read_failed, too_long, script_refused, log_refused};
+ghost use Rattle.octet_top.specs.Answer.{answer_of, not_a_command, read_failed, too_long, script_refused, log_refused, does_not_fit};
 
 use crate::reply::{Reply, Status};
 use octet_log::{LogCause, refusal_line};
 use octet_model::OutOfMemory;
+use octet_replay::{ReplayFault, fit_line};
 use octet_script::ScriptCause;
 use std::alloc::Global;
 
@@ -47,4 +48,11 @@ pub(crate) fn log_refused(alloc: Global, cause: LogCause) -> Result<Reply, OutOf
 {
     let line = refusal_line(alloc, cause)?;
     Ok(Reply::telling(alloc, Status::Log, line))
+}
+
+pub(crate) fn does_not_fit(alloc: Global, fault: &ReplayFault) -> Result<Reply, OutOfMemory>
+    ensures { IfOk result (λ reply. answer_of reply ≡ does_not_fit fault.now) }
+{
+    let line = fit_line(alloc, fault)?;
+    Ok(Reply::telling(alloc, Status::Fit, line))
 }

@@ -15,6 +15,8 @@ pub enum Status {
     Script,
     /// The log is refused.
     Log,
+    /// The log does not fit the script.
+    Fit,
     /// A file could not be taken.
     Read,
     /// Something could not be written or said.
@@ -37,6 +39,7 @@ impl Status {
             Status::Words => 1,
             Status::Script => 2,
             Status::Log => 3,
+            Status::Fit => 4,
             Status::Read => 5,
             Status::Write => 6,
             Status::Memory => 7,

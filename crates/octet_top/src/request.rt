@@ -1,6 +1,6 @@
 //! The commands that words ask for.
 ghost use Rattle.std.specs.Prelude.{◌≡◌, ◌∷◌, [], IfSome, IfNone};
-ghost use Rattle.octet_top.specs.Request.{texts, words_of, IsNotACommand};
+ghost use Rattle.octet_top.specs.Request.{texts, command_of, words_of, IsNotACommand};
 
 /// A command, with the names of its files.
 #[derive(Clone, Copy, Debug)]
@@ -8,11 +8,12 @@ pub(crate) enum Request<'a> {
     Run { script: &'a str, log: &'a str },
     Tidy { script: &'a str },
     Show { log: &'a str },
+    Replay { script: &'a str, log: &'a str },
 }
 
 /// The command that the words ask for, or none where they are no command.
 pub(crate) fn request_of(words: &[String]) -> Option<Request<'_>>
-    ensures some { IfSome result (λ r. texts words.now ≡ words_of r) }
+    ensures some { IfSome result (λ r. texts words.now ≡ words_of (command_of r)) }
     ensures none { IfNone result (IsNotACommand (texts words.now)) }
 {
     match words {
@@ -25,7 +26,7 @@ pub(crate) fn request_of(words: &[String]) -> Option<Request<'_>>
 }
 
 fn of_one_file<'a>(command: &str, file: &'a str) -> Option<Request<'a>>
-    ensures some { IfSome result (λ r. command.now ∷ file.now ∷ [] ≡ words_of r) }
+    ensures some { IfSome result (λ r. command.now ∷ file.now ∷ [] ≡ words_of (command_of r)) }
     ensures none { IfNone result (IsNotACommand (command.now ∷ file.now ∷ [])) }
 {
     if command == "tidy" {
@@ -38,11 +39,16 @@ fn of_one_file<'a>(command: &str, file: &'a str) -> Option<Request<'a>>
 }
 
 fn of_two_files<'a>(command: &str, first: &'a str, second: &'a str) -> Option<Request<'a>>
-    ensures some { IfSome result (λ r. command.now ∷ first.now ∷ second.now ∷ [] ≡ words_of r) }
+    ensures some { IfSome result (λ r. command.now ∷ first.now ∷ second.now ∷ [] ≡ words_of (command_of r)) }
     ensures none { IfNone result (IsNotACommand (command.now ∷ first.now ∷ second.now ∷ [])) }
 {
     if command == "run" {
         Some(Request::Run {
+            script: first,
+            log: second,
+        })
+    } else if command == "replay" {
+        Some(Request::Replay {
             script: first,
             log: second,
         })

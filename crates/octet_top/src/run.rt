@@ -1,7 +1,8 @@
 //! The command `run SCRIPT LOG`.
 ghost use Rattle.std.specs.Prelude.{◌≡◌, ◌≤◌, IfOk};
 ghost use Rattle.octet_top.specs.Answer.{answer_of};
-ghost use Rattle.octet_top.specs.Commands.{RunAnswers, IsRecording};
+ghost use Rattle.octet_top.specs.Request.{Run};
+ghost use Rattle.octet_top.specs.Commands.{CommandAnswers, IsRecording};
 
 use crate::reply::Reply;
 use crate::take::{Take, take_script};
@@ -18,7 +19,7 @@ pub(crate) fn run<D: Desk>(
     script_name: &str,
     log_name: &str,
 ) -> Result<Reply, OutOfMemory>
-    ensures answers { IfOk result (λ reply. RunAnswers (D.files desk.old) (D.take_faults desk.old) (D.take_faults desk.new) script_name.now log_name.now (answer_of reply)) }
+    ensures answers { IfOk result (λ reply. CommandAnswers (Run script_name.now log_name.now) (D.files desk.old) (D.take_faults desk.old) (D.take_faults desk.new) (answer_of reply)) }
     ensures same_files { D.files desk.new ≡ D.files desk.old }
     ensures same_begun { D.begun desk.new ≡ D.begun desk.old }
     ensures same_said { D.said desk.new ≡ D.said desk.old }

@@ -1,7 +1,8 @@
 //! The command `tidy SCRIPT`.
 ghost use Rattle.std.specs.Prelude.{◌≡◌, ◌≤◌, IfOk};
 ghost use Rattle.octet_top.specs.Answer.{answer_of};
-ghost use Rattle.octet_top.specs.Commands.{TidyAnswers};
+ghost use Rattle.octet_top.specs.Request.{Tidy};
+ghost use Rattle.octet_top.specs.Commands.{CommandAnswers};
 
 use crate::reply::{Reply, Status};
 use crate::take::{Take, take_script};
@@ -16,7 +17,7 @@ pub(crate) fn tidy<D: Desk>(
     desk: &mut D,
     script_name: &str,
 ) -> Result<Reply, OutOfMemory>
-    ensures answers { IfOk result (λ reply. TidyAnswers (D.files desk.old) (D.take_faults desk.old) (D.take_faults desk.new) script_name.now (answer_of reply)) }
+    ensures answers { IfOk result (λ reply. CommandAnswers (Tidy script_name.now) (D.files desk.old) (D.take_faults desk.old) (D.take_faults desk.new) (answer_of reply)) }
     ensures same_files { D.files desk.new ≡ D.files desk.old }
     ensures same_begun { D.begun desk.new ≡ D.begun desk.old }
     ensures same_said { D.said desk.new ≡ D.said desk.old }
