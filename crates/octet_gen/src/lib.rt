@@ -1,0 +1,10 @@
+//! Large scripts, generated from a number: eight threads of 20,000 accesses each.
+#![tactic(auto)]
+
+mod draws;
+mod generator;
+pub mod laws;
+#[cfg(test)]
+mod tests;
+
+pub use generator::make;
