@@ -1,0 +1,45 @@
+-- What it means to count events by class.
+use Rattle.std.specs.Prelude.{◌≡◌, ℕ, ◌+◌, ◌-◌, ◌^◌, ◌<◌, ◌==◌, min, List, [], ◌∷◌, length, map, slice_index, slice_set}
+use Rattle.std.specs.List.{AllZip, count_by, flat_map, range_with_len}
+use denote.Ref.{Bor}
+use Rattle.octet_model.specs.declared.event.Event.{Event}
+
+-- a function of references to events, which gives answers, gives this answer at an event
+abbrev pub AnswersAt : (Bor Event → ℕ → Type 0) → Event → ℕ → Type 0
+AnswersAt gives event answer = (shown : Bor Event) × gives shown answer × (shown.now ≡ event)
+
+-- the events of all journals, one journal behind the other
+abbrev pub all_events : List (List Event) → List Event
+all_events journals = flat_map (λ journal. journal) journals
+
+-- a count stands still at 2 ^ 64 - 1
+abbrev pub saturated : ℕ → ℕ
+saturated n = min n (2 ^ 64 - 1)
+
+-- for each class below a bound, how many of the classes are that one
+abbrev pub class_counts : ℕ → List ℕ → List ℕ
+class_counts bound classes = map (λ k. saturated (count_by (λ class. class == k) classes)) (range_with_len 0 bound)
+
+-- the kept function answered a class for each event of the journals, and the k-th number is how many events it put in class k
+pub record IsTally (answers : Event → ℕ → Type 0) (bound : ℕ) (journals : List (List Event)) (numbers : List ℕ) : Type 0 where
+  pub classes : List ℕ
+  pub answered : AllZip answers (all_events journals) classes
+  pub counts : numbers ≡ class_counts bound classes
+
+-- where each answer is that of a function of the event, the k-th number is how many events that function puts in class k
+abbrev pub CountsByFunction : (Event → ℕ → Type 0) → ℕ → List (List Event) → List ℕ → Type 0
+CountsByFunction answers bound journals numbers = (class_of : Event → ℕ)
+    → ((event : Event) (class : ℕ) → answers event class → class ≡ class_of event)
+    → length (all_events journals) < 2 ^ 64
+    → numbers ≡ map (λ k. count_by (λ event. class_of event == k) (all_events journals)) (range_with_len 0 bound)
+
+-- numbers, with one more at the place of each class
+abbrev pub counted : List ℕ → List ℕ → List ℕ
+counted [] numbers = numbers
+counted (class ∷ classes) numbers = counted classes (slice_set numbers class (saturated (slice_index numbers class + 1)))
+
+-- the numbers after so many more events
+pub record CountsOn (answers : Event → ℕ → Type 0) (events : List Event) (before after : List ℕ) : Type 0 where
+  pub classes : List ℕ
+  pub answered : AllZip answers events classes
+  pub counts : after ≡ counted classes before

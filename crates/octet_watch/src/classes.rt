@@ -1,0 +1,66 @@
+//! Counting events by class.
+ghost use Rattle.std.specs.Prelude.{◌≡◌, ◌<◌, ℕ, IfOk, length};
+ghost use Rattle.octet_model.specs.declared.event.Event.{Event};
+ghost use Rattle.octet_watch.specs.Tally.{AnswersAt, IsTally, CountsByFunction, CountsOn};
+
+use octet_model::{Event, List, OutOfMemory};
+use std::alloc::Global;
+
+/// A function from events to numbers of classes.
+pub type Class = Box<dyn Fn(&Event) -> u32 + Drop>;
+
+/// A class function that is kept with what is known of it: it may be called on every event, and
+/// answers a class below `count`.
+#[derive(Drop)]
+pub struct Classes {
+    count: u32,
+    class: Class,
+    ghost callable: { Class.IsAlwaysCallable class },
+    ghost below: { (event : _) (answer : ℕ) → Class.post class event answer → answer < count },
+}
+
+impl Classes {
+    /// Keeps a function that may be called on every event, and answers a class below `count`.
+    pub fn new(count: u32, class: Class) -> Classes
+        requires callable { Class.IsAlwaysCallable class }
+        requires below { (event : _) (answer : ℕ) → Class.post class event answer → answer < count }
+        ensures count { result.count ≡ count }
+        ensures class { result.class ≡ class }
+    {
+        Classes { count, class }
+    }
+
+    fn class_of(&self, event: &Event) -> u32
+        ensures below { result < self.now.count }
+        ensures answer { AnswersAt (Class.post self.now.class) event.now result }
+    {
+        (self.class)(event)
+    }
+
+    fn count_journal(&self, journal: &[Event], numbers: &mut [u64])
+        requires { length numbers.old ≡ self.now.count }
+        ensures { CountsOn (AnswersAt (Class.post self.now.class)) journal.now numbers.old numbers.new }
+    {
+        for event in journal {
+            let class = self.class_of(event) as usize;
+            numbers[class] = numbers[class].saturating_add(1);
+        }
+    }
+
+    /// How many events of the journals the function puts in each class: the k-th number is that
+    /// of class k. A number stands still at 2^64 - 1, which no journals in memory reach.
+    pub fn tally(
+        &self,
+        alloc: Global,
+        journals: &List<List<Event>>,
+    ) -> Result<List<u64>, OutOfMemory>
+        ensures tally { IfOk result (λ numbers. IsTally (AnswersAt (Class.post self.now.class)) self.now.count journals.now numbers) }
+        ensures by_function { IfOk result (λ numbers. CountsByFunction (AnswersAt (Class.post self.now.class)) self.now.count journals.now numbers) }
+    {
+        let mut numbers = vec![in alloc; 0u64; self.count as usize]?;
+        for journal in journals.as_slice() {
+            self.count_journal(journal.as_slice(), &mut numbers);
+        }
+        Ok(List::from_vec(numbers))
+    }
+}

@@ -1,0 +1,8 @@
+//! Functions that are kept beside what is known of them, and that journals are read by.
+#![tactic(auto)]
+
+mod classes;
+#[cfg(test)]
+mod tests;
+
+pub use classes::{Class, Classes};
