@@ -17,5 +17,6 @@ pub use cause::{ScriptCause, ScriptFault};
 pub use laws::{
     a_text_spells_one_script, canonical_text_spells_its_script, judgement_is_the_grammar,
 };
+pub use line::number_of;
 pub use parser::parse;
 pub use printer::print;

@@ -23,7 +23,8 @@ fn are_digits(word: &[u8]) -> bool
     word.iter().all(|byte| byte.is_ascii_digit())
 }
 
-fn number_of(word: &[u8]) -> Option<u64>
+/// The number that a word is: 1 to 20 ASCII digits of value below 2^64. None for other words.
+pub fn number_of(word: &[u8]) -> Option<u64>
     ensures { result ≡ number_of word.now }
 {
     if word.len() > MAX_DIGITS {
