@@ -1,0 +1,217 @@
+-- What marks take in, and the clocks behind them.
+use Rattle.std.proofs.Common.{◌≡◌, ℕ, zero, suc, ◌-◌, ◌<◌, ◌≤◌, ◌^◌, ◌⊎◌, inl, inr, List, [], length, get_or, Option, Some, None, slice_get, sym, ap, ◌∙◌, subst, arith}
+use Rattle.std.proofs.lemmas.Bool.{cases_eq, cases_lt}
+use Rattle.std.proofs.lemmas.Option.{slice_get-get_or, slice_get_within}
+use Rattle.std.proofs.lemmas.List.{get_or_past}
+use Rattle.octet_model.specs.declared.event.Mark.TheVariants.{Join, Draw, Fence}
+use Rattle.octet_model.specs.declared.event.Event.{Event}
+use Rattle.octet_model.specs.declared.event.Event.TheVariants.{Marked}
+use Rattle.octet_model.specs.declared.event.Place.{Place}
+use Rattle.octet_model.specs.Machine.{Journals, journal_of}
+use Rattle.octet_model.specs.HappensBefore.{event_at, HappensBefore}
+use Rattle.octet_model.specs.Past.{Reaches, InPast}
+use Rattle.octet_model.proofs.Pasts.{place, path_on, along_journal, past_has_joined, past_has_draws_whole, past_grows}
+use Rattle.octet_clock.specs.declared.clock.Clock.{Clock}
+use Rattle.octet_clock.specs.declared.sources.Prefix.{Prefix}
+use Rattle.octet_clock.specs.Clock.{count_in, IsRaised, IsJoined}
+use Rattle.octet_clock.specs.Past.{IsPastOf}
+use Rattle.octet_clock.specs.Play.{made_by, IsWholePlay, IsStep}
+use Rattle.octet_clock.specs.Sources.{IsNextStep, IsDrawn, KeepsDraws, IsSource, TakesIn, draw_of}
+use Rattle.octet_clock.proofs.Edges.{Added, Before, Itself, ByJoin, ByDraw, ByFence, added}
+use Rattle.octet_clock.proofs.Known.{own_event, raised_has, raised_own, raised_from, past_joined}
+use Rattle.octet_clock.proofs.Walk.{made_grows, join_names, draw_is_next, fence_names, draws_differ, draw_is_some}
+
+-- no more is made than the journals have
+pub made_within : (js : Journals) (play : List ℕ) → IsWholePlay js play → (i t : ℕ) → i ≤ length play → made_by play i t ≤ length (journal_of js t)
+made_within js play whole i t le = omega (arith, whole.makes t, made_grows play t (length play - i) i (length play) (omega arith) (omega arith))
+
+module _ (js : Journals) where
+  -- what lies in a past that ends with an event reaches that event
+  reaches_last : (u event : ℕ) (a : Place) (x : Event) → event_at js (place u event) ≡ Some x → InPast js u (suc event) a → Reaches js a (place u event)
+  reaches_last u event a x is h =
+      elim (cases_eq h.near event) [
+        | inl same ↦ subst (λ (n : ℕ). Reaches js a (place u n)) same h.reaches
+        | inr differ ↦ inr (go h.reaches (along_journal js u h.near event (omega (arith, h.below)) (x, is)))
+      ]
+    where
+      go : Reaches js a (place u h.near) → HappensBefore js (place u h.near) (place u event) → HappensBefore js a (place u event)
+      go (inl same) path = subst (λ (p : Place). HappensBefore js p (place u event)) (sym same) path
+      go (inr before) path = path_on js a (place u h.near) (place u event) before path
+
+module _ (js : Journals) (play : List ℕ) (i t : ℕ) where
+  abbrev k : ℕ
+  k = made_by play i t
+
+  abbrev Only : Place → Prefix → Type 0
+  Only a first = InPast js t k a ⊎ (InPast js first.thread first.count a ⊎ (a ≡ place t k))
+
+  pub join_source : (u p : ℕ) → IsNextStep js play i t (Marked (Join u p)) → IsSource js play i t (record { thread = u; count = p })
+  join_source u p next =
+      let made = join_names js play next.whole i t u p next.step in
+      record {
+        made = made;
+        taken = λ a h. past_has_joined js t (suc k) k u p a (omega arith) next.step.makes (omega (arith, made_within js play next.whole i u (omega (arith, next.step.within)))) h;
+        only = λ a h. go a (added js t k a h);
+      }
+    where
+      go : (a : Place) → Added js t k a → Only a (record { thread = u; count = p })
+      go a (Before was) = inl was
+      go a (Itself here) = inr (inr here)
+      go a (ByJoin from upto is past) =
+          let makes = next.step.makes in
+          let f : from ≡ u = cc in
+          let n : upto ≡ p = cc in
+          inr (inl (subst (λ (m : ℕ). InPast js u m a) n (subst (λ (m : ℕ). InPast js m upto a) f past)))
+      go a (ByDraw first then draw at_draw is below reaches) = absurd (let makes = next.step.makes in cc)
+      go a (ByFence first upto draw at_draw is below reaches) = absurd (let makes = next.step.makes in cc)
+
+  -- a Join names fewer events than a journal may have
+  pub join_fits : (u p : ℕ) → IsNextStep js play i t (Marked (Join u p)) → p < 2 ^ 32
+  join_fits u p next =
+      elim (cases_lt u (length js)) [
+        | inl lt ↦ omega (arith, made, within, next.places.events u [] lt)
+        | inr past ↦ omega (arith, made, within, ap (λ (j : List Event). length j) (get_or_past js u [] past))
+      ]
+    where
+      made : p ≤ made_by play i u
+      made = join_names js play next.whole i t u p next.step
+
+      within : made_by play i u ≤ length (journal_of js u)
+      within = made_within js play next.whole i u (omega (arith, next.step.within))
+
+  -- the draws that the event at the place has seen
+  abbrev HasSeen : ℕ → Type 0
+  HasSeen upto = (event_at js (place t k) ≡ Some (Marked (Draw upto))) ⊎ (event_at js (place t k) ≡ Some (Marked (Fence upto)))
+
+  module _ (whole : IsWholePlay js play) where
+    taken_from_draw : (upto number : ℕ) (first : Prefix) → HasSeen upto → number ≤ upto → IsDrawn js play i number first
+        → (a : Place) → InPast js first.thread first.count a → InPast js t (suc k) a
+    taken_from_draw upto number first seen le d a h =
+        let h' = subst (λ (n : ℕ). InPast js first.thread n a) d.counted h in
+        past_has_draws_whole js t (suc k) k upto number (place first.thread d.event) a (draws_differ js play whole) (omega arith) seen d.drawn le (reaches_last js first.thread d.event a (Marked (Draw number)) d.drawn h')
+
+    by_draw : (number sooner : ℕ) (first : Prefix) (draw a : Place) → IsDrawn js play i number first → event_at js draw ≡ Some (Marked (Draw sooner)) → sooner ≤ number → Reaches js a draw
+        → InPast js first.thread first.count a
+    by_draw number sooner first draw a d at_draw le reaches =
+        subst (λ (n : ℕ). InPast js first.thread n a) (sym d.counted)
+        (past_has_draws_whole js first.thread (suc d.event) d.event number sooner draw a (draws_differ js play whole) (omega arith) (inl d.drawn) at_draw le reaches)
+
+    -- a Draw takes in the draw before it
+    pub draw_source : (number : ℕ) (first : Prefix) → IsStep js play i t (Marked (Draw (suc number))) → IsDrawn js play i number first → IsSource js play i t first
+    draw_source number first step d =
+        record { made = d.made; taken = taken_from_draw (suc number) number first (inl step.makes) (omega arith) d; only = λ a h. go a (added js t k a h) }
+      where
+        go : (a : Place) → Added js t k a → Only a first
+        go a (Before was) = inl was
+        go a (Itself here) = inr (inr here)
+        go a (ByJoin from upto is past) = absurd (let makes = step.makes in cc)
+        go a (ByDraw sooner then draw at_draw is below reaches) =
+            let makes = step.makes in
+            let n : then ≡ suc number = cc in
+            inr (inl (by_draw number sooner first draw a d at_draw (omega arith) reaches))
+        go a (ByFence sooner upto draw at_draw is below reaches) = absurd (let makes = step.makes in cc)
+
+    -- the first takes in none
+    pub first_draw : (a : Place) → IsStep js play i t (Marked (Draw 1)) → InPast js t (suc k) a → InPast js t k a ⊎ (a ≡ place t k)
+    first_draw a step h = go (added js t k a h)
+      where
+        go : Added js t k a → InPast js t k a ⊎ (a ≡ place t k)
+        go (Before was) = inl was
+        go (Itself here) = inr here
+        go (ByJoin from upto is past) = absurd (let makes = step.makes in cc)
+        go (ByDraw sooner then draw at_draw is below reaches) =
+            let makes = step.makes in
+            let n : then ≡ 1 = cc in
+            absurd (omega (arith, draw_is_some js play whole draw sooner at_draw))
+        go (ByFence sooner upto draw at_draw is below reaches) = absurd (let makes = step.makes in cc)
+
+    -- a Fence takes in the draw of its number
+    pub fence_source : (number : ℕ) (first : Prefix) → IsStep js play i t (Marked (Fence number)) → IsDrawn js play i number first → IsSource js play i t first
+    fence_source number first step d =
+        record { made = d.made; taken = taken_from_draw number number first (inr step.makes) (omega arith) d; only = λ a h. go a (added js t k a h) }
+      where
+        go : (a : Place) → Added js t k a → Only a first
+        go a (Before was) = inl was
+        go a (Itself here) = inr (inr here)
+        go a (ByJoin from upto is past) = absurd (let makes = step.makes in cc)
+        go a (ByDraw sooner then draw at_draw is below reaches) = absurd (let makes = step.makes in cc)
+        go a (ByFence sooner upto draw at_draw is below reaches) =
+            let makes = step.makes in
+            let n : upto ≡ number = cc in
+            inr (inl (by_draw number sooner first draw a d at_draw (omega arith) reaches))
+
+    pub empty_fence : (a : Place) → IsStep js play i t (Marked (Fence 0)) → InPast js t (suc k) a → InPast js t k a ⊎ (a ≡ place t k)
+    empty_fence a step h = go (added js t k a h)
+      where
+        go : Added js t k a → InPast js t k a ⊎ (a ≡ place t k)
+        go (Before was) = inl was
+        go (Itself here) = inr here
+        go (ByJoin from upto is past) = absurd (let makes = step.makes in cc)
+        go (ByDraw sooner then draw at_draw is below reaches) = absurd (let makes = step.makes in cc)
+        go (ByFence sooner upto draw at_draw is below reaches) =
+            let makes = step.makes in
+            let n : upto ≡ 0 = cc in
+            absurd (omega (arith, draw_is_some js play whole draw sooner at_draw))
+
+    -- a draw that was made is kept
+    kept_draw : (place : ℕ) (draws : List Prefix) → KeepsDraws js play i draws → place < length draws → (first : Prefix) × (slice_get draws place ≡ Some first) × IsDrawn js play i (suc place) first
+    kept_draw place draws keeps lt =
+        let none : Prefix = record { thread = 0; count = 0 } in
+        let there = slice_get-get_or draws place none lt in
+        (get_or draws place none, there, keeps.each place (get_or draws place none) there)
+
+    pub draw_takes_in : (number before : ℕ) (draws : List Prefix) → IsStep js play i t (Marked (Draw number)) → KeepsDraws js play i draws → suc before ≡ number → TakesIn js play i t (draw_of draws before)
+    draw_takes_in number zero draws step keeps is = λ a h. first_draw a (subst (λ (n : ℕ). IsStep js play i t (Marked (Draw n))) (sym is) step) h
+    draw_takes_in number (suc before) draws step keeps is =
+        let kept = kept_draw before draws keeps (omega (arith, draw_is_next js play whole i t number step, keeps.counts)) in
+        let step' = subst (λ (n : ℕ). IsStep js play i t (Marked (Draw n))) (sym is) step in
+        subst (λ (o : Option Prefix). TakesIn js play i t o) (sym kept.1) (draw_source (suc before) kept.0 step' kept.2)
+
+    pub fence_takes_in : (number : ℕ) (draws : List Prefix) → IsStep js play i t (Marked (Fence number)) → KeepsDraws js play i draws → TakesIn js play i t (draw_of draws number)
+    fence_takes_in zero draws step keeps = λ a h. empty_fence a step h
+    fence_takes_in (suc number) draws step keeps =
+        let kept = kept_draw number draws keeps (omega (arith, fence_names js play whole i t (suc number) step, keeps.counts)) in
+        subst (λ (o : Option Prefix). TakesIn js play i t o) (sym kept.1) (fence_source (suc number) kept.0 step kept.2)
+
+    -- a draw has a number of at least 1
+    pub draw_number : (number : ℕ) → IsStep js play i t (Marked (Draw number)) → 1 ≤ number
+    draw_number number step = omega (arith, draw_is_next js play whole i t number step)
+
+  -- the clock behind a mark, from the clock before it and what it takes in
+  pub behind_source : (first : Prefix) (own other both after : Clock) → IsSource js play i t first → k < length (journal_of js t) → IsPastOf js t k own → IsPastOf js first.thread first.count other
+      → IsJoined own other both → IsRaised both t (suc k) after → IsPastOf js t (suc k) after
+  behind_source first own other both after source within mine its joined raised =
+      past_joined js t k first.thread first.count own other both after mine its joined raised within source.taken source.only
+
+  pub behind_none : (own after : Clock) → TakesIn js play i t None → k < length (journal_of js t) → IsPastOf js t k own → IsRaised own t (suc k) after → IsPastOf js t (suc k) after
+  behind_none own after nothing within mine raised a = (to, from)
+    where
+      to : InPast js t (suc k) a → a.event < count_in after a.thread
+      to h = elim (nothing a h) [
+        | inl was ↦ raised_has own after t (suc k) a.thread a.event raised ((mine a).0 was)
+        | inr here ↦ subst (λ (p : Place). p.event < count_in after p.thread) (sym here) (raised_own own after t (suc k) k raised (omega arith))
+      ]
+
+      from : a.event < count_in after a.thread → InPast js t (suc k) a
+      from lt = elim (raised_from own after t (suc k) a.thread a.event raised lt) [
+        | inl known ↦ past_grows js t k (suc k) a (omega arith) ((mine a).1 known)
+        | inr here ↦ own_event js t (suc k) a here.0 here.1 (omega arith)
+      ]
+
+  -- the same, where a count is what the thread has made
+  pub counted_source : (count next : ℕ) (first : Prefix) (own other both after : Clock) → count ≡ k → next ≡ suc count → IsSource js play i t first → k < length (journal_of js t)
+      → IsPastOf js t count own → IsPastOf js first.thread first.count other → IsJoined own other both → IsRaised both t next after → IsPastOf js t (suc count) after
+  counted_source count next first own other both after is more source within mine its joined raised =
+      let mine' = subst (λ (n : ℕ). IsPastOf js t n own) is mine in
+      let raised' = subst (λ (n : ℕ). IsRaised both t n after) (more ∙ ap suc is) raised in
+      subst (λ (n : ℕ). IsPastOf js t (suc n) after) (sym is) (behind_source first own other both after source within mine' its joined raised')
+
+  pub counted_none : (count next : ℕ) (own after : Clock) → count ≡ k → next ≡ suc count → TakesIn js play i t None → k < length (journal_of js t) → IsPastOf js t count own → IsRaised own t next after → IsPastOf js t (suc count) after
+  counted_none count next own after is more nothing within mine raised =
+      let mine' = subst (λ (n : ℕ). IsPastOf js t n own) is mine in
+      let raised' = subst (λ (n : ℕ). IsRaised own t n after) (more ∙ ap suc is) raised in
+      subst (λ (n : ℕ). IsPastOf js t (suc n) after) (sym is) (behind_none own after nothing within mine' raised')
+
+  -- a step's event is in its journal
+  pub step_within : (e : Event) → IsStep js play i t e → k < length (journal_of js t)
+  step_within e step = slice_get_within (journal_of js t) k e step.makes

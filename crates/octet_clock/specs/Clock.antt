@@ -1,0 +1,16 @@
+-- What a vector clock says.
+use Rattle.std.specs.Prelude.{◌≡◌, ◌≢◌, ℕ, max, get_or}
+use Rattle.octet_clock.specs.declared.clock.Clock.{Clock}
+
+-- how many of a thread's first events the clock knows
+abbrev pub count_in : Clock → ℕ → ℕ
+count_in clock thread = get_or clock.counts thread 0
+
+-- the clock with at least so many events of one thread
+pub record IsRaised (before : Clock) (thread count : ℕ) (after : Clock) : Type 0 where
+  pub own : count_in after thread ≡ max (count_in before thread) count
+  pub others : (other : ℕ) → other ≢ thread → count_in after other ≡ count_in before other
+
+-- the clock that knows what either knows
+abbrev pub IsJoined : Clock → Clock → Clock → Type 0
+IsJoined one other both = (thread : ℕ) → count_in both thread ≡ max (count_in one thread) (count_in other thread)

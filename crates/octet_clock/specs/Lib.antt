@@ -1,0 +1,11 @@
+pub mod Accesses
+pub mod Checker
+pub mod Clock
+pub mod LastAccesses
+pub mod Past
+pub mod Play
+pub mod Sources
+pub mod Tally
+pub mod Verdict
+pub mod Verified
+pub mod Laws

@@ -1,0 +1,23 @@
+-- When a clock is the past of a thread's first events, and when a thread's marks are kept with their clocks.
+use Rattle.std.specs.Prelude.{◌≡◌, ℕ, suc, ◌<◌, ◌↔◌, List, Some, slice_get}
+use Rattle.octet_model.specs.declared.event.Mark.{Mark}
+use Rattle.octet_model.specs.declared.event.Event.TheVariants.{Marked}
+use Rattle.octet_model.specs.declared.event.Place.{Place}
+use Rattle.octet_model.specs.Machine.{Journals}
+use Rattle.octet_model.specs.HappensBefore.{event_at}
+use Rattle.octet_model.specs.Past.{InPast}
+use Rattle.octet_clock.specs.declared.clock.Clock.{Clock}
+use Rattle.octet_clock.specs.declared.marks.Kept.{Kept}
+use Rattle.octet_clock.specs.Clock.{count_in}
+
+-- a clock is the past of a thread's first so many events: an event lies in that past exactly where the clock knows it
+abbrev pub IsPastOf : Journals → ℕ → ℕ → Clock → Type 0
+IsPastOf journals thread now clock = (place : Place) → InPast journals thread now place ↔ (place.event < count_in clock place.thread)
+
+-- the marks among a thread's first so many events, in order, each with the past behind it
+pub record KeepsMarks (journals : Journals) (thread now : ℕ) (kept : List Kept) : Type 0 where
+  pub rising : (i j : ℕ) (sooner later : Kept) → i < j → slice_get kept i ≡ Some sooner → slice_get kept j ≡ Some later → sooner.event < later.event
+  pub made : (i : ℕ) (one : Kept) → slice_get kept i ≡ Some one → one.event < now
+  pub all : (event : ℕ) (mark : Mark) → event < now → event_at journals (record { thread = thread; event = event }) ≡ Some (Marked mark)
+      → (i : ℕ) × (one : Kept) × (slice_get kept i ≡ Some one) × (one.event ≡ event)
+  pub pasts : (i : ℕ) (one : Kept) → slice_get kept i ≡ Some one → IsPastOf journals thread (suc one.event) one.clock

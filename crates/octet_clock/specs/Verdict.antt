@@ -1,0 +1,47 @@
+-- What the check answers.
+use Rattle.std.specs.Prelude.{◌≡◌, ℕ, ◌<◌, ◌↔◌, List, length, Option, Some, None}
+use Rattle.octet_model.specs.declared.event.Place.{Place}
+use Rattle.octet_model.specs.Machine.{Journals}
+use Rattle.octet_model.specs.HappensBefore.{HappensBefore, Conflict, IsOrdered}
+use Rattle.octet_clock.specs.declared.verdict.Verdict.{Verdict}
+use Rattle.octet_clock.specs.declared.verdict.Verdict.TheVariants.{Ordered, Unordered}
+use Rattle.octet_clock.specs.Play.{step_place, IsMadeBefore}
+
+-- an event that an earlier step made, in conflict with that of a step
+pub record IsEarlierConflict (journals : Journals) (play : List ℕ) (index : ℕ) (place : Place) : Type 0 where
+  pub earlier : IsMadeBefore play index place
+  pub conflict : Conflict journals place (step_place play index)
+
+-- each of these happens before the event of the step
+abbrev pub IsJoinedUp : Journals → List ℕ → ℕ → Type 0
+IsJoinedUp journals play index = (place : Place) → IsEarlierConflict journals play index place → HappensBefore journals place (step_place play index)
+
+-- of the earlier conflicting events that do not happen before that of the step, one of the lowest thread that has such; and that thread's last conflicting event before the step
+pub record IsFirstMissed (journals : Journals) (play : List ℕ) (index : ℕ) (first : Place) : Type 0 where
+  pub is_earlier : IsEarlierConflict journals play index first
+  pub apart : ¬ HappensBefore journals first (step_place play index)
+  pub none_lower : (lower : Place) → lower.thread < first.thread → IsEarlierConflict journals play index lower → HappensBefore journals lower (step_place play index)
+  pub none_later : (later : Place) → later.thread ≡ first.thread → first.event < later.event → ¬ IsEarlierConflict journals play index later
+
+-- the second is the first event in the play that misses an earlier conflicting one, and the first is the one that it misses
+pub record IsFirstUnordered (journals : Journals) (play : List ℕ) (first second : Place) : Type 0 where
+  pub index : ℕ
+  pub within : index < length play
+  pub is_second : step_place play index ≡ second
+  pub missed : IsFirstMissed journals play index first
+  pub none_sooner : (sooner : ℕ) → sooner < index → IsJoinedUp journals play sooner
+
+-- what the event of a step misses, if anything
+abbrev pub Misses : Journals → List ℕ → ℕ → Option Place → Type 0
+Misses journals play index None = IsJoinedUp journals play index
+Misses journals play index (Some first) = IsFirstMissed journals play index first
+
+-- what so many steps tell
+abbrev pub JudgedUpTo : Journals → List ℕ → ℕ → Verdict → Type 0
+JudgedUpTo journals play index Ordered = (step : ℕ) → step < index → IsJoinedUp journals play step
+JudgedUpTo journals play index (Unordered first second) = IsFirstUnordered journals play first second
+
+-- ordered exactly where the journals are; else the pair
+pub record IsVerdict (journals : Journals) (play : List ℕ) (verdict : Verdict) : Type 0 where
+  pub ordered : (verdict ≡ Ordered) ↔ IsOrdered journals
+  pub unordered : (first second : Place) → verdict ≡ Unordered first second → IsFirstUnordered journals play first second

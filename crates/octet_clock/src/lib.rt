@@ -1,0 +1,19 @@
+//! The check that a log orders all conflicts, by vector clocks (Lamport's happens-before; vector
+//! clocks after Mattern and Fidge).
+#![tactic(auto)]
+
+mod accesses;
+mod checker;
+mod clock;
+pub mod laws;
+mod marks;
+mod sources;
+mod tally;
+#[cfg(test)]
+mod tests;
+mod verdict;
+mod verified;
+
+pub use checker::check;
+pub use verdict::Verdict;
+pub use verified::verify;

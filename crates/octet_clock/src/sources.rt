@@ -1,0 +1,93 @@
+//! What a mark takes into the past of its thread.
+ghost use Rattle.std.specs.Prelude.{◌≡◌, ◌<◌, ◌≤◌, ◌+◌, ◌^◌, ℕ, suc, List, length, OnOk};
+ghost use Rattle.octet_model.specs.declared.event.Event.{Event};
+ghost use Rattle.octet_model.specs.declared.event.Event.TheVariants.{Marked};
+ghost use Rattle.octet_clock.specs.Past.{IsPastOf};
+ghost use Rattle.octet_clock.specs.Play.{made_by, IsWholePlay};
+ghost use Rattle.octet_clock.specs.Sources.{IsNextStep, KeepsDraws, KeepsAllMarks, TakesIn, draw_of, draws_with};
+
+use crate::clock::{Clock, THREADS};
+use crate::marks::Marks;
+use octet_model::{Mark, OutOfMemory};
+
+/// The first events of a thread, so many.
+#[derive(Clone, Copy, Debug, PartialEq, Eq)]
+pub(crate) struct Prefix {
+    pub(crate) thread: u8,
+    pub(crate) count: u32,
+}
+
+// The draw of a number, with the events of its thread before it.
+fn draw_of(draws: &[Prefix], number: u64) -> Option<Prefix>
+    ensures { result ≡ draw_of draws.now number }
+{
+    if number == 0 {
+        return None;
+    }
+    draws.get((number - 1) as usize).copied()
+}
+
+// Whose past a mark takes in: of a Join the events that it names; of a Draw the draw before it,
+// and of a Fence the draw of its number, since behind each draw lie all earlier ones.
+fn source_of(draws: &[Prefix], mark: Mark) -> Option<Prefix>
+    ensures { (journals : List (List Event)) (play : List ℕ) (index thread : ℕ) → IsNextStep journals play index thread (Marked mark) → KeepsDraws journals play index draws.now → TakesIn journals play index thread result }
+{
+    match mark {
+        Mark::Join { from, upto } => match u32::try_from(upto) {
+            Ok(count) => Some(Prefix {
+                thread: from,
+                count,
+            }),
+            Err(_) => None,
+        },
+        Mark::Draw { number } => draw_of(draws, number.saturating_sub(1)),
+        Mark::Fence { number } => draw_of(draws, number),
+    }
+}
+
+/// The clock of a thread's first events.
+pub(crate) fn clock_after(marks: &[Marks], thread: usize, count: u32) -> Clock
+    requires { length marks.now ≤ THREADS }
+    ensures { (journals : List (List Event)) (play : List ℕ) (index : ℕ) → IsWholePlay journals play → index ≤ length play → KeepsAllMarks journals play index marks.now → count ≤ made_by play index thread → IsPastOf journals thread count result }
+{
+    if thread < marks.len() {
+        marks[thread].clock_after(thread, count)
+    } else {
+        Clock::new()
+    }
+}
+
+/// The clock behind a mark that a thread makes after so many events.
+pub(crate) fn clock_behind(
+    marks: &[Marks],
+    draws: &[Prefix],
+    thread: usize,
+    count: u32,
+    mark: Mark,
+) -> Clock
+    requires threads { length marks.now ≤ THREADS }
+    requires thread { thread < length marks.now }
+    requires room { count + 1 < 2 ^ 32 }
+    ensures { (journals : List (List Event)) (play : List ℕ) (index : ℕ) → IsNextStep journals play index thread (Marked mark) → KeepsDraws journals play index draws.now → KeepsAllMarks journals play index marks.now → count ≡ made_by play index thread → IsPastOf journals thread (suc count) result }
+{
+    let own = clock_after(marks, thread, count);
+    let Some(first) = source_of(draws, mark) else {
+        return own.raised(thread, count + 1);
+    };
+    let taken = clock_after(marks, first.thread as usize, first.count);
+    own.joined(&taken).raised(thread, count + 1)
+}
+
+/// Notes a draw, with the events of its thread up to it.
+pub(crate) fn note_draw(
+    draws: &mut Vec<Prefix>,
+    mark: Mark,
+    behind: Prefix,
+) -> Result<(), OutOfMemory>
+    ensures { OnOk result (draws.new.items ≡ draws_with draws.old.items mark behind) }
+{
+    if let Mark::Draw { .. } = mark {
+        draws.push(behind)?;
+    }
+    Ok(())
+}
