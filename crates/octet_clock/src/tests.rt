@@ -66,11 +66,7 @@ const fn after(gap: u32, mark: Mark) -> Gapped {
     Gapped { gap, mark }
 }
 
-fn two_threads(
-    alloc: Global,
-    first: &[Command],
-    second: &[Command],
-) -> Result<Script, OutOfMemory>
+fn two_threads(alloc: Global, first: &[Command], second: &[Command]) -> Result<Script, OutOfMemory>
     requires { IsTrue (list_all (is_thread 2) (first.now ∷ second.now ∷ [])) }
 {
     let mut threads = List::new(alloc);
