@@ -62,7 +62,9 @@ const READ_X: Command = Command::Read { to: 0, object: 0 };
 
 const NO_MARKS: &[Gapped] = &[];
 
-const fn after(gap: u32, mark: Mark) -> Gapped {
+fn after(gap: u32, mark: Mark) -> Gapped
+    ensures { result ≡ record { gap = gap; mark = mark } }
+{
     Gapped { gap, mark }
 }
 
@@ -150,16 +152,14 @@ fn three_threads(alloc: Global) -> Result<Script, OutOfMemory> {
     script_of(alloc, threads)
 }
 
-// The last thread joins so many events of the middle one, which joins the first behind its own.
-fn chain(alloc: Global, upto: u64) -> Result<Log, OutOfMemory>
-    requires { IsTrue (nat_le upto 2) }
+// The first thread has no mark, and each makes one access.
+fn log_of_three(alloc: Global, second: &[Gapped], third: &[Gapped]) -> Result<Log, OutOfMemory>
+    requires { IsTrue (is_log (record { accesses = 1; marks = [] } ∷ record { accesses = 1; marks = second.now } ∷ record { accesses = 1; marks = third.now } ∷ [])) }
 {
-    let behind_the_write = after(1, Mark::Join { from: 0, upto: 1 });
-    let behind_the_middle = after(0, Mark::Join { from: 1, upto });
     let mut threads = List::new(alloc);
     threads.push(thread_log(alloc, 1, NO_MARKS)?)?;
-    threads.push(thread_log(alloc, 1, &[behind_the_write])?)?;
-    threads.push(thread_log(alloc, 1, &[behind_the_middle])?)?;
+    threads.push(thread_log(alloc, 1, second)?)?;
+    threads.push(thread_log(alloc, 1, third)?)?;
     Ok(Log { threads })
 }
 
@@ -167,9 +167,12 @@ fn chain(alloc: Global, upto: u64) -> Result<Log, OutOfMemory>
 fn join_takes_in_no_later_events(rt: HostRuntime) -> Result<(), Fail> {
     let alloc = rt.alloc();
     let script = three_threads(alloc)?;
-    let log = chain(alloc, 1)?;
+    let behind_the_write = after(1, Mark::Join { from: 0, upto: 1 });
+    let behind_one = after(0, Mark::Join { from: 1, upto: 1 });
+    let log = log_of_three(alloc, &[behind_the_write], &[behind_one])?;
     assert_eq!(rt; verify(alloc, &script, &log)?, unordered(0, 0, 2, 1));
-    let log = chain(alloc, 2)?;
+    let behind_two = after(0, Mark::Join { from: 1, upto: 2 });
+    let log = log_of_three(alloc, &[behind_the_write], &[behind_two])?;
     assert_eq!(rt; verify(alloc, &script, &log)?, Verdict::Ordered);
     Ok(())
 }
