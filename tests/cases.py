@@ -35,6 +35,14 @@ def join(gap, thread, upto):
     return (1, gap, thread, upto)
 
 
+def draw(gap, number):
+    return (2, gap, 0, number)
+
+
+def fence(gap, number):
+    return (3, gap, 0, number)
+
+
 def runs(name, script, said, written):
     return Case(f"run: {name}", ["run", "S", "L"], {"S": script}, said, 0, {"L": written})
 
@@ -45,6 +53,22 @@ def example(name, said, written):
 
 def refused(name, script, line):
     return Case(f"refused: {name}", ["tidy", "S"], {"S": script}, text(f"script: {line}"), 2)
+
+
+def shown(name, content, said, status=0):
+    return Case(f"show: {name}", ["show", "L"], {"L": content}, said, status)
+
+
+def judged(command, name, script, content, said, status=0):
+    return Case(f"{command}: {name}", [command, "S", "L"], {"S": script, "L": content}, said, status)
+
+
+def recorded(name, script, content, said):
+    """A log that a run left: the replay says what the run said, and the log is in order."""
+    return [
+        judged("replay", name, script, content, said),
+        judged("verify", name, script, content, text("ordered")),
+    ]
 
 
 ONE = text("object x 5", "thread", "read r0 x")
@@ -160,12 +184,109 @@ PREFIXES = [
     for size in [17, 18]
 ]
 
+HANDOVER = (EXAMPLES / "handover.octet").read_bytes()
+HANDOVER_SAID = text("thread 0 done", "thread 1 done 7", "object x 7")
+HANDOVER_LOG = log((1,), (1, join(0, 0, 1)))
+HANDOVER_UNMARKED = log((1,), (1,))
+HANDOVER_STUCK = log((1, join(0, 1, 1)), (1, join(0, 0, 1)))
+
+# Thread 1 reads first, and then thread 2 does: x becomes read-shared, and thread 1 fences.
+SHARED = text("object x 9", "thread", "thread", "read r0 x", "read r1 x", "thread", "read r0 x")
+SHARED_LOG = log((0,), (2, join(0, 0, 0), fence(1, 1)), (1, join(0, 1, 1), draw(0, 1)))
+
+# Each thread hands one object over while it waits for the other.
+CROSSED = text(
+    "object x 0", "object y 0", "thread", "set r0 1", "write y r0", "thread", "set r0 2", "write y r0", "write x r0"
+)
+CROSSED_LOG = log((1, join(0, 1, 2)), (2, join(0, 0, 0), join(1, 0, 0)))
+
+LOGS = (
+    recorded("thread 1 joins thread 0", HANDOVER, HANDOVER_LOG, HANDOVER_SAID)
+    + recorded(
+        "thread 1 reads first",
+        HANDOVER,
+        log((1, join(0, 1, 2)), (1, join(0, 0, 0))),
+        text("thread 0 done", "thread 1 done 5", "object x 7"),
+    )
+    + recorded("a draw and a fence", SHARED, SHARED_LOG, text("thread 0 done", "thread 1 done 9 9", "thread 2 done 9", "object x 9"))
+    + recorded("objects that cross", CROSSED, CROSSED_LOG, text("thread 0 done", "thread 1 done", "object x 2", "object y 1"))
+    + recorded(
+        "a thread that is spent",
+        (EXAMPLES / "spent.octet").read_bytes(),
+        log((1,)),
+        text("thread 0 spent 0", "object x 0"),
+    )
+    + recorded(
+        "a flag",
+        (EXAMPLES / "flag.octet").read_bytes(),
+        log((2,), (2, join(0, 0, 2), join(1, 0, 2))),
+        text("thread 0 done", "thread 1 done 1 42", "object x 42", "object flag 1"),
+    )
+    + [
+        judged("replay", "without its mark", HANDOVER, HANDOVER_UNMARKED, HANDOVER_SAID),
+        judged("verify", "without its mark", HANDOVER, HANDOVER_UNMARKED, text("unordered 0:0 1:0"), 9),
+        judged(
+            "verify",
+            "two reads without marks, and then a write",
+            text("object x 1", "thread", "read r0 x", "thread", "read r0 x", "thread", "write x r0"),
+            log((1,), (1,), (1, join(0, 0, 1))),
+            text("unordered 1:0 2:1"),
+            9,
+        ),
+        shown(
+            "a draw and a fence",
+            SHARED_LOG,
+            text(
+                "threads 3", "thread 0 accesses 0 marks 0", "thread 1 accesses 2 marks 2", "gap 0 join 0 0",
+                "gap 1 fence 1", "thread 2 accesses 1 marks 2", "gap 0 join 1 1", "gap 0 draw 1",
+            ),
+        ),
+    ]
+)
+
+MISFITS = [
+    judged(command, name, script, content, text(f"fit: {line}"), 4)
+    for command in ["replay", "verify"]
+    for name, script, content, line in [
+        ("each event waits for the other", HANDOVER, HANDOVER_STUCK, "stuck at 0 0"),
+        ("two threads in the log", ONE, HANDOVER_LOG, "threads 1 in the script, 2 in the log"),
+        ("too few accesses", ONE, log((2,)), "thread 0 wants 2 accesses, found 1"),
+        ("too many accesses", ONE, log((0,)), "thread 0 wants 0 accesses, found 1"),
+        ("a number is drawn twice", ONE, log((1, draw(0, 1), draw(0, 1))), "stuck at 1"),
+    ]
+]
+
+LOG_REFUSALS = (
+    [shown(f"the first {size} bytes", SHARED_LOG[:size], text("log: 1 no magic"), 3) for size in range(4)]
+    + [
+        shown(f"the first {size} bytes", SHARED_LOG[:size], text(f"log: 4 cut short at {size}"), 3)
+        for size in range(4, 86)
+    ]
+    + [
+        shown("without its last byte", HANDOVER_LOG[:-1], text("log: 4 cut short at 35"), 3),
+        shown("one byte more", HANDOVER_LOG + b"\0", text("log: 7 trailing at 36"), 3),
+        shown("a join of its own thread", log((1,), (1, join(0, 1, 1))), text("log: 5 bad mark at 22"), 3),
+        shown("a join of no thread", log((1,), (1, join(0, 2, 1))), text("log: 5 bad mark at 22"), 3),
+        shown("an unknown kind", log((1,), (1, (4, 0, 0, 1))), text("log: 5 bad mark at 22"), 3),
+        shown("a gap behind the last access", log((1,), (1, join(2, 0, 1))), text("log: 5 bad mark at 22"), 3),
+        shown("no threads", b"OCTL\x01\x00", text("log: 3 bad threads"), 3),
+        shown("too many accesses", log((0x40001,), (1,)), text("log: 6 too many accesses"), 3),
+        judged("replay", "a log that is refused", HANDOVER, b"", text("log: 1 no magic"), 3),
+        judged("replay", "a script that is refused", b"", HANDOVER_LOG, text("script: line 1: 13 no thread"), 2),
+        judged("verify", "a log that is refused", HANDOVER, b"", text("log: 1 no magic"), 3),
+    ]
+)
+
 FAULTS = [
     Case("words: none", [], {}, text("words: not a command"), 1),
     Case("words: a file is missing", ["run", "S"], {"S": ONE}, text("words: not a command"), 1),
     Case("words: too many", ["tidy", "S", "S"], {"S": ONE}, text("words: not a command"), 1),
     Case("words: an unknown command", ["--help"], {}, text("words: not a command"), 1),
     Case("words: not UTF-8", [b"tidy", b"\xff"], {}, text("words: not a command"), 1),
+    Case("words: no number", ["gen", "one", "S", "L"], {}, text("words: not a command"), 1),
+    Case("words: a number of 65 bits", ["gen", str(2**64), "S", "L"], {}, text("words: not a command"), 1),
+    Case("words: a log is missing", ["gen", "1", "S"], {}, text("words: not a command"), 1),
+    Case("read: no such log", ["verify", "S", "L"], {"S": ONE}, text("read: failed"), 5),
     Case("read: no such file", ["tidy", "S"], {}, text("read: failed"), 5),
     Case("read: a folder", ["tidy", "."], {}, text("read: failed"), 5),
     Case("too long", ["tidy", "S"], {"S": b"#" * 1048577}, text("long: S over 1048576 bytes"), 8),
@@ -179,4 +300,4 @@ FAULTS = [
     Case("write: the disk is full", ["run", "S", "/dev/full"], {"S": ONE}, b"", 6),
 ]
 
-CASES = RUNS + TIDY + REFUSED + PREFIXES + FAULTS
+CASES = RUNS + TIDY + REFUSED + PREFIXES + LOGS + MISFITS + LOG_REFUSALS + FAULTS

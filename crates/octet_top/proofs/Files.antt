@@ -1,9 +1,11 @@
 -- A file that is begun and then grows.
-use Rattle.std.proofs.Common.{◌≡◌, ◌∙◌, ◌++◌, ◌≤◌, inr, arith, length, take, drop, length-append, append_assoc, ℕ, List, [], Option, Some, None, Result, Ok, Err, OnErr, Bool, true, false, cond, refl, sym, ap, nat_cmp}
+use Rattle.std.proofs.Common.{◌≡◌, ◌≢◌, ◌∙◌, ◌++◌, inr, arith, length, take, drop, length-append, append_assoc, ℕ, List, [], Option, Some, None, Result, Ok, Err, OnErr, Bool, true, false, cond, refl, sym, ap, nat_cmp}
 use Rattle.std.specs.Option.{option_map, unwrap_or}
 use Rattle.std.specs.Ordering.{eq_by_cmp}
 use Rattle.std.specs.Cmp.{eq_by_cmp_equiv}
-use Rattle.std.specs.Cmp.Lexicographic.{slice_cmp, nat_list_cmp_total}
+use Rattle.std.specs.Cmp.Lexicographic.{slice_cmp, nat_list_cmp_total, texts_ties}
+use Rattle.std.specs.Str.{bytes_eq}
+use Rattle.std.proofs.lemmas.Slice.Eq.{bytes_eq-Decides}
 use Rattle.std.specs.FinMap.{get, insert, get-insert, same_map, slice_cmp-IsAntisymmetric, nat_cmp-IsAntisymmetric}
 use Rattle.std.proofs.lemmas.List.{take-append-drop}
 use Rattle.std.proofs.Math.Seq.{take-append_seam}
@@ -51,3 +53,11 @@ prefix_more name bytes done rest piece more count begun old mid new is_begun all
 pub on_err : {T E : Type 0} (r : Result T E) (P : Type 0) → P → OnErr r P
 on_err (Ok x) P h = tt
 on_err (Err e) P h = h
+
+pub get-other : (files : Files) (name bytes other : List ℕ) → other ≢ name → get (insert files name bytes) other ≡ get files other
+get-other files name bytes other differ =
+    get-insert nat_list_cmp_total files name bytes other ∙ ap (λ b. cond b (Some bytes) (get files other)) (sym (texts_ties other name) ∙ differs (bytes_eq other name) refl)
+  where
+    differs : (b : Bool) → bytes_eq other name ≡ b → bytes_eq other name ≡ false
+    differs true is = absurd (differ ((bytes_eq-Decides other name).0 is))
+    differs false is = is

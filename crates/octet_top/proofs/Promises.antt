@@ -1,6 +1,6 @@
 -- From what is served to what each status promises.
-use Rattle.std.proofs.Common.{◌≡◌, ◌∙◌, ◌≢◌, ◌≤◌, ◌<◌, ◌++◌, ◌⊎◌, ℕ, List, length, Option, None, Some, Ok, Err, IfSome, IsSomeAnd, inl, inr, sym, ap, subst, refl, arith}
-use Rattle.std.specs.FinMap.{get}
+use Rattle.std.proofs.Common.{◌≡◌, ◌∙◌, ◌≢◌, ◌<◌, ◌⊎◌, ℕ, List, length, Option, None, Some, IfSome, IsSomeAnd, inl, inr, sym, ap, subst, refl, arith}
+use Rattle.std.specs.FinMap.{get, insert}
 use Rattle.octet_base.specs.Desk.{Files, Rose, spoken}
 use Rattle.octet_model.specs.declared.script.Script.{Script}
 use Rattle.octet_model.specs.declared.log.Log.{Log}
@@ -8,7 +8,7 @@ use Rattle.octet_model.specs.declared.log.ThreadLog.{ThreadLog}
 use Rattle.octet_model.specs.Texts.{log_bytes, outcome_text}
 use Rattle.octet_model.specs.Orders.{execution, lowest_order}
 use Rattle.octet_script.specs.declared.cause.ScriptCause.{ScriptCause}
-use Rattle.octet_script.specs.Spelling.{Spells, contents, canonical_text}
+use Rattle.octet_script.specs.Spelling.{Spells, canonical_text}
 use Rattle.octet_script.proofs.Spelled.{spells_judged, one_script}
 use Rattle.octet_log.specs.declared.cause.LogCause.{LogCause}
 use Rattle.octet_log.specs.Judgement.{judgement}
@@ -18,15 +18,17 @@ use Rattle.octet_replay.specs.declared.fault.ReplayFault.{ReplayFault}
 use Rattle.octet_replay.specs.declared.fault.ReplayFault.TheVariants.{OutOfMemory}
 use Rattle.octet_replay.specs.Judged.{HasCause, IsLawful}
 use Rattle.octet_replay.proofs.Answered.{faithful, not_refused}
-use Rattle.octet_top.specs.declared.reply.Status.{Status}
-use Rattle.octet_top.specs.declared.reply.Status.TheVariants.{Done}
-use Rattle.octet_top.specs.Answer.{Answer, code_of, told, writes_and_tells, not_a_command, read_failed, too_long, script_refused, log_refused, does_not_fit}
-use Rattle.octet_top.specs.Taking.{TakingScript, TakingLog, IsTaken, IsAbsent, IsTooLong, Refuses, RefusesLog, script_limit, log_limit}
-use Rattle.octet_top.specs.Request.{Command, Run, Tidy, Show, Replay, words_of, script_taken, log_taken, IsNotACommand, NamesScript, NamesLog}
-use Rattle.octet_top.specs.Commands.{IsAnswer, CommandAnswers, IsRecording, IsReplayed, Fitting}
+use Rattle.octet_clock.specs.declared.verdict.Verdict.{Verdict}
+use Rattle.octet_clock.specs.declared.verdict.Verdict.TheVariants as verdict
+use Rattle.octet_clock.specs.Verified.{IsVerified}
+use Rattle.octet_top.specs.declared.reply.Status.TheVariants.{Done, Unordered}
+use Rattle.octet_top.specs.Answer.{Answer, code_of, told, writes_and_tells, not_a_command, read_failed, too_long, script_refused, log_refused, does_not_fit, verdict_told, summary}
+use Rattle.octet_top.specs.Taking.{TakingScript, TakingLog, IsTaken, IsAbsent, IsTooLong, script_limit, log_limit}
+use Rattle.octet_top.specs.Request.{Command, Run, Tidy, Show, Replay, Verify, Gen, Asks, IsNotACommand, NamesScript, NamesLog}
+use Rattle.octet_top.specs.Commands.{IsAnswer, CommandAnswers, IsRecording, IsReplayed, IsVerdictTold, Fitting}
 use Rattle.octet_top.specs.Serving.{DeskState, put, written, IsGiven, IsDelivered, IsServed}
-use Rattle.octet_top.specs.Promises.{RunsFaithfully, SaysToTake, IsScriptRefused, IsLogRefused, IsMisfitting, IsFileAbsent, IsFileTooLong, HasScript, HasLog, HasFiles, IsThere, IsWellMet}
-use Rattle.octet_top.proofs.Files.{get-inserted}
+use Rattle.octet_top.specs.Promises.{RunsFaithfully, TakesBoth, VerifiesOrdered, IsFoundUnordered, GeneratesFaithfully, SaysToTake, IsScriptRefused, IsLogRefused, IsMisfitting, IsFileAbsent, IsFileTooLong, HasScript, HasLog, HasFiles, IsThere, IsWellMet}
+use Rattle.octet_top.proofs.Files.{get-inserted, get-other}
 use Rattle.octet_top.proofs.Words.{one_command}
 
 same_value : {A : Type 0} (x y : A) → Some x ≡ Some y → x ≡ y
@@ -53,7 +55,7 @@ status_is : (answer told : Answer) (before after : DeskState) (code : ℕ) → a
 status_is answer told before after code is given = given.status ∙ ap (λ (a : Answer). code_of a.status) is
 
 -- the answers to a command that words ask for
-answers_to : (words : List (List ℕ)) (command : Command) (files : Option Files) (before after : ℕ) (answer : Answer) → words ≡ words_of command
+answers_to : (words : List (List ℕ)) (command : Command) (files : Option Files) (before after : ℕ) (answer : Answer) → Asks words command
     → IsAnswer words files before after answer → CommandAnswers command files before after answer
 answers_to words command files before after answer asked (inl (other, is, answers)) =
     subst (λ (c : Command). CommandAnswers c files before after answer) (one_command words other command is asked) answers
@@ -82,7 +84,7 @@ recorded script_name log_name text script answer before after code taken spells 
     }
 
 pub headline : (words : List (List ℕ)) (before after : DeskState) (code : ℕ) → IsServed (IsAnswer words before.files before.take_faults after.take_faults) before after code
-    → (script_name log_name : List ℕ) → words ≡ words_of (Run script_name log_name) → code ≡ 0 → RunsFaithfully script_name log_name before after
+    → (script_name log_name : List ℕ) → Asks words (Run script_name log_name) → code ≡ 0 → RunsFaithfully script_name log_name before after
 headline words before after code served script_name log_name run zero =
     let g = given_at words before after code (λ e. omega arith) (λ e. omega arith) served in
     elim (answers_to words (Run script_name log_name) before.files before.take_faults after.take_faults g.answer run g.answers) [
@@ -94,12 +96,63 @@ headline words before after code served script_name log_name run zero =
       ]
     ]
 
+-- a command that takes a script and a log went on with both, at a status that is none of their refusals
+pub ordered : (words : List (List ℕ)) (before after : DeskState) (code : ℕ) → IsServed (IsAnswer words before.files before.take_faults after.take_faults) before after code
+    → (script_name log_name : List ℕ) → Asks words (Verify script_name log_name) → code ≡ 0 → VerifiesOrdered script_name log_name before.files
+ordered words before after code served script_name log_name verify zero =
+    let g = given_at words before after code (λ e. omega arith) (λ e. omega arith) served in
+    by g.answer g.given (answers_to words (Verify script_name log_name) before.files before.take_faults after.take_faults g.answer verify g.answers)
+  where
+    by_verdict : (answer : Answer) → IsGiven answer before after code → (script : Script) (log : Log) → TakesBoth before.files script_name log_name script log
+        → (verdict : Verdict) → IsVerified script log.threads verdict → answer ≡ verdict_told verdict → VerifiesOrdered script_name log_name before.files
+    by_verdict answer given script log taken verdict.Ordered verified is =
+        (script, log, taken, record { lawful = verified.lawful; ordered = verified.told.ordered.0 refl; one_outcome = verified.one_outcome refl })
+    by_verdict answer given script log taken (verdict.Unordered first second) verified is = absurd (omega (arith, status_is answer (verdict_told (verdict.Unordered first second)) before after code is given))
+
+    by_log : (answer : Answer) → IsGiven answer before after code → (text : List ℕ) (script : Script) → IsTaken before.files script_name script_limit text → Spells text script
+        → TakingLog before.files before.take_faults after.take_faults log_name (IsVerdictTold script) answer → VerifiesOrdered script_name log_name before.files
+    by_log answer given text script taken spells (inl failed) = absurd (omega (arith, status_is answer read_failed before after code failed.0 given))
+    by_log answer given text script taken spells (inr (inl long)) = absurd (omega (arith, status_is answer (too_long log_name log_limit) before after code long.0 given))
+    by_log answer given text script taken spells (inr (inr (bytes, log_is_taken, inl refused))) = absurd (omega (arith, status_is answer (log_refused refused.0) before after code refused.2 given))
+    by_log answer given text script taken spells (inr (inr (bytes, log_is_taken, inr (log, spelled, inl refused)))) = absurd (omega (arith, status_is answer (does_not_fit refused.0) before after code refused.3 given))
+    by_log answer given text script taken spells (inr (inr (bytes, log_is_taken, inr (log, spelled, inr fits)))) =
+        by_verdict answer given script log (record { text = text; bytes = bytes; script_taken = taken; log_taken = log_is_taken; script_spelled = spells; log_spelled = spelled }) fits.1.0 fits.1.1 fits.1.2
+
+    by : (answer : Answer) → IsGiven answer before after code → TakingScript before.files before.take_faults after.take_faults script_name
+        (λ script answer. TakingLog before.files before.take_faults after.take_faults log_name (IsVerdictTold script) answer) answer → VerifiesOrdered script_name log_name before.files
+    by answer given (inl failed) = absurd (omega (arith, status_is answer read_failed before after code failed.0 given))
+    by answer given (inr (inl long)) = absurd (omega (arith, status_is answer (too_long script_name script_limit) before after code long.0 given))
+    by answer given (inr (inr (text, taken, inl refused))) = absurd (omega (arith, status_is answer (script_refused refused.0 refused.1) before after code refused.3 given))
+    by answer given (inr (inr (text, taken, inr (script, spells, on)))) = by_log answer given text script taken spells on
+
+pub generated : (words : List (List ℕ)) (before after : DeskState) (code : ℕ) → IsServed (IsAnswer words before.files before.take_faults after.take_faults) before after code
+    → (number : ℕ) (script_name log_name : List ℕ) → Asks words (Gen number script_name log_name) → code ≡ 0 → GeneratesFaithfully number script_name log_name before after
+generated words before after code served number script_name log_name gen zero files files' said said' is is' said_is said_is' =
+    let g = given_at words before after code (λ e. omega arith) (λ e. omega arith) served in
+    let made = answers_to words (Gen number script_name log_name) before.files before.take_faults after.take_faults g.answer gen g.answers in
+    let script = made.0 in
+    let log = made.1 in
+    let first = insert files script_name (canonical_text script) in
+    let left : files' ≡ insert first log_name (log_bytes log.threads) =
+    same_value _ _ (sym is' ∙ g.given.files ∙ ap (λ (a : Answer). written a.files before.files) made.5 ∙ ap (λ (fs : Option Files). put log_name (log_bytes log.threads) (put script_name (canonical_text script) fs)) is) in
+    record {
+      script = script;
+      log = log;
+      outcome = made.2;
+      generated = made.3;
+      script_written = λ differ. ap (λ (m : Files). get m script_name) left ∙ get-other first log_name (log_bytes log.threads) script_name differ ∙ get-inserted files script_name (canonical_text script);
+      log_written = ap (λ (m : Files). get m log_name) left ∙ get-inserted first log_name (log_bytes log.threads);
+      told = same_value _ _ (sym said_is' ∙ g.given.said ∙ ap (λ (a : Answer). spoken a.text before.said) made.5 ∙ ap (spoken summary) said_is);
+      faithful = made.4;
+    }
+
 -- how an answer came about
 pub data Cause (words : List (List ℕ)) (before after : DeskState) (answer : Answer) : Type 0 where
   ByRead : (name : List ℕ) (limit : ℕ) → SaysToTake words name limit → answer ≡ read_failed → Rose before.take_faults after.take_faults ⊎ IsAbsent before.files name → Cause words before after answer
   ByLength : (name : List ℕ) (limit : ℕ) → SaysToTake words name limit → answer ≡ too_long name limit → IsTooLong before.files name limit → Cause words before after answer
   ByScript : (line : ℕ) (cause : ScriptCause) → answer ≡ script_refused line cause → IsScriptRefused words before.files → Cause words before after answer
   ByLog : (cause : LogCause) → answer ≡ log_refused cause → IsLogRefused words before.files → Cause words before after answer
+  ByOrder : answer.status ≡ Unordered → IsFoundUnordered words before.files → Cause words before after answer
   ByFit : (fault : ReplayFault) → answer ≡ does_not_fit fault → IsMisfitting words before.files → Cause words before after answer
   BySuccess : answer.status ≡ Done → Cause words before after answer
   ByWords : answer ≡ not_a_command → IsNotACommand words → Cause words before after answer
@@ -111,6 +164,7 @@ status_of words before after answer (ByLength name limit named is long) = 8
 status_of words before after answer (ByScript line cause is refused) = 2
 status_of words before after answer (ByLog cause is refused) = 3
 status_of words before after answer (ByFit fault is misfits) = 4
+status_of words before after answer (ByOrder status unordered) = 9
 status_of words before after answer (BySuccess done) = 0
 status_of words before after answer (ByWords is none) = 1
 
@@ -120,6 +174,7 @@ status_comes words before after code answer (ByLength name limit named is long) 
 status_comes words before after code answer (ByScript line cause is refused) given = status_is answer (script_refused line cause) before after code is given
 status_comes words before after code answer (ByLog cause is refused) given = status_is answer (log_refused cause) before after code is given
 status_comes words before after code answer (ByFit fault is misfits) given = status_is answer (does_not_fit fault) before after code is given
+status_comes words before after code answer (ByOrder status unordered) given = given.status ∙ ap code_of status
 status_comes words before after code answer (BySuccess done) given = given.status ∙ ap code_of done
 status_comes words before after code answer (ByWords is none) given = status_is answer not_a_command before after code is given
 
@@ -151,7 +206,7 @@ module _ (words : List (List ℕ)) (before after : DeskState) (answer : Answer) 
 
   -- of a command that takes a script and a log and judges whether they fit
   of_both : (script_name log_name : List ℕ) (Onward : Script → Log → Answer → Type 0) → NamesScript words script_name → NamesLog words log_name
-      → ((script : Script) (log : Log) → Onward script log answer → Cause words before after answer)
+      → ((script : Script) (log : Log) → TakesBoth before.files script_name log_name script log → Onward script log answer → Cause words before after answer)
       → TakingScript before.files before.take_faults after.take_faults script_name
       (λ script answer. TakingLog before.files before.take_faults after.take_faults log_name (λ log answer. Fitting (Onward script log) script log answer) answer) answer
       → Cause words before after answer
@@ -163,24 +218,19 @@ module _ (words : List (List ℕ)) (before after : DeskState) (answer : Answer) 
         | inl refused ↦ ByFit refused.0 refused.3 (record {
           script_name = script_name;
           log_name = log_name;
-          text = text;
-          bytes = bytes;
           script = script;
           log = log;
           fault = refused.0;
           script_named = script_named;
           log_named = log_named;
-          script_taken = taken;
-          log_taken = log_is_taken;
-          script_spelled = spells;
-          log_spelled = spelled;
+          taken = record { text = text; bytes = bytes; script_taken = taken; log_taken = log_is_taken; script_spelled = spells; log_spelled = spelled };
           has_cause = refused.2;
           not_memory = refused.1;
         })
-        | inr fits ↦ on script log fits.1
+        | inr fits ↦ on script log (record { text = text; bytes = bytes; script_taken = taken; log_taken = log_is_taken; script_spelled = spells; log_spelled = spelled }) fits.1
       ])) answers
 
-  of_command : (command : Command) → words ≡ words_of command → CommandAnswers command before.files before.take_faults after.take_faults answer → Cause words before after answer
+  of_command : (command : Command) → Asks words command → CommandAnswers command before.files before.take_faults after.take_faults answer → Cause words before after answer
   of_command (Run script_name log_name) is answers =
       of_script script_name (IsRecording log_name) (record { command = Run script_name log_name; asked = is; takes = refl })
       (λ text script taken spells recording. done_by (writes_and_tells log_name (log_bytes recording.0.threads) (outcome_text script recording.1)) recording.3 refl) answers
@@ -193,7 +243,29 @@ module _ (words : List (List ℕ)) (before after : DeskState) (answer : Answer) 
   of_command (Replay script_name log_name) is answers =
       of_both script_name log_name (λ script log answer. answer ≡ told Done (outcome_text script (execution script log.threads (lowest_order script log.threads))))
       (record { command = Replay script_name log_name; asked = is; takes = refl }) (record { command = Replay script_name log_name; asked = is; takes = refl })
-      (λ script log replayed. done_by (told Done (outcome_text script (execution script log.threads (lowest_order script log.threads)))) replayed refl) answers
+      (λ script log taken replayed. done_by (told Done (outcome_text script (execution script log.threads (lowest_order script log.threads)))) replayed refl) answers
+  of_command (Verify script_name log_name) is answers =
+      let script_named : NamesScript words script_name = record { command = Verify script_name log_name; asked = is; takes = refl } in
+      let log_named : NamesLog words log_name = record { command = Verify script_name log_name; asked = is; takes = refl } in
+      of_both script_name log_name (λ script log answer. (verdict : Verdict) × IsVerified script log.threads verdict × (answer ≡ verdict_told verdict)) script_named log_named
+      (λ script log taken told. by_verdict script log taken script_named log_named told.0 told.1 told.2) answers
+    where
+      by_verdict : (script : Script) (log : Log) → TakesBoth before.files script_name log_name script log → NamesScript words script_name → NamesLog words log_name
+          → (verdict : Verdict) → IsVerified script log.threads verdict → answer ≡ verdict_told verdict → Cause words before after answer
+      by_verdict script log taken script_named log_named verdict.Ordered verified is = done_by (verdict_told verdict.Ordered) is refl
+      by_verdict script log taken script_named log_named (verdict.Unordered first second) verified is =
+          ByOrder (ap (λ (a : Answer). a.status) is) (record {
+            script_name = script_name;
+            log_name = log_name;
+            script = script;
+            log = log;
+            script_named = script_named;
+            log_named = log_named;
+            taken = taken;
+            lawful = verified.lawful;
+            unordered = λ ordered. let same = verified.told.ordered.1 ordered in cc;
+          })
+  of_command (Gen number script_name log_name) is answers = BySuccess (ap (λ (a : Answer). a.status) answers.5)
 
   cause_of : IsAnswer words before.files before.take_faults after.take_faults answer → Cause words before after answer
   cause_of (inl (command, is, answers)) = of_command command is answers
@@ -225,6 +297,7 @@ module _ (words : List (List ℕ)) (before after : DeskState) (code : ℕ) (serv
       by answer (ByScript line cause is refused) comes = other 1 2 one comes (λ e. omega arith)
       by answer (ByLog cause is refused) comes = other 1 3 one comes (λ e. omega arith)
       by answer (ByFit fault is misfits) comes = other 1 4 one comes (λ e. omega arith)
+      by answer (ByOrder status unordered) comes = other 1 9 one comes (λ e. omega arith)
       by answer (BySuccess done) comes = other 1 0 one comes (λ e. omega arith)
       by answer (ByWords is none) comes = none
 
@@ -237,6 +310,7 @@ module _ (words : List (List ℕ)) (before after : DeskState) (code : ℕ) (serv
       by answer (ByScript line cause is refused) comes = refused
       by answer (ByLog cause is refused) comes = other 2 3 two comes (λ e. omega arith)
       by answer (ByFit fault is misfits) comes = other 2 4 two comes (λ e. omega arith)
+      by answer (ByOrder status unordered) comes = other 2 9 two comes (λ e. omega arith)
       by answer (BySuccess done) comes = other 2 0 two comes (λ e. omega arith)
       by answer (ByWords is none) comes = other 2 1 two comes (λ e. omega arith)
 
@@ -249,6 +323,7 @@ module _ (words : List (List ℕ)) (before after : DeskState) (code : ℕ) (serv
       by answer (ByScript line cause is refused) comes = other 3 2 three comes (λ e. omega arith)
       by answer (ByLog cause is refused) comes = refused
       by answer (ByFit fault is misfits) comes = other 3 4 three comes (λ e. omega arith)
+      by answer (ByOrder status unordered) comes = other 3 9 three comes (λ e. omega arith)
       by answer (BySuccess done) comes = other 3 0 three comes (λ e. omega arith)
       by answer (ByWords is none) comes = other 3 1 three comes (λ e. omega arith)
 
@@ -261,8 +336,22 @@ module _ (words : List (List ℕ)) (before after : DeskState) (code : ℕ) (serv
       by answer (ByScript line cause is refused) comes = other 4 2 four comes (λ e. omega arith)
       by answer (ByLog cause is refused) comes = other 4 3 four comes (λ e. omega arith)
       by answer (ByFit fault is misfits) comes = misfits
+      by answer (ByOrder status unordered) comes = other 4 9 four comes (λ e. omega arith)
       by answer (BySuccess done) comes = other 4 0 four comes (λ e. omega arith)
       by answer (ByWords is none) comes = other 4 1 four comes (λ e. omega arith)
+
+  pub unordered_at_9 : code ≡ 9 → IsFoundUnordered words before.files
+  unordered_at_9 nine = let x = explained 9 nine (λ e. omega arith) (λ e. omega arith) in by x.answer x.cause x.comes
+    where
+      by : (answer : Answer) (cause : Cause words before after answer) → code ≡ status_of words before after answer cause → IsFoundUnordered words before.files
+      by answer (ByRead name limit named is fault) comes = other 9 5 nine comes (λ e. omega arith)
+      by answer (ByLength name limit named is long) comes = other 9 8 nine comes (λ e. omega arith)
+      by answer (ByScript line cause is refused) comes = other 9 2 nine comes (λ e. omega arith)
+      by answer (ByLog cause is refused) comes = other 9 3 nine comes (λ e. omega arith)
+      by answer (ByFit fault is misfits) comes = other 9 4 nine comes (λ e. omega arith)
+      by answer (ByOrder status unordered) comes = unordered
+      by answer (BySuccess done) comes = other 9 0 nine comes (λ e. omega arith)
+      by answer (ByWords is none) comes = other 9 1 nine comes (λ e. omega arith)
 
   pub read_at_5 : code ≡ 5 → Rose before.take_faults after.take_faults ⊎ IsFileAbsent words before.files
   read_at_5 five = let x = explained 5 five (λ e. omega arith) (λ e. omega arith) in by x.answer x.cause x.comes
@@ -273,6 +362,7 @@ module _ (words : List (List ℕ)) (before after : DeskState) (code : ℕ) (serv
       by answer (ByScript line cause is refused) comes = other 5 2 five comes (λ e. omega arith)
       by answer (ByLog cause is refused) comes = other 5 3 five comes (λ e. omega arith)
       by answer (ByFit fault is misfits) comes = other 5 4 five comes (λ e. omega arith)
+      by answer (ByOrder status unordered) comes = other 5 9 five comes (λ e. omega arith)
       by answer (BySuccess done) comes = other 5 0 five comes (λ e. omega arith)
       by answer (ByWords is none) comes = other 5 1 five comes (λ e. omega arith)
 
@@ -285,6 +375,7 @@ module _ (words : List (List ℕ)) (before after : DeskState) (code : ℕ) (serv
       by answer (ByScript line cause is refused) comes = other 8 2 eight comes (λ e. omega arith)
       by answer (ByLog cause is refused) comes = other 8 3 eight comes (λ e. omega arith)
       by answer (ByFit fault is misfits) comes = other 8 4 eight comes (λ e. omega arith)
+      by answer (ByOrder status unordered) comes = other 8 9 eight comes (λ e. omega arith)
       by answer (BySuccess done) comes = other 8 0 eight comes (λ e. omega arith)
       by answer (ByWords is none) comes = other 8 1 eight comes (λ e. omega arith)
 
@@ -297,6 +388,7 @@ module _ (words : List (List ℕ)) (before after : DeskState) (code : ℕ) (serv
       at_cause answer (ByScript line cause is refused) comes = other 6 2 six comes (λ e. omega arith)
       at_cause answer (ByLog cause is refused) comes = other 6 3 six comes (λ e. omega arith)
       at_cause answer (ByFit fault is misfits) comes = other 6 4 six comes (λ e. omega arith)
+      at_cause answer (ByOrder status unordered) comes = other 6 9 six comes (λ e. omega arith)
       at_cause answer (BySuccess done) comes = other 6 0 six comes (λ e. omega arith)
       at_cause answer (ByWords is none) comes = other 6 1 six comes (λ e. omega arith)
 
@@ -349,6 +441,9 @@ module _ (files : Option Files) (faults faults' : ℕ) (none : ¬ Rose faults fa
         | inr (log, bytes_are, on) ↦ subst (λ (l : List ThreadLog). Onward l answer) (one_log log.threads has.log.threads log.valid has.log.valid (sym bytes_are ∙ spelled)) on
       ]
 
+  abbrev Refused : Script → List ThreadLog → Answer → Type 0
+  Refused script log answer = (fault : ReplayFault) × (fault ≢ OutOfMemory) × HasCause script log fault × (answer ≡ does_not_fit fault)
+
   done_at : (answer told : Answer) → answer ≡ told → told.status ≡ Done → answer.status ≡ Done
   done_at answer told is done = ap (λ (a : Answer). a.status) is ∙ done
 
@@ -363,14 +458,26 @@ module _ (files : Option Files) (faults faults' : ℕ) (none : ¬ Rose faults fa
       done_at answer (told Done (log_text has.log.threads)) (goes_on_with_log log_name (λ log answer. answer ≡ told Done (log_text log)) answer has answers) refl
   done (Replay script_name log_name) answer has answers =
       let script = has.script.script in
-      let fitting = goes_on_with_log log_name
-      (λ log answer. ((fault : ReplayFault) × (fault ≢ OutOfMemory) × HasCause script log fault × (answer ≡ does_not_fit fault)) ⊎ (IsLawful script log × (answer ≡ told Done (outcome_text script (execution script log (lowest_order script log))))))
-      answer has.log
-      (goes_on_with_script script_name (λ script answer. TakingLog files faults faults' log_name (IsReplayed script) answer) answer has.script answers) in
+      let log = has.log.log.threads in
+      let fitting = goes_on_with_log log_name (λ log answer. Refused script log answer ⊎ (IsLawful script log × (answer ≡ told Done (outcome_text script (execution script log (lowest_order script log))))))
+      answer has.log (goes_on_with_script script_name (λ script answer. TakingLog files faults faults' log_name (IsReplayed script) answer) answer has.script answers) in
       elim fitting [
-        | inl refused ↦ absurd (not_refused script has.log.log.threads refused.0 (faithful script has.log.log.threads has.outcome has.faithful).0 refused.1 refused.2)
-        | inr replayed ↦ done_at answer (told Done (outcome_text script (execution script has.log.log.threads (lowest_order script has.log.log.threads)))) replayed.1 refl
+        | inl refused ↦ absurd (not_refused script log refused.0 (faithful script log has.outcome has.faithful).0 refused.1 refused.2)
+        | inr replayed ↦ done_at answer (told Done (outcome_text script (execution script log (lowest_order script log)))) replayed.1 refl
       ]
+  done (Verify script_name log_name) answer has answers =
+      let script = has.script.script in
+      let log = has.log.log.threads in
+      let lawful = (faithful script log has.outcome has.faithful).0 in
+      let fitting = goes_on_with_log log_name (λ log answer. Refused script log answer ⊎ (IsLawful script log × ((verdict : Verdict) × IsVerified script log verdict × (answer ≡ verdict_told verdict))))
+      answer has.log (goes_on_with_script script_name (λ script answer. TakingLog files faults faults' log_name (IsVerdictTold script) answer) answer has.script answers) in
+      elim fitting [
+        | inl refused ↦ absurd (not_refused script log refused.0 lawful refused.1 refused.2)
+        | inr verified ↦
+            let ordered = verified.1.1.told.ordered.1 (has.faithful.ordered (lowest_order script log) lawful) in
+            done_at answer (verdict_told verdict.Ordered) (verified.1.2 ∙ ap verdict_told ordered) refl
+      ]
+  done (Gen number script_name log_name) answer has answers = ap (λ (a : Answer). a.status) answers.5
 
 -- a command over files that are there as they should be is done, unless memory was refused
 pub complete : (words : List (List ℕ)) (before after : DeskState) (code : ℕ) → IsServed (IsAnswer words before.files before.take_faults after.take_faults) before after code

@@ -7,8 +7,11 @@ use Rattle.octet_log.specs.declared.cause.LogCause.{LogCause}
 use Rattle.octet_log.specs.Texts.{refusal_line}
 use Rattle.octet_replay.specs.declared.fault.ReplayFault.{ReplayFault}
 use Rattle.octet_replay.specs.Line.{fit_line}
+use Rattle.octet_model.specs.declared.event.Place.{Place}
+use Rattle.octet_clock.specs.declared.verdict.Verdict.{Verdict}
+use Rattle.octet_clock.specs.declared.verdict.Verdict.TheVariants as verdict
 use Rattle.octet_top.specs.declared.reply.Status.{Status}
-use Rattle.octet_top.specs.declared.reply.Status.TheVariants.{Done, Words, Script, Log, Fit, Read, Write, Memory, TooLong}
+use Rattle.octet_top.specs.declared.reply.Status.TheVariants.{Done, Words, Script, Log, Fit, Read, Write, Memory, TooLong, Unordered}
 use Rattle.octet_top.specs.declared.reply.Output.{Output}
 use Rattle.octet_top.specs.declared.reply.Reply.{Reply}
 
@@ -23,6 +26,7 @@ code_of Read = 5
 code_of Write = 6
 code_of Memory = 7
 code_of TooLong = 8
+code_of Unordered = 9
 
 -- the files are pairs of a name and its bytes, in the order in which they are written
 pub record Answer : Type 0 where
@@ -44,6 +48,10 @@ told status text = record { status = status; files = []; text = text }
 abbrev pub writes_and_tells : List ℕ → List ℕ → List ℕ → Answer
 writes_and_tells name bytes text = record { status = Done; files = (name, bytes) ∷ []; text = text }
 
+-- two files are written, one after the other, and then a text is said
+abbrev pub writes_both : List ℕ × List ℕ → List ℕ × List ℕ → List ℕ → Answer
+writes_both first second text = record { status = Done; files = first ∷ second ∷ []; text = text }
+
 abbrev pub not_a_command : Answer
 not_a_command = told Words (codes "words: not a command\n")
 
@@ -62,3 +70,15 @@ log_refused cause = told Log (refusal_line cause)
 
 abbrev pub does_not_fit : ReplayFault → Answer
 does_not_fit fault = told Fit (fit_line fault)
+
+-- a thread and the number of one of its events
+abbrev pub place_text : Place → List ℕ
+place_text place = decimal place.thread ++ codes ":" ++ decimal place.event
+
+abbrev pub verdict_told : Verdict → Answer
+verdict_told verdict.Ordered = told Done (codes "ordered\n")
+verdict_told (verdict.Unordered first second) = told Unordered (codes "unordered " ++ place_text first ++ codes " " ++ place_text second ++ codes "\n")
+
+-- what is said of every generated script
+abbrev pub summary : List ℕ
+summary = codes "threads 8\nobjects 64\naccesses 160000\n"

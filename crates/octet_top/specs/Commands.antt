@@ -11,9 +11,12 @@ use Rattle.octet_log.specs.Texts.{log_text}
 use Rattle.octet_replay.specs.declared.fault.ReplayFault.{ReplayFault}
 use Rattle.octet_replay.specs.declared.fault.ReplayFault.TheVariants.{OutOfMemory}
 use Rattle.octet_replay.specs.Judged.{HasCause, IsLawful}
+use Rattle.octet_clock.specs.declared.verdict.Verdict.{Verdict}
+use Rattle.octet_clock.specs.Verified.{IsVerified}
+use Rattle.octet_gen.specs.Generated.{IsGenerated}
 use Rattle.octet_top.specs.declared.reply.Status.TheVariants.{Done}
-use Rattle.octet_top.specs.Answer.{Answer, told, writes_and_tells, not_a_command, does_not_fit}
-use Rattle.octet_top.specs.Request.{Command, Run, Tidy, Show, Replay, words_of, IsNotACommand}
+use Rattle.octet_top.specs.Answer.{Answer, told, writes_and_tells, writes_both, not_a_command, does_not_fit, verdict_told, summary}
+use Rattle.octet_top.specs.Request.{Command, Run, Tidy, Show, Replay, Verify, Gen, Asks, IsNotACommand}
 use Rattle.octet_top.specs.Taking.{TakingScript, TakingLog}
 
 -- a log and an outcome that are a faithful recording of the script: the log's bytes are written, and the outcome is said
@@ -32,15 +35,27 @@ Fitting Onward script log answer =
 abbrev pub IsReplayed : Script → Log → Answer → Type 0
 IsReplayed script log answer = Fitting (λ answer. answer ≡ told Done (outcome_text script (execution script log.threads (lowest_order script log.threads)))) script log answer
 
+-- the verdict on the journals of the lowest order is said, which is lawful
+abbrev pub IsVerdictTold : Script → Log → Answer → Type 0
+IsVerdictTold script log answer = Fitting (λ answer. (verdict : Verdict) × IsVerified script log.threads verdict × (answer ≡ verdict_told verdict)) script log answer
+
+-- the generated script of a number, and a log and an outcome that are a faithful recording of it: the script's canonical text and then the log's bytes are written, and the summary is said
+abbrev pub IsGeneration : ℕ → List ℕ → List ℕ → Answer → Type 0
+IsGeneration number script_name log_name answer =
+    (script : Script) × (log : Log) × (outcome : Outcome) × IsGenerated number script × IsFaithful script log.threads outcome
+    × (answer ≡ writes_both (script_name, canonical_text script) (log_name, log_bytes log.threads) summary)
+
 -- the answers to a command, with these files and these counts of failed takes before and after
 abbrev pub CommandAnswers : Command → Option Files → ℕ → ℕ → Answer → Type 0
 CommandAnswers (Run script log) files before after answer = TakingScript files before after script (IsRecording log) answer
 CommandAnswers (Tidy script) files before after answer = TakingScript files before after script (λ script answer. answer ≡ told Done (canonical_text script)) answer
 CommandAnswers (Show log) files before after answer = TakingLog files before after log (λ log answer. answer ≡ told Done (log_text log.threads)) answer
 CommandAnswers (Replay script log) files before after answer = TakingScript files before after script (λ script answer. TakingLog files before after log (IsReplayed script) answer) answer
+CommandAnswers (Verify script log) files before after answer = TakingScript files before after script (λ script answer. TakingLog files before after log (IsVerdictTold script) answer) answer
+CommandAnswers (Gen number script log) files before after answer = IsGeneration number script log answer
 
 -- the answers to words: those to the command that they ask for, or that they are none
 abbrev pub IsAnswer : List (List ℕ) → Option Files → ℕ → ℕ → Answer → Type 0
 IsAnswer words files before after answer =
-    ((command : Command) × (words ≡ words_of command) × CommandAnswers command files before after answer)
+    ((command : Command) × Asks words command × CommandAnswers command files before after answer)
     ⊎ (IsNotACommand words × (answer ≡ not_a_command))

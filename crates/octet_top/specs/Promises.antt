@@ -1,19 +1,24 @@
 -- What the top call promises of each status.
-use Rattle.std.specs.Prelude.{ℕ, ◌≡◌, ◌≢◌, ◌≤◌, ◌++◌, ◌⊎◌, List, length, Option, None, Some, IsSomeAnd}
+use Rattle.std.specs.Prelude.{ℕ, ◌≡◌, ◌≢◌, ◌≤◌, ◌++◌, ◌⊎◌, List, length, Option, Some, IsSomeAnd}
 use Rattle.std.specs.FinMap.{get}
 use Rattle.octet_base.specs.Desk.{Files}
 use Rattle.octet_model.specs.declared.script.Script.{Script}
 use Rattle.octet_model.specs.declared.log.Log.{Log}
 use Rattle.octet_model.specs.declared.outcome.Outcome.{Outcome}
 use Rattle.octet_model.specs.Texts.{log_bytes, outcome_text}
-use Rattle.octet_model.specs.Orders.{IsFaithful}
+use Rattle.octet_model.specs.declared.log.ThreadLog.{ThreadLog}
+use Rattle.octet_model.specs.HappensBefore.{IsOrdered}
+use Rattle.octet_model.specs.Orders.{journals_after, lowest_order, IsFaithful}
 use Rattle.octet_script.specs.declared.cause.ScriptCause.{ScriptCause}
-use Rattle.octet_script.specs.Spelling.{Spells}
+use Rattle.octet_script.specs.Spelling.{Spells, canonical_text}
 use Rattle.octet_log.specs.declared.cause.LogCause.{LogCause}
 use Rattle.octet_replay.specs.declared.fault.ReplayFault.{ReplayFault}
 use Rattle.octet_replay.specs.declared.fault.ReplayFault.TheVariants.{OutOfMemory}
-use Rattle.octet_replay.specs.Judged.{HasCause}
-use Rattle.octet_top.specs.Request.{Command, Run, Tidy, Show, Replay, words_of, NamesScript, NamesLog}
+use Rattle.octet_replay.specs.Judged.{HasCause, IsLawful}
+use Rattle.octet_clock.specs.Verified.{HasOneOutcome}
+use Rattle.octet_gen.specs.Generated.{IsGenerated}
+use Rattle.octet_top.specs.Answer.{summary}
+use Rattle.octet_top.specs.Request.{Command, Run, Tidy, Show, Replay, Verify, Gen, Asks, NamesScript, NamesLog}
 use Rattle.octet_top.specs.Taking.{script_limit, log_limit, IsTaken, IsAbsent, IsTooLong, Refuses, RefusesLog}
 use Rattle.octet_top.specs.Serving.{DeskState}
 
@@ -34,6 +39,55 @@ abbrev pub RunsFaithfully : List ℕ → List ℕ → DeskState → DeskState �
 RunsFaithfully script_name log_name before after =
     (files files' : Files) (said said' : List ℕ) → before.files ≡ Some files → after.files ≡ Some files' → before.said ≡ Some said → after.said ≡ Some said'
     → IsFaithfulRun script_name log_name files files' said said'
+
+-- the files of a script and of a log were taken, and are those of the two
+pub record TakesBoth (files : Option Files) (script_name log_name : List ℕ) (script : Script) (log : Log) : Type 0 where
+  pub text : List ℕ
+  pub bytes : List ℕ
+  pub script_taken : IsTaken files script_name script_limit text
+  pub log_taken : IsTaken files log_name log_limit bytes
+  pub script_spelled : Spells text script
+  pub log_spelled : bytes ≡ log_bytes log.threads
+
+-- the lowest order of the log is lawful, its journals are ordered, and all lawful orders have one outcome
+pub record IsOrderedLog (script : Script) (log : List ThreadLog) : Type 0 where
+  pub lawful : IsLawful script log
+  pub ordered : IsOrdered (journals_after script log (lowest_order script log))
+  pub one_outcome : HasOneOutcome script log
+
+-- the log that was taken orders all conflicts of the script that was taken
+abbrev pub VerifiesOrdered : List ℕ → List ℕ → Option Files → Type 0
+VerifiesOrdered script_name log_name files =
+    (script : Script) × (log : Log) × TakesBoth files script_name log_name script log × IsOrderedLog script log.threads
+
+-- a script and a log are taken, the lowest order is lawful, and its journals are not ordered
+pub record IsFoundUnordered (words : List (List ℕ)) (files : Option Files) : Type 0 where
+  pub script_name : List ℕ
+  pub log_name : List ℕ
+  pub script : Script
+  pub log : Log
+  pub script_named : NamesScript words script_name
+  pub log_named : NamesLog words log_name
+  pub taken : TakesBoth files script_name log_name script log
+  pub lawful : IsLawful script log.threads
+  pub unordered : ¬ IsOrdered (journals_after script log.threads (lowest_order script log.threads))
+
+-- the files of the generated script and of its log, which are a faithful recording with one outcome; of equal names the log's bytes stay
+pub record IsGeneratedRun (number : ℕ) (script_name log_name : List ℕ) (files' : Files) (said said' : List ℕ) : Type 0 where
+  pub script : Script
+  pub log : Log
+  pub outcome : Outcome
+  pub generated : IsGenerated number script
+  pub script_written : script_name ≢ log_name → get files' script_name ≡ Some (canonical_text script)
+  pub log_written : get files' log_name ≡ Some (log_bytes log.threads)
+  pub told : said' ≡ said ++ summary
+  pub faithful : IsFaithful script log.threads outcome
+
+-- where the desk tells its contents
+abbrev pub GeneratesFaithfully : ℕ → List ℕ → List ℕ → DeskState → DeskState → Type 0
+GeneratesFaithfully number script_name log_name before after =
+    (files files' : Files) (said said' : List ℕ) → before.files ≡ Some files → after.files ≡ Some files' → before.said ≡ Some said → after.said ≡ Some said'
+    → IsGeneratedRun number script_name log_name files' said said'
 
 -- the words say that a file of this name is taken, of at most so many bytes
 abbrev pub SaysToTake : List (List ℕ) → List ℕ → ℕ → Type 0
@@ -62,17 +116,12 @@ pub record IsLogRefused (words : List (List ℕ)) (files : Option Files) : Type 
 pub record IsMisfitting (words : List (List ℕ)) (files : Option Files) : Type 0 where
   pub script_name : List ℕ
   pub log_name : List ℕ
-  pub text : List ℕ
-  pub bytes : List ℕ
   pub script : Script
   pub log : Log
   pub fault : ReplayFault
   pub script_named : NamesScript words script_name
   pub log_named : NamesLog words log_name
-  pub script_taken : IsTaken files script_name script_limit text
-  pub log_taken : IsTaken files log_name log_limit bytes
-  pub script_spelled : Spells text script
-  pub log_spelled : bytes ≡ log_bytes log.threads
+  pub taken : TakesBoth files script_name log_name script log
   pub has_cause : HasCause script log.threads fault
   pub not_memory : fault ≢ OutOfMemory
 
@@ -115,7 +164,9 @@ HasFiles (Run script log) files = HasScript files script
 HasFiles (Tidy script) files = HasScript files script
 HasFiles (Show log) files = HasLog files log
 HasFiles (Replay script log) files = HasRecording files script log
+HasFiles (Verify script log) files = HasRecording files script log
+HasFiles (Gen number script log) files = Unit {0}
 
 -- the words ask for a command that has its files
 abbrev pub IsWellMet : List (List ℕ) → Option Files → Type 0
-IsWellMet words files = (command : Command) × (words ≡ words_of command) × HasFiles command files
+IsWellMet words files = (command : Command) × Asks words command × HasFiles command files

@@ -1,7 +1,7 @@
 -- What the desk is left with, and which status comes, where an answer is given to it.
-use Rattle.std.specs.Prelude.{ℕ, ◌≡◌, ◌≤◌, ◌<◌, ◌⊎◌, List, [], ◌∷◌, length, take, Option, None, Some, IfSome, IsSomeAnd}
+use Rattle.std.specs.Prelude.{ℕ, ◌≡◌, ◌≤◌, ◌⊎◌, List, [], ◌∷◌, length, take, Option, None}
 use Rattle.std.specs.Option.{option_map}
-use Rattle.std.specs.FinMap.{get, insert}
+use Rattle.std.specs.FinMap.{insert}
 use Rattle.octet_base.specs.Desk.{Files, Rose, spoken, SpokenPrefix}
 use Rattle.octet_top.specs.Answer.{Answer, code_of}
 

@@ -2,6 +2,7 @@
 #![tactic(auto)]
 
 mod deliver;
+mod generate;
 mod program;
 mod refusal;
 mod replay;
@@ -13,5 +14,6 @@ mod take;
 #[cfg(test)]
 mod tests;
 mod tidy;
+mod verify;
 
 pub use program::serve;

@@ -2,12 +2,13 @@
 ghost use Rattle.std.specs.Prelude.{◌≡◌, ◌≤◌, ◌⊎◌, ℕ, List, None, IfOk};
 ghost use Rattle.octet_base.specs.Desk.{Rose};
 ghost use Rattle.octet_top.specs.Answer.{answer_of};
-ghost use Rattle.octet_top.specs.Request.{texts, command_of, words_of, Run, IsNotACommand};
+ghost use Rattle.octet_top.specs.Request.{texts, command_of, Asks, Run, Verify, Gen, IsNotACommand};
 ghost use Rattle.octet_top.specs.Commands.{IsAnswer, CommandAnswers};
 ghost use Rattle.octet_top.specs.Serving.{DeskState, IsServed};
-ghost use Rattle.octet_top.specs.Promises.{RunsFaithfully, IsScriptRefused, IsLogRefused, IsMisfitting, IsFileAbsent, IsFileTooLong, IsWellMet};
+ghost use Rattle.octet_top.specs.Promises.{RunsFaithfully, IsScriptRefused, IsLogRefused, IsMisfitting, IsFoundUnordered, VerifiesOrdered, GeneratesFaithfully, IsFileAbsent, IsFileTooLong, IsWellMet};
 
 use crate::deliver::deliver;
+use crate::generate::generate;
 use crate::refusal::not_a_command;
 use crate::replay::replay;
 use crate::reply::{Reply, Status};
@@ -15,6 +16,7 @@ use crate::request::{Request, request_of};
 use crate::run::run;
 use crate::show::show;
 use crate::tidy::tidy;
+use crate::verify::verify;
 use octet_base::{Desk, Gate};
 use octet_model::OutOfMemory;
 use std::alloc::Global;
@@ -35,7 +37,16 @@ pub fn serve<R: Threads + Wait + Sync, D: Desk, G: Gate>(
     // What is read aloud of `run`: status 0 comes with a faithful recording.
     ensures headline { let before : DeskState = record { files = D.files desk.old; begun = D.begun desk.old; said = D.said desk.old; take_faults = D.take_faults desk.old; write_faults = D.write_faults desk.old } in
         let after : DeskState = record { files = D.files desk.new; begun = D.begun desk.new; said = D.said desk.new; take_faults = D.take_faults desk.new; write_faults = D.write_faults desk.new } in
-        (script_name log_name : List ℕ) → texts words.now ≡ words_of (Run script_name log_name) → result ≡ 0 → RunsFaithfully script_name log_name before after }
+        (script_name log_name : List ℕ) → Asks (texts words.now) (Run script_name log_name) → result ≡ 0 → RunsFaithfully script_name log_name before after }
+
+    // Of a log that `verify` calls ordered: all its lawful orders have one outcome.
+    ensures ordered { let files = D.files desk.old in
+        (script_name log_name : List ℕ) → Asks (texts words.now) (Verify script_name log_name) → result ≡ 0 → VerifiesOrdered script_name log_name files }
+
+    // And of `gen`.
+    ensures generated { let before : DeskState = record { files = D.files desk.old; begun = D.begun desk.old; said = D.said desk.old; take_faults = D.take_faults desk.old; write_faults = D.write_faults desk.old } in
+        let after : DeskState = record { files = D.files desk.new; begun = D.begun desk.new; said = D.said desk.new; take_faults = D.take_faults desk.new; write_faults = D.write_faults desk.new } in
+        (number : ℕ) (script_name log_name : List ℕ) → Asks (texts words.now) (Gen number script_name log_name) → result ≡ 0 → GeneratesFaithfully number script_name log_name before after }
 
     // All that is written, said and answered, for each command and each status.
     ensures served { let before : DeskState = record { files = D.files desk.old; begun = D.begun desk.old; said = D.said desk.old; take_faults = D.take_faults desk.old; write_faults = D.write_faults desk.old } in
@@ -47,6 +58,7 @@ pub fn serve<R: Threads + Wait + Sync, D: Desk, G: Gate>(
     ensures script { result ≡ 2 → IsScriptRefused (texts words.now) (D.files desk.old) }
     ensures log { result ≡ 3 → IsLogRefused (texts words.now) (D.files desk.old) }
     ensures fit { result ≡ 4 → IsMisfitting (texts words.now) (D.files desk.old) }
+    ensures unordered { result ≡ 9 → IsFoundUnordered (texts words.now) (D.files desk.old) }
     ensures read { result ≡ 5 → Rose (D.take_faults desk.old) (D.take_faults desk.new) ⊎ IsFileAbsent (texts words.now) (D.files desk.old) }
     ensures write { result ≡ 6 → Rose (D.write_faults desk.old) (D.write_faults desk.new) }
     ensures too_long { result ≡ 8 → IsFileTooLong (texts words.now) (D.files desk.old) }
@@ -98,5 +110,11 @@ fn carry_out<D: Desk>(
         Request::Tidy { script } => tidy(alloc, desk, script),
         Request::Show { log } => show(alloc, desk, log),
         Request::Replay { script, log } => replay(alloc, desk, script, log),
+        Request::Verify { script, log } => verify(alloc, desk, script, log),
+        Request::Gen {
+            number,
+            script,
+            log,
+        } => generate(alloc, number, script, log),
     }
 }

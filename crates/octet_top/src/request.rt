@@ -1,19 +1,40 @@
 //! The commands that words ask for.
 ghost use Rattle.std.specs.Prelude.{◌≡◌, ◌∷◌, [], IfSome, IfNone};
-ghost use Rattle.octet_top.specs.Request.{texts, command_of, words_of, IsNotACommand};
+ghost use Rattle.octet_top.specs.Request.{texts, command_of, Asks, IsNotACommand};
+
+use octet_script::number_of;
 
 /// A command, with the names of its files.
 #[derive(Clone, Copy, Debug)]
 pub(crate) enum Request<'a> {
-    Run { script: &'a str, log: &'a str },
-    Tidy { script: &'a str },
-    Show { log: &'a str },
-    Replay { script: &'a str, log: &'a str },
+    Run {
+        script: &'a str,
+        log: &'a str,
+    },
+    Tidy {
+        script: &'a str,
+    },
+    Show {
+        log: &'a str,
+    },
+    Replay {
+        script: &'a str,
+        log: &'a str,
+    },
+    Verify {
+        script: &'a str,
+        log: &'a str,
+    },
+    Gen {
+        number: u64,
+        script: &'a str,
+        log: &'a str,
+    },
 }
 
 /// The command that the words ask for, or none where they are no command.
 pub(crate) fn request_of(words: &[String]) -> Option<Request<'_>>
-    ensures some { IfSome result (λ r. texts words.now ≡ words_of (command_of r)) }
+    ensures some { IfSome result (λ r. Asks (texts words.now) (command_of r)) }
     ensures none { IfNone result (IsNotACommand (texts words.now)) }
 {
     match words {
@@ -21,12 +42,18 @@ pub(crate) fn request_of(words: &[String]) -> Option<Request<'_>>
         [command, first, second] => {
             of_two_files(command.as_str(), first.as_str(), second.as_str())
         }
+        [command, number, first, second] => of_number(
+            command.as_str(),
+            number.as_str(),
+            first.as_str(),
+            second.as_str(),
+        ),
         _ => None,
     }
 }
 
 fn of_one_file<'a>(command: &str, file: &'a str) -> Option<Request<'a>>
-    ensures some { IfSome result (λ r. command.now ∷ file.now ∷ [] ≡ words_of (command_of r)) }
+    ensures some { IfSome result (λ r. Asks (command.now ∷ file.now ∷ []) (command_of r)) }
     ensures none { IfNone result (IsNotACommand (command.now ∷ file.now ∷ [])) }
 {
     if command == "tidy" {
@@ -39,20 +66,34 @@ fn of_one_file<'a>(command: &str, file: &'a str) -> Option<Request<'a>>
 }
 
 fn of_two_files<'a>(command: &str, first: &'a str, second: &'a str) -> Option<Request<'a>>
-    ensures some { IfSome result (λ r. command.now ∷ first.now ∷ second.now ∷ [] ≡ words_of (command_of r)) }
+    ensures some { IfSome result (λ r. Asks (command.now ∷ first.now ∷ second.now ∷ []) (command_of r)) }
     ensures none { IfNone result (IsNotACommand (command.now ∷ first.now ∷ second.now ∷ [])) }
 {
+    let (script, log) = (first, second);
     if command == "run" {
-        Some(Request::Run {
-            script: first,
-            log: second,
-        })
+        Some(Request::Run { script, log })
     } else if command == "replay" {
-        Some(Request::Replay {
-            script: first,
-            log: second,
-        })
+        Some(Request::Replay { script, log })
+    } else if command == "verify" {
+        Some(Request::Verify { script, log })
     } else {
         None
+    }
+}
+
+fn of_number<'a>(command: &str, number: &str, script: &'a str, log: &'a str) -> Option<Request<'a>>
+    ensures some { IfSome result (λ r. Asks (command.now ∷ number.now ∷ script.now ∷ log.now ∷ []) (command_of r)) }
+    ensures none { IfNone result (IsNotACommand (command.now ∷ number.now ∷ script.now ∷ log.now ∷ [])) }
+{
+    if command != "gen" {
+        return None;
+    }
+    match number_of(number.as_bytes()) {
+        Some(number) => Some(Request::Gen {
+            number,
+            script,
+            log,
+        }),
+        None => None,
     }
 }

@@ -1,4 +1,4 @@
-use Rattle.std.proofs.Common.{◌≡◌, ◌≤◌, List, ℕ, None, Option, map, drop}
+use Rattle.std.proofs.Common.{◌≡◌, ◌≤◌, None, Option, map, drop}
 use Rattle.octet_base.specs.Desk.{Files}
 use Rattle.octet_top.specs.Answer.{file_of}
 use Rattle.octet_top.specs.Serving.{written, IsPartlyWritten}

@@ -1,4 +1,4 @@
-use Rattle.std.proofs.Common.{IfOk, sym, subst}
+use Rattle.std.proofs.Common.{ℕ, IfOk, sym, subst}
 use Rattle.octet_top.specs.declared.request.Request.{Request}
 use Rattle.octet_top.specs.Answer.{answer_of}
 use Rattle.octet_top.specs.Request.{command_of}
@@ -16,3 +16,16 @@ returns-in-Replay-clause-answers g c =
     let D = g.D.Desk in
     subst (λ (request : Request). IfOk c.replay.result (λ reply. CommandAnswers (command_of request) (D.files c.args.desk.now) (D.take_faults c.args.desk.now) (D.take_faults c.replay.new.desk) (answer_of reply)))
     (sym c.in-Replay.is) c.replay.ensures.answers
+
+pub returns-in-Verify-clause-answers : goal.returns-in-Verify-clause-answers
+returns-in-Verify-clause-answers g c =
+    let D = g.D.Desk in
+    subst (λ (request : Request). IfOk c.verify.result (λ reply. CommandAnswers (command_of request) (D.files c.args.desk.now) (D.take_faults c.args.desk.now) (D.take_faults c.verify.new.desk) (answer_of reply)))
+    (sym c.in-Verify.is) c.verify.ensures.answers
+
+pub returns-in-Gen-clause-answers : goal.returns-in-Gen-clause-answers
+returns-in-Gen-clause-answers g c =
+    let D = g.D.Desk in
+    let always : (after : ℕ) → IfOk c.generate.result (λ reply. CommandAnswers (command_of c.args.request) (D.files c.args.desk.now) (D.take_faults c.args.desk.now) after (answer_of reply)) =
+    λ after. subst (λ (request : Request). IfOk c.generate.result (λ reply. CommandAnswers (command_of request) (D.files c.args.desk.now) (D.take_faults c.args.desk.now) after (answer_of reply))) (sym c.in-Gen.is) c.generate.ensures in
+    always _

@@ -1,5 +1,5 @@
 use Rattle.octet_top.specs.Request.{texts}
-use Rattle.octet_top.proofs.Promises.{headline, not_a_command_at_1, script_refused_at_2, log_refused_at_3, misfitting_at_4, read_at_5, write_at_6, too_long_at_8, complete}
+use Rattle.octet_top.proofs.Promises.{headline, ordered, generated, unordered_at_9, not_a_command_at_1, script_refused_at_2, log_refused_at_3, misfitting_at_4, read_at_5, write_at_6, too_long_at_8, complete}
 use Rattle.octet_top.proofs.program.serve.Goals as goal
 
 pub returns-clause-headline : goal.returns-clause-headline
@@ -16,6 +16,15 @@ returns-clause-log g c = log_refused_at_3 (texts c.args.words.now) _ _ _ c.answe
 
 pub returns-clause-fit : goal.returns-clause-fit
 returns-clause-fit g c = misfitting_at_4 (texts c.args.words.now) _ _ _ c.answer_words.ensures
+
+pub returns-clause-unordered : goal.returns-clause-unordered
+returns-clause-unordered g c = unordered_at_9 (texts c.args.words.now) _ _ _ c.answer_words.ensures
+
+pub returns-clause-ordered : goal.returns-clause-ordered
+returns-clause-ordered g c = ordered (texts c.args.words.now) _ _ _ c.answer_words.ensures
+
+pub returns-clause-generated : goal.returns-clause-generated
+returns-clause-generated g c = generated (texts c.args.words.now) _ _ _ c.answer_words.ensures
 
 pub returns-clause-read : goal.returns-clause-read
 returns-clause-read g c = read_at_5 (texts c.args.words.now) _ _ _ c.answer_words.ensures

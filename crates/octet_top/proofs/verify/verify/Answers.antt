@@ -1,0 +1,21 @@
+use Rattle.std.proofs.lemmas.Result.{IfOk-weaker}
+use Rattle.octet_top.specs.Answer.{answer_of}
+use Rattle.octet_top.specs.Taking.{TakingLog}
+use Rattle.octet_top.specs.Commands.{IsVerdictTold}
+use Rattle.octet_top.proofs.Takes.{script_goes_on, log_taken_since}
+use Rattle.octet_top.proofs.verify.verify.Goals as goal
+
+pub returns-in-Taken-clause-answers : goal.returns-in-Taken-clause-answers
+returns-in-Taken-clause-answers g c =
+    let D = g.D.Desk in
+    let script = c.in-Taken.script in
+    let files = D.files c.args.desk.now in
+    let before = D.take_faults c.args.desk.now in
+    let mid = D.take_faults c.take_script.new.desk in
+    let after = D.take_faults c.verify_script.new.desk in
+    let log_name = c.args.log_name.now in
+    IfOk-weaker c.verify_script.result (λ reply. TakingLog (D.files c.take_script.new.desk) mid after log_name (IsVerdictTold script) (answer_of reply)) _
+    (λ reply on.
+    script_goes_on files before mid after _ _ script (λ script answer. TakingLog files before after log_name (IsVerdictTold script) answer) (answer_of reply) c.in_ok-script.ensures.taken c.in-Taken.is
+    (log_taken_since files _ before mid after log_name (IsVerdictTold script) (answer_of reply) c.in_ok-script.ensures.same_files c.in_ok-script.ensures.later on))
+    c.verify_script.ensures.answers
