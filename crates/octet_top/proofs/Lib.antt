@@ -1,3 +1,4 @@
+pub mod Counted
 pub mod Files
 pub mod Promises
 pub mod Requests

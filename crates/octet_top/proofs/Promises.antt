@@ -6,7 +6,7 @@ use Rattle.octet_model.specs.declared.script.Script.{Script}
 use Rattle.octet_model.specs.declared.log.Log.{Log}
 use Rattle.octet_model.specs.declared.log.ThreadLog.{ThreadLog}
 use Rattle.octet_model.specs.Texts.{log_bytes, outcome_text}
-use Rattle.octet_model.specs.Orders.{execution, lowest_order}
+use Rattle.octet_model.specs.Orders.{execution, journals_after, lowest_order}
 use Rattle.octet_script.specs.declared.cause.ScriptCause.{ScriptCause}
 use Rattle.octet_script.specs.Spelling.{Spells, canonical_text}
 use Rattle.octet_script.proofs.Spelled.{spells_judged, one_script}
@@ -22,12 +22,13 @@ use Rattle.octet_clock.specs.declared.verdict.Verdict.{Verdict}
 use Rattle.octet_clock.specs.declared.verdict.Verdict.TheVariants as verdict
 use Rattle.octet_clock.specs.Verified.{IsVerified}
 use Rattle.octet_top.specs.declared.reply.Status.TheVariants.{Done, Unordered}
-use Rattle.octet_top.specs.Answer.{Answer, code_of, told, writes_and_tells, not_a_command, read_failed, too_long, script_refused, log_refused, does_not_fit, verdict_told, summary}
+use Rattle.octet_top.specs.Answer.{Answer, code_of, told, writes_and_tells, not_a_command, no_such_object, read_failed, too_long, script_refused, log_refused, does_not_fit, verdict_told, summary}
+use Rattle.octet_top.specs.Profile.{profile_text}
 use Rattle.octet_top.specs.Taking.{TakingScript, TakingLog, IsTaken, IsAbsent, IsTooLong, script_limit, log_limit}
-use Rattle.octet_top.specs.Request.{Command, Run, Tidy, Show, Replay, Verify, Gen, Asks, IsNotACommand, NamesScript, NamesLog}
-use Rattle.octet_top.specs.Commands.{IsAnswer, CommandAnswers, IsRecording, IsReplayed, IsVerdictTold, Fitting}
+use Rattle.octet_top.specs.Request.{Command, Run, Tidy, Show, Replay, Verify, Profile, Gen, Asks, IsNotACommand, NamesScript, NamesLog}
+use Rattle.octet_top.specs.Commands.{IsAnswer, CommandAnswers, IsRecording, IsReplayed, IsVerdictTold, IsProfiled, Fitting, Choosing}
 use Rattle.octet_top.specs.Serving.{DeskState, put, written, IsGiven, IsDelivered, IsServed}
-use Rattle.octet_top.specs.Promises.{RunsFaithfully, TakesBoth, VerifiesOrdered, IsFoundUnordered, GeneratesFaithfully, SaysToTake, IsScriptRefused, IsLogRefused, IsMisfitting, IsFileAbsent, IsFileTooLong, HasScript, HasLog, HasFiles, IsThere, IsWellMet}
+use Rattle.octet_top.specs.Promises.{RunsFaithfully, TakesBoth, VerifiesOrdered, IsFoundUnordered, GeneratesFaithfully, SaysToTake, IsScriptRefused, IsLogRefused, IsMisfitting, IsFileAbsent, IsFileTooLong, HasScript, HasLog, HasFiles, IsThere, IsWellMet, NamesNoObject}
 use Rattle.octet_top.proofs.Files.{get-inserted, get-other}
 use Rattle.octet_top.proofs.Words.{one_command}
 
@@ -156,6 +157,7 @@ pub data Cause (words : List (List ℕ)) (before after : DeskState) (answer : An
   ByFit : (fault : ReplayFault) → answer ≡ does_not_fit fault → IsMisfitting words before.files → Cause words before after answer
   BySuccess : answer.status ≡ Done → Cause words before after answer
   ByWords : answer ≡ not_a_command → IsNotACommand words → Cause words before after answer
+  ByName : answer ≡ no_such_object → NamesNoObject words before.files → Cause words before after answer
 
 -- the status that a cause comes with
 abbrev status_of : (words : List (List ℕ)) (before after : DeskState) (answer : Answer) → Cause words before after answer → ℕ
@@ -167,6 +169,7 @@ status_of words before after answer (ByFit fault is misfits) = 4
 status_of words before after answer (ByOrder status unordered) = 9
 status_of words before after answer (BySuccess done) = 0
 status_of words before after answer (ByWords is none) = 1
+status_of words before after answer (ByName is unknown) = 1
 
 status_comes : (words : List (List ℕ)) (before after : DeskState) (code : ℕ) (answer : Answer) (cause : Cause words before after answer) → IsGiven answer before after code → code ≡ status_of words before after answer cause
 status_comes words before after code answer (ByRead name limit named is fault) given = status_is answer read_failed before after code is given
@@ -177,6 +180,7 @@ status_comes words before after code answer (ByFit fault is misfits) given = sta
 status_comes words before after code answer (ByOrder status unordered) given = given.status ∙ ap code_of status
 status_comes words before after code answer (BySuccess done) given = given.status ∙ ap code_of done
 status_comes words before after code answer (ByWords is none) given = status_is answer not_a_command before after code is given
+status_comes words before after code answer (ByName is unknown) given = status_is answer no_such_object before after code is given
 
 module _ (words : List (List ℕ)) (before after : DeskState) (answer : Answer) where
   done_by : (told : Answer) → answer ≡ told → told.status ≡ Done → Cause words before after answer
@@ -204,16 +208,14 @@ module _ (words : List (List ℕ)) (before after : DeskState) (answer : Answer) 
         | inr decoded ↦ on taken.0 decoded.0 taken.1 decoded.1 decoded.2
       ]
 
-  -- of a command that takes a script and a log and judges whether they fit
-  of_both : (script_name log_name : List ℕ) (Onward : Script → Log → Answer → Type 0) → NamesScript words script_name → NamesLog words log_name
-      → ((script : Script) (log : Log) → TakesBoth before.files script_name log_name script log → Onward script log answer → Cause words before after answer)
-      → TakingScript before.files before.take_faults after.take_faults script_name
-      (λ script answer. TakingLog before.files before.take_faults after.take_faults log_name (λ log answer. Fitting (Onward script log) script log answer) answer) answer
+  -- of a command that has taken a script, takes a log and judges whether they fit
+  of_fitting : (script_name log_name : List ℕ) (text : List ℕ) (script : Script) (Onward : Log → Answer → Type 0) → NamesScript words script_name → NamesLog words log_name
+      → IsTaken before.files script_name script_limit text → Spells text script
+      → ((log : Log) → TakesBoth before.files script_name log_name script log → Onward log answer → Cause words before after answer)
+      → TakingLog before.files before.take_faults after.take_faults log_name (λ log answer. Fitting (Onward log) script log answer) answer
       → Cause words before after answer
-  of_both script_name log_name Onward script_named log_named on answers =
-      of_script script_name (λ script answer. TakingLog before.files before.take_faults after.take_faults log_name (λ log answer. Fitting (Onward script log) script log answer) answer) script_named
-      (λ text script taken spells.
-      of_log log_name (λ log answer. Fitting (Onward script log) script log answer) log_named (λ bytes log log_is_taken spelled fitting.
+  of_fitting script_name log_name text script Onward script_named log_named taken spells on answers =
+      of_log log_name (λ log answer. Fitting (Onward log) script log answer) log_named (λ bytes log log_is_taken spelled fitting.
       elim fitting [
         | inl refused ↦ ByFit refused.0 refused.3 (record {
           script_name = script_name;
@@ -227,8 +229,43 @@ module _ (words : List (List ℕ)) (before after : DeskState) (answer : Answer) 
           has_cause = refused.2;
           not_memory = refused.1;
         })
-        | inr fits ↦ on script log (record { text = text; bytes = bytes; script_taken = taken; log_taken = log_is_taken; script_spelled = spells; log_spelled = spelled }) fits.1
-      ])) answers
+        | inr fits ↦ on log (record { text = text; bytes = bytes; script_taken = taken; log_taken = log_is_taken; script_spelled = spells; log_spelled = spelled }) fits.1
+      ]) answers
+
+  -- of a command that takes a script and a log and judges whether they fit
+  of_both : (script_name log_name : List ℕ) (Onward : Script → Log → Answer → Type 0) → NamesScript words script_name → NamesLog words log_name
+      → ((script : Script) (log : Log) → TakesBoth before.files script_name log_name script log → Onward script log answer → Cause words before after answer)
+      → TakingScript before.files before.take_faults after.take_faults script_name
+      (λ script answer. TakingLog before.files before.take_faults after.take_faults log_name (λ log answer. Fitting (Onward script log) script log answer) answer) answer
+      → Cause words before after answer
+  of_both script_name log_name Onward script_named log_named on answers =
+      of_script script_name (λ script answer. TakingLog before.files before.take_faults after.take_faults log_name (λ log answer. Fitting (Onward script log) script log answer) answer) script_named
+      (λ text script taken spells. of_fitting script_name log_name text script (Onward script) script_named log_named taken spells (on script)) answers
+
+  -- of a profile, with or without a name
+  of_profile : (script_name log_name : List ℕ) (name : Option (List ℕ)) → Asks words (Profile script_name log_name name)
+      → CommandAnswers (Profile script_name log_name name) before.files before.take_faults after.take_faults answer → Cause words before after answer
+  of_profile script_name log_name name is answers =
+      let script_named : NamesScript words script_name = record { command = Profile script_name log_name name; asked = is; takes = refl } in
+      let log_named : NamesLog words log_name = record { command = Profile script_name log_name name; asked = is; takes = refl } in
+      of_script script_name (λ script answer. Choosing (λ wanted answer. TakingLog before.files before.take_faults after.take_faults log_name (IsProfiled wanted script) answer) script name answer) script_named
+      (λ text script taken spells choosing.
+      elim choosing [
+        | inl unknown ↦ ByName unknown.1 (record {
+          script_name = script_name;
+          log_name = log_name;
+          object_name = name;
+          text = text;
+          script = script;
+          asked = is;
+          taken = taken;
+          spelled = spells;
+          unknown = unknown.0;
+        })
+        | inr known ↦
+            let said : Log → Answer = λ log. told Done (profile_text known.0 (journals_after script log.threads (lowest_order script log.threads))) in
+            of_fitting script_name log_name text script (λ log answer. answer ≡ said log) script_named log_named taken spells (λ log both profiled. done_by (said log) profiled refl) known.2
+      ]) answers
 
   of_command : (command : Command) → Asks words command → CommandAnswers command before.files before.take_faults after.take_faults answer → Cause words before after answer
   of_command (Run script_name log_name) is answers =
@@ -265,6 +302,7 @@ module _ (words : List (List ℕ)) (before after : DeskState) (answer : Answer) 
             lawful = verified.lawful;
             unordered = λ ordered. let same = verified.told.ordered.1 ordered in cc;
           })
+  of_command (Profile script_name log_name name) is answers = of_profile script_name log_name name is answers
   of_command (Gen number script_name log_name) is answers = BySuccess (ap (λ (a : Answer). a.status) answers.5)
 
   cause_of : IsAnswer words before.files before.take_faults after.take_faults answer → Cause words before after answer
@@ -288,10 +326,10 @@ module _ (words : List (List ℕ)) (before after : DeskState) (code : ℕ) (serv
   other : {A : Type 0} (status own : ℕ) → code ≡ status → code ≡ own → (status ≡ own → ⊥) → A
   other status own is comes differ = absurd (differ (sym is ∙ comes))
 
-  pub not_a_command_at_1 : code ≡ 1 → IsNotACommand words
-  not_a_command_at_1 one = let x = explained 1 one (λ e. omega arith) (λ e. omega arith) in by x.answer x.cause x.comes
+  pub words_at_1 : code ≡ 1 → IsNotACommand words ⊎ NamesNoObject words before.files
+  words_at_1 one = let x = explained 1 one (λ e. omega arith) (λ e. omega arith) in by x.answer x.cause x.comes
     where
-      by : (answer : Answer) (cause : Cause words before after answer) → code ≡ status_of words before after answer cause → IsNotACommand words
+      by : (answer : Answer) (cause : Cause words before after answer) → code ≡ status_of words before after answer cause → IsNotACommand words ⊎ NamesNoObject words before.files
       by answer (ByRead name limit named is fault) comes = other 1 5 one comes (λ e. omega arith)
       by answer (ByLength name limit named is long) comes = other 1 8 one comes (λ e. omega arith)
       by answer (ByScript line cause is refused) comes = other 1 2 one comes (λ e. omega arith)
@@ -299,7 +337,8 @@ module _ (words : List (List ℕ)) (before after : DeskState) (code : ℕ) (serv
       by answer (ByFit fault is misfits) comes = other 1 4 one comes (λ e. omega arith)
       by answer (ByOrder status unordered) comes = other 1 9 one comes (λ e. omega arith)
       by answer (BySuccess done) comes = other 1 0 one comes (λ e. omega arith)
-      by answer (ByWords is none) comes = none
+      by answer (ByWords is none) comes = inl none
+      by answer (ByName is unknown) comes = inr unknown
 
   pub script_refused_at_2 : code ≡ 2 → IsScriptRefused words before.files
   script_refused_at_2 two = let x = explained 2 two (λ e. omega arith) (λ e. omega arith) in by x.answer x.cause x.comes
@@ -313,6 +352,7 @@ module _ (words : List (List ℕ)) (before after : DeskState) (code : ℕ) (serv
       by answer (ByOrder status unordered) comes = other 2 9 two comes (λ e. omega arith)
       by answer (BySuccess done) comes = other 2 0 two comes (λ e. omega arith)
       by answer (ByWords is none) comes = other 2 1 two comes (λ e. omega arith)
+      by answer (ByName is unknown) comes = other 2 1 two comes (λ e. omega arith)
 
   pub log_refused_at_3 : code ≡ 3 → IsLogRefused words before.files
   log_refused_at_3 three = let x = explained 3 three (λ e. omega arith) (λ e. omega arith) in by x.answer x.cause x.comes
@@ -326,6 +366,7 @@ module _ (words : List (List ℕ)) (before after : DeskState) (code : ℕ) (serv
       by answer (ByOrder status unordered) comes = other 3 9 three comes (λ e. omega arith)
       by answer (BySuccess done) comes = other 3 0 three comes (λ e. omega arith)
       by answer (ByWords is none) comes = other 3 1 three comes (λ e. omega arith)
+      by answer (ByName is unknown) comes = other 3 1 three comes (λ e. omega arith)
 
   pub misfitting_at_4 : code ≡ 4 → IsMisfitting words before.files
   misfitting_at_4 four = let x = explained 4 four (λ e. omega arith) (λ e. omega arith) in by x.answer x.cause x.comes
@@ -339,6 +380,7 @@ module _ (words : List (List ℕ)) (before after : DeskState) (code : ℕ) (serv
       by answer (ByOrder status unordered) comes = other 4 9 four comes (λ e. omega arith)
       by answer (BySuccess done) comes = other 4 0 four comes (λ e. omega arith)
       by answer (ByWords is none) comes = other 4 1 four comes (λ e. omega arith)
+      by answer (ByName is unknown) comes = other 4 1 four comes (λ e. omega arith)
 
   pub unordered_at_9 : code ≡ 9 → IsFoundUnordered words before.files
   unordered_at_9 nine = let x = explained 9 nine (λ e. omega arith) (λ e. omega arith) in by x.answer x.cause x.comes
@@ -352,6 +394,7 @@ module _ (words : List (List ℕ)) (before after : DeskState) (code : ℕ) (serv
       by answer (ByOrder status unordered) comes = unordered
       by answer (BySuccess done) comes = other 9 0 nine comes (λ e. omega arith)
       by answer (ByWords is none) comes = other 9 1 nine comes (λ e. omega arith)
+      by answer (ByName is unknown) comes = other 9 1 nine comes (λ e. omega arith)
 
   pub read_at_5 : code ≡ 5 → Rose before.take_faults after.take_faults ⊎ IsFileAbsent words before.files
   read_at_5 five = let x = explained 5 five (λ e. omega arith) (λ e. omega arith) in by x.answer x.cause x.comes
@@ -365,6 +408,7 @@ module _ (words : List (List ℕ)) (before after : DeskState) (code : ℕ) (serv
       by answer (ByOrder status unordered) comes = other 5 9 five comes (λ e. omega arith)
       by answer (BySuccess done) comes = other 5 0 five comes (λ e. omega arith)
       by answer (ByWords is none) comes = other 5 1 five comes (λ e. omega arith)
+      by answer (ByName is unknown) comes = other 5 1 five comes (λ e. omega arith)
 
   pub too_long_at_8 : code ≡ 8 → IsFileTooLong words before.files
   too_long_at_8 eight = let x = explained 8 eight (λ e. omega arith) (λ e. omega arith) in by x.answer x.cause x.comes
@@ -378,6 +422,7 @@ module _ (words : List (List ℕ)) (before after : DeskState) (code : ℕ) (serv
       by answer (ByOrder status unordered) comes = other 8 9 eight comes (λ e. omega arith)
       by answer (BySuccess done) comes = other 8 0 eight comes (λ e. omega arith)
       by answer (ByWords is none) comes = other 8 1 eight comes (λ e. omega arith)
+      by answer (ByName is unknown) comes = other 8 1 eight comes (λ e. omega arith)
 
   pub write_at_6 : code ≡ 6 → Rose before.write_faults after.write_faults
   write_at_6 six = by served
@@ -391,6 +436,7 @@ module _ (words : List (List ℕ)) (before after : DeskState) (code : ℕ) (serv
       at_cause answer (ByOrder status unordered) comes = other 6 9 six comes (λ e. omega arith)
       at_cause answer (BySuccess done) comes = other 6 0 six comes (λ e. omega arith)
       at_cause answer (ByWords is none) comes = other 6 1 six comes (λ e. omega arith)
+      at_cause answer (ByName is unknown) comes = other 6 1 six comes (λ e. omega arith)
 
       by : IsServed (IsAnswer words before.files before.take_faults after.take_faults) before after code → Rose before.write_faults after.write_faults
       by (inl untouched) = other 6 7 six untouched.status (λ e. omega arith)
@@ -476,6 +522,19 @@ module _ (files : Option Files) (faults faults' : ℕ) (none : ¬ Rose faults fa
         | inr verified ↦
             let ordered = verified.1.1.told.ordered.1 (has.faithful.ordered (lowest_order script log) lawful) in
             done_at answer (verdict_told verdict.Ordered) (verified.1.2 ∙ ap verdict_told ordered) refl
+      ]
+  done (Profile script_name log_name name) answer has answers =
+      let recording = has.recording in
+      let script = recording.script.script in
+      let log = recording.log.log.threads in
+      elim (goes_on_with_script script_name (λ script answer. Choosing (λ wanted answer. TakingLog files faults faults' log_name (IsProfiled wanted script) answer) script name answer) answer recording.script answers) [
+        | inl unknown ↦ absurd (let both : Some has.wanted ≡ None = sym has.known ∙ unknown.0 in cc)
+        | inr known ↦
+            let said : List ThreadLog → Answer = λ log. told Done (profile_text known.0 (journals_after script log (lowest_order script log))) in
+            elim (goes_on_with_log log_name (λ log answer. Refused script log answer ⊎ (IsLawful script log × (answer ≡ said log))) answer recording.log known.2) [
+              | inl refused ↦ absurd (not_refused script log refused.0 (faithful script log recording.outcome recording.faithful).0 refused.1 refused.2)
+              | inr profiled ↦ done_at answer (said log) profiled.1 refl
+            ]
       ]
   done (Gen number script_name log_name) answer has answers = ap (λ (a : Answer). a.status) answers.5
 

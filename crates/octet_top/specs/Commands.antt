@@ -1,11 +1,11 @@
 -- The commands' answers.
-use Rattle.std.specs.Prelude.{ℕ, ◌≡◌, ◌≢◌, ◌⊎◌, List, Option}
+use Rattle.std.specs.Prelude.{ℕ, ◌≡◌, ◌≢◌, ◌⊎◌, List, Option, None, Some}
 use Rattle.octet_base.specs.Desk.{Files}
 use Rattle.octet_model.specs.declared.script.Script.{Script}
 use Rattle.octet_model.specs.declared.log.Log.{Log}
 use Rattle.octet_model.specs.declared.outcome.Outcome.{Outcome}
 use Rattle.octet_model.specs.Texts.{log_bytes, outcome_text}
-use Rattle.octet_model.specs.Orders.{execution, lowest_order, IsFaithful}
+use Rattle.octet_model.specs.Orders.{execution, journals_after, lowest_order, IsFaithful}
 use Rattle.octet_script.specs.Spelling.{canonical_text}
 use Rattle.octet_log.specs.Texts.{log_text}
 use Rattle.octet_replay.specs.declared.fault.ReplayFault.{ReplayFault}
@@ -15,8 +15,9 @@ use Rattle.octet_clock.specs.declared.verdict.Verdict.{Verdict}
 use Rattle.octet_clock.specs.Verified.{IsVerified}
 use Rattle.octet_gen.specs.Generated.{IsGenerated}
 use Rattle.octet_top.specs.declared.reply.Status.TheVariants.{Done}
-use Rattle.octet_top.specs.Answer.{Answer, told, writes_and_tells, writes_both, not_a_command, does_not_fit, verdict_told, summary}
-use Rattle.octet_top.specs.Request.{Command, Run, Tidy, Show, Replay, Verify, Gen, Asks, IsNotACommand}
+use Rattle.octet_top.specs.Answer.{Answer, told, writes_and_tells, writes_both, not_a_command, no_such_object, does_not_fit, verdict_told, summary}
+use Rattle.octet_top.specs.Request.{Command, Run, Tidy, Show, Replay, Verify, Profile, Gen, Asks, IsNotACommand}
+use Rattle.octet_top.specs.Profile.{profile_text, wanted_by}
 use Rattle.octet_top.specs.Taking.{TakingScript, TakingLog}
 
 -- a log and an outcome that are a faithful recording of the script: the log's bytes are written, and the outcome is said
@@ -39,6 +40,16 @@ IsReplayed script log answer = Fitting (λ answer. answer ≡ told Done (outcome
 abbrev pub IsVerdictTold : Script → Log → Answer → Type 0
 IsVerdictTold script log answer = Fitting (λ answer. (verdict : Verdict) × IsVerified script log.threads verdict × (answer ≡ verdict_told verdict)) script log answer
 
+-- the counts over the journals of the lowest order are said, which is lawful
+abbrev pub IsProfiled : Option ℕ → Script → Log → Answer → Type 0
+IsProfiled wanted script log answer = Fitting (λ answer. answer ≡ told Done (profile_text wanted (journals_after script log.threads (lowest_order script log.threads)))) script log answer
+
+-- the script has no object of this name; or it has, or none is named, and the command goes on
+abbrev pub Choosing : (Option ℕ → Answer → Type 0) → Script → Option (List ℕ) → Answer → Type 0
+Choosing Onward script name answer =
+    ((wanted_by script name ≡ None) × (answer ≡ no_such_object))
+    ⊎ ((wanted : Option ℕ) × (wanted_by script name ≡ Some wanted) × Onward wanted answer)
+
 -- the generated script of a number, and a log and an outcome that are a faithful recording of it: the script's canonical text and then the log's bytes are written, and the summary is said
 abbrev pub IsGeneration : ℕ → List ℕ → List ℕ → Answer → Type 0
 IsGeneration number script_name log_name answer =
@@ -52,6 +63,8 @@ CommandAnswers (Tidy script) files before after answer = TakingScript files befo
 CommandAnswers (Show log) files before after answer = TakingLog files before after log (λ log answer. answer ≡ told Done (log_text log.threads)) answer
 CommandAnswers (Replay script log) files before after answer = TakingScript files before after script (λ script answer. TakingLog files before after log (IsReplayed script) answer) answer
 CommandAnswers (Verify script log) files before after answer = TakingScript files before after script (λ script answer. TakingLog files before after log (IsVerdictTold script) answer) answer
+CommandAnswers (Profile script log name) files before after answer =
+    TakingScript files before after script (λ script answer. Choosing (λ wanted answer. TakingLog files before after log (IsProfiled wanted script) answer) script name answer) answer
 CommandAnswers (Gen number script log) files before after answer = IsGeneration number script log answer
 
 -- the answers to words: those to the command that they ask for, or that they are none

@@ -1,5 +1,5 @@
 -- What the top call promises of each status.
-use Rattle.std.specs.Prelude.{ℕ, ◌≡◌, ◌≢◌, ◌≤◌, ◌++◌, ◌⊎◌, List, length, Option, Some, IsSomeAnd}
+use Rattle.std.specs.Prelude.{ℕ, ◌≡◌, ◌≢◌, ◌≤◌, ◌++◌, ◌⊎◌, List, length, Option, None, Some, IsSomeAnd}
 use Rattle.std.specs.FinMap.{get}
 use Rattle.octet_base.specs.Desk.{Files}
 use Rattle.octet_model.specs.declared.script.Script.{Script}
@@ -18,7 +18,8 @@ use Rattle.octet_replay.specs.Judged.{HasCause, IsLawful}
 use Rattle.octet_clock.specs.Verified.{HasOneOutcome}
 use Rattle.octet_gen.specs.Generated.{IsGenerated}
 use Rattle.octet_top.specs.Answer.{summary}
-use Rattle.octet_top.specs.Request.{Command, Run, Tidy, Show, Replay, Verify, Gen, Asks, NamesScript, NamesLog}
+use Rattle.octet_top.specs.Request.{Command, Run, Tidy, Show, Replay, Verify, Profile, Gen, Asks, NamesScript, NamesLog}
+use Rattle.octet_top.specs.Profile.{wanted_by}
 use Rattle.octet_top.specs.Taking.{script_limit, log_limit, IsTaken, IsAbsent, IsTooLong, Refuses, RefusesLog}
 use Rattle.octet_top.specs.Serving.{DeskState}
 
@@ -125,6 +126,18 @@ pub record IsMisfitting (words : List (List ℕ)) (files : Option Files) : Type 
   pub has_cause : HasCause script log.threads fault
   pub not_memory : fault ≢ OutOfMemory
 
+-- a script is taken, and has no object of the name that the words name
+pub record NamesNoObject (words : List (List ℕ)) (files : Option Files) : Type 0 where
+  pub script_name : List ℕ
+  pub log_name : List ℕ
+  pub object_name : Option (List ℕ)
+  pub text : List ℕ
+  pub script : Script
+  pub asked : Asks words (Profile script_name log_name object_name)
+  pub taken : IsTaken files script_name script_limit text
+  pub spelled : Spells text script
+  pub unknown : wanted_by script object_name ≡ None
+
 -- files are told, and one that is to be taken is not there
 abbrev pub IsFileAbsent : List (List ℕ) → Option Files → Type 0
 IsFileAbsent words files = (name : List ℕ) × (limit : ℕ) × SaysToTake words name limit × IsAbsent files name
@@ -158,6 +171,12 @@ pub record HasRecording (files : Option Files) (script_name log_name : List ℕ)
   pub outcome : Outcome
   pub faithful : IsFaithful script.script log.log.threads outcome
 
+-- and the script has the object of the name, if there is a name
+pub record HasProfiled (files : Option Files) (script_name log_name : List ℕ) (name : Option (List ℕ)) : Type 0 where
+  pub recording : HasRecording files script_name log_name
+  pub wanted : Option ℕ
+  pub known : wanted_by recording.script.script name ≡ Some wanted
+
 -- all that a command takes is there as it should be
 abbrev pub HasFiles : Command → Option Files → Type 0
 HasFiles (Run script log) files = HasScript files script
@@ -165,6 +184,7 @@ HasFiles (Tidy script) files = HasScript files script
 HasFiles (Show log) files = HasLog files log
 HasFiles (Replay script log) files = HasRecording files script log
 HasFiles (Verify script log) files = HasRecording files script log
+HasFiles (Profile script log name) files = HasProfiled files script log name
 HasFiles (Gen number script log) files = Unit {0}
 
 -- the words ask for a command that has its files

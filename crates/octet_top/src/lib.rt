@@ -3,6 +3,7 @@
 
 mod deliver;
 mod generate;
+mod profile;
 mod program;
 mod refusal;
 mod replay;

@@ -5,10 +5,11 @@ ghost use Rattle.octet_top.specs.Answer.{answer_of};
 ghost use Rattle.octet_top.specs.Request.{texts, command_of, Asks, Run, Verify, Gen, IsNotACommand};
 ghost use Rattle.octet_top.specs.Commands.{IsAnswer, CommandAnswers};
 ghost use Rattle.octet_top.specs.Serving.{DeskState, IsServed};
-ghost use Rattle.octet_top.specs.Promises.{RunsFaithfully, IsScriptRefused, IsLogRefused, IsMisfitting, IsFoundUnordered, VerifiesOrdered, GeneratesFaithfully, IsFileAbsent, IsFileTooLong, IsWellMet};
+ghost use Rattle.octet_top.specs.Promises.{RunsFaithfully, IsScriptRefused, IsLogRefused, IsMisfitting, IsFoundUnordered, VerifiesOrdered, GeneratesFaithfully, NamesNoObject, IsFileAbsent, IsFileTooLong, IsWellMet};
 
 use crate::deliver::deliver;
 use crate::generate::generate;
+use crate::profile::profile;
 use crate::refusal::not_a_command;
 use crate::replay::replay;
 use crate::reply::{Reply, Status};
@@ -54,7 +55,7 @@ pub fn serve<R: Threads + Wait + Sync, D: Desk, G: Gate>(
         IsServed (IsAnswer (texts words.now) before.files before.take_faults after.take_faults) before after result }
 
     // When each status comes.
-    ensures words { result ≡ 1 → IsNotACommand (texts words.now) }
+    ensures words { result ≡ 1 → IsNotACommand (texts words.now) ⊎ NamesNoObject (texts words.now) (D.files desk.old) }
     ensures script { result ≡ 2 → IsScriptRefused (texts words.now) (D.files desk.old) }
     ensures log { result ≡ 3 → IsLogRefused (texts words.now) (D.files desk.old) }
     ensures fit { result ≡ 4 → IsMisfitting (texts words.now) (D.files desk.old) }
@@ -111,6 +112,11 @@ fn carry_out<D: Desk>(
         Request::Show { log } => show(alloc, desk, log),
         Request::Replay { script, log } => replay(alloc, desk, script, log),
         Request::Verify { script, log } => verify(alloc, desk, script, log),
+        Request::Profile {
+            script,
+            log,
+            object,
+        } => profile(alloc, desk, script, log, object),
         Request::Gen {
             number,
             script,

@@ -25,6 +25,11 @@ pub(crate) enum Request<'a> {
         script: &'a str,
         log: &'a str,
     },
+    Profile {
+        script: &'a str,
+        log: &'a str,
+        object: Option<&'a str>,
+    },
     Gen {
         number: u64,
         script: &'a str,
@@ -42,11 +47,11 @@ pub(crate) fn request_of(words: &[String]) -> Option<Request<'_>>
         [command, first, second] => {
             of_two_files(command.as_str(), first.as_str(), second.as_str())
         }
-        [command, number, first, second] => of_number(
+        [command, first, second, third] => of_three(
             command.as_str(),
-            number.as_str(),
             first.as_str(),
             second.as_str(),
+            third.as_str(),
         ),
         _ => None,
     }
@@ -76,24 +81,42 @@ fn of_two_files<'a>(command: &str, first: &'a str, second: &'a str) -> Option<Re
         Some(Request::Replay { script, log })
     } else if command == "verify" {
         Some(Request::Verify { script, log })
+    } else if command == "profile" {
+        Some(Request::Profile {
+            script,
+            log,
+            object: None,
+        })
     } else {
         None
     }
 }
 
-fn of_number<'a>(command: &str, number: &str, script: &'a str, log: &'a str) -> Option<Request<'a>>
-    ensures some { IfSome result (λ r. Asks (command.now ∷ number.now ∷ script.now ∷ log.now ∷ []) (command_of r)) }
-    ensures none { IfNone result (IsNotACommand (command.now ∷ number.now ∷ script.now ∷ log.now ∷ [])) }
+fn of_three<'a>(
+    command: &str,
+    first: &'a str,
+    second: &'a str,
+    third: &'a str,
+) -> Option<Request<'a>>
+    ensures some { IfSome result (λ r. Asks (command.now ∷ first.now ∷ second.now ∷ third.now ∷ []) (command_of r)) }
+    ensures none { IfNone result (IsNotACommand (command.now ∷ first.now ∷ second.now ∷ third.now ∷ [])) }
 {
-    if command != "gen" {
-        return None;
-    }
-    match number_of(number.as_bytes()) {
-        Some(number) => Some(Request::Gen {
-            number,
-            script,
-            log,
-        }),
-        None => None,
+    if command == "gen" {
+        match number_of(first.as_bytes()) {
+            Some(number) => Some(Request::Gen {
+                number,
+                script: second,
+                log: third,
+            }),
+            None => None,
+        }
+    } else if command == "profile" {
+        Some(Request::Profile {
+            script: first,
+            log: second,
+            object: Some(third),
+        })
+    } else {
+        None
     }
 }

@@ -23,6 +23,12 @@ returns-in-Verify-clause-answers g c =
     subst (λ (request : Request). IfOk c.verify.result (λ reply. CommandAnswers (command_of request) (D.files c.args.desk.now) (D.take_faults c.args.desk.now) (D.take_faults c.verify.new.desk) (answer_of reply)))
     (sym c.in-Verify.is) c.verify.ensures.answers
 
+pub returns-in-Profile-clause-answers : goal.returns-in-Profile-clause-answers
+returns-in-Profile-clause-answers g c =
+    let D = g.D.Desk in
+    subst (λ (request : Request). IfOk c.profile.result (λ reply. CommandAnswers (command_of request) (D.files c.args.desk.now) (D.take_faults c.args.desk.now) (D.take_faults c.profile.new.desk) (answer_of reply)))
+    (sym c.in-Profile.is) c.profile.ensures.answers
+
 pub returns-in-Gen-clause-answers : goal.returns-in-Gen-clause-answers
 returns-in-Gen-clause-answers g c =
     let D = g.D.Desk in

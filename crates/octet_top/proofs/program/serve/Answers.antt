@@ -1,12 +1,12 @@
 use Rattle.octet_top.specs.Request.{texts}
-use Rattle.octet_top.proofs.Promises.{headline, ordered, generated, unordered_at_9, not_a_command_at_1, script_refused_at_2, log_refused_at_3, misfitting_at_4, read_at_5, write_at_6, too_long_at_8, complete}
+use Rattle.octet_top.proofs.Promises.{headline, ordered, generated, unordered_at_9, words_at_1, script_refused_at_2, log_refused_at_3, misfitting_at_4, read_at_5, write_at_6, too_long_at_8, complete}
 use Rattle.octet_top.proofs.program.serve.Goals as goal
 
 pub returns-clause-headline : goal.returns-clause-headline
 returns-clause-headline g c = headline (texts c.args.words.now) _ _ _ c.answer_words.ensures
 
 pub returns-clause-words : goal.returns-clause-words
-returns-clause-words g c = not_a_command_at_1 (texts c.args.words.now) _ _ _ c.answer_words.ensures
+returns-clause-words g c = words_at_1 (texts c.args.words.now) _ _ _ c.answer_words.ensures
 
 pub returns-clause-script : goal.returns-clause-script
 returns-clause-script g c = script_refused_at_2 (texts c.args.words.now) _ _ _ c.answer_words.ensures
