@@ -244,9 +244,26 @@ LOGS = (
     ]
 )
 
+def profiled(name, words, said, status=0, script=SHARED, content=SHARED_LOG):
+    return Case(f"profile: {name}", ["profile", "S", "L", *words], {"S": script, "L": content}, said, status)
+
+
+PROFILES = [
+    profiled("kinds", [], text("read 3", "write 0", "join 2", "draw 1", "fence 1")),
+    profiled("one object", ["x"], text("read 3", "write 0", "other 4")),
+    profiled("an unknown name", ["z"], text("words: no such object"), 1),
+    profiled("an empty name", [""], text("words: no such object"), 1),
+    profiled("kinds, with writes", [], text("read 0", "write 3", "join 3", "draw 0", "fence 0"), 0, CROSSED, CROSSED_LOG),
+    profiled("the second object", ["y"], text("read 0", "write 2", "other 4"), 0, CROSSED, CROSSED_LOG),
+    profiled("an unknown name comes before the log", ["z"], text("words: no such object"), 1, content=b""),
+    profiled("a script that is refused comes before the name", ["z"], text("script: line 1: 13 no thread"), 2, b""),
+    profiled("a log that is refused", ["x"], text("log: 1 no magic"), 3, content=b""),
+    Case("profile: no log", ["profile", "S"], {"S": ONE}, text("words: not a command"), 1),
+]
+
 MISFITS = [
     judged(command, name, script, content, text(f"fit: {line}"), 4)
-    for command in ["replay", "verify"]
+    for command in ["replay", "verify", "profile"]
     for name, script, content, line in [
         ("each event waits for the other", HANDOVER, HANDOVER_STUCK, "stuck at 0 0"),
         ("two threads in the log", ONE, HANDOVER_LOG, "threads 1 in the script, 2 in the log"),
@@ -300,4 +317,4 @@ FAULTS = [
     Case("write: the disk is full", ["run", "S", "/dev/full"], {"S": ONE}, b"", 6),
 ]
 
-CASES = RUNS + TIDY + REFUSED + PREFIXES + LOGS + MISFITS + LOG_REFUSALS + FAULTS
+CASES = RUNS + TIDY + REFUSED + PREFIXES + LOGS + PROFILES + MISFITS + LOG_REFUSALS + FAULTS

@@ -5,6 +5,7 @@
 use octet_base::{OpenGate, RealDesk};
 use octet_top::serve;
 use std::env;
+use std::io::ErrorKind;
 use std::process::ExitCode;
 
 /// The status where memory was refused.
@@ -12,9 +13,10 @@ const MEMORY: u8 = 7;
 
 fn main(rt: HostRuntime) -> ExitCode {
     let alloc = rt.alloc();
-    // Words that are not UTF-8 are no command.
     let words = match env::args(&rt) {
         Ok(args) => args.skip(1).collect::<Vec<String>>(alloc),
+        Err(fault) if fault.kind() == ErrorKind::OutOfMemory => return ExitCode::from(MEMORY),
+        // Words that are not UTF-8 are no command.
         Err(_) => Ok(Vec::new(alloc)),
     };
     let Ok(words) = words else {
