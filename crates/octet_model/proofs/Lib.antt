@@ -8,6 +8,8 @@ pub mod Growing
 pub mod Pasts
 pub mod Owners
 pub mod Lowest
+pub mod Following
+pub mod Short
 pub mod MarksSeen
 pub mod Rows
 pub mod Examples

@@ -101,7 +101,7 @@ pub as_many_after : (behavior : Behavior) (order : List ℕ) (s : PlainState) �
 as_many_after behavior [] s = refl
 as_many_after behavior (t ∷ order) s = as_many_after behavior order (step behavior s t) ∙ as_many_step behavior s t
 
-pub slice_get_split : (pre post : List Event) → slice_get (pre ++ post) (length pre) ≡ slice_get post 0
+pub slice_get_split : {A : Type 0} (pre post : List A) → slice_get (pre ++ post) (length pre) ≡ slice_get post 0
 slice_get_split [] post = refl
 slice_get_split (e ∷ pre) post = slice_get_split pre post
 

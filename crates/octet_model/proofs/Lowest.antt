@@ -45,7 +45,7 @@ module _ (behavior : Behavior) (Kept : PlainState → Type 0) (most : ℕ)
       by_lowest (Some t) is next = rw is (next t (lowest_may behavior s t is))
 
 -- what a next operation by a log tells of the log
-by_mark : (o : Option Mark) (d : Demand) (a m : Bool) (mark : Mark) → mark_first o (next_access d a m) ≡ Wants (MakeMark mark) → o ≡ Some mark
+pub by_mark : (o : Option Mark) (d : Demand) (a m : Bool) (mark : Mark) → mark_first o (next_access d a m) ≡ Wants (MakeMark mark) → o ≡ Some mark
 by_mark (Some k) d a m mark is = cc
 by_mark None (ToRead object) true m mark is = absurd cc
 by_mark None (ToRead object) false m mark is = absurd cc
@@ -55,12 +55,12 @@ by_mark None (ToEnd end) true m mark is = absurd cc
 by_mark None (ToEnd end) false true mark is = absurd cc
 by_mark None (ToEnd end) false false mark is = absurd cc
 
-abbrev IsAccess : Next → Type 0
+abbrev pub IsAccess : Next → Type 0
 IsAccess (Wants (MakeRead object)) = Unit {0}
 IsAccess (Wants (MakeWrite object value)) = Unit {0}
 IsAccess _ = ⊥
 
-by_access : (o : Option Mark) (d : Demand) (a m : Bool) → IsAccess (mark_first o (next_access d a m)) → a ≡ true
+pub by_access : (o : Option Mark) (d : Demand) (a m : Bool) → IsAccess (mark_first o (next_access d a m)) → a ≡ true
 by_access (Some k) d a m is = absurd is
 by_access None (ToRead object) true m is = refl
 by_access None (ToRead object) false m is = absurd is
@@ -117,7 +117,7 @@ record AllWithin (log : List ThreadLog) (s : PlainState) : Type 0 where
 -- after a step the thread's journal has one event more
 module _ (behavior : Behavior) (s : PlainState) (t : ℕ) (may : IsTrue (may_step behavior s t)) where
   -- what holds of each journal, and of the thread's with its event, holds after the step
-  each_journal : (P : ℕ → List Event → Type 0) → ((u : ℕ) → P u (journal_of s.journals u))
+  pub each_journal : (P : ℕ → List Event → Type 0) → ((u : ℕ) → P u (journal_of s.journals u))
       → ((o : Operation) → Makes behavior s t o → P t (journal_of s.journals t ++ event_made o s.heap ∷ []))
       → (u : ℕ) → P u (journal_of (step behavior s t).journals u)
   each_journal P before new u =

@@ -1,13 +1,15 @@
 -- The laws of orders, plays, histories and validity, as the public functions of laws.rt prove them.
-use Rattle.std.specs.Prelude.{◌≡◌, ℕ, ◌<◌, IsTrue, List, ◌++◌, length}
+use Rattle.std.specs.Prelude.{◌≡◌, ℕ, ◌<◌, ◌≤◌, IsTrue, List, ◌++◌, length}
 use Rattle.std.specs.Bool.{Decides}
 use Rattle.octet_model.specs.declared.command.Command.{Command}
 use Rattle.octet_model.specs.declared.event.Event.{Event}
 use Rattle.octet_model.specs.declared.object.Object.{Object}
 use Rattle.octet_model.specs.declared.script.Script.{Script}
 use Rattle.octet_model.specs.declared.log.ThreadLog.{ThreadLog}
+use Rattle.octet_model.specs.declared.outcome.Outcome.{Outcome}
 use Rattle.octet_model.specs.Script.{is_script}
 use Rattle.octet_model.specs.Log.{is_log}
+use Rattle.octet_model.specs.Texts.{log_bytes}
 use Rattle.octet_model.specs.Validity.{IsValidScript, IsValidLog}
 use Rattle.octet_model.specs.Machine.{Journals, PlainState, starting_state, Behavior, no_events, is_enabled, event_made, heap_after, draws_after, appended, IsFront}
 use Rattle.octet_model.specs.Journals.{log_of}
@@ -110,3 +112,18 @@ ScriptTestIsExact = (fuel : ℕ) (objects : List Object) (threads : List (List C
 -- and that of a log exactly where the log is valid
 abbrev pub LogTestIsExact : Type 0
 LogTestIsExact = (log : List ThreadLog) → Decides (is_log log) (IsValidLog log)
+
+-- the journals of a lawful order have the very log that the order follows
+abbrev pub LawfulOrderHasItsLog : Type 0
+LawfulOrderHasItsLog = (script : Script) (log : List ThreadLog) (order : List ℕ)
+    → IsLawfulOrder script log order → log_of (journals_after script log order) ≡ log
+
+-- and fit the script to its threads' ends
+abbrev pub LawfulOrderFits : Type 0
+LawfulOrderFits = (script : Script) (log : List ThreadLog) (order : List ℕ)
+    → IsLawfulOrder script log order → FitsScript script (journals_after script log order)
+
+-- a valid log of a faithful recording is short: six bytes, eight for each of at most 16 threads, and 14 for each of at most 15 marks before each of at most 262,144 accesses
+abbrev pub FaithfulLogIsShort : Type 0
+FaithfulLogIsShort = (script : Script) (log : List ThreadLog) (outcome : Outcome)
+    → IsFaithful script log outcome → IsTrue (is_log log) → length (log_bytes log) ≤ 55050374

@@ -1,5 +1,5 @@
 //! The laws over the definitions, each the contract of a function that does nothing.
-ghost use Rattle.octet_model.specs.Laws.{OneExecution, OneSetOfJournals, FrontsContinue, LowestPlayMakesAll, LowestPlayGivesHeap, LowestPlayIsLowestOrder, LowestFrontIsFront, OneLowestFront, LowestOrderIsLowest, LowestPlayIsLowest, LowestOrderIsLawful, HistoryBegins, HistoryGrows, PlayIsFaithful, HistoryIsFaithful, ScriptTestIsExact, LogTestIsExact};
+ghost use Rattle.octet_model.specs.Laws.{OneExecution, OneSetOfJournals, FrontsContinue, LowestPlayMakesAll, LowestPlayGivesHeap, LowestPlayIsLowestOrder, LowestFrontIsFront, OneLowestFront, LowestOrderIsLowest, LowestPlayIsLowest, LowestOrderIsLawful, HistoryBegins, HistoryGrows, PlayIsFaithful, HistoryIsFaithful, LawfulOrderHasItsLog, LawfulOrderFits, FaithfulLogIsShort, ScriptTestIsExact, LogTestIsExact};
 ghost use Rattle.octet_model.specs.PastLaws.{PathsStay, PastsStay, PastsGainNothing, PastHasOwn, PastHappensBefore, PastIsClosed, PastGrows, PastHasJoined, PastHasDraws, DrawsDifferInHistory};
 
 /// Where the journals of one lawful order are ordered, all lawful orders have one execution and
@@ -69,6 +69,19 @@ pub fn history_grows()
 pub fn recording_is_faithful()
     ensures play { PlayIsFaithful }
     ensures history { HistoryIsFaithful }
+{}
+
+/// The journals of a lawful order have the very log that the order follows, and fit the script to
+/// its threads' ends: no access and no mark of a log is left over, and none is made beside it.
+pub fn order_follows_its_log()
+    ensures log { LawfulOrderHasItsLog }
+    ensures fits { LawfulOrderFits }
+{}
+
+/// The log of a faithful recording has at most 55,050,374 bytes, since few marks stand before an
+/// access and none behind the last: less than a log's file may have.
+pub fn faithful_log_is_short()
+    ensures { FaithfulLogIsShort }
 {}
 
 /// Scripts and logs are valid by their types, which rest on tests that compute. Each test is true

@@ -4,3 +4,5 @@ pub mod Promises
 pub mod Requests
 pub mod Takes
 pub mod Words
+pub mod Due
+pub mod Kept

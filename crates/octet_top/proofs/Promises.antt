@@ -1,12 +1,17 @@
 -- From what is served to what each status promises.
-use Rattle.std.proofs.Common.{◌≡◌, ◌∙◌, ◌≢◌, ◌<◌, ◌⊎◌, ℕ, List, length, Option, None, Some, IfSome, IsSomeAnd, inl, inr, sym, ap, subst, refl, arith}
+use Rattle.std.proofs.Common.{◌≡◌, ◌∙◌, ◌≢◌, ◌<◌, ◌⊎◌, ℕ, List, [], length, Option, None, Some, IfSome, IsSomeAnd, inl, inr, sym, ap, subst, refl, arith}
+use Rattle.std.specs.List.{sum_by}
 use Rattle.std.specs.FinMap.{get, insert}
+use Rattle.std.proofs.lemmas.List.{length-map}
 use Rattle.octet_base.specs.Desk.{Files, Rose, spoken}
 use Rattle.octet_model.specs.declared.script.Script.{Script}
 use Rattle.octet_model.specs.declared.log.Log.{Log}
 use Rattle.octet_model.specs.declared.log.ThreadLog.{ThreadLog}
 use Rattle.octet_model.specs.Texts.{log_bytes, outcome_text}
-use Rattle.octet_model.specs.Orders.{execution, journals_after, lowest_order}
+use Rattle.octet_model.specs.declared.outcome.Outcome.{Outcome}
+use Rattle.octet_model.specs.Journals.{log_of_journal, log_of}
+use Rattle.octet_model.specs.Orders.{execution, journals_after, lowest_order, IsFaithful}
+use Rattle.octet_model.proofs.Following.{lawful_order_has_its_log, lawful_order_fits}
 use Rattle.octet_script.specs.declared.cause.ScriptCause.{ScriptCause}
 use Rattle.octet_script.specs.Spelling.{Spells, canonical_text}
 use Rattle.octet_script.proofs.Spelled.{spells_judged, one_script}
@@ -18,10 +23,13 @@ use Rattle.octet_replay.specs.declared.fault.ReplayFault.{ReplayFault}
 use Rattle.octet_replay.specs.declared.fault.ReplayFault.TheVariants.{OutOfMemory}
 use Rattle.octet_replay.specs.Judged.{HasCause, IsLawful}
 use Rattle.octet_replay.proofs.Answered.{faithful, not_refused}
+use Rattle.octet_model.specs.declared.event.Place.{Place}
 use Rattle.octet_clock.specs.declared.verdict.Verdict.{Verdict}
 use Rattle.octet_clock.specs.declared.verdict.Verdict.TheVariants as verdict
 use Rattle.octet_clock.specs.Verified.{IsVerified}
-use Rattle.octet_top.specs.declared.reply.Status.TheVariants.{Done, Unordered}
+use Rattle.octet_gen.specs.Generated.{IsGenerated}
+use Rattle.octet_gen.proofs.Accesses.{script_makes_its_accesses}
+use Rattle.octet_top.specs.declared.reply.Status.TheVariants.{Done}
 use Rattle.octet_top.specs.Answer.{Answer, code_of, told, writes_and_tells, not_a_command, no_such_object, read_failed, too_long, script_refused, log_refused, does_not_fit, verdict_told, summary}
 use Rattle.octet_top.specs.Profile.{profile_text}
 use Rattle.octet_top.specs.Taking.{TakingScript, TakingLog, IsTaken, IsAbsent, IsTooLong, script_limit, log_limit}
@@ -32,7 +40,7 @@ use Rattle.octet_top.specs.Promises.{RunsFaithfully, TakesBoth, VerifiesOrdered,
 use Rattle.octet_top.proofs.Files.{get-inserted, get-other}
 use Rattle.octet_top.proofs.Words.{one_command}
 
-same_value : {A : Type 0} (x y : A) → Some x ≡ Some y → x ≡ y
+pub same_value : {A : Type 0} (x y : A) → Some x ≡ Some y → x ≡ y
 same_value x y is = cc
 
 -- a status that is none of a failed write or of refused memory is that of the answer
@@ -41,22 +49,22 @@ own_status answer before after code no_write no_memory (inl given) = given
 own_status answer before after code no_write no_memory (inr cut) = absurd (elim cut.status [ inl failed ↦ no_write failed.0 | inr memory ↦ no_memory memory ])
 
 -- the answer that was given, at such a status
-record Given (words : List (List ℕ)) (before after : DeskState) (code : ℕ) : Type 0 where
-  answer : Answer
-  answers : IsAnswer words before.files before.take_faults after.take_faults answer
-  given : IsGiven answer before after code
+pub record Given (words : List (List ℕ)) (before after : DeskState) (code : ℕ) : Type 0 where
+  pub answer : Answer
+  pub answers : IsAnswer words before.files before.take_faults after.take_faults answer
+  pub given : IsGiven answer before after code
 
-given_at : (words : List (List ℕ)) (before after : DeskState) (code : ℕ) → (code ≡ 6 → ⊥) → (code ≡ 7 → ⊥)
+pub given_at : (words : List (List ℕ)) (before after : DeskState) (code : ℕ) → (code ≡ 6 → ⊥) → (code ≡ 7 → ⊥)
     → IsServed (IsAnswer words before.files before.take_faults after.take_faults) before after code → Given words before after code
 given_at words before after code no_write no_memory (inl untouched) = absurd (no_memory untouched.status)
 given_at words before after code no_write no_memory (inr served) = record { answer = served.0; answers = served.1; given = own_status served.0 before after code no_write no_memory served.2 }
 
 -- a status as its answer's
-status_is : (answer told : Answer) (before after : DeskState) (code : ℕ) → answer ≡ told → IsGiven answer before after code → code ≡ code_of told.status
+pub status_is : (answer told : Answer) (before after : DeskState) (code : ℕ) → answer ≡ told → IsGiven answer before after code → code ≡ code_of told.status
 status_is answer told before after code is given = given.status ∙ ap (λ (a : Answer). code_of a.status) is
 
 -- the answers to a command that words ask for
-answers_to : (words : List (List ℕ)) (command : Command) (files : Option Files) (before after : ℕ) (answer : Answer) → Asks words command
+pub answers_to : (words : List (List ℕ)) (command : Command) (files : Option Files) (before after : ℕ) (answer : Answer) → Asks words command
     → IsAnswer words files before after answer → CommandAnswers command files before after answer
 answers_to words command files before after answer asked (inl (other, is, answers)) =
     subst (λ (c : Command). CommandAnswers c files before after answer) (one_command words other command is asked) answers
@@ -126,6 +134,14 @@ ordered words before after code served script_name log_name verify zero =
     by answer given (inr (inr (text, taken, inl refused))) = absurd (omega (arith, status_is answer (script_refused refused.0 refused.1) before after code refused.3 given))
     by answer given (inr (inr (text, taken, inr (script, spells, on)))) = by_log answer given text script taken spells on
 
+-- the journals of a lawful order have the log, and those of a generated script as many accesses as it is made for
+accesses_of : (number : ℕ) (script : Script) (log : List ThreadLog) (outcome : Outcome) → IsGenerated number script → IsFaithful script log outcome → sum_by (λ thread. thread.accesses) log ≡ 160000
+accesses_of number script log outcome generated faithful =
+    let journals = journals_after script log faithful.order in
+    let same : log_of journals ≡ log = lawful_order_has_its_log script log faithful.order faithful.is_lawful in
+    let many : length journals ≡ length script.threads = sym (length-map journals log_of_journal) ∙ ap (λ (l : List ThreadLog). length l) same ∙ sym faithful.is_lawful.0 in
+    subst (λ (l : List ThreadLog). sum_by (λ thread. thread.accesses) l ≡ 160000) same (script_makes_its_accesses number script journals generated many (lawful_order_fits script log faithful.order faithful.is_lawful))
+
 pub generated : (words : List (List ℕ)) (before after : DeskState) (code : ℕ) → IsServed (IsAnswer words before.files before.take_faults after.take_faults) before after code
     → (number : ℕ) (script_name log_name : List ℕ) → Asks words (Gen number script_name log_name) → code ≡ 0 → GeneratesFaithfully number script_name log_name before after
 generated words before after code served number script_name log_name gen zero files files' said said' is is' said_is said_is' =
@@ -144,6 +160,7 @@ generated words before after code served number script_name log_name gen zero fi
       script_written = λ differ. ap (λ (m : Files). get m script_name) left ∙ get-other first log_name (log_bytes log.threads) script_name differ ∙ get-inserted files script_name (canonical_text script);
       log_written = ap (λ (m : Files). get m log_name) left ∙ get-inserted first log_name (log_bytes log.threads);
       told = same_value _ _ (sym said_is' ∙ g.given.said ∙ ap (λ (a : Answer). spoken a.text before.said) made.5 ∙ ap (spoken summary) said_is);
+      accesses = accesses_of number script log.threads made.2 made.3 made.4;
       faithful = made.4;
     }
 
@@ -153,7 +170,7 @@ pub data Cause (words : List (List ℕ)) (before after : DeskState) (answer : An
   ByLength : (name : List ℕ) (limit : ℕ) → SaysToTake words name limit → answer ≡ too_long name limit → IsTooLong before.files name limit → Cause words before after answer
   ByScript : (line : ℕ) (cause : ScriptCause) → answer ≡ script_refused line cause → IsScriptRefused words before.files → Cause words before after answer
   ByLog : (cause : LogCause) → answer ≡ log_refused cause → IsLogRefused words before.files → Cause words before after answer
-  ByOrder : answer.status ≡ Unordered → IsFoundUnordered words before.files → Cause words before after answer
+  ByOrder : (first second : Place) → answer ≡ verdict_told (verdict.Unordered first second) → IsFoundUnordered words before.files → Cause words before after answer
   ByFit : (fault : ReplayFault) → answer ≡ does_not_fit fault → IsMisfitting words before.files → Cause words before after answer
   BySuccess : answer.status ≡ Done → Cause words before after answer
   ByWords : answer ≡ not_a_command → IsNotACommand words → Cause words before after answer
@@ -166,7 +183,7 @@ status_of words before after answer (ByLength name limit named is long) = 8
 status_of words before after answer (ByScript line cause is refused) = 2
 status_of words before after answer (ByLog cause is refused) = 3
 status_of words before after answer (ByFit fault is misfits) = 4
-status_of words before after answer (ByOrder status unordered) = 9
+status_of words before after answer (ByOrder first second is unordered) = 9
 status_of words before after answer (BySuccess done) = 0
 status_of words before after answer (ByWords is none) = 1
 status_of words before after answer (ByName is unknown) = 1
@@ -177,7 +194,7 @@ status_comes words before after code answer (ByLength name limit named is long) 
 status_comes words before after code answer (ByScript line cause is refused) given = status_is answer (script_refused line cause) before after code is given
 status_comes words before after code answer (ByLog cause is refused) given = status_is answer (log_refused cause) before after code is given
 status_comes words before after code answer (ByFit fault is misfits) given = status_is answer (does_not_fit fault) before after code is given
-status_comes words before after code answer (ByOrder status unordered) given = given.status ∙ ap code_of status
+status_comes words before after code answer (ByOrder first second is unordered) given = status_is answer (verdict_told (verdict.Unordered first second)) before after code is given
 status_comes words before after code answer (BySuccess done) given = given.status ∙ ap code_of done
 status_comes words before after code answer (ByWords is none) given = status_is answer not_a_command before after code is given
 status_comes words before after code answer (ByName is unknown) given = status_is answer no_such_object before after code is given
@@ -291,7 +308,7 @@ module _ (words : List (List ℕ)) (before after : DeskState) (answer : Answer) 
           → (verdict : Verdict) → IsVerified script log.threads verdict → answer ≡ verdict_told verdict → Cause words before after answer
       by_verdict script log taken script_named log_named verdict.Ordered verified is = done_by (verdict_told verdict.Ordered) is refl
       by_verdict script log taken script_named log_named (verdict.Unordered first second) verified is =
-          ByOrder (ap (λ (a : Answer). a.status) is) (record {
+          ByOrder first second is (record {
             script_name = script_name;
             log_name = log_name;
             script = script;
@@ -335,7 +352,7 @@ module _ (words : List (List ℕ)) (before after : DeskState) (code : ℕ) (serv
       by answer (ByScript line cause is refused) comes = other 1 2 one comes (λ e. omega arith)
       by answer (ByLog cause is refused) comes = other 1 3 one comes (λ e. omega arith)
       by answer (ByFit fault is misfits) comes = other 1 4 one comes (λ e. omega arith)
-      by answer (ByOrder status unordered) comes = other 1 9 one comes (λ e. omega arith)
+      by answer (ByOrder first second is unordered) comes = other 1 9 one comes (λ e. omega arith)
       by answer (BySuccess done) comes = other 1 0 one comes (λ e. omega arith)
       by answer (ByWords is none) comes = inl none
       by answer (ByName is unknown) comes = inr unknown
@@ -349,7 +366,7 @@ module _ (words : List (List ℕ)) (before after : DeskState) (code : ℕ) (serv
       by answer (ByScript line cause is refused) comes = refused
       by answer (ByLog cause is refused) comes = other 2 3 two comes (λ e. omega arith)
       by answer (ByFit fault is misfits) comes = other 2 4 two comes (λ e. omega arith)
-      by answer (ByOrder status unordered) comes = other 2 9 two comes (λ e. omega arith)
+      by answer (ByOrder first second is unordered) comes = other 2 9 two comes (λ e. omega arith)
       by answer (BySuccess done) comes = other 2 0 two comes (λ e. omega arith)
       by answer (ByWords is none) comes = other 2 1 two comes (λ e. omega arith)
       by answer (ByName is unknown) comes = other 2 1 two comes (λ e. omega arith)
@@ -363,7 +380,7 @@ module _ (words : List (List ℕ)) (before after : DeskState) (code : ℕ) (serv
       by answer (ByScript line cause is refused) comes = other 3 2 three comes (λ e. omega arith)
       by answer (ByLog cause is refused) comes = refused
       by answer (ByFit fault is misfits) comes = other 3 4 three comes (λ e. omega arith)
-      by answer (ByOrder status unordered) comes = other 3 9 three comes (λ e. omega arith)
+      by answer (ByOrder first second is unordered) comes = other 3 9 three comes (λ e. omega arith)
       by answer (BySuccess done) comes = other 3 0 three comes (λ e. omega arith)
       by answer (ByWords is none) comes = other 3 1 three comes (λ e. omega arith)
       by answer (ByName is unknown) comes = other 3 1 three comes (λ e. omega arith)
@@ -377,7 +394,7 @@ module _ (words : List (List ℕ)) (before after : DeskState) (code : ℕ) (serv
       by answer (ByScript line cause is refused) comes = other 4 2 four comes (λ e. omega arith)
       by answer (ByLog cause is refused) comes = other 4 3 four comes (λ e. omega arith)
       by answer (ByFit fault is misfits) comes = misfits
-      by answer (ByOrder status unordered) comes = other 4 9 four comes (λ e. omega arith)
+      by answer (ByOrder first second is unordered) comes = other 4 9 four comes (λ e. omega arith)
       by answer (BySuccess done) comes = other 4 0 four comes (λ e. omega arith)
       by answer (ByWords is none) comes = other 4 1 four comes (λ e. omega arith)
       by answer (ByName is unknown) comes = other 4 1 four comes (λ e. omega arith)
@@ -391,7 +408,7 @@ module _ (words : List (List ℕ)) (before after : DeskState) (code : ℕ) (serv
       by answer (ByScript line cause is refused) comes = other 9 2 nine comes (λ e. omega arith)
       by answer (ByLog cause is refused) comes = other 9 3 nine comes (λ e. omega arith)
       by answer (ByFit fault is misfits) comes = other 9 4 nine comes (λ e. omega arith)
-      by answer (ByOrder status unordered) comes = unordered
+      by answer (ByOrder first second is unordered) comes = unordered
       by answer (BySuccess done) comes = other 9 0 nine comes (λ e. omega arith)
       by answer (ByWords is none) comes = other 9 1 nine comes (λ e. omega arith)
       by answer (ByName is unknown) comes = other 9 1 nine comes (λ e. omega arith)
@@ -405,7 +422,7 @@ module _ (words : List (List ℕ)) (before after : DeskState) (code : ℕ) (serv
       by answer (ByScript line cause is refused) comes = other 5 2 five comes (λ e. omega arith)
       by answer (ByLog cause is refused) comes = other 5 3 five comes (λ e. omega arith)
       by answer (ByFit fault is misfits) comes = other 5 4 five comes (λ e. omega arith)
-      by answer (ByOrder status unordered) comes = other 5 9 five comes (λ e. omega arith)
+      by answer (ByOrder first second is unordered) comes = other 5 9 five comes (λ e. omega arith)
       by answer (BySuccess done) comes = other 5 0 five comes (λ e. omega arith)
       by answer (ByWords is none) comes = other 5 1 five comes (λ e. omega arith)
       by answer (ByName is unknown) comes = other 5 1 five comes (λ e. omega arith)
@@ -419,7 +436,7 @@ module _ (words : List (List ℕ)) (before after : DeskState) (code : ℕ) (serv
       by answer (ByScript line cause is refused) comes = other 8 2 eight comes (λ e. omega arith)
       by answer (ByLog cause is refused) comes = other 8 3 eight comes (λ e. omega arith)
       by answer (ByFit fault is misfits) comes = other 8 4 eight comes (λ e. omega arith)
-      by answer (ByOrder status unordered) comes = other 8 9 eight comes (λ e. omega arith)
+      by answer (ByOrder first second is unordered) comes = other 8 9 eight comes (λ e. omega arith)
       by answer (BySuccess done) comes = other 8 0 eight comes (λ e. omega arith)
       by answer (ByWords is none) comes = other 8 1 eight comes (λ e. omega arith)
       by answer (ByName is unknown) comes = other 8 1 eight comes (λ e. omega arith)
@@ -433,7 +450,7 @@ module _ (words : List (List ℕ)) (before after : DeskState) (code : ℕ) (serv
       at_cause answer (ByScript line cause is refused) comes = other 6 2 six comes (λ e. omega arith)
       at_cause answer (ByLog cause is refused) comes = other 6 3 six comes (λ e. omega arith)
       at_cause answer (ByFit fault is misfits) comes = other 6 4 six comes (λ e. omega arith)
-      at_cause answer (ByOrder status unordered) comes = other 6 9 six comes (λ e. omega arith)
+      at_cause answer (ByOrder first second is unordered) comes = other 6 9 six comes (λ e. omega arith)
       at_cause answer (BySuccess done) comes = other 6 0 six comes (λ e. omega arith)
       at_cause answer (ByWords is none) comes = other 6 1 six comes (λ e. omega arith)
       at_cause answer (ByName is unknown) comes = other 6 1 six comes (λ e. omega arith)
@@ -445,103 +462,20 @@ module _ (words : List (List ℕ)) (before after : DeskState) (code : ℕ) (serv
           let cause = cause_of words before after answer answers in
           at_cause answer cause (status_comes words before after code answer cause given)
 
--- a file that is there
-taken_is : (files : Option Files) (name bytes taken : List ℕ) (limit : ℕ) → IsThere files name limit bytes → IsTaken files name limit taken → bytes ≡ taken
-taken_is (Some fs) name bytes taken limit there is = same_value bytes taken (sym there.0 ∙ is.0)
-taken_is None name bytes taken limit there is = absurd there.0
+  -- a refusal writes nothing
+  pub untouched_at : (code ≡ 0 → ⊥) → (code ≡ 6 → ⊥) → (code ≡ 7 → ⊥) → after.files ≡ before.files
+  untouched_at not_done no_write no_memory = let g = given_at words before after code no_write no_memory served in by g.answer g.given (cause_of words before after g.answer g.answers)
+    where
+      of : (answer told : Answer) → answer ≡ told → told.files ≡ [] → IsGiven answer before after code → after.files ≡ before.files
+      of answer told is none given = given.files ∙ ap (λ (a : Answer). written a.files before.files) is ∙ ap (λ (outputs : List (List ℕ × List ℕ)). written outputs before.files) none
 
-not_absent : (files : Option Files) (name bytes : List ℕ) (limit : ℕ) → IsThere files name limit bytes → IsAbsent files name → ⊥
-not_absent (Some fs) name bytes limit there absent = let both = sym there.0 ∙ absent in cc
-not_absent None name bytes limit there absent = absurd there.0
-
-not_too_long : (files : Option Files) (name bytes : List ℕ) (limit : ℕ) → IsThere files name limit bytes → IsTooLong files name limit → ⊥
-not_too_long (Some fs) name bytes limit there long = go (get fs name) there.0 long
-  where
-    go : (o : Option (List ℕ)) → o ≡ Some bytes → IsSomeAnd o (λ b. limit < length b) → ⊥
-    go None is h = h
-    go (Some b) is h = omega (arith, h, ap (λ (x : List ℕ). length x) (same_value b bytes is), there.1)
-not_too_long None name bytes limit there long = there.0
-
-module _ (files : Option Files) (faults faults' : ℕ) (none : ¬ Rose faults faults') where
-  -- a script that is there is taken
-  goes_on_with_script : (name : List ℕ) (Onward : Script → Answer → Type 0) (answer : Answer) (has : HasScript files name) → TakingScript files faults faults' name Onward answer → Onward has.script answer
-  goes_on_with_script name Onward answer has (inl (is, inl rose)) = absurd (none rose)
-  goes_on_with_script name Onward answer has (inl (is, inr absent)) = absurd (not_absent files name has.text script_limit has.there absent)
-  goes_on_with_script name Onward answer has (inr (inl (is, long))) = absurd (not_too_long files name has.text script_limit has.there long)
-  goes_on_with_script name Onward answer has (inr (inr (text, taken, parsing))) =
-      let spelled = subst (λ (t : List ℕ). Spells t has.script) (taken_is files name has.text text script_limit has.there taken) has.spelled in
-      elim parsing [
-        | inl (line, cause, refused, is) ↦ absurd (let judged = sym refused ∙ spells_judged text has.script spelled in cc)
-        | inr (script, spells, on) ↦ subst (λ (s : Script). Onward s answer) (one_script text has.script script spelled spells) on
-      ]
-
-  goes_on_with_log : (name : List ℕ) (Onward : List ThreadLog → Answer → Type 0) (answer : Answer) (has : HasLog files name)
-      → TakingLog files faults faults' name (λ log. Onward log.threads) answer → Onward has.log.threads answer
-  goes_on_with_log name Onward answer has (inl (is, inl rose)) = absurd (none rose)
-  goes_on_with_log name Onward answer has (inl (is, inr absent)) = absurd (not_absent files name has.bytes log_limit has.there absent)
-  goes_on_with_log name Onward answer has (inr (inl (is, long))) = absurd (not_too_long files name has.bytes log_limit has.there long)
-  goes_on_with_log name Onward answer has (inr (inr (bytes, taken, decoding))) =
-      let spelled = sym (taken_is files name has.bytes bytes log_limit has.there taken) ∙ has.spelled in
-      elim decoding [
-        | inl (cause, refused, is) ↦ absurd (let judged = sym refused ∙ ap judgement spelled ∙ judgement_is has.log.threads has.log.valid in cc)
-        | inr (log, bytes_are, on) ↦ subst (λ (l : List ThreadLog). Onward l answer) (one_log log.threads has.log.threads log.valid has.log.valid (sym bytes_are ∙ spelled)) on
-      ]
-
-  abbrev Refused : Script → List ThreadLog → Answer → Type 0
-  Refused script log answer = (fault : ReplayFault) × (fault ≢ OutOfMemory) × HasCause script log fault × (answer ≡ does_not_fit fault)
-
-  done_at : (answer told : Answer) → answer ≡ told → told.status ≡ Done → answer.status ≡ Done
-  done_at answer told is done = ap (λ (a : Answer). a.status) is ∙ done
-
-  -- a command that has its files is done
-  done : (command : Command) (answer : Answer) → HasFiles command files → CommandAnswers command files faults faults' answer → answer.status ≡ Done
-  done (Run script_name log_name) answer has answers =
-      let recording = goes_on_with_script script_name (IsRecording log_name) answer has answers in
-      done_at answer (writes_and_tells log_name (log_bytes recording.0.threads) (outcome_text has.script recording.1)) recording.3 refl
-  done (Tidy script_name) answer has answers =
-      done_at answer (told Done (canonical_text has.script)) (goes_on_with_script script_name (λ script answer. answer ≡ told Done (canonical_text script)) answer has answers) refl
-  done (Show log_name) answer has answers =
-      done_at answer (told Done (log_text has.log.threads)) (goes_on_with_log log_name (λ log answer. answer ≡ told Done (log_text log)) answer has answers) refl
-  done (Replay script_name log_name) answer has answers =
-      let script = has.script.script in
-      let log = has.log.log.threads in
-      let fitting = goes_on_with_log log_name (λ log answer. Refused script log answer ⊎ (IsLawful script log × (answer ≡ told Done (outcome_text script (execution script log (lowest_order script log))))))
-      answer has.log (goes_on_with_script script_name (λ script answer. TakingLog files faults faults' log_name (IsReplayed script) answer) answer has.script answers) in
-      elim fitting [
-        | inl refused ↦ absurd (not_refused script log refused.0 (faithful script log has.outcome has.faithful).0 refused.1 refused.2)
-        | inr replayed ↦ done_at answer (told Done (outcome_text script (execution script log (lowest_order script log)))) replayed.1 refl
-      ]
-  done (Verify script_name log_name) answer has answers =
-      let script = has.script.script in
-      let log = has.log.log.threads in
-      let lawful = (faithful script log has.outcome has.faithful).0 in
-      let fitting = goes_on_with_log log_name (λ log answer. Refused script log answer ⊎ (IsLawful script log × ((verdict : Verdict) × IsVerified script log verdict × (answer ≡ verdict_told verdict))))
-      answer has.log (goes_on_with_script script_name (λ script answer. TakingLog files faults faults' log_name (IsVerdictTold script) answer) answer has.script answers) in
-      elim fitting [
-        | inl refused ↦ absurd (not_refused script log refused.0 lawful refused.1 refused.2)
-        | inr verified ↦
-            let ordered = verified.1.1.told.ordered.1 (has.faithful.ordered (lowest_order script log) lawful) in
-            done_at answer (verdict_told verdict.Ordered) (verified.1.2 ∙ ap verdict_told ordered) refl
-      ]
-  done (Profile script_name log_name name) answer has answers =
-      let recording = has.recording in
-      let script = recording.script.script in
-      let log = recording.log.log.threads in
-      elim (goes_on_with_script script_name (λ script answer. Choosing (λ wanted answer. TakingLog files faults faults' log_name (IsProfiled wanted script) answer) script name answer) answer recording.script answers) [
-        | inl unknown ↦ absurd (let both : Some has.wanted ≡ None = sym has.known ∙ unknown.0 in cc)
-        | inr known ↦
-            let said : List ThreadLog → Answer = λ log. told Done (profile_text known.0 (journals_after script log (lowest_order script log))) in
-            elim (goes_on_with_log log_name (λ log answer. Refused script log answer ⊎ (IsLawful script log × (answer ≡ said log))) answer recording.log known.2) [
-              | inl refused ↦ absurd (not_refused script log refused.0 (faithful script log recording.outcome recording.faithful).0 refused.1 refused.2)
-              | inr profiled ↦ done_at answer (said log) profiled.1 refl
-            ]
-      ]
-  done (Gen number script_name log_name) answer has answers = ap (λ (a : Answer). a.status) answers.5
-
--- a command over files that are there as they should be is done, unless memory was refused
-pub complete : (words : List (List ℕ)) (before after : DeskState) (code : ℕ) → IsServed (IsAnswer words before.files before.take_faults after.take_faults) before after code
-    → IsWellMet words before.files → ¬ Rose before.take_faults after.take_faults → ¬ Rose before.write_faults after.write_faults → (code ≡ 0) ⊎ (code ≡ 7)
-complete words before after code (inl untouched) met no_read no_write = inr untouched.status
-complete words before after code (inr (answer, answers, inr cut)) met no_read no_write = elim cut.status [ inl failed ↦ absurd (no_write failed.1) | inr memory ↦ inr memory ]
-complete words before after code (inr (answer, answers, inl given)) (command, asked, has) no_read no_write =
-    inl (given.status ∙ ap code_of (done before.files before.take_faults after.take_faults no_read command answer has (answers_to words command before.files before.take_faults after.take_faults answer asked answers)))
+      by : (answer : Answer) → IsGiven answer before after code → Cause words before after answer → after.files ≡ before.files
+      by answer given (ByRead name limit named is fault) = of answer read_failed is refl given
+      by answer given (ByLength name limit named is long) = of answer (too_long name limit) is refl given
+      by answer given (ByScript line cause is refused) = of answer (script_refused line cause) is refl given
+      by answer given (ByLog cause is refused) = of answer (log_refused cause) is refl given
+      by answer given (ByFit fault is misfits) = of answer (does_not_fit fault) is refl given
+      by answer given (ByOrder first second is unordered) = of answer (verdict_told (verdict.Unordered first second)) is refl given
+      by answer given (BySuccess done) = absurd (not_done (given.status ∙ ap code_of done))
+      by answer given (ByWords is none) = of answer not_a_command is refl given
+      by answer given (ByName is unknown) = of answer no_such_object is refl given

@@ -5,3 +5,5 @@ pub mod Request
 pub mod Profile
 pub mod Commands
 pub mod Promises
+pub mod Kept
+pub mod Due

@@ -1,5 +1,6 @@
 -- What the top call promises of each status.
 use Rattle.std.specs.Prelude.{ℕ, ◌≡◌, ◌≢◌, ◌≤◌, ◌++◌, ◌⊎◌, List, length, Option, None, Some, IsSomeAnd}
+use Rattle.std.specs.List.{sum_by}
 use Rattle.std.specs.FinMap.{get}
 use Rattle.octet_base.specs.Desk.{Files}
 use Rattle.octet_model.specs.declared.script.Script.{Script}
@@ -73,7 +74,7 @@ pub record IsFoundUnordered (words : List (List ℕ)) (files : Option Files) : T
   pub lawful : IsLawful script log.threads
   pub unordered : ¬ IsOrdered (journals_after script log.threads (lowest_order script log.threads))
 
--- the files of the generated script and of its log, which are a faithful recording with one outcome; of equal names the log's bytes stay
+-- the files of the generated script and of its log, which are a faithful recording with one outcome; of equal names the log's bytes stay. The log has as many accesses as the summary says
 pub record IsGeneratedRun (number : ℕ) (script_name log_name : List ℕ) (files' : Files) (said said' : List ℕ) : Type 0 where
   pub script : Script
   pub log : Log
@@ -82,6 +83,7 @@ pub record IsGeneratedRun (number : ℕ) (script_name log_name : List ℕ) (file
   pub script_written : script_name ≢ log_name → get files' script_name ≡ Some (canonical_text script)
   pub log_written : get files' log_name ≡ Some (log_bytes log.threads)
   pub told : said' ≡ said ++ summary
+  pub accesses : sum_by (λ thread. thread.accesses) log.threads ≡ 160000
   pub faithful : IsFaithful script log.threads outcome
 
 -- where the desk tells its contents
@@ -190,3 +192,9 @@ HasFiles (Gen number script log) files = Unit {0}
 -- the words ask for a command that has its files
 abbrev pub IsWellMet : List (List ℕ) → Option Files → Type 0
 IsWellMet words files = (command : Command) × Asks words command × HasFiles command files
+
+-- a replay that is done of the recording that is there says the outcome that was recorded
+abbrev pub RepeatsRecordings : List (List ℕ) → DeskState → DeskState → ℕ → Type 0
+RepeatsRecordings words before after code =
+    (script_name log_name : List ℕ) → Asks words (Replay script_name log_name) → code ≡ 0 → (recording : HasRecording before.files script_name log_name)
+    → (said said' : List ℕ) → before.said ≡ Some said → after.said ≡ Some said' → said' ≡ said ++ outcome_text recording.script.script recording.outcome

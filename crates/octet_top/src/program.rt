@@ -1,11 +1,14 @@
 //! The top call: words in, an exit status out.
-ghost use Rattle.std.specs.Prelude.{◌≡◌, ◌≤◌, ◌⊎◌, ℕ, List, None, IfOk};
+ghost use Rattle.std.specs.Prelude.{◌≡◌, ◌≢◌, ◌≤◌, ◌⊎◌, ℕ, List, None, IfOk};
 ghost use Rattle.octet_base.specs.Desk.{Rose};
-ghost use Rattle.octet_top.specs.Answer.{answer_of};
+ghost use Rattle.octet_top.specs.declared.reply.Status.{Status};
+ghost use Rattle.octet_top.specs.Answer.{answer_of, code_of};
 ghost use Rattle.octet_top.specs.Request.{texts, command_of, Asks, Run, Verify, Gen, IsNotACommand};
 ghost use Rattle.octet_top.specs.Commands.{IsAnswer, CommandAnswers};
 ghost use Rattle.octet_top.specs.Serving.{DeskState, IsServed};
-ghost use Rattle.octet_top.specs.Promises.{RunsFaithfully, IsScriptRefused, IsLogRefused, IsMisfitting, IsFoundUnordered, VerifiesOrdered, GeneratesFaithfully, NamesNoObject, IsFileAbsent, IsFileTooLong, IsWellMet};
+ghost use Rattle.octet_top.specs.Promises.{RunsFaithfully, IsScriptRefused, IsLogRefused, IsMisfitting, IsFoundUnordered, VerifiesOrdered, GeneratesFaithfully, NamesNoObject, IsFileAbsent, IsFileTooLong, IsWellMet, RepeatsRecordings};
+ghost use Rattle.octet_top.specs.Due.{IsDue};
+ghost use Rattle.octet_top.specs.Kept.{KeepsOtherFiles};
 
 use crate::deliver::deliver;
 use crate::generate::generate;
@@ -49,12 +52,23 @@ pub fn serve<R: Threads + Wait + Sync, D: Desk, G: Gate>(
         let after : DeskState = record { files = D.files desk.new; begun = D.begun desk.new; said = D.said desk.new; take_faults = D.take_faults desk.new; write_faults = D.write_faults desk.new } in
         (number : ℕ) (script_name log_name : List ℕ) → Asks (texts words.now) (Gen number script_name log_name) → result ≡ 0 → GeneratesFaithfully number script_name log_name before after }
 
+    // A replay of a recording says what was recorded.
+    ensures repeats { let before : DeskState = record { files = D.files desk.old; begun = D.begun desk.old; said = D.said desk.old; take_faults = D.take_faults desk.old; write_faults = D.write_faults desk.old } in
+        let after : DeskState = record { files = D.files desk.new; begun = D.begun desk.new; said = D.said desk.new; take_faults = D.take_faults desk.new; write_faults = D.write_faults desk.new } in
+        RepeatsRecordings (texts words.now) before after result }
+
     // All that is written, said and answered, for each command and each status.
     ensures served { let before : DeskState = record { files = D.files desk.old; begun = D.begun desk.old; said = D.said desk.old; take_faults = D.take_faults desk.old; write_faults = D.write_faults desk.old } in
         let after : DeskState = record { files = D.files desk.new; begun = D.begun desk.new; said = D.said desk.new; take_faults = D.take_faults desk.new; write_faults = D.write_faults desk.new } in
         IsServed (IsAnswer (texts words.now) before.files before.take_faults after.take_faults) before after result }
 
-    // When each status comes.
+    // What is left alone: at every status each file that the words do not name to be written, and
+    // all files at a refusal.
+    ensures others { KeepsOtherFiles (texts words.now) (D.files desk.old) (D.files desk.new) }
+    ensures untouched { result ≢ 0 → result ≢ 6 → result ≢ 7 → D.files desk.new ≡ D.files desk.old }
+
+    // When each status comes: only with its cause, and, where no call of the desk fails, whenever
+    // words and files call for it, unless memory was refused.
     ensures words { result ≡ 1 → IsNotACommand (texts words.now) ⊎ NamesNoObject (texts words.now) (D.files desk.old) }
     ensures script { result ≡ 2 → IsScriptRefused (texts words.now) (D.files desk.old) }
     ensures log { result ≡ 3 → IsLogRefused (texts words.now) (D.files desk.old) }
@@ -63,6 +77,8 @@ pub fn serve<R: Threads + Wait + Sync, D: Desk, G: Gate>(
     ensures read { result ≡ 5 → Rose (D.take_faults desk.old) (D.take_faults desk.new) ⊎ IsFileAbsent (texts words.now) (D.files desk.old) }
     ensures write { result ≡ 6 → Rose (D.write_faults desk.old) (D.write_faults desk.new) }
     ensures too_long { result ≡ 8 → IsFileTooLong (texts words.now) (D.files desk.old) }
+    ensures due { (status : Status) → IsDue (texts words.now) (D.files desk.old) status → ¬ Rose (D.take_faults desk.old) (D.take_faults desk.new) → ¬ Rose (D.write_faults desk.old) (D.write_faults desk.new)
+        → (result ≡ code_of status) ⊎ (result ≡ 7) }
     ensures complete { IsWellMet (texts words.now) (D.files desk.old) → ¬ Rose (D.take_faults desk.old) (D.take_faults desk.new) → ¬ Rose (D.write_faults desk.old) (D.write_faults desk.new)
         → (result ≡ 0) ⊎ (result ≡ 7) }
 {

@@ -1,5 +1,7 @@
 use Rattle.octet_top.specs.Request.{texts}
-use Rattle.octet_top.proofs.Promises.{headline, ordered, generated, unordered_at_9, words_at_1, script_refused_at_2, log_refused_at_3, misfitting_at_4, read_at_5, write_at_6, too_long_at_8, complete}
+use Rattle.octet_top.proofs.Promises.{headline, ordered, generated, unordered_at_9, words_at_1, script_refused_at_2, log_refused_at_3, misfitting_at_4, read_at_5, write_at_6, too_long_at_8, untouched_at}
+use Rattle.octet_top.proofs.Due.{comes_as_due, repeats, complete}
+use Rattle.octet_top.proofs.Kept.{keeps_other_files}
 use Rattle.octet_top.proofs.program.serve.Goals as goal
 
 pub returns-clause-headline : goal.returns-clause-headline
@@ -37,3 +39,15 @@ returns-clause-too_long g c = too_long_at_8 (texts c.args.words.now) _ _ _ c.ans
 
 pub returns-clause-complete : goal.returns-clause-complete
 returns-clause-complete g c = complete (texts c.args.words.now) _ _ _ c.answer_words.ensures
+
+pub returns-clause-repeats : goal.returns-clause-repeats
+returns-clause-repeats g c = repeats (texts c.args.words.now) _ _ _ c.answer_words.ensures
+
+pub returns-clause-others : goal.returns-clause-others
+returns-clause-others g c = keeps_other_files (texts c.args.words.now) _ _ _ c.answer_words.ensures
+
+pub returns-clause-untouched : goal.returns-clause-untouched
+returns-clause-untouched g c = untouched_at (texts c.args.words.now) _ _ _ c.answer_words.ensures
+
+pub returns-clause-due : goal.returns-clause-due
+returns-clause-due g c = comes_as_due (texts c.args.words.now) _ _ _ c.answer_words.ensures
