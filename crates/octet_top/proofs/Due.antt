@@ -1,5 +1,5 @@
 -- From the words and the files to the status that is due.
-use Rattle.std.proofs.Common.{◌≡◌, ◌≢◌, ◌∙◌, ◌<◌, ◌≤◌, ◌⊎◌, ℕ, List, length, Option, None, Some, Ok, Err, IfSome, IsSomeAnd, inl, inr, sym, ap, subst, refl, arith}
+use Rattle.std.proofs.Common.{◌≡◌, ◌≢◌, ◌∙◌, ◌<◌, ◌⊎◌, ℕ, List, length, Option, None, Some, IsSomeAnd, inl, inr, sym, ap, subst, refl, arith}
 use Rattle.std.specs.FinMap.{get}
 use Rattle.octet_base.specs.Desk.{Files, Rose, spoken}
 use Rattle.octet_model.specs.declared.script.Script.{Script}
@@ -7,10 +7,9 @@ use Rattle.octet_model.specs.declared.log.Log.{Log}
 use Rattle.octet_model.specs.declared.log.ThreadLog.{ThreadLog}
 use Rattle.octet_model.specs.declared.outcome.Outcome.{Outcome}
 use Rattle.octet_model.specs.Texts.{log_bytes, outcome_text}
-use Rattle.octet_model.specs.HappensBefore.{IsOrdered}
 use Rattle.octet_model.specs.Orders.{execution, journals_after, lowest_order}
 use Rattle.octet_script.specs.declared.cause.ScriptCause.{ScriptCause}
-use Rattle.octet_script.specs.Spelling.{Spells, canonical_text}
+use Rattle.octet_script.specs.Spelling.{canonical_text}
 use Rattle.octet_script.proofs.Spelled.{spells_judged, one_script}
 use Rattle.octet_log.specs.declared.cause.LogCause.{LogCause}
 use Rattle.octet_log.specs.Judgement.{judgement}
@@ -19,20 +18,20 @@ use Rattle.octet_log.proofs.Whole.{judgement_is, one_log}
 use Rattle.octet_replay.specs.declared.fault.ReplayFault.{ReplayFault}
 use Rattle.octet_replay.specs.declared.fault.ReplayFault.TheVariants.{OutOfMemory}
 use Rattle.octet_replay.specs.Judged.{HasCause, IsLawful}
-use Rattle.octet_replay.proofs.Answered.{faithful, not_refused, one_refusal}
+use Rattle.octet_replay.proofs.Answered.{faithful, not_refused}
 use Rattle.octet_clock.specs.declared.verdict.Verdict.{Verdict}
 use Rattle.octet_clock.specs.declared.verdict.Verdict.TheVariants as verdict
 use Rattle.octet_clock.specs.Verified.{IsVerified}
 use Rattle.octet_top.specs.declared.reply.Status.{Status}
-use Rattle.octet_top.specs.declared.reply.Status.TheVariants.{Done, Words, Script as BadScript, Log as BadLog, Fit, Read, Write, Memory, TooLong, Unordered}
+use Rattle.octet_top.specs.declared.reply.Status.TheVariants as exit
 use Rattle.octet_top.specs.Answer.{Answer, code_of, told, writes_and_tells, not_a_command, no_such_object, read_failed, too_long, script_refused, log_refused, does_not_fit, verdict_told}
-use Rattle.octet_top.specs.Profile.{profile_text, wanted_by}
+use Rattle.octet_top.specs.Profile.{profile_text}
 use Rattle.octet_top.specs.Taking.{Taking, Parsing, Decoding, TakingScript, TakingLog, IsTaken, IsAbsent, IsTooLong, Refuses, RefusesLog, script_limit, log_limit}
-use Rattle.octet_top.specs.Request.{Command, Run, Tidy, Show, Replay, Verify, Profile, Gen, Asks, IsNotACommand, script_taken, log_taken}
-use Rattle.octet_top.specs.Commands.{IsAnswer, CommandAnswers, IsRecording, IsReplayed, IsVerdictTold, IsProfiled, Fitting, Choosing}
-use Rattle.octet_top.specs.Serving.{DeskState, IsServed, IsGiven}
+use Rattle.octet_top.specs.Request.{Command, Run, Tidy, Show, Replay, Verify, Profile, Gen, Asks, script_taken, log_taken}
+use Rattle.octet_top.specs.Commands.{IsAnswer, AreAnswered, CommandAnswers, IsRecording, IsReplayed, IsVerdictTold, IsProfiled, Choosing}
+use Rattle.octet_top.specs.Serving.{DeskState}
 use Rattle.octet_top.specs.Promises.{IsThere, HasScript, HasLog, HasRecording, HasFiles, IsWellMet, RepeatsRecordings}
-use Rattle.octet_top.specs.Due.{IsOver, KnowsObject, ReachesLog, ReachesFit, ReachesTake, MissesObject, MissesFile, MeetsLongFile, MeetsBadScript, MeetsBadLog, MeetsMisfit, HasLawful, OrdersAll, MeetsUnordered, HasAll, IsDue}
+use Rattle.octet_top.specs.Due.{IsOver, KnowsObject, ReachesTake, HasLawful, OrdersAll, HasAll, IsDue}
 use Rattle.octet_top.proofs.Promises.{same_value, answers_to, status_is, given_at}
 
 -- what is told of a file excludes the rest
@@ -80,14 +79,14 @@ script_differs line line' cause cause' text refused refused' = let both = sym re
 abbrev FittingLog : (Answer → Type 0) → Script → List ThreadLog → Answer → Type 0
 FittingLog Onward script log answer = ((fault : ReplayFault) × (fault ≢ OutOfMemory) × HasCause script log fault × (answer ≡ does_not_fit fault)) ⊎ (IsLawful script log × Onward answer)
 
-abbrev Replayed : Script → List ThreadLog → Answer → Type 0
-Replayed script log answer = answer ≡ told Done (outcome_text script (execution script log (lowest_order script log)))
+abbrev pub Replayed : Script → List ThreadLog → Answer → Type 0
+Replayed script log answer = answer ≡ told exit.Done (outcome_text script (execution script log (lowest_order script log)))
 
-abbrev Verified : Script → List ThreadLog → Answer → Type 0
+abbrev pub Verified : Script → List ThreadLog → Answer → Type 0
 Verified script log answer = (verdict : Verdict) × IsVerified script log verdict × (answer ≡ verdict_told verdict)
 
-abbrev Profiled : Option ℕ → Script → List ThreadLog → Answer → Type 0
-Profiled wanted script log answer = answer ≡ told Done (profile_text wanted (journals_after script log (lowest_order script log)))
+abbrev pub Profiled : Option ℕ → Script → List ThreadLog → Answer → Type 0
+Profiled wanted script log answer = answer ≡ told exit.Done (profile_text wanted (journals_after script log (lowest_order script log)))
 
 -- where a log fits, the command goes on with it
 fits_on : (Onward : Answer → Type 0) (script : Script) (log : List ThreadLog) (answer : Answer) → IsLawful script log → FittingLog Onward script log answer → Onward answer
@@ -148,7 +147,7 @@ module _ (files : Option Files) (faults faults' : ℕ) (answer : Answer) (none :
   at_script : (command : Command) (name : List ℕ) → script_taken command ≡ Some name → CommandAnswers command files faults faults' answer
       → (Goal : Type 0) → ((Onward : Script → Answer → Type 0) → TakingScript files faults faults' name Onward answer → Goal) → Goal
   at_script (Run script log) name is answers Goal on = on (IsRecording log) (rw (← same_value script name is) answers)
-  at_script (Tidy script) name is answers Goal on = on (λ script answer. answer ≡ told Done (canonical_text script)) (rw (← same_value script name is) answers)
+  at_script (Tidy script) name is answers Goal on = on (λ script answer. answer ≡ told exit.Done (canonical_text script)) (rw (← same_value script name is) answers)
   at_script (Show log) name is answers Goal on = absurd cc
   at_script (Replay script log) name is answers Goal on = on (λ script answer. TakingLog files faults faults' log (IsReplayed script) answer) (rw (← same_value script name is) answers)
   at_script (Verify script log) name is answers Goal on = on (λ script answer. TakingLog files faults faults' log (IsVerdictTold script) answer) (rw (← same_value script name is) answers)
@@ -178,7 +177,7 @@ module _ (files : Option Files) (faults faults' : ℕ) (answer : Answer) (none :
   at_log (Run script log) name is passes answers Goal on = absurd cc
   at_log (Tidy script) name is passes answers Goal on = absurd cc
   at_log (Gen number script log) name is passes answers Goal on = absurd cc
-  at_log (Show log) name is passes answers Goal on = on (λ log answer. answer ≡ told Done (log_text log)) (rw (← same_value log name is) answers)
+  at_log (Show log) name is passes answers Goal on = on (λ log answer. answer ≡ told exit.Done (log_text log)) (rw (← same_value log name is) answers)
   at_log (Replay script log) name is passes answers Goal on =
       let has = (passes script refl).0 in
       let Onward : Script → List ThreadLog → Answer → Type 0 = λ s l. FittingLog (Replayed s l) s l in
@@ -234,41 +233,41 @@ module _ (files : Option Files) (faults faults' : ℕ) (answer : Answer) (none :
   as_told said status is status_is = ap (λ (a : Answer). a.status) is ∙ status_is
 
   -- a command that has all that it takes is done
-  done : (command : Command) → HasAll command files → CommandAnswers command files faults faults' answer → answer.status ≡ Done
+  done : (command : Command) → HasAll command files → CommandAnswers command files faults faults' answer → answer.status ≡ exit.Done
   done (Run script_name log_name) has answers =
       let recording = goes_on_with_script script_name (IsRecording log_name) has answers in
-      as_told (writes_and_tells log_name (log_bytes recording.0.threads) (outcome_text has.script recording.1)) Done recording.3 refl
-  done (Tidy script_name) has answers = as_told (told Done (canonical_text has.script)) Done (goes_on_with_script script_name (λ script answer. answer ≡ told Done (canonical_text script)) has answers) refl
-  done (Show log_name) has answers = as_told (told Done (log_text has.log.threads)) Done (goes_on_with_log log_name (λ log answer. answer ≡ told Done (log_text log)) has answers) refl
+      as_told (writes_and_tells log_name (log_bytes recording.0.threads) (outcome_text has.script recording.1)) exit.Done recording.3 refl
+  done (Tidy script_name) has answers = as_told (told exit.Done (canonical_text has.script)) exit.Done (goes_on_with_script script_name (λ script answer. answer ≡ told exit.Done (canonical_text script)) has answers) refl
+  done (Show log_name) has answers = as_told (told exit.Done (log_text has.log.threads)) exit.Done (goes_on_with_log log_name (λ log answer. answer ≡ told exit.Done (log_text log)) has answers) refl
   done (Replay script_name log_name) has answers =
       let script = has.script.script in
       let log = has.log.log.threads in
-      as_told (told Done (outcome_text script (execution script log (lowest_order script log)))) Done
+      as_told (told exit.Done (outcome_text script (execution script log (lowest_order script log)))) exit.Done
       (fits_on (Replayed script log) script log answer has.lawful (replay_fits script_name log_name has.script has.log answers)) refl
   done (Verify script_name log_name) (has, ordered) answers =
       let script = has.script.script in
       let log = has.log.log.threads in
       let verified = fits_on (Verified script log) script log answer has.lawful (verify_fits script_name log_name has.script has.log answers) in
-      as_told (verdict_told verdict.Ordered) Done (verified.2 ∙ ap verdict_told (verified.1.told.ordered.1 ordered)) refl
+      as_told (verdict_told verdict.Ordered) exit.Done (verified.2 ∙ ap verdict_told (verified.1.told.ordered.1 ordered)) refl
   done (Profile script_name log_name object_name) (has, knows) answers =
       let script = has.script.script in
       let log = has.log.log.threads in
       let fits = profile_fits script_name log_name object_name has.script has.log knows answers in
-      as_told (told Done (profile_text fits.0 (journals_after script log (lowest_order script log)))) Done (fits_on (Profiled fits.0 script log) script log answer has.lawful fits.1) refl
+      as_told (told exit.Done (profile_text fits.0 (journals_after script log (lowest_order script log)))) exit.Done (fits_on (Profiled fits.0 script log) script log answer has.lawful fits.1) refl
   done (Gen number script_name log_name) has answers = ap (λ (a : Answer). a.status) answers.5
 
   -- a log that is not ordered is told so
   unordered : (script_name log_name : List ℕ) (has : HasLawful files script_name log_name) → ¬ OrdersAll files script_name log_name has
-      → CommandAnswers (Verify script_name log_name) files faults faults' answer → answer.status ≡ Unordered
+      → CommandAnswers (Verify script_name log_name) files faults faults' answer → answer.status ≡ exit.Unordered
   unordered script_name log_name has not answers =
       let script = has.script.script in
       let log = has.log.log.threads in
       let verified = fits_on (Verified script log) script log answer has.lawful (verify_fits script_name log_name has.script has.log answers) in
       by verified.0 verified.1 verified.2
     where
-      by : (verdict : Verdict) → IsVerified has.script.script has.log.log.threads verdict → answer ≡ verdict_told verdict → answer.status ≡ Unordered
+      by : (verdict : Verdict) → IsVerified has.script.script has.log.log.threads verdict → answer ≡ verdict_told verdict → answer.status ≡ exit.Unordered
       by verdict.Ordered verified is = absurd (not (verified.told.ordered.0 refl))
-      by (verdict.Unordered first second) verified is = as_told (verdict_told (verdict.Unordered first second)) Unordered is refl
+      by (verdict.Unordered first second) verified is = as_told (verdict_told (verdict.Unordered first second)) exit.Unordered is refl
 
   module _ (words : List (List ℕ)) where
     answers_for : (command : Command) → Asks words command → IsAnswer words files faults faults' answer → CommandAnswers command files faults faults' answer
@@ -283,54 +282,54 @@ module _ (files : Option Files) (faults faults' : ℕ) (answer : Answer) (none :
 
     -- the answer has the status that is due
     pub due_status : (status : Status) → IsDue words files status → IsAnswer words files faults faults' answer → answer.status ≡ status
-    due_status Done (command, asked, has) answers = done command has (answers_for command asked answers)
-    due_status Words (inl none_asked) (inl (command, asked, answers)) = absurd (none_asked command asked)
-    due_status Words (inl none_asked) (inr (still_none, is)) = as_told not_a_command Words is refl
-    due_status Words (inr misses) answers =
+    due_status exit.Done (command, asked, has) answers = done command has (answers_for command asked answers)
+    due_status exit.Words (inl none_asked) (inl (command, asked, answers)) = absurd (none_asked command asked)
+    due_status exit.Words (inl none_asked) (inr (still_none, is)) = as_told not_a_command exit.Words is refl
+    due_status exit.Words (inr misses) answers =
         elim (goes_on_with_script misses.script_name (λ script answer. Choosing (λ wanted answer. TakingLog files faults faults' misses.log_name (IsProfiled wanted script) answer) script misses.object_name answer) misses.script
         (answers_for (Profile misses.script_name misses.log_name misses.object_name) misses.asked answers)) [
-          | inl unknown ↦ as_told no_such_object Words unknown.1 refl
+          | inl unknown ↦ as_told no_such_object exit.Words unknown.1 refl
           | inr known ↦ absurd (let both : None ≡ Some known.0 = sym misses.unknown ∙ known.1 in cc)
         ]
-    due_status BadScript meets answers =
-        at_script meets.named.command meets.name meets.named.takes (answers_for meets.named.command meets.named.asked answers) (answer.status ≡ BadScript)
-        (λ Onward taking. as_told (script_refused meets.line meets.cause) BadScript (bad_script_is_refused meets.name meets.text meets.line meets.cause Onward meets.there meets.refused taking) refl)
-    due_status BadLog meets answers =
-        at_log meets.reached.command meets.name meets.reached.takes meets.reached.script (answers_for meets.reached.command meets.reached.asked answers) (answer.status ≡ BadLog)
-        (λ Onward taking. as_told (log_refused meets.cause) BadLog (bad_log_is_refused meets.name meets.bytes meets.cause (λ log. Onward log.threads) meets.there meets.refused taking) refl)
-    due_status Fit meets answers =
+    due_status exit.Script meets answers =
+        at_script meets.named.command meets.name meets.named.takes (answers_for meets.named.command meets.named.asked answers) (answer.status ≡ exit.Script)
+        (λ Onward taking. as_told (script_refused meets.line meets.cause) exit.Script (bad_script_is_refused meets.name meets.text meets.line meets.cause Onward meets.there meets.refused taking) refl)
+    due_status exit.Log meets answers =
+        at_log meets.reached.command meets.name meets.reached.takes meets.reached.script (answers_for meets.reached.command meets.reached.asked answers) (answer.status ≡ exit.Log)
+        (λ Onward taking. as_told (log_refused meets.cause) exit.Log (bad_log_is_refused meets.name meets.bytes meets.cause (λ log. Onward log.threads) meets.there meets.refused taking) refl)
+    due_status exit.Fit meets answers =
         let r = meets.reached in
-        at_fit r.command r.script_name r.log_name r.takes_script r.takes_log r.script r.log r.knows (answers_for r.command r.asked answers) (answer.status ≡ Fit) (λ Onward fits.
+        at_fit r.command r.script_name r.log_name r.takes_script r.takes_log r.script r.log r.knows (answers_for r.command r.asked answers) (answer.status ≡ exit.Fit) (λ Onward fits.
         elim fits [
-          | inl refused ↦ as_told (does_not_fit refused.0) Fit refused.3 refl
+          | inl refused ↦ as_told (does_not_fit refused.0) exit.Fit refused.3 refl
           | inr lawful ↦ absurd (not_refused r.script.script r.log.log.threads meets.fault lawful.0 meets.not_memory meets.has_cause)
         ])
-    due_status Read misses answers =
-        takes_it misses.name misses.limit misses.reached answers (answer.status ≡ Read) (λ Onward taking. as_told read_failed Read (absent_fails misses.name misses.limit Onward misses.absent taking) refl)
-    due_status TooLong meets answers =
-        takes_it meets.name meets.limit meets.reached answers (answer.status ≡ TooLong)
-        (λ Onward taking. as_told (too_long meets.name meets.limit) TooLong (over_is_long meets.name meets.limit Onward meets.over taking) refl)
-    due_status Unordered meets answers = unordered meets.script_name meets.log_name meets.has meets.unordered (answers_for (Verify meets.script_name meets.log_name) meets.asked answers)
-    due_status Write due answers = absurd due
-    due_status Memory due answers = absurd due
+    due_status exit.Read misses answers =
+        takes_it misses.name misses.limit misses.reached answers (answer.status ≡ exit.Read) (λ Onward taking. as_told read_failed exit.Read (absent_fails misses.name misses.limit Onward misses.absent taking) refl)
+    due_status exit.TooLong meets answers =
+        takes_it meets.name meets.limit meets.reached answers (answer.status ≡ exit.TooLong)
+        (λ Onward taking. as_told (too_long meets.name meets.limit) exit.TooLong (over_is_long meets.name meets.limit Onward meets.over taking) refl)
+    due_status exit.Unordered meets answers = unordered meets.script_name meets.log_name meets.has meets.unordered (answers_for (Verify meets.script_name meets.log_name) meets.asked answers)
+    due_status exit.Write due answers = absurd due
+    due_status exit.Memory due answers = absurd due
 
     -- what a replay says of a recording is its outcome
     pub replay_repeats : (script_name log_name : List ℕ) → Asks words (Replay script_name log_name) → (recording : HasRecording files script_name log_name)
-        → IsAnswer words files faults faults' answer → answer ≡ told Done (outcome_text recording.script.script recording.outcome)
+        → IsAnswer words files faults faults' answer → answer ≡ told exit.Done (outcome_text recording.script.script recording.outcome)
     replay_repeats script_name log_name asked recording answers =
         let script = recording.script.script in
         let log = recording.log.log.threads in
         let lawful = faithful script log recording.outcome recording.faithful in
         fits_on (Replayed script log) script log answer lawful.0 (replay_fits script_name log_name recording.script recording.log (answers_for (Replay script_name log_name) asked answers))
-        ∙ ap (λ (o : Outcome). told Done (outcome_text script o)) lawful.1
+        ∙ ap (λ (o : Outcome). told exit.Done (outcome_text script o)) lawful.1
 
-module _ (words : List (List ℕ)) (before after : DeskState) (code : ℕ) (served : IsServed (IsAnswer words before.files before.take_faults after.take_faults) before after code) where
+module _ (words : List (List ℕ)) (before after : DeskState) (code : ℕ) (served : AreAnswered words before after code) where
   -- the status that is due comes, where no call fails, unless memory was refused
   pub comes_as_due : (status : Status) → IsDue words before.files status → ¬ Rose before.take_faults after.take_faults → ¬ Rose before.write_faults after.write_faults
       → (code ≡ code_of status) ⊎ (code ≡ 7)
   comes_as_due status due no_read no_write = by served
     where
-      by : IsServed (IsAnswer words before.files before.take_faults after.take_faults) before after code → (code ≡ code_of status) ⊎ (code ≡ 7)
+      by : AreAnswered words before after code → (code ≡ code_of status) ⊎ (code ≡ 7)
       by (inl untouched) = inr untouched.status
       by (inr (answer, answers, inr cut)) = elim cut.status [ inl failed ↦ absurd (no_write failed.1) | inr memory ↦ inr memory ]
       by (inr (answer, answers, inl given)) = inl (given.status ∙ ap code_of (due_status before.files before.take_faults after.take_faults answer (λ is rose. no_read rose) words status due answers))
@@ -343,7 +342,7 @@ module _ (words : List (List ℕ)) (before after : DeskState) (code : ℕ) (serv
       let told_is = replay_repeats before.files before.take_faults after.take_faults g.answer not_read words script_name log_name asked recording g.answers in
       same_value _ _ (sym is' ∙ g.given.said ∙ ap (λ (a : Answer). spoken a.text before.said) told_is ∙ ap (spoken (outcome_text recording.script.script recording.outcome)) is)
 
-lawful_of : (files : Option Files) (script_name log_name : List ℕ) → HasRecording files script_name log_name → HasLawful files script_name log_name
+abbrev lawful_of : (files : Option Files) (script_name log_name : List ℕ) → HasRecording files script_name log_name → HasLawful files script_name log_name
 lawful_of files script_name log_name recording =
     record { script = recording.script; log = recording.log; lawful = (faithful recording.script.script recording.log.log.threads recording.outcome recording.faithful).0 }
 
@@ -360,6 +359,6 @@ has_all files (Profile script log object) has = (lawful_of files script log has.
 has_all files (Gen number script log) has = tt
 
 -- a command over files that are there as they should be is done, unless memory was refused
-pub complete : (words : List (List ℕ)) (before after : DeskState) (code : ℕ) → IsServed (IsAnswer words before.files before.take_faults after.take_faults) before after code
+pub complete : (words : List (List ℕ)) (before after : DeskState) (code : ℕ) → AreAnswered words before after code
     → IsWellMet words before.files → ¬ Rose before.take_faults after.take_faults → ¬ Rose before.write_faults after.write_faults → (code ≡ 0) ⊎ (code ≡ 7)
-complete words before after code served (command, asked, has) no_read no_write = comes_as_due words before after code served Done (command, asked, has_all before.files command has) no_read no_write
+complete words before after code served (command, asked, has) no_read no_write = comes_as_due words before after code served exit.Done (command, asked, has_all before.files command has) no_read no_write

@@ -1,5 +1,5 @@
 -- No command writes a file that its words do not name for that.
-use Rattle.std.proofs.Common.{◌≡◌, ◌≢◌, ◌∙◌, ◌⊎◌, ℕ, List, [], ◌∷◌, take, Option, None, Some, inl, inr, sym, ap, subst, subst₂, refl}
+use Rattle.std.proofs.Common.{◌≡◌, ◌≢◌, ◌∙◌, ℕ, List, [], ◌∷◌, take, Option, Some, inl, inr, sym, ap, subst, subst₂}
 use Rattle.std.specs.FinMap.{get, insert}
 use Rattle.octet_base.specs.Desk.{Files}
 use Rattle.octet_model.specs.declared.script.Script.{Script}
@@ -12,12 +12,13 @@ use Rattle.octet_clock.specs.declared.verdict.Verdict.TheVariants as verdict
 use Rattle.octet_top.specs.declared.reply.Status.TheVariants.{Done}
 use Rattle.octet_top.specs.Answer.{Answer, told, writes_and_tells, writes_both, not_a_command, no_such_object, read_failed, too_long, script_refused, log_refused, does_not_fit, verdict_told, summary}
 use Rattle.octet_top.specs.Taking.{TakingScript, TakingLog, script_limit, log_limit}
-use Rattle.octet_top.specs.Request.{Command, Run, Tidy, Show, Replay, Verify, Profile, Gen, Asks}
-use Rattle.octet_top.specs.Commands.{IsAnswer, CommandAnswers, IsRecording, IsVerdictTold, IsProfiled, Fitting, Choosing}
-use Rattle.octet_top.specs.Serving.{DeskState, put, written, IsPrefixPut, IsPartlyWritten, IsServed}
+use Rattle.octet_top.specs.Request.{Command, Run, Tidy, Show, Replay, Verify, Profile, Gen}
+use Rattle.octet_top.specs.Commands.{IsAnswer, AreAnswered, CommandAnswers, IsRecording, IsProfiled, Fitting, Choosing}
+use Rattle.octet_top.specs.Serving.{DeskState, written, IsPrefixPut, IsPartlyWritten}
 use Rattle.octet_top.specs.Kept.{Writes, NamesOutput, KeepsOtherFiles}
 use Rattle.octet_top.proofs.Files.{get-other}
 use Rattle.octet_top.proofs.Promises.{same_value}
+use Rattle.octet_top.proofs.Due.{Replayed, Verified, Profiled}
 
 -- none of the files has the name
 abbrev Misses : List ℕ → List (List ℕ × List ℕ) → Type 0
@@ -43,8 +44,8 @@ module _ (name : List ℕ) where
     misses_log log_name Onward on (inr (inr (bytes, taken, inl refused))) = misses_as answer (log_refused refused.0) refused.2 tt
     misses_log log_name Onward on (inr (inr (bytes, taken, inr decoded))) = on decoded.0 decoded.2
 
-    misses_told : (text : List ℕ) → answer ≡ told Done text → Misses name answer.files
-    misses_told text is = misses_as answer (told Done text) is tt
+    misses_told : {text : List ℕ} → answer ≡ told Done text → Misses name answer.files
+    misses_told {text} is = misses_as answer (told Done text) is tt
 
     misses_fitting : (Onward : Answer → Type 0) (script : Script) (log : Log) → (Onward answer → Misses name answer.files) → Fitting Onward script log answer → Misses name answer.files
     misses_fitting Onward script log on (inl refused) = misses_as answer (does_not_fit refused.0) refused.3 tt
@@ -64,18 +65,18 @@ module _ (name : List ℕ) where
     misses_command : (command : Command) → ¬ Writes command name → CommandAnswers command files faults faults' answer → Misses name answer.files
     misses_command (Run script_name log_name) not =
         misses_script script_name (IsRecording log_name) (λ script recording. misses_as answer (writes_and_tells log_name (log_bytes recording.0.threads) (outcome_text script recording.1)) recording.3 (not, tt))
-    misses_command (Tidy script_name) not = misses_script script_name (λ script answer. answer ≡ told Done (canonical_text script)) (λ script. misses_told (canonical_text script))
-    misses_command (Show log_name) not = misses_log log_name (λ log answer. answer ≡ told Done (log_text log.threads)) (λ log. misses_told (log_text log.threads))
-    misses_command (Replay script_name log_name) not = misses_both script_name log_name _ (λ script log. misses_told _)
-    misses_command (Verify script_name log_name) not = misses_both script_name log_name _ (λ script log verified. misses_verdict verified.0 verified.2)
+    misses_command (Tidy script_name) not = misses_script script_name (λ script answer. answer ≡ told Done (canonical_text script)) (λ script. misses_told)
+    misses_command (Show log_name) not = misses_log log_name (λ log answer. answer ≡ told Done (log_text log.threads)) (λ log. misses_told)
+    misses_command (Replay script_name log_name) not = misses_both script_name log_name (λ script log. Replayed script log.threads) (λ script log. misses_told)
+    misses_command (Verify script_name log_name) not = misses_both script_name log_name (λ script log. Verified script log.threads) (λ script log verified. misses_verdict verified.0 verified.2)
     misses_command (Profile script_name log_name object_name) not =
         misses_script script_name (λ script answer. Choosing (λ wanted answer. TakingLog files faults faults' log_name (IsProfiled wanted script) answer) script object_name answer) (λ script choosing.
         elim choosing [
           | inl unknown ↦ misses_as answer no_such_object unknown.1 tt
-          | inr known ↦ misses_log log_name (IsProfiled known.0 script) (λ log. misses_fitting _ script log (misses_told _)) known.2
+          | inr known ↦ misses_log log_name (IsProfiled known.0 script) (λ log. misses_fitting (Profiled known.0 script log.threads) script log misses_told) known.2
         ])
     misses_command (Gen number script_name log_name) not =
-        λ made. misses_as answer (writes_both (script_name, canonical_text made.0) (log_name, log_bytes made.1.threads) summary) made.5 ((λ same. not (inl same)), (λ same. not (inr same)), tt)
+        λ made. misses_as answer (writes_both (script_name, canonical_text made.0) (log_name, log_bytes made.1.threads) summary) made.5 ((λ same. not (inl same)), ((λ same. not (inr same)), tt))
 
     misses_answer : (words : List (List ℕ)) → ¬ NamesOutput words name → IsAnswer words files faults faults' answer → Misses name answer.files
     misses_answer words not (inl (command, asked, answers)) = misses_command command (λ writes. not (record { command = command; asked = asked; writes = writes })) answers
@@ -96,7 +97,7 @@ module _ (name : List ℕ) where
   kept_partly (file ∷ rest) files files' misses (inl prefix) = kept_prefix file.0 file.1 files files' misses.0 prefix
   kept_partly (file ∷ rest) files files' misses (inr more) = kept_partly rest (insert files file.0 file.1) files' misses.1 more ∙ get-other files file.0 file.1 name misses.0
 
-pub keeps_other_files : (words : List (List ℕ)) (before after : DeskState) (code : ℕ) → IsServed (IsAnswer words before.files before.take_faults after.take_faults) before after code
+pub keeps_other_files : (words : List (List ℕ)) (before after : DeskState) (code : ℕ) → AreAnswered words before after code
     → KeepsOtherFiles words before.files after.files
 keeps_other_files words before after code (inl untouched) files files' is is' name not = ap (λ (fs : Files). get fs name) (same_value files' files (sym is' ∙ untouched.files ∙ is))
 keeps_other_files words before after code (inr (answer, answers, inl given)) files files' is is' name not =

@@ -1,5 +1,5 @@
 -- From what is served to what each status promises.
-use Rattle.std.proofs.Common.{◌≡◌, ◌∙◌, ◌≢◌, ◌<◌, ◌⊎◌, ℕ, List, [], length, Option, None, Some, IfSome, IsSomeAnd, inl, inr, sym, ap, subst, refl, arith}
+use Rattle.std.proofs.Common.{◌≡◌, ◌∙◌, ◌⊎◌, ℕ, List, [], length, Option, Some, IfSome, inl, inr, sym, ap, subst, refl, arith}
 use Rattle.std.specs.List.{sum_by}
 use Rattle.std.specs.FinMap.{get, insert}
 use Rattle.std.proofs.lemmas.List.{length-map}
@@ -11,18 +11,14 @@ use Rattle.octet_model.specs.Texts.{log_bytes, outcome_text}
 use Rattle.octet_model.specs.declared.outcome.Outcome.{Outcome}
 use Rattle.octet_model.specs.Journals.{log_of_journal, log_of}
 use Rattle.octet_model.specs.Orders.{execution, journals_after, lowest_order, IsFaithful}
+use Rattle.octet_model.proofs.Short.{faithful_log_is_short}
 use Rattle.octet_model.proofs.Following.{lawful_order_has_its_log, lawful_order_fits}
 use Rattle.octet_script.specs.declared.cause.ScriptCause.{ScriptCause}
 use Rattle.octet_script.specs.Spelling.{Spells, canonical_text}
-use Rattle.octet_script.proofs.Spelled.{spells_judged, one_script}
 use Rattle.octet_log.specs.declared.cause.LogCause.{LogCause}
-use Rattle.octet_log.specs.Judgement.{judgement}
 use Rattle.octet_log.specs.Texts.{log_text}
-use Rattle.octet_log.proofs.Whole.{judgement_is, one_log}
 use Rattle.octet_replay.specs.declared.fault.ReplayFault.{ReplayFault}
-use Rattle.octet_replay.specs.declared.fault.ReplayFault.TheVariants.{OutOfMemory}
-use Rattle.octet_replay.specs.Judged.{HasCause, IsLawful}
-use Rattle.octet_replay.proofs.Answered.{faithful, not_refused}
+use Rattle.octet_replay.proofs.Answered.{faithful}
 use Rattle.octet_model.specs.declared.event.Place.{Place}
 use Rattle.octet_clock.specs.declared.verdict.Verdict.{Verdict}
 use Rattle.octet_clock.specs.declared.verdict.Verdict.TheVariants as verdict
@@ -34,9 +30,9 @@ use Rattle.octet_top.specs.Answer.{Answer, code_of, told, writes_and_tells, not_
 use Rattle.octet_top.specs.Profile.{profile_text}
 use Rattle.octet_top.specs.Taking.{TakingScript, TakingLog, IsTaken, IsAbsent, IsTooLong, script_limit, log_limit}
 use Rattle.octet_top.specs.Request.{Command, Run, Tidy, Show, Replay, Verify, Profile, Gen, Asks, IsNotACommand, NamesScript, NamesLog}
-use Rattle.octet_top.specs.Commands.{IsAnswer, CommandAnswers, IsRecording, IsReplayed, IsVerdictTold, IsProfiled, Fitting, Choosing}
-use Rattle.octet_top.specs.Serving.{DeskState, put, written, IsGiven, IsDelivered, IsServed}
-use Rattle.octet_top.specs.Promises.{RunsFaithfully, TakesBoth, VerifiesOrdered, IsFoundUnordered, GeneratesFaithfully, SaysToTake, IsScriptRefused, IsLogRefused, IsMisfitting, IsFileAbsent, IsFileTooLong, HasScript, HasLog, HasFiles, IsThere, IsWellMet, NamesNoObject}
+use Rattle.octet_top.specs.Commands.{IsAnswer, AreAnswered, CommandAnswers, IsRecording, IsVerdictTold, IsProfiled, Fitting, Choosing}
+use Rattle.octet_top.specs.Serving.{DeskState, put, written, IsGiven, IsDelivered}
+use Rattle.octet_top.specs.Promises.{RunsFaithfully, TakesBoth, VerifiesOrdered, IsFoundUnordered, GeneratesFaithfully, SaysToTake, IsScriptRefused, IsLogRefused, IsMisfitting, IsFileAbsent, IsFileTooLong, NamesNoObject}
 use Rattle.octet_top.proofs.Files.{get-inserted, get-other}
 use Rattle.octet_top.proofs.Words.{one_command}
 
@@ -55,7 +51,7 @@ pub record Given (words : List (List ℕ)) (before after : DeskState) (code : �
   pub given : IsGiven answer before after code
 
 pub given_at : (words : List (List ℕ)) (before after : DeskState) (code : ℕ) → (code ≡ 6 → ⊥) → (code ≡ 7 → ⊥)
-    → IsServed (IsAnswer words before.files before.take_faults after.take_faults) before after code → Given words before after code
+    → AreAnswered words before after code → Given words before after code
 given_at words before after code no_write no_memory (inl untouched) = absurd (no_memory untouched.status)
 given_at words before after code no_write no_memory (inr served) = record { answer = served.0; answers = served.1; given = own_status served.0 before after code no_write no_memory served.2 }
 
@@ -88,11 +84,12 @@ recorded script_name log_name text script answer before after code taken spells 
           ap (λ (m : Files). get m log_name)
           (same_value _ _ (sym is' ∙ given.files ∙ ap (λ (a : Answer). written a.files before.files) answer_is ∙ ap (put log_name (log_bytes log.threads)) is))
           ∙ get-inserted files log_name (log_bytes log.threads);
+      within_limit = omega (arith, faithful_log_is_short script log.threads outcome recording.2 log.valid);
       told = same_value _ _ (sym said_is' ∙ given.said ∙ ap (λ (a : Answer). spoken a.text before.said) answer_is ∙ ap (spoken (outcome_text script outcome)) said_is);
       faithful = recording.2;
     }
 
-pub headline : (words : List (List ℕ)) (before after : DeskState) (code : ℕ) → IsServed (IsAnswer words before.files before.take_faults after.take_faults) before after code
+pub headline : (words : List (List ℕ)) (before after : DeskState) (code : ℕ) → AreAnswered words before after code
     → (script_name log_name : List ℕ) → Asks words (Run script_name log_name) → code ≡ 0 → RunsFaithfully script_name log_name before after
 headline words before after code served script_name log_name run zero =
     let g = given_at words before after code (λ e. omega arith) (λ e. omega arith) served in
@@ -106,7 +103,7 @@ headline words before after code served script_name log_name run zero =
     ]
 
 -- a command that takes a script and a log went on with both, at a status that is none of their refusals
-pub ordered : (words : List (List ℕ)) (before after : DeskState) (code : ℕ) → IsServed (IsAnswer words before.files before.take_faults after.take_faults) before after code
+pub ordered : (words : List (List ℕ)) (before after : DeskState) (code : ℕ) → AreAnswered words before after code
     → (script_name log_name : List ℕ) → Asks words (Verify script_name log_name) → code ≡ 0 → VerifiesOrdered script_name log_name before.files
 ordered words before after code served script_name log_name verify zero =
     let g = given_at words before after code (λ e. omega arith) (λ e. omega arith) served in
@@ -142,7 +139,7 @@ accesses_of number script log outcome generated faithful =
     let many : length journals ≡ length script.threads = sym (length-map journals log_of_journal) ∙ ap (λ (l : List ThreadLog). length l) same ∙ sym faithful.is_lawful.0 in
     subst (λ (l : List ThreadLog). sum_by (λ thread. thread.accesses) l ≡ 160000) same (script_makes_its_accesses number script journals generated many (lawful_order_fits script log faithful.order faithful.is_lawful))
 
-pub generated : (words : List (List ℕ)) (before after : DeskState) (code : ℕ) → IsServed (IsAnswer words before.files before.take_faults after.take_faults) before after code
+pub generated : (words : List (List ℕ)) (before after : DeskState) (code : ℕ) → AreAnswered words before after code
     → (number : ℕ) (script_name log_name : List ℕ) → Asks words (Gen number script_name log_name) → code ≡ 0 → GeneratesFaithfully number script_name log_name before after
 generated words before after code served number script_name log_name gen zero files files' said said' is is' said_is said_is' =
     let g = given_at words before after code (λ e. omega arith) (λ e. omega arith) served in
@@ -332,7 +329,7 @@ record Explained (words : List (List ℕ)) (before after : DeskState) (code : �
   cause : Cause words before after answer
   comes : code ≡ status_of words before after answer cause
 
-module _ (words : List (List ℕ)) (before after : DeskState) (code : ℕ) (served : IsServed (IsAnswer words before.files before.take_faults after.take_faults) before after code) where
+module _ (words : List (List ℕ)) (before after : DeskState) (code : ℕ) (served : AreAnswered words before after code) where
   explained : (status : ℕ) → code ≡ status → (status ≡ 6 → ⊥) → (status ≡ 7 → ⊥) → Explained words before after code
   explained status is no_write no_memory =
       let g = given_at words before after code (λ e. no_write (sym is ∙ e)) (λ e. no_memory (sym is ∙ e)) served in
@@ -455,7 +452,7 @@ module _ (words : List (List ℕ)) (before after : DeskState) (code : ℕ) (serv
       at_cause answer (ByWords is none) comes = other 6 1 six comes (λ e. omega arith)
       at_cause answer (ByName is unknown) comes = other 6 1 six comes (λ e. omega arith)
 
-      by : IsServed (IsAnswer words before.files before.take_faults after.take_faults) before after code → Rose before.write_faults after.write_faults
+      by : AreAnswered words before after code → Rose before.write_faults after.write_faults
       by (inl untouched) = other 6 7 six untouched.status (λ e. omega arith)
       by (inr (answer, answers, inr cut)) = elim cut.status [ inl failed ↦ failed.1 | inr memory ↦ other 6 7 six memory (λ e. omega arith) ]
       by (inr (answer, answers, inl given)) =

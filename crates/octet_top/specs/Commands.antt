@@ -19,6 +19,7 @@ use Rattle.octet_top.specs.Answer.{Answer, told, writes_and_tells, writes_both, 
 use Rattle.octet_top.specs.Request.{Command, Run, Tidy, Show, Replay, Verify, Profile, Gen, Asks, IsNotACommand}
 use Rattle.octet_top.specs.Profile.{profile_text, wanted_by}
 use Rattle.octet_top.specs.Taking.{TakingScript, TakingLog}
+use Rattle.octet_top.specs.Serving.{DeskState, IsServed}
 
 -- a log and an outcome that are a faithful recording of the script: the log's bytes are written, and the outcome is said
 abbrev pub IsRecording : List ℕ → Script → Answer → Type 0
@@ -72,3 +73,7 @@ abbrev pub IsAnswer : List (List ℕ) → Option Files → ℕ → ℕ → Answe
 IsAnswer words files before after answer =
     ((command : Command) × Asks words command × CommandAnswers command files before after answer)
     ⊎ (IsNotACommand words × (answer ≡ not_a_command))
+
+-- what comes of the words, from the desk before to the desk after, with this exit status
+abbrev pub AreAnswered : List (List ℕ) → DeskState → DeskState → ℕ → Type 0
+AreAnswered words before after code = IsServed (IsAnswer words before.files before.take_faults after.take_faults) before after code

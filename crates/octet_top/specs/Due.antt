@@ -11,7 +11,7 @@ use Rattle.octet_replay.specs.declared.fault.ReplayFault.{ReplayFault}
 use Rattle.octet_replay.specs.declared.fault.ReplayFault.TheVariants.{OutOfMemory}
 use Rattle.octet_replay.specs.Judged.{HasCause, IsLawful}
 use Rattle.octet_top.specs.declared.reply.Status.{Status}
-use Rattle.octet_top.specs.declared.reply.Status.TheVariants.{Done, Words, Script, Log, Fit, Read, Write, Memory, TooLong, Unordered}
+use Rattle.octet_top.specs.declared.reply.Status.TheVariants as exit
 use Rattle.octet_top.specs.Request.{Command, Run, Tidy, Show, Replay, Verify, Profile, Gen, Asks, script_taken, log_taken, IsNotACommand, NamesScript}
 use Rattle.octet_top.specs.Profile.{wanted_by}
 use Rattle.octet_top.specs.Taking.{script_limit, log_limit, IsAbsent, Refuses, RefusesLog}
@@ -129,13 +129,13 @@ HasAll (Gen number script log) files = Unit {0}
 
 -- the status is due
 abbrev pub IsDue : List (List ℕ) → Option Files → Status → Type 0
-IsDue words files Done = (command : Command) × Asks words command × HasAll command files
-IsDue words files Words = IsNotACommand words ⊎ MissesObject words files
-IsDue words files Script = MeetsBadScript words files
-IsDue words files Log = MeetsBadLog words files
-IsDue words files Fit = MeetsMisfit words files
-IsDue words files Read = MissesFile words files
-IsDue words files TooLong = MeetsLongFile words files
-IsDue words files Unordered = MeetsUnordered words files
-IsDue words files Write = ⊥
-IsDue words files Memory = ⊥
+IsDue words files exit.Done = (command : Command) × Asks words command × HasAll command files
+IsDue words files exit.Words = IsNotACommand words ⊎ MissesObject words files
+IsDue words files exit.Script = MeetsBadScript words files
+IsDue words files exit.Log = MeetsBadLog words files
+IsDue words files exit.Fit = MeetsMisfit words files
+IsDue words files exit.Read = MissesFile words files
+IsDue words files exit.TooLong = MeetsLongFile words files
+IsDue words files exit.Unordered = MeetsUnordered words files
+IsDue words files exit.Write = ⊥
+IsDue words files exit.Memory = ⊥

@@ -24,7 +24,7 @@ use Rattle.octet_top.specs.Profile.{wanted_by}
 use Rattle.octet_top.specs.Taking.{script_limit, log_limit, IsTaken, IsAbsent, IsTooLong, Refuses, RefusesLog}
 use Rattle.octet_top.specs.Serving.{DeskState}
 
--- the file of the script, as it was, spells a script; that of the log, as it is, has the bytes of a log; what was said grew by the text of an outcome; and the three are a faithful recording
+-- the file of the script, as it was, spells a script; that of the log, as it is, has the bytes of a log, no more than a log's file may have; what was said grew by the text of an outcome; and the three are a faithful recording
 pub record IsFaithfulRun (script_name log_name : List ℕ) (files files' : Files) (said said' : List ℕ) : Type 0 where
   pub text : List ℕ
   pub script : Script
@@ -33,6 +33,7 @@ pub record IsFaithfulRun (script_name log_name : List ℕ) (files files' : Files
   pub taken : get files script_name ≡ Some text
   pub spelled : Spells text script
   pub written : get files' log_name ≡ Some (log_bytes log.threads)
+  pub within_limit : length (log_bytes log.threads) ≤ log_limit
   pub told : said' ≡ said ++ outcome_text script outcome
   pub faithful : IsFaithful script log.threads outcome
 

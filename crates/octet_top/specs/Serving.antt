@@ -13,6 +13,10 @@ pub record DeskState : Type 0 where
   pub take_faults : ℕ
   pub write_faults : ℕ
 
+-- the state of a desk, by what is told of it
+abbrev pub state_of : {Desk : Type 0} → (Desk → Option Files) → (Desk → Option (List ℕ)) → (Desk → Option (List ℕ)) → (Desk → ℕ) → (Desk → ℕ) → Desk → DeskState
+state_of files begun said take_faults write_faults desk = record { files = files desk; begun = begun desk; said = said desk; take_faults = take_faults desk; write_faults = write_faults desk }
+
 -- a file with these bytes, where files are told
 abbrev pub put : List ℕ → List ℕ → Option Files → Option Files
 put name bytes files = option_map (λ fs. insert fs name bytes) files

@@ -2,7 +2,7 @@
 ghost use Rattle.std.specs.Prelude.{◌≡◌, ◌≢◌, ◌≤◌, None, IsErrOf, OnOk, OnErr, map as list_map};
 ghost use Rattle.octet_base.specs.Desk.{Rose};
 ghost use Rattle.octet_top.specs.Answer.{answer_of, file_of};
-ghost use Rattle.octet_top.specs.Serving.{put, written, IsPrefixPut, IsPartlyWritten, IsSaid, IsDelivered, DeskState};
+ghost use Rattle.octet_top.specs.Serving.{put, written, IsPrefixPut, IsPartlyWritten, IsSaid, IsDelivered, state_of};
 
 use crate::reply::{Output, Reply, Status};
 use octet_base::{Desk, DeskFault};
@@ -61,9 +61,8 @@ fn write_outputs<D: Desk>(alloc: Global, desk: &mut D, outputs: &[Output]) -> Re
 pub(crate) fn deliver<D: Desk>(alloc: Global, desk: &mut D, reply: &Reply) -> u8
     requires { D.begun desk.old ≡ None }
     ensures same_faults { D.take_faults desk.new ≡ D.take_faults desk.old }
-    ensures delivered { let before : DeskState = record { files = D.files desk.old; begun = D.begun desk.old; said = D.said desk.old; take_faults = D.take_faults desk.old; write_faults = D.write_faults desk.old } in
-        let after : DeskState = record { files = D.files desk.new; begun = D.begun desk.new; said = D.said desk.new; take_faults = D.take_faults desk.new; write_faults = D.write_faults desk.new } in
-        IsDelivered (answer_of reply.now) before after result }
+    ensures delivered { let state = state_of D.files D.begun D.said D.take_faults D.write_faults in
+        IsDelivered (answer_of reply.now) (state desk.old) (state desk.new) result }
 {
     match write_outputs(alloc, desk, reply.outputs.as_slice()) {
         Ok(()) => say_text(alloc, desk, reply),

@@ -4,8 +4,8 @@ ghost use Rattle.octet_base.specs.Desk.{Rose};
 ghost use Rattle.octet_top.specs.declared.reply.Status.{Status};
 ghost use Rattle.octet_top.specs.Answer.{answer_of, code_of};
 ghost use Rattle.octet_top.specs.Request.{texts, command_of, Asks, Run, Verify, Gen, IsNotACommand};
-ghost use Rattle.octet_top.specs.Commands.{IsAnswer, CommandAnswers};
-ghost use Rattle.octet_top.specs.Serving.{DeskState, IsServed};
+ghost use Rattle.octet_top.specs.Commands.{IsAnswer, CommandAnswers, AreAnswered};
+ghost use Rattle.octet_top.specs.Serving.{state_of};
 ghost use Rattle.octet_top.specs.Promises.{RunsFaithfully, IsScriptRefused, IsLogRefused, IsMisfitting, IsFoundUnordered, VerifiesOrdered, GeneratesFaithfully, NamesNoObject, IsFileAbsent, IsFileTooLong, IsWellMet, RepeatsRecordings};
 ghost use Rattle.octet_top.specs.Due.{IsDue};
 ghost use Rattle.octet_top.specs.Kept.{KeepsOtherFiles};
@@ -39,28 +39,24 @@ pub fn serve<R: Threads + Wait + Sync, D: Desk, G: Gate>(
     requires { D.begun desk.old ≡ None }
 
     // What is read aloud of `run`: status 0 comes with a faithful recording.
-    ensures headline { let before : DeskState = record { files = D.files desk.old; begun = D.begun desk.old; said = D.said desk.old; take_faults = D.take_faults desk.old; write_faults = D.write_faults desk.old } in
-        let after : DeskState = record { files = D.files desk.new; begun = D.begun desk.new; said = D.said desk.new; take_faults = D.take_faults desk.new; write_faults = D.write_faults desk.new } in
-        (script_name log_name : List ℕ) → Asks (texts words.now) (Run script_name log_name) → result ≡ 0 → RunsFaithfully script_name log_name before after }
+    ensures headline { let state = state_of D.files D.begun D.said D.take_faults D.write_faults in
+        (script_name log_name : List ℕ) → Asks (texts words.now) (Run script_name log_name) → result ≡ 0 → RunsFaithfully script_name log_name (state desk.old) (state desk.new) }
 
     // Of a log that `verify` calls ordered: all its lawful orders have one outcome.
     ensures ordered { let files = D.files desk.old in
         (script_name log_name : List ℕ) → Asks (texts words.now) (Verify script_name log_name) → result ≡ 0 → VerifiesOrdered script_name log_name files }
 
     // And of `gen`.
-    ensures generated { let before : DeskState = record { files = D.files desk.old; begun = D.begun desk.old; said = D.said desk.old; take_faults = D.take_faults desk.old; write_faults = D.write_faults desk.old } in
-        let after : DeskState = record { files = D.files desk.new; begun = D.begun desk.new; said = D.said desk.new; take_faults = D.take_faults desk.new; write_faults = D.write_faults desk.new } in
-        (number : ℕ) (script_name log_name : List ℕ) → Asks (texts words.now) (Gen number script_name log_name) → result ≡ 0 → GeneratesFaithfully number script_name log_name before after }
+    ensures generated { let state = state_of D.files D.begun D.said D.take_faults D.write_faults in
+        (number : ℕ) (script_name log_name : List ℕ) → Asks (texts words.now) (Gen number script_name log_name) → result ≡ 0 → GeneratesFaithfully number script_name log_name (state desk.old) (state desk.new) }
 
     // A replay of a recording says what was recorded.
-    ensures repeats { let before : DeskState = record { files = D.files desk.old; begun = D.begun desk.old; said = D.said desk.old; take_faults = D.take_faults desk.old; write_faults = D.write_faults desk.old } in
-        let after : DeskState = record { files = D.files desk.new; begun = D.begun desk.new; said = D.said desk.new; take_faults = D.take_faults desk.new; write_faults = D.write_faults desk.new } in
-        RepeatsRecordings (texts words.now) before after result }
+    ensures repeats { let state = state_of D.files D.begun D.said D.take_faults D.write_faults in
+        RepeatsRecordings (texts words.now) (state desk.old) (state desk.new) result }
 
     // All that is written, said and answered, for each command and each status.
-    ensures served { let before : DeskState = record { files = D.files desk.old; begun = D.begun desk.old; said = D.said desk.old; take_faults = D.take_faults desk.old; write_faults = D.write_faults desk.old } in
-        let after : DeskState = record { files = D.files desk.new; begun = D.begun desk.new; said = D.said desk.new; take_faults = D.take_faults desk.new; write_faults = D.write_faults desk.new } in
-        IsServed (IsAnswer (texts words.now) before.files before.take_faults after.take_faults) before after result }
+    ensures served { let state = state_of D.files D.begun D.said D.take_faults D.write_faults in
+        AreAnswered (texts words.now) (state desk.old) (state desk.new) result }
 
     // What is left alone: at every status each file that the words do not name to be written, and
     // all files at a refusal.
@@ -87,9 +83,8 @@ pub fn serve<R: Threads + Wait + Sync, D: Desk, G: Gate>(
 
 fn answer_words<D: Desk>(alloc: Global, words: &[String], desk: &mut D) -> u8
     requires { D.begun desk.old ≡ None }
-    ensures { let before : DeskState = record { files = D.files desk.old; begun = D.begun desk.old; said = D.said desk.old; take_faults = D.take_faults desk.old; write_faults = D.write_faults desk.old } in
-        let after : DeskState = record { files = D.files desk.new; begun = D.begun desk.new; said = D.said desk.new; take_faults = D.take_faults desk.new; write_faults = D.write_faults desk.new } in
-        IsServed (IsAnswer (texts words.now) before.files before.take_faults after.take_faults) before after result }
+    ensures { let state = state_of D.files D.begun D.said D.take_faults D.write_faults in
+        AreAnswered (texts words.now) (state desk.old) (state desk.new) result }
 {
     match reply_to(alloc, desk, words) {
         Ok(reply) => deliver(alloc, desk, &reply),

@@ -17,7 +17,7 @@ const LOG: &[u8] =
     b"OCTL\x01\x02\x00\x00\x00\x00\x00\x00\x00\x00\x00\x00\x00\x01\x00\x00\x00\x01\x01\x00\x00\x00\x00\x00\x00\x00\x00\x00\x00\x00\x00\x00";
 
 /// A desk with the script as `S`, of whose calls these fail after so many bytes.
-fn desk_with(alloc: Global, fails: &[(u64, u32)]) -> Result<MemoryDesk, OutOfMemory>
+fn desk_with(alloc: Global, script: &[u8], fails: &[(u64, u32)]) -> Result<MemoryDesk, OutOfMemory>
     ensures { IfOk result (λ desk. ⟦<MemoryDesk as Desk>⟧.begun desk ≡ None) }
 {
     let mut told = List::new(alloc);
@@ -28,7 +28,7 @@ fn desk_with(alloc: Global, fails: &[(u64, u32)]) -> Result<MemoryDesk, OutOfMem
         })?;
     }
     let mut desk = MemoryDesk::new(alloc, told);
-    desk.put(alloc, "S", SCRIPT)?;
+    desk.put(alloc, "S", script)?;
     Ok(desk)
 }
 
@@ -40,6 +40,7 @@ fn words_of(alloc: Global, line: &str) -> Result<Vec<String>, AllocError> {
     Ok(words)
 }
 
+/// With ample memory: a program that always answered that memory was refused would fail here.
 #[test]
 fn commands_answer(rt: HostRuntime) -> Result<(), Failed> {
     let alloc = rt.alloc();
@@ -54,7 +55,7 @@ fn commands_answer(rt: HostRuntime) -> Result<(), Failed> {
         ("tidy S L", 1, no_command, None),
         ("", 1, no_command, None),
     ] {
-        let mut desk = desk_with(alloc, &[])?;
+        let mut desk = desk_with(alloc, SCRIPT, &[])?;
         let words = words_of(alloc, line)?;
         let answer = serve(&rt, alloc, &words, &mut desk, &OpenGate);
         assert_eq!(rt; answer, status, "{line}");
@@ -65,6 +66,7 @@ fn commands_answer(rt: HostRuntime) -> Result<(), Failed> {
     Ok(())
 }
 
+/// The call behind the one that ends the run would fail too, and be counted: it is not made.
 #[test]
 fn failed_calls_leave_prefixes(rt: HostRuntime) -> Result<(), Failed> {
     let alloc = rt.alloc();
@@ -72,24 +74,52 @@ fn failed_calls_leave_prefixes(rt: HostRuntime) -> Result<(), Failed> {
     let nothing = b"".as_slice();
     for (fails, status, log, said, faults) in [
         (
-            [(1, 9), (9, 0)],
+            [(1, 9), (3, 0)],
             5,
             None,
             b"read: failed\n".as_slice(),
             (1, 0),
         ),
         ([(1, 9), (2, 0)], 6, None, nothing, (1, 1)),
-        ([(2, 9), (9, 0)], 6, None, nothing, (0, 1)),
-        ([(3, 35), (9, 0)], 6, Some(&LOG[..35]), nothing, (0, 1)),
-        ([(4, 9), (9, 0)], 6, Some(LOG), nothing, (0, 1)),
-        ([(5, 3), (9, 0)], 6, Some(LOG), b"thr".as_slice(), (0, 1)),
+        ([(2, 9), (3, 0)], 6, None, nothing, (0, 1)),
+        ([(3, 35), (4, 0)], 6, Some(&LOG[..35]), nothing, (0, 1)),
+        ([(4, 9), (5, 0)], 6, Some(LOG), nothing, (0, 1)),
+        ([(5, 3), (6, 0)], 6, Some(LOG), b"thr".as_slice(), (0, 1)),
     ] {
-        let mut desk = desk_with(alloc, &fails)?;
+        let mut desk = desk_with(alloc, SCRIPT, &fails)?;
         let answer = serve(&rt, alloc, &words, &mut desk, &OpenGate);
         assert_eq!(rt; answer, status);
         assert_eq!(rt; desk.file("L"), log);
         assert_eq!(rt; desk.said(), said);
         assert_eq!(rt; desk.faults(), faults);
     }
+    Ok(())
+}
+
+/// A script whose log has 5,120 marks: each of six threads reads each of 1,024 objects.
+fn wide_script(alloc: Global) -> Result<String, AllocError> {
+    let mut text = String::new(alloc);
+    for object in 0..1024 {
+        text.push_str(&format!(in alloc; "object o{object} 0\n")?)?;
+    }
+    for _thread in 0..6 {
+        text.push_str("thread\n")?;
+        for object in 0..1024 {
+            text.push_str(&format!(in alloc; "read r0 o{object}\n")?)?;
+        }
+    }
+    Ok(text)
+}
+
+#[test]
+fn file_is_written_in_pieces(rt: HostRuntime) -> Result<(), Failed> {
+    let alloc = rt.alloc();
+    let script = wide_script(alloc)?;
+    let words = words_of(alloc, "run S L")?;
+    let mut desk = desk_with(alloc, script.as_bytes(), &[(4, 9)])?;
+    let answer = serve(&rt, alloc, &words, &mut desk, &OpenGate);
+    assert_eq!(rt; answer, 6);
+    let written = desk.file("L").map(|log| log.len());
+    assert_eq!(rt; written, Some(65_536 + 9));
     Ok(())
 }
