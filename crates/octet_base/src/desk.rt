@@ -1,5 +1,5 @@
 //! The desk: files, and a place to say the answer.
-ghost use Rattle.std.specs.Prelude.{◌≡◌, ◌≢◌, ◌⊎◌, ◌<◌, ◌≤◌, List, ℕ, length, None, Some, IfOk, IfSome, IsSome, IsSomeAnd, OnOk, OnErr, IsErrOf};
+ghost use Rattle.std.specs.Prelude.{◌≡◌, ◌≢◌, ◌⊎◌, ◌<◌, ◌≤◌, ◌+◌, List, ℕ, length, None, Some, IfOk, IfSome, IsSome, IsSomeAnd, OnOk, OnErr, IsErrOf};
 ghost use Rattle.std.specs.declared.option.Option.{Option};
 ghost use Rattle.std.specs.FinMap as map;
 ghost use Rattle.octet_base.specs.Desk.{Files, Rose, emptied, grown, GrownByPrefix, spoken, SpokenPrefix};
@@ -53,10 +53,11 @@ pub trait Desk: Send {
     /// The bytes said so far, where the desk tells them.
     ghost said: { Self → Option (List ℕ) };
 
-    /// How often `take` has failed. It never falls, and stays at 2^64 - 1.
+    /// How often `take` has failed. A call counts one failure at most, and none where it goes well.
+    /// It never falls, and stays at 2^64 - 1.
     ghost take_faults: { Self → ℕ };
 
-    /// How often one of the other calls has failed. It never falls, and stays at 2^64 - 1.
+    /// How often one of the other calls has failed, counted in the same way.
     ghost write_faults: { Self → ℕ };
 
     /// The bytes of a file, at most `limit`. Where the desk tells its files, `TooLong` and `Absent`
@@ -68,7 +69,9 @@ pub trait Desk: Send {
             IfSome (files self.old) (λ fs. IsSomeAnd (map.get fs name.now) (λ bytes. limit < length bytes)) }
         ensures absent { IsErrOf result DeskFault.Absent → IsSomeAnd (files self.old) (λ fs. map.get fs name.now ≡ None) }
         ensures absent_stays { IsErrOf result DeskFault.Absent → take_faults self.new ≡ take_faults self.old }
+        ensures stays { OnOk result (take_faults self.new ≡ take_faults self.old) }
         ensures failed { IsErrOf result DeskFault.Failed → Rose (take_faults self.old) (take_faults self.new) }
+        ensures once { take_faults self.new ≤ take_faults self.old + 1 }
         ensures later { take_faults self.old ≤ take_faults self.new }
 
         ensures same_files { files self.new ≡ files self.old }
@@ -84,7 +87,9 @@ pub trait Desk: Send {
         ensures begun_ok { OnOk result (begun self.new ≡ Some name.now) }
         ensures files_err { OnErr result ((files self.new ≡ files self.old) ⊎ (files self.new ≡ emptied name.now (files self.old))) }
         ensures begun_err { OnErr result (begun self.new ≡ None) }
+        ensures stays { OnOk result (write_faults self.new ≡ write_faults self.old) }
         ensures failed { IsErrOf result DeskFault.Failed → Rose (write_faults self.old) (write_faults self.new) }
+        ensures once { write_faults self.new ≤ write_faults self.old + 1 }
         ensures not_too_long { result ≢ Err DeskFault.TooLong }
         ensures not_absent { result ≢ Err DeskFault.Absent }
         ensures later { write_faults self.old ≤ write_faults self.new }
@@ -98,7 +103,9 @@ pub trait Desk: Send {
 
         ensures files_ok { OnOk result (files self.new ≡ grown (begun self.old) bytes.now (files self.old)) }
         ensures files_err { OnErr result (GrownByPrefix (begun self.old) bytes.now (files self.old) (files self.new)) }
+        ensures stays { OnOk result (write_faults self.new ≡ write_faults self.old) }
         ensures failed { IsErrOf result DeskFault.Failed → Rose (write_faults self.old) (write_faults self.new) }
+        ensures once { write_faults self.new ≤ write_faults self.old + 1 }
         ensures not_too_long { result ≢ Err DeskFault.TooLong }
         ensures not_absent { result ≢ Err DeskFault.Absent }
         ensures later { write_faults self.old ≤ write_faults self.new }
@@ -112,7 +119,9 @@ pub trait Desk: Send {
         requires { IsSome (begun self.old) }
 
         ensures begun { begun self.new ≡ None }
+        ensures stays { OnOk result (write_faults self.new ≡ write_faults self.old) }
         ensures failed { IsErrOf result DeskFault.Failed → Rose (write_faults self.old) (write_faults self.new) }
+        ensures once { write_faults self.new ≤ write_faults self.old + 1 }
         ensures not_too_long { result ≢ Err DeskFault.TooLong }
         ensures not_absent { result ≢ Err DeskFault.Absent }
         ensures no_memory { result ≢ Err DeskFault.OutOfMemory }
@@ -126,7 +135,9 @@ pub trait Desk: Send {
     fn say(&mut self, alloc: Global, bytes: &[u8]) -> Result<(), DeskFault>
         ensures said_ok { OnOk result (said self.new ≡ spoken bytes.now (said self.old)) }
         ensures said_err { OnErr result (SpokenPrefix bytes.now (said self.old) (said self.new)) }
+        ensures stays { OnOk result (write_faults self.new ≡ write_faults self.old) }
         ensures failed { IsErrOf result DeskFault.Failed → Rose (write_faults self.old) (write_faults self.new) }
+        ensures once { write_faults self.new ≤ write_faults self.old + 1 }
         ensures not_too_long { result ≢ Err DeskFault.TooLong }
         ensures not_absent { result ≢ Err DeskFault.Absent }
         ensures later { write_faults self.old ≤ write_faults self.new }

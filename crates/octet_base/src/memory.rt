@@ -1,5 +1,5 @@
 //! A desk in memory, which fails at the calls that it is told of.
-ghost use Rattle.std.specs.Prelude.{◌≡◌, ◌≢◌, ◌⊎◌, ◌↔◌, ◌<◌, ◌≤◌, [], length, None, Some, IfOk, IfSome, IsSome, IsSomeAnd, OnOk, OnErr, IsErrOf, IsTrue, take, string_bytes};
+ghost use Rattle.std.specs.Prelude.{◌≡◌, ◌≢◌, ◌⊎◌, ◌↔◌, ◌<◌, ◌≤◌, ◌+◌, [], length, None, Some, IfOk, IfSome, IsSome, IsSomeAnd, OnOk, OnErr, IsErrOf, IsTrue, take, string_bytes};
 ghost use Rattle.std.specs.Option.{option_map, ForSome};
 ghost use Rattle.std.specs.FinMap as map;
 ghost use Rattle.octet_base.specs.Desk.{Rose, emptied, grown, GrownByPrefix, spoken, SpokenPrefix};
@@ -42,6 +42,7 @@ fn count_call(fails: &List<Fail>, calls: &mut u64) -> Option<u32>
 fn count_failure(failure: Option<u32>, faults: &mut u64)
     ensures value { faults.new ≡ count_after failure faults.old }
     ensures later { faults.old ≤ faults.new }
+    ensures once { faults.new ≤ faults.old + 1 }
     ensures rose { IsSome failure → Rose faults.old faults.new }
 {
     if failure.is_some() {
@@ -141,7 +142,9 @@ impl Desk for MemoryDesk {
             IfSome (files_in self.old) (λ fs. IsSomeAnd (map.get fs name.now) (λ bytes. limit < length bytes)) }
         ensures absent { IsErrOf result DeskFault.Absent → IsSomeAnd (files_in self.old) (λ fs. map.get fs name.now ≡ None) }
         ensures absent_stays { IsErrOf result DeskFault.Absent → self.new.take_faults ≡ self.old.take_faults }
+        ensures stays { OnOk result (self.new.take_faults ≡ self.old.take_faults) }
         ensures failed { IsErrOf result DeskFault.Failed → Rose self.old.take_faults self.new.take_faults }
+        ensures once { self.new.take_faults ≤ self.old.take_faults + 1 }
         ensures later { self.old.take_faults ≤ self.new.take_faults }
 
         ensures same_files { files_in self.new ≡ files_in self.old }
@@ -176,7 +179,9 @@ impl Desk for MemoryDesk {
         ensures begun_ok { OnOk result (begun_in self.new ≡ Some name.now) }
         ensures files_err { OnErr result ((files_in self.new ≡ files_in self.old) ⊎ (files_in self.new ≡ emptied name.now (files_in self.old))) }
         ensures begun_err { OnErr result (begun_in self.new ≡ None) }
+        ensures stays { OnOk result (self.new.write_faults ≡ self.old.write_faults) }
         ensures failed { IsErrOf result DeskFault.Failed → Rose self.old.write_faults self.new.write_faults }
+        ensures once { self.new.write_faults ≤ self.old.write_faults + 1 }
         ensures not_too_long { result ≢ Err DeskFault.TooLong }
         ensures not_absent { result ≢ Err DeskFault.Absent }
         ensures later { self.old.write_faults ≤ self.new.write_faults }
@@ -205,7 +210,9 @@ impl Desk for MemoryDesk {
 
         ensures files_ok { OnOk result (files_in self.new ≡ grown (begun_in self.old) bytes.now (files_in self.old)) }
         ensures files_err { OnErr result (GrownByPrefix (begun_in self.old) bytes.now (files_in self.old) (files_in self.new)) }
+        ensures stays { OnOk result (self.new.write_faults ≡ self.old.write_faults) }
         ensures failed { IsErrOf result DeskFault.Failed → Rose self.old.write_faults self.new.write_faults }
+        ensures once { self.new.write_faults ≤ self.old.write_faults + 1 }
         ensures not_too_long { result ≢ Err DeskFault.TooLong }
         ensures not_absent { result ≢ Err DeskFault.Absent }
         ensures later { self.old.write_faults ≤ self.new.write_faults }
@@ -240,7 +247,9 @@ impl Desk for MemoryDesk {
         requires { IsSome (begun_in self.old) }
 
         ensures begun { begun_in self.new ≡ None }
+        ensures stays { OnOk result (self.new.write_faults ≡ self.old.write_faults) }
         ensures failed { IsErrOf result DeskFault.Failed → Rose self.old.write_faults self.new.write_faults }
+        ensures once { self.new.write_faults ≤ self.old.write_faults + 1 }
         ensures not_too_long { result ≢ Err DeskFault.TooLong }
         ensures not_absent { result ≢ Err DeskFault.Absent }
         ensures no_memory { result ≢ Err DeskFault.OutOfMemory }
@@ -266,7 +275,9 @@ impl Desk for MemoryDesk {
     fn say(&mut self, _alloc: Global, bytes: &[u8]) -> Result<(), DeskFault>
         ensures said_ok { OnOk result (said_in self.new ≡ spoken bytes.now (said_in self.old)) }
         ensures said_err { OnErr result (SpokenPrefix bytes.now (said_in self.old) (said_in self.new)) }
+        ensures stays { OnOk result (self.new.write_faults ≡ self.old.write_faults) }
         ensures failed { IsErrOf result DeskFault.Failed → Rose self.old.write_faults self.new.write_faults }
+        ensures once { self.new.write_faults ≤ self.old.write_faults + 1 }
         ensures not_too_long { result ≢ Err DeskFault.TooLong }
         ensures not_absent { result ≢ Err DeskFault.Absent }
         ensures later { self.old.write_faults ≤ self.new.write_faults }

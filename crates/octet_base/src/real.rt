@@ -1,7 +1,8 @@
 //! The desk over real files and standard output: the edge where proofs end and trust begins.
-ghost use Rattle.std.specs.Prelude.{◌≡◌, ◌≢◌, ◌≤◌, length, IfOk, None, Some, string_bytes};
+ghost use Rattle.std.specs.Prelude.{◌≡◌, ◌≢◌, ◌<◌, ◌≤◌, length, IfOk, IfSome, IsErrOf, IsTrue, None, Some, string_bytes};
 ghost use Rattle.std.specs.Option.{option_map};
-ghost use Rattle.octet_base.specs.Desk.{Rose};
+ghost use Rattle.std.specs.Io.KnownBytes.{Appends};
+ghost use Rattle.octet_base.specs.Failures.{next_count};
 
 use crate::{Desk, DeskFault};
 use std::alloc::Global;
@@ -49,7 +50,7 @@ where
 // Counts a failure; a count stays at its last value.
 fn count_fault(faults: &mut u64) -> DeskFault
     ensures fault { result ≡ DeskFault.Failed }
-    ensures rose { Rose faults.old faults.new }
+    ensures counted { faults.new ≡ next_count faults.old }
     ensures later { faults.old ≤ faults.new }
 {
     *faults = faults.saturating_add(1);
@@ -58,28 +59,31 @@ fn count_fault(faults: &mut u64) -> DeskFault
 
 // The bytes that the file has left: an error where it has more than `limit`.
 fn read_up_to<F: Read>(alloc: Global, file: &mut F, limit: u32) -> Result<Vec<u8>, DeskFault>
+    ensures bytes { IfOk result (λ bytes. IfSome (F.remaining file.old) (λ left. bytes.items ≡ left)) }
     ensures limit { IfOk result (λ bytes. length bytes.items ≤ limit) }
+    ensures too_long { IsErrOf result DeskFault.TooLong → IfSome (F.remaining file.old) (λ left. limit < length left) }
     ensures not_absent { result ≢ Err DeskFault.Absent }
 {
     let mut bytes = Vec::new(alloc);
     let mut piece = [0u8; PIECE];
-    for _ in 0..u64::MAX {
+    loop {
         let Ok(count) = file.read(&mut piece) else {
             return Err(DeskFault::Failed);
         };
         if count == 0 {
-            break;
+            return Ok(bytes);
         }
         if count > limit as usize - bytes.len() {
             return Err(DeskFault::TooLong);
         }
         bytes.extend_from_slice(&piece[..count])?;
     }
-    Ok(bytes)
 }
 
 // Writes all bytes, in as many pieces as it takes, and says whether that went well.
-fn write_all<W: Write>(file: &mut W, bytes: &[u8]) -> bool {
+fn write_all<W: Write>(file: &mut W, bytes: &[u8]) -> bool
+    ensures { IsTrue result → Appends (W.contents file.old) (W.contents file.new) bytes.now }
+{
     let mut rest = bytes;
     while !rest.is_empty() {
         match file.write(rest) {
