@@ -1,7 +1,7 @@
 //! Counting events by class.
-ghost use Rattle.std.specs.Prelude.{◌≡◌, ◌<◌, ℕ, IfOk, length};
+ghost use Rattle.std.specs.Prelude.{◌≡◌, ◌<◌, ◌+◌, ℕ, IfOk, length, slice_index, slice_set};
 ghost use Rattle.octet_model.specs.declared.event.Event.{Event};
-ghost use Rattle.octet_watch.specs.Tally.{AnswersAt, IsTally, CountsByFunction, CountsOn};
+ghost use Rattle.octet_watch.specs.Tally.{AnswersAt, IsTally, CountsByFunction, CountsOn, saturated};
 
 use octet_model::{Event, List, OutOfMemory};
 use std::alloc::Global;
@@ -17,6 +17,15 @@ pub struct Classes {
     class: Class,
     ghost callable: { Class.IsAlwaysCallable class },
     ghost below: { (event : _) (answer : ℕ) → Class.post class event answer → answer < count },
+}
+
+// Counts one more event of a class.
+fn count_one(numbers: &mut [u64], class: u32)
+    requires { class < length numbers.old }
+    ensures { numbers.new ≡ slice_set numbers.old class (saturated (slice_index numbers.old class + 1)) }
+{
+    let number = numbers[class as usize];
+    numbers[class as usize] = number.saturating_add(1);
 }
 
 impl Classes {
@@ -42,8 +51,8 @@ impl Classes {
         ensures { CountsOn (AnswersAt (Class.post self.now.class)) journal.now numbers.old numbers.new }
     {
         for event in journal {
-            let class = self.class_of(event) as usize;
-            numbers[class] = numbers[class].saturating_add(1);
+            let class = self.class_of(event);
+            count_one(numbers, class);
         }
     }
 
