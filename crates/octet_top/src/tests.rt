@@ -96,6 +96,36 @@ fn failed_calls_leave_prefixes(rt: HostRuntime) -> Result<(), Failed> {
     Ok(())
 }
 
+/// A command asks for no file but those that its words name, and makes no other call: the last
+/// of its calls is counted where it fails, and one behind it is never made.
+#[test]
+fn commands_make_so_many_calls(rt: HostRuntime) -> Result<(), Failed> {
+    let alloc = rt.alloc();
+    for (line, calls) in [
+        ("run S L", 5),
+        ("tidy S", 2),
+        ("show L", 2),
+        ("replay S L", 3),
+        ("verify S L", 3),
+        ("profile S L", 3),
+        ("profile S L y", 3),
+        ("profile S L z", 2),
+        ("show S", 2),
+        ("replay L L", 2),
+        ("tidy T", 2),
+        ("neither S", 1),
+    ] {
+        let words = words_of(alloc, line)?;
+        for (failing, faults) in [(calls, (0, 1)), (calls + 1, (0, 0))] {
+            let mut desk = desk_with(alloc, SCRIPT, &[(failing, 0)])?;
+            desk.put(alloc, "L", LOG)?;
+            serve(&rt, alloc, &words, &mut desk, &OpenGate);
+            assert_eq!(rt; desk.faults(), faults, "{line}");
+        }
+    }
+    Ok(())
+}
+
 /// A script whose log has 5,120 marks: each of six threads reads each of 1,024 objects.
 fn wide_script(alloc: Global) -> Result<String, AllocError> {
     let mut text = String::new(alloc);
