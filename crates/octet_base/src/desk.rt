@@ -53,7 +53,8 @@ pub trait Desk: Send {
     /// The bytes said so far, where the desk tells them.
     ghost said: { Self → Option (List ℕ) };
 
-    /// How often `take` has failed. A call counts one failure at most, and none where it goes well.
+    /// How often `take` has failed. A call counts one failure at most, and only
+    /// where it answers `Failed`.
     /// It never falls, and stays at 2^64 - 1.
     ghost take_faults: { Self → ℕ };
 
@@ -68,8 +69,7 @@ pub trait Desk: Send {
         ensures too_long { IsErrOf result DeskFault.TooLong →
             IfSome (files self.old) (λ fs. IsSomeAnd (map.get fs name.now) (λ bytes. limit < length bytes)) }
         ensures absent { IsErrOf result DeskFault.Absent → IsSomeAnd (files self.old) (λ fs. map.get fs name.now ≡ None) }
-        ensures absent_stays { IsErrOf result DeskFault.Absent → take_faults self.new ≡ take_faults self.old }
-        ensures stays { OnOk result (take_faults self.new ≡ take_faults self.old) }
+        ensures stays { result ≢ Err DeskFault.Failed → take_faults self.new ≡ take_faults self.old }
         ensures failed { IsErrOf result DeskFault.Failed → Rose (take_faults self.old) (take_faults self.new) }
         ensures once { take_faults self.new ≤ take_faults self.old + 1 }
         ensures later { take_faults self.old ≤ take_faults self.new }
@@ -87,7 +87,7 @@ pub trait Desk: Send {
         ensures begun_ok { OnOk result (begun self.new ≡ Some name.now) }
         ensures files_err { OnErr result ((files self.new ≡ files self.old) ⊎ (files self.new ≡ emptied name.now (files self.old))) }
         ensures begun_err { OnErr result (begun self.new ≡ None) }
-        ensures stays { OnOk result (write_faults self.new ≡ write_faults self.old) }
+        ensures stays { result ≢ Err DeskFault.Failed → write_faults self.new ≡ write_faults self.old }
         ensures failed { IsErrOf result DeskFault.Failed → Rose (write_faults self.old) (write_faults self.new) }
         ensures once { write_faults self.new ≤ write_faults self.old + 1 }
         ensures not_too_long { result ≢ Err DeskFault.TooLong }
@@ -103,7 +103,7 @@ pub trait Desk: Send {
 
         ensures files_ok { OnOk result (files self.new ≡ grown (begun self.old) bytes.now (files self.old)) }
         ensures files_err { OnErr result (GrownByPrefix (begun self.old) bytes.now (files self.old) (files self.new)) }
-        ensures stays { OnOk result (write_faults self.new ≡ write_faults self.old) }
+        ensures stays { result ≢ Err DeskFault.Failed → write_faults self.new ≡ write_faults self.old }
         ensures failed { IsErrOf result DeskFault.Failed → Rose (write_faults self.old) (write_faults self.new) }
         ensures once { write_faults self.new ≤ write_faults self.old + 1 }
         ensures not_too_long { result ≢ Err DeskFault.TooLong }
@@ -119,7 +119,7 @@ pub trait Desk: Send {
         requires { IsSome (begun self.old) }
 
         ensures begun { begun self.new ≡ None }
-        ensures stays { OnOk result (write_faults self.new ≡ write_faults self.old) }
+        ensures stays { result ≢ Err DeskFault.Failed → write_faults self.new ≡ write_faults self.old }
         ensures failed { IsErrOf result DeskFault.Failed → Rose (write_faults self.old) (write_faults self.new) }
         ensures once { write_faults self.new ≤ write_faults self.old + 1 }
         ensures not_too_long { result ≢ Err DeskFault.TooLong }
@@ -135,7 +135,7 @@ pub trait Desk: Send {
     fn say(&mut self, alloc: Global, bytes: &[u8]) -> Result<(), DeskFault>
         ensures said_ok { OnOk result (said self.new ≡ spoken bytes.now (said self.old)) }
         ensures said_err { OnErr result (SpokenPrefix bytes.now (said self.old) (said self.new)) }
-        ensures stays { OnOk result (write_faults self.new ≡ write_faults self.old) }
+        ensures stays { result ≢ Err DeskFault.Failed → write_faults self.new ≡ write_faults self.old }
         ensures failed { IsErrOf result DeskFault.Failed → Rose (write_faults self.old) (write_faults self.new) }
         ensures once { write_faults self.new ≤ write_faults self.old + 1 }
         ensures not_too_long { result ≢ Err DeskFault.TooLong }

@@ -141,8 +141,7 @@ impl Desk for MemoryDesk {
         ensures too_long { IsErrOf result DeskFault.TooLong →
             IfSome (files_in self.old) (λ fs. IsSomeAnd (map.get fs name.now) (λ bytes. limit < length bytes)) }
         ensures absent { IsErrOf result DeskFault.Absent → IsSomeAnd (files_in self.old) (λ fs. map.get fs name.now ≡ None) }
-        ensures absent_stays { IsErrOf result DeskFault.Absent → self.new.take_faults ≡ self.old.take_faults }
-        ensures stays { OnOk result (self.new.take_faults ≡ self.old.take_faults) }
+        ensures stays { result ≢ Err DeskFault.Failed → self.new.take_faults ≡ self.old.take_faults }
         ensures failed { IsErrOf result DeskFault.Failed → Rose self.old.take_faults self.new.take_faults }
         ensures once { self.new.take_faults ≤ self.old.take_faults + 1 }
         ensures later { self.old.take_faults ≤ self.new.take_faults }
@@ -179,7 +178,7 @@ impl Desk for MemoryDesk {
         ensures begun_ok { OnOk result (begun_in self.new ≡ Some name.now) }
         ensures files_err { OnErr result ((files_in self.new ≡ files_in self.old) ⊎ (files_in self.new ≡ emptied name.now (files_in self.old))) }
         ensures begun_err { OnErr result (begun_in self.new ≡ None) }
-        ensures stays { OnOk result (self.new.write_faults ≡ self.old.write_faults) }
+        ensures stays { result ≢ Err DeskFault.Failed → self.new.write_faults ≡ self.old.write_faults }
         ensures failed { IsErrOf result DeskFault.Failed → Rose self.old.write_faults self.new.write_faults }
         ensures once { self.new.write_faults ≤ self.old.write_faults + 1 }
         ensures not_too_long { result ≢ Err DeskFault.TooLong }
@@ -204,13 +203,13 @@ impl Desk for MemoryDesk {
         Ok(())
     }
 
-    // A failure is counted before its bytes are added, so that none is lost where memory ends.
+    // Where memory ends in a call that is to fail, that is the answer, and no failure is counted.
     fn add(&mut self, alloc: Global, bytes: &[u8]) -> Result<(), DeskFault>
         requires { IsSome (begun_in self.old) }
 
         ensures files_ok { OnOk result (files_in self.new ≡ grown (begun_in self.old) bytes.now (files_in self.old)) }
         ensures files_err { OnErr result (GrownByPrefix (begun_in self.old) bytes.now (files_in self.old) (files_in self.new)) }
-        ensures stays { OnOk result (self.new.write_faults ≡ self.old.write_faults) }
+        ensures stays { result ≢ Err DeskFault.Failed → self.new.write_faults ≡ self.old.write_faults }
         ensures failed { IsErrOf result DeskFault.Failed → Rose self.old.write_faults self.new.write_faults }
         ensures once { self.new.write_faults ≤ self.old.write_faults + 1 }
         ensures not_too_long { result ≢ Err DeskFault.TooLong }
@@ -225,11 +224,10 @@ impl Desk for MemoryDesk {
             files_in self.new ≡ grown (begun_in self.old) (passed_bytes (next_failure self.old) bytes.now) (files_in self.old) }
         ensures listed { IsErrOf result DeskFault.Failed → IsSome (next_failure self.old) }
         ensures unlisted { OnOk result (next_failure self.old ≡ None) }
-        ensures counted { self.new.write_faults ≡ count_after (next_failure self.old) self.old.write_faults }
+        ensures counted { result ≢ Err DeskFault.OutOfMemory → self.new.write_faults ≡ count_after (next_failure self.old) self.old.write_faults }
         ensures call { CountsCall self.old self.new }
     {
         let failure = count_call(&self.fails, &mut self.calls);
-        count_failure(failure, &mut self.write_faults);
         let Some(name) = &self.begun else {
             unreachable!()
         };
@@ -237,6 +235,7 @@ impl Desk for MemoryDesk {
         if extend_file(alloc, &mut self.files, name, passed).is_err() {
             return Err(DeskFault::OutOfMemory);
         }
+        count_failure(failure, &mut self.write_faults);
         if failure.is_some() {
             return Err(DeskFault::Failed);
         }
@@ -247,7 +246,7 @@ impl Desk for MemoryDesk {
         requires { IsSome (begun_in self.old) }
 
         ensures begun { begun_in self.new ≡ None }
-        ensures stays { OnOk result (self.new.write_faults ≡ self.old.write_faults) }
+        ensures stays { result ≢ Err DeskFault.Failed → self.new.write_faults ≡ self.old.write_faults }
         ensures failed { IsErrOf result DeskFault.Failed → Rose self.old.write_faults self.new.write_faults }
         ensures once { self.new.write_faults ≤ self.old.write_faults + 1 }
         ensures not_too_long { result ≢ Err DeskFault.TooLong }
@@ -275,7 +274,7 @@ impl Desk for MemoryDesk {
     fn say(&mut self, _alloc: Global, bytes: &[u8]) -> Result<(), DeskFault>
         ensures said_ok { OnOk result (said_in self.new ≡ spoken bytes.now (said_in self.old)) }
         ensures said_err { OnErr result (SpokenPrefix bytes.now (said_in self.old) (said_in self.new)) }
-        ensures stays { OnOk result (self.new.write_faults ≡ self.old.write_faults) }
+        ensures stays { result ≢ Err DeskFault.Failed → self.new.write_faults ≡ self.old.write_faults }
         ensures failed { IsErrOf result DeskFault.Failed → Rose self.old.write_faults self.new.write_faults }
         ensures once { self.new.write_faults ≤ self.old.write_faults + 1 }
         ensures not_too_long { result ≢ Err DeskFault.TooLong }
@@ -289,12 +288,12 @@ impl Desk for MemoryDesk {
         ensures passed { IsErrOf result DeskFault.Failed → said_in self.new ≡ spoken (passed_bytes (next_failure self.old) bytes.now) (said_in self.old) }
         ensures listed { IsErrOf result DeskFault.Failed → IsSome (next_failure self.old) }
         ensures unlisted { OnOk result (next_failure self.old ≡ None) }
-        ensures counted { self.new.write_faults ≡ count_after (next_failure self.old) self.old.write_faults }
+        ensures counted { result ≢ Err DeskFault.OutOfMemory → self.new.write_faults ≡ count_after (next_failure self.old) self.old.write_faults }
         ensures call { CountsCall self.old self.new }
     {
         let failure = count_call(&self.fails, &mut self.calls);
-        count_failure(failure, &mut self.write_faults);
         self.said.extend_from_slice(passed(failure, bytes))?;
+        count_failure(failure, &mut self.write_faults);
         if failure.is_some() {
             return Err(DeskFault::Failed);
         }

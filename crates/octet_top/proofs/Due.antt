@@ -331,7 +331,7 @@ module _ (words : List (List ℕ)) (before after : DeskState) (code : ℕ) (serv
     where
       by : AreAnswered words before after code → (code ≡ code_of status) ⊎ (code ≡ 7)
       by (inl untouched) = inr untouched.status
-      by (inr (answer, answers, inr cut)) = elim cut.status [ inl failed ↦ absurd (no_write failed.1) | inr memory ↦ inr memory ]
+      by (inr (answer, answers, inr cut)) = elim cut.status [ inl failed ↦ absurd (no_write failed.1) | inr memory ↦ inr memory.0 ]
       by (inr (answer, answers, inl given)) = inl (given.status ∙ ap code_of (due_status before.files before.take_faults after.take_faults answer (λ is rose. no_read rose) words status due answers))
 
   -- of a recording: a replay is done and says its outcome

@@ -42,7 +42,7 @@ same_value x y is = cc
 -- a status that is none of a failed write or of refused memory is that of the answer
 own_status : (answer : Answer) (before after : DeskState) (code : ℕ) → (code ≡ 6 → ⊥) → (code ≡ 7 → ⊥) → IsDelivered answer before after code → IsGiven answer before after code
 own_status answer before after code no_write no_memory (inl given) = given
-own_status answer before after code no_write no_memory (inr cut) = absurd (elim cut.status [ inl failed ↦ no_write failed.0 | inr memory ↦ no_memory memory ])
+own_status answer before after code no_write no_memory (inr cut) = absurd (elim cut.status [ inl failed ↦ no_write failed.0 | inr memory ↦ no_memory memory.0 ])
 
 -- the answer that was given, at such a status
 pub record Given (words : List (List ℕ)) (before after : DeskState) (code : ℕ) : Type 0 where
@@ -454,7 +454,7 @@ module _ (words : List (List ℕ)) (before after : DeskState) (code : ℕ) (serv
 
       by : AreAnswered words before after code → Rose before.write_faults after.write_faults
       by (inl untouched) = other 6 7 six untouched.status (λ e. omega arith)
-      by (inr (answer, answers, inr cut)) = elim cut.status [ inl failed ↦ failed.1 | inr memory ↦ other 6 7 six memory (λ e. omega arith) ]
+      by (inr (answer, answers, inr cut)) = elim cut.status [ inl failed ↦ failed.1 | inr memory ↦ other 6 7 six memory.0 (λ e. omega arith) ]
       by (inr (answer, answers, inl given)) =
           let cause = cause_of words before after answer answers in
           at_cause answer cause (status_comes words before after code answer cause given)
@@ -476,3 +476,9 @@ module _ (words : List (List ℕ)) (before after : DeskState) (code : ℕ) (serv
       by answer given (BySuccess done) = absurd (not_done (given.status ∙ ap code_of done))
       by answer given (ByWords is none) = of answer not_a_command is refl given
       by answer given (ByName is unknown) = of answer no_such_object is refl given
+
+-- a write that failed is told by its status
+pub told_at_6 : (words : List (List ℕ)) (before after : DeskState) (code : ℕ) → AreAnswered words before after code → (code ≡ 6 → ⊥) → after.write_faults ≡ before.write_faults
+told_at_6 words before after code (inl untouched) no_write = untouched.write_faults
+told_at_6 words before after code (inr (answer, answers, inl given)) no_write = given.write_faults
+told_at_6 words before after code (inr (answer, answers, inr cut)) no_write = elim cut.status [ inl failed ↦ absurd (no_write failed.0) | inr memory ↦ memory.1 ]

@@ -9,7 +9,7 @@ use Rattle.octet_top.specs.Serving.{DeskState, written, IsDelivered, IsServed}
 delivered_from : (answer : Answer) (old before after : DeskState) (code : ℕ) → before.files ≡ old.files → before.said ≡ old.said → before.write_faults ≡ old.write_faults
     → IsDelivered answer before after code → IsDelivered answer old after code
 delivered_from answer old before after code files said faults (inl given) =
-    inl (record { status = given.status; files = given.files ∙ ap (written answer.files) files; said = given.said ∙ ap (spoken answer.text) said; begun = given.begun })
+    inl (record { status = given.status; files = given.files ∙ ap (written answer.files) files; said = given.said ∙ ap (spoken answer.text) said; begun = given.begun; write_faults = given.write_faults ∙ faults })
 delivered_from answer old before after code files said faults (inr cut) =
     inr (record { status = rw (← faults) cut.status; left = rw (← files, ← said) cut.left })
 

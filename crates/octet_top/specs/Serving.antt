@@ -35,24 +35,29 @@ abbrev pub IsPartlyWritten : List (List ℕ × List ℕ) → Option Files → Op
 IsPartlyWritten [] old new = ⊥
 IsPartlyWritten (file ∷ rest) old new = IsPrefixPut file.0 file.1 old new ⊎ IsPartlyWritten rest (put file.0 file.1 old) new
 
--- the answer is given: all is written and said, and nothing is begun
+-- the answer is given: all is written and said, nothing is begun, and no write failed
 pub record IsGiven (answer : Answer) (before after : DeskState) (code : ℕ) : Type 0 where
   pub status : code ≡ code_of answer.status
   pub files : after.files ≡ written answer.files before.files
   pub said : after.said ≡ spoken answer.text before.said
   pub begun : after.begun ≡ None
+  pub write_faults : after.write_faults ≡ before.write_faults
+
+-- the status where a write failed, and where memory was refused and none had failed
+abbrev pub IsCutAt : ℕ → ℕ → ℕ → Type 0
+IsCutAt before after code = ((code ≡ 6) × Rose before after) ⊎ ((code ≡ 7) × (after ≡ before))
 
 -- giving it was cut short by a write that failed, or for want of memory: the files are partly written and nothing is said, or all are written and a prefix is said
 pub record IsCutShort (answer : Answer) (before after : DeskState) (code : ℕ) : Type 0 where
-  pub status : ((code ≡ 6) × Rose before.write_faults after.write_faults) ⊎ (code ≡ 7)
+  pub status : IsCutAt before.write_faults after.write_faults code
   pub left : (IsPartlyWritten answer.files before.files after.files × (after.said ≡ before.said))
       ⊎ ((after.files ≡ written answer.files before.files) × SpokenPrefix answer.text before.said after.said)
 
 -- the answer's text is said, and the status is its own; or a prefix is said, and a write failed or memory was refused
 abbrev pub IsSaid : Answer → Option (List ℕ) → Option (List ℕ) → ℕ → ℕ → ℕ → Type 0
 IsSaid answer said said' faults faults' code =
-    ((code ≡ code_of answer.status) × (said' ≡ spoken answer.text said))
-    ⊎ ((((code ≡ 6) × Rose faults faults') ⊎ (code ≡ 7)) × SpokenPrefix answer.text said said')
+    ((code ≡ code_of answer.status) × (said' ≡ spoken answer.text said) × (faults' ≡ faults))
+    ⊎ (IsCutAt faults faults' code × SpokenPrefix answer.text said said')
 
 -- the answer is given, or giving it was cut short
 abbrev pub IsDelivered : Answer → DeskState → DeskState → ℕ → Type 0
@@ -63,6 +68,7 @@ pub record IsUntouched (before after : DeskState) (code : ℕ) : Type 0 where
   pub status : code ≡ 7
   pub files : after.files ≡ before.files
   pub said : after.said ≡ before.said
+  pub write_faults : after.write_faults ≡ before.write_faults
 
 -- a command is served whose answer is one of these
 abbrev pub IsServed : (Answer → Type 0) → DeskState → DeskState → ℕ → Type 0

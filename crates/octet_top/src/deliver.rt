@@ -22,9 +22,9 @@ fn write_file<D: Desk>(
     ensures begun { OnOk result (D.begun desk.new ≡ None) }
     ensures left { OnErr result (IsPrefixPut name.now bytes.now (D.files desk.old) (D.files desk.new)) }
     ensures failed { IsErrOf result DeskFault.Failed → Rose (D.write_faults desk.old) (D.write_faults desk.new) }
+    ensures stays { result ≢ Err DeskFault.Failed → D.write_faults desk.new ≡ D.write_faults desk.old }
     ensures not_too_long { result ≢ Err DeskFault.TooLong }
     ensures not_absent { result ≢ Err DeskFault.Absent }
-    ensures later { D.write_faults desk.old ≤ D.write_faults desk.new }
     ensures same_said { D.said desk.new ≡ D.said desk.old }
     ensures same_faults { D.take_faults desk.new ≡ D.take_faults desk.old }
 {
@@ -44,9 +44,9 @@ fn write_outputs<D: Desk>(alloc: Global, desk: &mut D, outputs: &[Output]) -> Re
     ensures begun { OnOk result (D.begun desk.new ≡ None) }
     ensures left { OnErr result (IsPartlyWritten (list_map file_of outputs.now) (D.files desk.old) (D.files desk.new)) }
     ensures failed { IsErrOf result DeskFault.Failed → Rose (D.write_faults desk.old) (D.write_faults desk.new) }
+    ensures stays { result ≢ Err DeskFault.Failed → D.write_faults desk.new ≡ D.write_faults desk.old }
     ensures not_too_long { result ≢ Err DeskFault.TooLong }
     ensures not_absent { result ≢ Err DeskFault.Absent }
-    ensures later { D.write_faults desk.old ≤ D.write_faults desk.new }
     ensures same_said { D.said desk.new ≡ D.said desk.old }
     ensures same_faults { D.take_faults desk.new ≡ D.take_faults desk.old }
 {

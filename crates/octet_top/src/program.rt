@@ -72,6 +72,7 @@ pub fn serve<R: Threads + Wait + Sync, D: Desk, G: Gate>(
     ensures unordered { result ≡ 9 → IsFoundUnordered (texts words.now) (D.files desk.old) }
     ensures read { result ≡ 5 → Rose (D.take_faults desk.old) (D.take_faults desk.new) ⊎ IsFileAbsent (texts words.now) (D.files desk.old) }
     ensures write { result ≡ 6 → Rose (D.write_faults desk.old) (D.write_faults desk.new) }
+    ensures no_other_write { result ≢ 6 → D.write_faults desk.new ≡ D.write_faults desk.old }
     ensures too_long { result ≡ 8 → IsFileTooLong (texts words.now) (D.files desk.old) }
     ensures due { (status : Status) → IsDue (texts words.now) (D.files desk.old) status → ¬ Rose (D.take_faults desk.old) (D.take_faults desk.new) → ¬ Rose (D.write_faults desk.old) (D.write_faults desk.new)
         → (result ≡ code_of status) ⊎ (result ≡ 7) }

@@ -18,7 +18,7 @@ loop-rest-preserved g c =
             ∙ grown_more c.args.name.now before.0 c.split_at.result.0.now _,
       );
       begun = c.in_ok-add.ensures.same_begun ∙ c.loop-rest.invariant.begun;
-      later = omega (arith, c.loop-rest.invariant.later, c.in_ok-add.ensures.later);
+      write_faults = c.in_ok-add.ensures.stays (λ failed. cc) ∙ c.loop-rest.invariant.write_faults;
       said = c.in_ok-add.ensures.same_said ∙ c.loop-rest.invariant.said;
       take_faults = c.in_ok-add.ensures.same_faults ∙ c.loop-rest.invariant.take_faults;
     }

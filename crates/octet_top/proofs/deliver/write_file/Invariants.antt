@@ -1,4 +1,4 @@
-use Rattle.std.proofs.Common.{◌≡◌, ◌++◌, ◌≤◌, length, List, ℕ, Some}
+use Rattle.std.proofs.Common.{◌≡◌, ◌++◌, length, List, ℕ, Some}
 use Rattle.octet_top.specs.Serving.{put}
 use Rattle.octet_top.proofs.deliver.write_file.Given as goal
 
@@ -9,7 +9,7 @@ invariant-loop-rest g l =
     record {
       files : (done : List ℕ) × (done ++ l.rest ≡ l.bytes) × (D.files l.desk ≡ put l.name done (D.files l.fn.desk));
       begun : D.begun l.desk ≡ Some l.name;
-      later : D.write_faults l.fn.desk ≤ D.write_faults l.desk;
+      write_faults : D.write_faults l.desk ≡ D.write_faults l.fn.desk;
       said : D.said l.desk ≡ D.said l.fn.desk;
       take_faults : D.take_faults l.desk ≡ D.take_faults l.fn.desk;
     }

@@ -1,4 +1,4 @@
-use Rattle.std.proofs.Common.{◌≡◌, ◌≤◌, None, Option, map, drop}
+use Rattle.std.proofs.Common.{◌≡◌, None, Option, map, drop}
 use Rattle.octet_base.specs.Desk.{Files}
 use Rattle.octet_top.specs.Answer.{file_of}
 use Rattle.octet_top.specs.Serving.{written, IsPartlyWritten}
@@ -13,7 +13,7 @@ invariant-loop-output g l =
       whole : written left (D.files l.desk) ≡ written (map file_of l.outputs) (D.files l.fn.desk);
       partly : (files : Option Files) → IsPartlyWritten left (D.files l.desk) files → IsPartlyWritten (map file_of l.outputs) (D.files l.fn.desk) files;
       begun : D.begun l.desk ≡ None;
-      later : D.write_faults l.fn.desk ≤ D.write_faults l.desk;
+      write_faults : D.write_faults l.desk ≡ D.write_faults l.fn.desk;
       said : D.said l.desk ≡ D.said l.fn.desk;
       take_faults : D.take_faults l.desk ≡ D.take_faults l.fn.desk;
     }

@@ -1,5 +1,5 @@
 use Rattle.octet_top.specs.Request.{texts}
-use Rattle.octet_top.proofs.Promises.{headline, ordered, generated, unordered_at_9, words_at_1, script_refused_at_2, log_refused_at_3, misfitting_at_4, read_at_5, write_at_6, too_long_at_8, untouched_at}
+use Rattle.octet_top.proofs.Promises.{headline, ordered, generated, unordered_at_9, words_at_1, script_refused_at_2, log_refused_at_3, misfitting_at_4, read_at_5, write_at_6, too_long_at_8, untouched_at, told_at_6}
 use Rattle.octet_top.proofs.Due.{comes_as_due, repeats, complete}
 use Rattle.octet_top.proofs.Kept.{keeps_other_files}
 use Rattle.octet_top.proofs.program.serve.Goals as goal
@@ -51,3 +51,6 @@ returns-clause-untouched g c = untouched_at (texts c.args.words.now) _ _ _ c.ans
 
 pub returns-clause-due : goal.returns-clause-due
 returns-clause-due g c = comes_as_due (texts c.args.words.now) _ _ _ c.answer_words.ensures
+
+pub returns-clause-no_other_write : goal.returns-clause-no_other_write
+returns-clause-no_other_write g c = told_at_6 (texts c.args.words.now) _ _ _ c.answer_words.ensures

@@ -11,6 +11,9 @@ returns-then-is_err-clause-files_err c = none_added _ (string_bytes c.in-Some.na
 pub invariant_of-self : goal.invariant_of-self
 invariant_of-self c = record { begun_is_there = λ name is. contains-put _ c.extend_file.result _ _ _ _ (string_bytes name) c.extend_file.ensures.ok c.extend_file.ensures.err (c.args.self.now.begun_is_there name is) }
 
+pub invariant_of-self-2 : goal.invariant_of-self-2
+invariant_of-self-2 c = record { begun_is_there = λ name is. contains-put _ c.extend_file.result _ _ _ _ (string_bytes name) c.extend_file.ensures.ok c.extend_file.ensures.err (c.args.self.now.begun_is_there name is) }
+
 pub returns-then-is_some-clause-files_err : goal.returns-then-is_some-clause-files_err
 returns-then-is_some-clause-files_err c = some_added _ (string_bytes c.in-Some.name) c.args.bytes.now c.passed-passed.result.now _ _ (ap (option_map (λ n. string_bytes n)) c.in-Some.is) c.passed-passed.ensures.front c.passed-passed.ensures.bound
     (let d = c.deref.ensures in let e = on_ok_at _ c.if-is_err.ensures.negation c.extend_file.ensures.ok in rw (← d) e)
