@@ -4,7 +4,7 @@ use Rattle.std.specs.List.{AllZip, count_by, range_with_len}
 use Rattle.std.proofs.lemmas.List.{length-set, get_or-set_same, get_or-set_other, length-replicate, get_or-replicate, take_more, take_all, append-nil}
 use Rattle.std.proofs.lemmas.List.Concat.{flat_map-append}
 use Rattle.std.proofs.lemmas.Bool.{cases_eq, eq-eqb, ne_eqb}
-use Rattle.std.proofs.lemmas.List.FromFn.{fill_by_all}
+use Rattle.std.proofs.lemmas.List.FromFn.{fill_by_all, length-map-range_with_len}
 use Rattle.std.proofs.lemmas.List.Sums.{sum_by-cons, count_by-le-length}
 use Rattle.octet_model.specs.declared.event.Event.{Event}
 use Rattle.octet_watch.specs.Tally.{all_events, saturated, class_counts, IsTally, CountsByFunction, counted, CountsOn}
@@ -116,6 +116,10 @@ module _ (answers : Event → ℕ → Type 0) where
     answered = subst (λ js. AllZip answers (all_events js) p.classes) (take_all i journals past) p.answered;
     counts = same ∙ p.counts ∙ counts_of_all bound p.classes;
   }
+
+  pub length-tally : (bound : ℕ) (journals : List (List Event)) (numbers : List ℕ) → IsTally answers bound journals numbers → length numbers ≡ bound
+  length-tally bound journals numbers p =
+      ap (λ (l : List ℕ). length l) p.counts ∙ length-map-range_with_len (λ k. saturated (count_by (λ class. class == k) p.classes)) 0 bound
 
   -- ---- what a function of the event gives
 

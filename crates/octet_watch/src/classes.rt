@@ -63,6 +63,7 @@ impl Classes {
         alloc: Global,
         journals: &List<List<Event>>,
     ) -> Result<List<u64>, OutOfMemory>
+        ensures length { IfOk result (λ numbers. length numbers ≡ self.now.count) }
         ensures tally { IfOk result (λ numbers. IsTally (AnswersAt (Class.post self.now.class)) self.now.count journals.now numbers) }
         ensures by_function { IfOk result (λ numbers. CountsByFunction (AnswersAt (Class.post self.now.class)) self.now.count journals.now numbers) }
     {

@@ -1,6 +1,6 @@
 use Rattle.std.proofs.Common.{◌≤◌, get_or, length, ap, arith, ◌∙◌}
 use Rattle.std.proofs.lemmas.List.{take_at}
-use Rattle.octet_watch.proofs.Counting.{counts_journal, tally_of_counts, counts_by_function}
+use Rattle.octet_watch.proofs.Counting.{counts_journal, tally_of_counts, length-tally, counts_by_function}
 use Rattle.octet_watch.proofs.classes.Classes.tally.Goals as goal
 
 pub loop-journal-preserved : goal.loop-journal-preserved
@@ -21,4 +21,10 @@ pub returns-clause-by_function : goal.returns-clause-by_function
 returns-clause-by_function g c =
     let past : length c.args.journals.now ≤ c.loop-journal.journal-index = omega (arith, ap length c.as_slice-journal-items.ensures) in
     counts_by_function _ c.args.self.now.count c.args.journals.now c.from_vec.result
+    (tally_of_counts _ c.args.self.now.count c.args.journals.now c.loop-journal.journal-index c.loop-journal.numbers.items c.from_vec.result past c.from_vec.ensures c.loop-journal.invariant)
+
+pub returns-clause-length : goal.returns-clause-length
+returns-clause-length g c =
+    let past : length c.args.journals.now ≤ c.loop-journal.journal-index = omega (arith, ap length c.as_slice-journal-items.ensures) in
+    length-tally _ c.args.self.now.count c.args.journals.now c.from_vec.result
     (tally_of_counts _ c.args.self.now.count c.args.journals.now c.loop-journal.journal-index c.loop-journal.numbers.items c.from_vec.result past c.from_vec.ensures c.loop-journal.invariant)
