@@ -1,4 +1,4 @@
-use Rattle.std.proofs.Common.{◌≡◌, ◌∙◌, ◌++◌, ap, arith, Some, append_assoc}
+use Rattle.std.proofs.Common.{◌≡◌, ◌∙◌, ◌++◌, ap, Some, append_assoc}
 use Rattle.std.proofs.lemmas.List.{take-append-drop}
 use Rattle.octet_base.specs.Desk.{grown}
 use Rattle.octet_top.proofs.Files.{grown_more, prefix_put, prefix_more, on_err}
