@@ -1,5 +1,5 @@
--- What a desk call does to files, to the bytes said and to the counts of faults.
-use Rattle.std.specs.Prelude.{ℕ, ◌≡◌, ◌≤◌, ◌+◌, ◌-◌, ◌^◌, ◌++◌, List, [], min, take, length, unwrap_or}
+-- What a desk call does to files, to the bytes said, to the names asked for and to the counts of faults.
+use Rattle.std.specs.Prelude.{ℕ, ◌≡◌, ◌≤◌, ◌+◌, ◌-◌, ◌^◌, ◌++◌, List, [], ◌∷◌, min, take, length, unwrap_or}
 use Rattle.std.specs.declared.option.Option.{Option}
 use Rattle.std.specs.Option.{option_map}
 use Rattle.std.specs.Ordering.{nat_cmp}
@@ -37,3 +37,7 @@ spoken bytes said = option_map (λ s. s ++ bytes) said
 -- some prefix of the bytes was said
 abbrev pub SpokenPrefix : List ℕ → Option (List ℕ) → Option (List ℕ) → Type 0
 SpokenPrefix bytes old new = (n : ℕ) × (n ≤ length bytes) × (new ≡ spoken (take n bytes) old)
+
+-- the names asked for so far, with this one behind them
+abbrev pub looked_up : List ℕ → Option (List (List ℕ)) → Option (List (List ℕ))
+looked_up name lookups = option_map (λ names. names ++ name ∷ []) lookups

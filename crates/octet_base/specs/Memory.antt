@@ -4,7 +4,7 @@ use Rattle.std.specs.declared.option.Option.{Option}
 use Rattle.std.specs.declared.option.Option.TheVariants.{Some}
 use Rattle.std.specs.Option.{option_map}
 use Rattle.octet_base.specs.Desk.{Files}
-use Rattle.octet_base.specs.Stored.{files_of}
+use Rattle.octet_base.specs.Stored.{files_of, names_of}
 use Rattle.octet_base.specs.Failures.{failure_at, next_count}
 use Rattle.octet_base.specs.declared.memory.MemoryDesk.{MemoryDesk}
 
@@ -19,6 +19,10 @@ begun_in desk = option_map (λ name. string_bytes name) desk.begun
 -- the bytes said so far
 abbrev pub said_in : MemoryDesk → Option (List ℕ)
 said_in desk = Some desk.said.items
+
+-- the names asked for so far
+abbrev pub lookups_in : MemoryDesk → Option (List (List ℕ))
+lookups_in desk = Some (names_of desk.lookups.items)
 
 -- after how many bytes the next call fails, if it is one of the list
 abbrev pub next_failure : MemoryDesk → Option ℕ

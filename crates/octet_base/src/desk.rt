@@ -2,7 +2,7 @@
 ghost use Rattle.std.specs.Prelude.{◌≡◌, ◌≢◌, ◌⊎◌, ◌<◌, ◌≤◌, ◌+◌, List, ℕ, length, None, Some, IfOk, IfSome, IsSome, IsSomeAnd, OnOk, OnErr, IsErrOf};
 ghost use Rattle.std.specs.declared.option.Option.{Option};
 ghost use Rattle.std.specs.FinMap as map;
-ghost use Rattle.octet_base.specs.Desk.{Files, Rose, emptied, grown, GrownByPrefix, spoken, SpokenPrefix};
+ghost use Rattle.octet_base.specs.Desk.{Files, Rose, emptied, grown, GrownByPrefix, spoken, SpokenPrefix, looked_up};
 ghost use Rattle.octet_base.specs.declared.desk.DeskFault.TheVariants.{OutOfMemory};
 
 use std::alloc::{AllocError, AllocFailed, Global};
@@ -41,8 +41,8 @@ impl<T: Drop> From<AllocFailed<T>> for DeskFault {
 }
 
 /// Files by their names, at most one of which is being written, and a place to say the answer.
-/// A desk may tell what its files hold and what was said, or not. After a call that ran out of
-/// memory stands what stands after one that failed.
+/// A desk may tell what its files hold, what was said and which names were asked for, or not. After
+/// a call that ran out of memory stands what stands after one that failed.
 pub trait Desk: Send {
     /// The files, where the desk tells them.
     ghost files: { Self → Option Files };
@@ -53,16 +53,19 @@ pub trait Desk: Send {
     /// The bytes said so far, where the desk tells them.
     ghost said: { Self → Option (List ℕ) };
 
-    /// How often `take` has failed. A call counts one failure at most, and only
-    /// where it answers `Failed`.
-    /// It never falls, and stays at 2^64 - 1.
+    /// The names that `take` was asked for, in order, where the desk keeps them.
+    ghost lookups: { Self → Option (List (List ℕ)) };
+
+    /// How often `take` has failed. A call counts one failure at most, and only where it answers
+    /// `Failed`. The count never falls, and stays at 2^64 - 1.
     ghost take_faults: { Self → ℕ };
 
     /// How often one of the other calls has failed, counted in the same way.
     ghost write_faults: { Self → ℕ };
 
     /// The bytes of a file, at most `limit`. Where the desk tells its files, `TooLong` and `Absent`
-    /// come exactly where the call did not fail and the file is longer, or is not there.
+    /// come exactly where the call did not fail and the file is longer, or is not there. The name
+    /// is kept whatever the answer is, unless there is no memory for it.
     fn take(&mut self, alloc: Global, name: &str, limit: u32) -> Result<Vec<u8>, DeskFault>
         ensures bytes { IfOk result (λ bytes. IfSome (files self.old) (λ fs. map.get fs name.now ≡ Some bytes.items)) }
         ensures limit { IfOk result (λ bytes. length bytes.items ≤ limit) }
@@ -73,6 +76,8 @@ pub trait Desk: Send {
         ensures failed { IsErrOf result DeskFault.Failed → Rose (take_faults self.old) (take_faults self.new) }
         ensures once { take_faults self.new ≤ take_faults self.old + 1 }
         ensures later { take_faults self.old ≤ take_faults self.new }
+        ensures looked_up { result ≢ Err DeskFault.OutOfMemory → lookups self.new ≡ looked_up name.now (lookups self.old) }
+        ensures lookups { (lookups self.new ≡ lookups self.old) ⊎ (lookups self.new ≡ looked_up name.now (lookups self.old)) }
 
         ensures same_files { files self.new ≡ files self.old }
         ensures same_begun { begun self.new ≡ begun self.old }
@@ -95,6 +100,7 @@ pub trait Desk: Send {
         ensures later { write_faults self.old ≤ write_faults self.new }
 
         ensures same_said { said self.new ≡ said self.old }
+        ensures same_lookups { lookups self.new ≡ lookups self.old }
         ensures same_faults { take_faults self.new ≡ take_faults self.old };
 
     /// Adds bytes to the file that is begun. After a failure some first bytes were added.
@@ -112,6 +118,7 @@ pub trait Desk: Send {
 
         ensures same_begun { begun self.new ≡ begun self.old }
         ensures same_said { said self.new ≡ said self.old }
+        ensures same_lookups { lookups self.new ≡ lookups self.old }
         ensures same_faults { take_faults self.new ≡ take_faults self.old };
 
     /// Ends the file that is begun, and leaves all files as they are.
@@ -129,6 +136,7 @@ pub trait Desk: Send {
 
         ensures same_files { files self.new ≡ files self.old }
         ensures same_said { said self.new ≡ said self.old }
+        ensures same_lookups { lookups self.new ≡ lookups self.old }
         ensures same_faults { take_faults self.new ≡ take_faults self.old };
 
     /// Says bytes. After a failure some first bytes were said.
@@ -144,5 +152,6 @@ pub trait Desk: Send {
 
         ensures same_files { files self.new ≡ files self.old }
         ensures same_begun { begun self.new ≡ begun self.old }
+        ensures same_lookups { lookups self.new ≡ lookups self.old }
         ensures same_faults { take_faults self.new ≡ take_faults self.old };
 }

@@ -1,22 +1,24 @@
 //! A desk in memory, which fails at the calls that it is told of.
-ghost use Rattle.std.specs.Prelude.{◌≡◌, ◌≢◌, ◌⊎◌, ◌↔◌, ◌<◌, ◌≤◌, ◌+◌, [], length, None, Some, IfOk, IfSome, IsSome, IsSomeAnd, OnOk, OnErr, IsErrOf, IsTrue, take, string_bytes};
+ghost use Rattle.std.specs.Prelude.{◌≡◌, ◌≢◌, ◌⊎◌, ◌↔◌, ◌<◌, ◌≤◌, ◌+◌, [], ◌∷◌, ◌++◌, length, None, Some, IfOk, IfSome, IsSome, IsSomeAnd, OnOk, OnErr, IsErrOf, IsTrue, take, string_bytes};
 ghost use Rattle.std.specs.Option.{option_map, ForSome};
 ghost use Rattle.std.specs.FinMap as map;
-ghost use Rattle.octet_base.specs.Desk.{Rose, emptied, grown, GrownByPrefix, spoken, SpokenPrefix};
-ghost use Rattle.octet_base.specs.Stored.{files_of};
+ghost use Rattle.octet_base.specs.Desk.{Rose, emptied, grown, GrownByPrefix, spoken, SpokenPrefix, looked_up};
+ghost use Rattle.octet_base.specs.Stored.{files_of, names_of};
 ghost use Rattle.octet_base.specs.Failures.{failure_at, next_count, count_after, passed_bytes};
 
 use crate::stored::{StoredFile, extend_file, place_of, put_file};
 use crate::{Desk, DeskFault, Fail};
 use octet_model::{List, OutOfMemory};
-use std::alloc::Global;
+use std::alloc::{AllocError, Global};
 
-/// Files in memory and what was said. It tells all, and fails exactly at the calls of a list.
+/// Files in memory, what was said and which names were asked for. It tells all, and fails exactly
+/// at the calls of a list.
 #[derive(Drop)]
 pub struct MemoryDesk {
     files: Vec<StoredFile>,
     begun: Option<String>,
     said: Vec<u8>,
+    lookups: Vec<String>,
     fails: List<Fail>,
     calls: u64,
     take_faults: u64,
@@ -50,6 +52,16 @@ fn count_failure(failure: Option<u32>, faults: &mut u64)
     }
 }
 
+// Keeps a name that was asked for.
+fn keep_name(alloc: Global, names: &mut Vec<String>, name: &str) -> Result<(), AllocError>
+    ensures ok { OnOk result (names_of names.new.items ≡ names_of names.old.items ++ name.now ∷ []) }
+    ensures err { OnErr result (names_of names.new.items ≡ names_of names.old.items) }
+{
+    let name = String::from_str(alloc, name)?;
+    names.push(name)?;
+    Ok(())
+}
+
 // The bytes that the call lets through.
 fn passed(failure: Option<u32>, bytes: &[u8]) -> &[u8]
     ensures value { result.now ≡ passed_bytes failure bytes.now }
@@ -63,7 +75,7 @@ fn passed(failure: Option<u32>, bytes: &[u8]) -> &[u8]
 }
 
 impl MemoryDesk {
-    ghost use Rattle.octet_base.specs.Memory.{files_in, begun_in, said_in, IsFresh, KeepsCounts};
+    ghost use Rattle.octet_base.specs.Memory.{files_in, begun_in, said_in, lookups_in, IsFresh, KeepsCounts};
 
     /// A desk with no files, which fails at these calls. Where a call stands twice in the list,
     /// the first of the two counts.
@@ -71,6 +83,7 @@ impl MemoryDesk {
         ensures files { files_in result ≡ Some map.empty }
         ensures begun { begun_in result ≡ None }
         ensures said { said_in result ≡ Some [] }
+        ensures lookups { lookups_in result ≡ Some [] }
         ensures fails { result.fails ≡ fails }
         ensures fresh { IsFresh result }
     {
@@ -78,6 +91,7 @@ impl MemoryDesk {
             files: Vec::new(alloc),
             begun: None,
             said: Vec::new(alloc),
+            lookups: Vec::new(alloc),
             fails,
             calls: 0,
             take_faults: 0,
@@ -91,6 +105,7 @@ impl MemoryDesk {
         ensures err { OnErr result (files_in self.new ≡ files_in self.old) }
         ensures same_begun { begun_in self.new ≡ begun_in self.old }
         ensures same_said { said_in self.new ≡ said_in self.old }
+        ensures same_lookups { lookups_in self.new ≡ lookups_in self.old }
         ensures same_counts { KeepsCounts self.old self.new }
     {
         let bytes = Vec::from_slice(alloc, bytes)?;
@@ -113,6 +128,13 @@ impl MemoryDesk {
         &self.said
     }
 
+    /// The names that `take` was asked for, in order. This is no desk call.
+    pub fn lookups(&self) -> &[String]
+        ensures { lookups_in self.now ≡ Some (names_of result.now) }
+    {
+        &self.lookups
+    }
+
     /// How often `take` has failed, and how often one of the other calls. This is no desk call.
     pub fn faults(&self) -> (u64, u64)
         ensures take { result.0 ≡ self.now.take_faults }
@@ -123,7 +145,7 @@ impl MemoryDesk {
 }
 
 impl Desk for MemoryDesk {
-    ghost use Rattle.octet_base.specs.Memory.{files_in, begun_in, said_in, next_failure, CountsCall};
+    ghost use Rattle.octet_base.specs.Memory.{files_in, begun_in, said_in, lookups_in, next_failure, CountsCall};
 
     ghost files = { λ d. files_in d };
 
@@ -131,10 +153,14 @@ impl Desk for MemoryDesk {
 
     ghost said = { λ d. said_in d };
 
+    ghost lookups = { λ d. lookups_in d };
+
     ghost take_faults = { λ d. d.take_faults };
 
     ghost write_faults = { λ d. d.write_faults };
 
+    // Where there is no memory for the name, that is the answer also in a call that is to fail, and
+    // no failure is counted.
     fn take(&mut self, alloc: Global, name: &str, limit: u32) -> Result<Vec<u8>, DeskFault>
         ensures bytes { IfOk result (λ bytes. IfSome (files_in self.old) (λ fs. map.get fs name.now ≡ Some bytes.items)) }
         ensures limit { IfOk result (λ bytes. length bytes.items ≤ limit) }
@@ -145,6 +171,8 @@ impl Desk for MemoryDesk {
         ensures failed { IsErrOf result DeskFault.Failed → Rose self.old.take_faults self.new.take_faults }
         ensures once { self.new.take_faults ≤ self.old.take_faults + 1 }
         ensures later { self.old.take_faults ≤ self.new.take_faults }
+        ensures looked_up { result ≢ Err DeskFault.OutOfMemory → lookups_in self.new ≡ looked_up name.now (lookups_in self.old) }
+        ensures lookups { (lookups_in self.new ≡ lookups_in self.old) ⊎ (lookups_in self.new ≡ looked_up name.now (lookups_in self.old)) }
 
         ensures same_files { files_in self.new ≡ files_in self.old }
         ensures same_begun { begun_in self.new ≡ begun_in self.old }
@@ -152,11 +180,12 @@ impl Desk for MemoryDesk {
         ensures same_faults { self.new.write_faults ≡ self.old.write_faults }
 
         // The list alone says which call fails.
-        ensures listed { IsErrOf result DeskFault.Failed ↔ IsSome (next_failure self.old) }
-        ensures counted { self.new.take_faults ≡ count_after (next_failure self.old) self.old.take_faults }
+        ensures listed { result ≢ Err DeskFault.OutOfMemory → (IsErrOf result DeskFault.Failed ↔ IsSome (next_failure self.old)) }
+        ensures counted { result ≢ Err DeskFault.OutOfMemory → self.new.take_faults ≡ count_after (next_failure self.old) self.old.take_faults }
         ensures call { CountsCall self.old self.new }
     {
         let failure = count_call(&self.fails, &mut self.calls);
+        keep_name(alloc, &mut self.lookups, name)?;
         count_failure(failure, &mut self.take_faults);
         if failure.is_some() {
             return Err(DeskFault::Failed);
@@ -186,6 +215,7 @@ impl Desk for MemoryDesk {
         ensures later { self.old.write_faults ≤ self.new.write_faults }
 
         ensures same_said { said_in self.new ≡ said_in self.old }
+        ensures same_lookups { lookups_in self.new ≡ lookups_in self.old }
         ensures same_faults { self.new.take_faults ≡ self.old.take_faults }
 
         ensures listed { IsErrOf result DeskFault.Failed ↔ IsSome (next_failure self.old) }
@@ -218,6 +248,7 @@ impl Desk for MemoryDesk {
 
         ensures same_begun { begun_in self.new ≡ begun_in self.old }
         ensures same_said { said_in self.new ≡ said_in self.old }
+        ensures same_lookups { lookups_in self.new ≡ lookups_in self.old }
         ensures same_faults { self.new.take_faults ≡ self.old.take_faults }
 
         ensures passed { IsErrOf result DeskFault.Failed →
@@ -256,6 +287,7 @@ impl Desk for MemoryDesk {
 
         ensures same_files { files_in self.new ≡ files_in self.old }
         ensures same_said { said_in self.new ≡ said_in self.old }
+        ensures same_lookups { lookups_in self.new ≡ lookups_in self.old }
         ensures same_faults { self.new.take_faults ≡ self.old.take_faults }
 
         ensures listed { IsErrOf result DeskFault.Failed ↔ IsSome (next_failure self.old) }
@@ -283,6 +315,7 @@ impl Desk for MemoryDesk {
 
         ensures same_files { files_in self.new ≡ files_in self.old }
         ensures same_begun { begun_in self.new ≡ begun_in self.old }
+        ensures same_lookups { lookups_in self.new ≡ lookups_in self.old }
         ensures same_faults { self.new.take_faults ≡ self.old.take_faults }
 
         ensures passed { IsErrOf result DeskFault.Failed → said_in self.new ≡ spoken (passed_bytes (next_failure self.old) bytes.now) (said_in self.old) }

@@ -18,8 +18,8 @@ struct Begun<F: Drop> {
     file: F,
 }
 
-/// Real files and standard output. It tells no contents; a file that cannot be opened, read,
-/// made or written is a failure, and so is one of a name that no file has.
+/// Real files and standard output. It tells no contents and keeps no names; a file that cannot be
+/// opened, read, made or written is a failure, and so is one of a name that no file has.
 #[derive(Drop)]
 pub struct RealDesk<R: Files + Print + Drop> {
     rt: R,
@@ -103,6 +103,8 @@ where
     ghost begun = { λ d. option_map (λ b. string_bytes b.name) d.begun };
 
     ghost said = { λ d. None };
+
+    ghost lookups = { λ d. None };
 
     ghost take_faults = { λ d. d.take_faults };
 

@@ -40,6 +40,7 @@ fn memory_desk_fails_as_it_is_told(rt: HostRuntime) -> Result<(), test::Fail> {
         assert_eq!(rt; desk.file("desk_to"), file, "failing at {call}");
         assert_eq!(rt; desk.said(), said, "failing at {call}");
         assert_eq!(rt; desk.faults(), faults, "failing at {call}");
+        assert_eq!(rt; desk.lookups().len(), 1, "failing at {call}");
     }
     Ok(())
 }

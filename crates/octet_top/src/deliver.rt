@@ -26,6 +26,7 @@ fn write_file<D: Desk>(
     ensures not_too_long { result ≢ Err DeskFault.TooLong }
     ensures not_absent { result ≢ Err DeskFault.Absent }
     ensures same_said { D.said desk.new ≡ D.said desk.old }
+    ensures same_lookups { D.lookups desk.new ≡ D.lookups desk.old }
     ensures same_faults { D.take_faults desk.new ≡ D.take_faults desk.old }
 {
     desk.begin(alloc, name)?;
@@ -48,6 +49,7 @@ fn write_outputs<D: Desk>(alloc: Global, desk: &mut D, outputs: &[Output]) -> Re
     ensures not_too_long { result ≢ Err DeskFault.TooLong }
     ensures not_absent { result ≢ Err DeskFault.Absent }
     ensures same_said { D.said desk.new ≡ D.said desk.old }
+    ensures same_lookups { D.lookups desk.new ≡ D.lookups desk.old }
     ensures same_faults { D.take_faults desk.new ≡ D.take_faults desk.old }
 {
     for output in outputs {
@@ -60,6 +62,7 @@ fn write_outputs<D: Desk>(alloc: Global, desk: &mut D, outputs: &[Output]) -> Re
 /// or that of a write that failed or of memory that was refused.
 pub(crate) fn deliver<D: Desk>(alloc: Global, desk: &mut D, reply: &Reply) -> u8
     requires { D.begun desk.old ≡ None }
+    ensures same_lookups { D.lookups desk.new ≡ D.lookups desk.old }
     ensures same_faults { D.take_faults desk.new ≡ D.take_faults desk.old }
     ensures delivered { let state = state_of D.files D.begun D.said D.take_faults D.write_faults in
         IsDelivered (answer_of reply.now) (state desk.old) (state desk.new) result }
@@ -76,6 +79,7 @@ fn say_text<D: Desk>(alloc: Global, desk: &mut D, reply: &Reply) -> u8
     ensures said { IsSaid (answer_of reply.now) (D.said desk.old) (D.said desk.new) (D.write_faults desk.old) (D.write_faults desk.new) result }
     ensures same_files { D.files desk.new ≡ D.files desk.old }
     ensures same_begun { D.begun desk.new ≡ D.begun desk.old }
+    ensures same_lookups { D.lookups desk.new ≡ D.lookups desk.old }
     ensures same_faults { D.take_faults desk.new ≡ D.take_faults desk.old }
 {
     match desk.say(alloc, reply.text.as_slice()) {

@@ -8,7 +8,7 @@ ghost use Rattle.octet_top.specs.Commands.{IsAnswer, CommandAnswers, AreAnswered
 ghost use Rattle.octet_top.specs.Serving.{state_of};
 ghost use Rattle.octet_top.specs.Promises.{RunsFaithfully, IsScriptRefused, IsLogRefused, IsMisfitting, IsFoundUnordered, VerifiesOrdered, GeneratesFaithfully, NamesNoObject, IsFileAbsent, IsFileTooLong, IsWellMet, RepeatsRecordings};
 ghost use Rattle.octet_top.specs.Due.{IsDue};
-ghost use Rattle.octet_top.specs.Kept.{KeepsOtherFiles};
+ghost use Rattle.octet_top.specs.Kept.{KeepsOtherFiles, files_taken, LooksUpFirst, LooksUpNamed};
 
 use crate::deliver::deliver;
 use crate::generate::generate;
@@ -61,6 +61,8 @@ pub fn serve<R: Threads + Wait + Sync, D: Desk, G: Gate>(
     // What is left alone: at every status each file that the words do not name to be written, and
     // all files at a refusal.
     ensures others { KeepsOtherFiles (texts words.now) (D.files desk.old) (D.files desk.new) }
+    // No file is asked for but those that the words name to be taken.
+    ensures lookups { LooksUpNamed (texts words.now) (D.lookups desk.old) (D.lookups desk.new) }
     ensures untouched { result ≢ 0 → result ≢ 6 → result ≢ 7 → D.files desk.new ≡ D.files desk.old }
 
     // When each status comes: only with its cause, and, where no call of the desk fails, whenever
@@ -84,7 +86,8 @@ pub fn serve<R: Threads + Wait + Sync, D: Desk, G: Gate>(
 
 fn answer_words<D: Desk>(alloc: Global, words: &[String], desk: &mut D) -> u8
     requires { D.begun desk.old ≡ None }
-    ensures { let state = state_of D.files D.begun D.said D.take_faults D.write_faults in
+    ensures lookups { LooksUpNamed (texts words.now) (D.lookups desk.old) (D.lookups desk.new) }
+    ensures answered { let state = state_of D.files D.begun D.said D.take_faults D.write_faults in
         AreAnswered (texts words.now) (state desk.old) (state desk.new) result }
 {
     match reply_to(alloc, desk, words) {
@@ -96,6 +99,7 @@ fn answer_words<D: Desk>(alloc: Global, words: &[String], desk: &mut D) -> u8
 /// The reply to the words. Files are taken, and nothing is written or said yet.
 fn reply_to<D: Desk>(alloc: Global, desk: &mut D, words: &[String]) -> Result<Reply, OutOfMemory>
     ensures answers { IfOk result (λ reply. IsAnswer (texts words.now) (D.files desk.old) (D.take_faults desk.old) (D.take_faults desk.new) (answer_of reply)) }
+    ensures lookups { LooksUpNamed (texts words.now) (D.lookups desk.old) (D.lookups desk.new) }
     ensures same_files { D.files desk.new ≡ D.files desk.old }
     ensures same_begun { D.begun desk.new ≡ D.begun desk.old }
     ensures same_said { D.said desk.new ≡ D.said desk.old }
@@ -113,6 +117,7 @@ fn carry_out<D: Desk>(
     request: Request<'_>,
 ) -> Result<Reply, OutOfMemory>
     ensures answers { IfOk result (λ reply. CommandAnswers (command_of request.entry) (D.files desk.old) (D.take_faults desk.old) (D.take_faults desk.new) (answer_of reply)) }
+    ensures lookups { LooksUpFirst (files_taken (command_of request.entry)) (D.lookups desk.old) (D.lookups desk.new) }
     ensures same_files { D.files desk.new ≡ D.files desk.old }
     ensures same_begun { D.begun desk.new ≡ D.begun desk.old }
     ensures same_said { D.said desk.new ≡ D.said desk.old }

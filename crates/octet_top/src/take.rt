@@ -1,6 +1,8 @@
 //! Takes files from the desk and reads them, and refuses where that fails.
-ghost use Rattle.std.specs.Prelude.{◌≡◌, ◌≤◌, IfOk};
+ghost use Rattle.std.specs.Prelude.{◌≡◌, ◌≤◌, [], ◌∷◌, IfOk};
+ghost use Rattle.octet_base.specs.Desk.{looked_up};
 ghost use Rattle.octet_top.specs.Taking.{IsFileTaken, IsScriptTaken, IsLogTaken};
+ghost use Rattle.octet_top.specs.Kept.{LooksUpFirst};
 
 use crate::refusal::{log_refused, read_failed, script_refused, too_long};
 use crate::reply::Reply;
@@ -32,6 +34,8 @@ fn take_file<D: Desk>(
 ) -> Result<Take<List<u8>>, OutOfMemory>
     ensures taken { IfOk result (IsFileTaken (D.files desk.old) (D.take_faults desk.old) (D.take_faults desk.new) name.now limit) }
     ensures later { D.take_faults desk.old ≤ D.take_faults desk.new }
+    ensures looked_up { IfOk result (λ taken. D.lookups desk.new ≡ looked_up name.now (D.lookups desk.old)) }
+    ensures lookups { LooksUpFirst (name.now ∷ []) (D.lookups desk.old) (D.lookups desk.new) }
     ensures same_files { D.files desk.new ≡ D.files desk.old }
     ensures same_begun { D.begun desk.new ≡ D.begun desk.old }
     ensures same_said { D.said desk.new ≡ D.said desk.old }
@@ -54,6 +58,8 @@ pub(crate) fn take_script<D: Desk>(
 ) -> Result<Take<Script>, OutOfMemory>
     ensures taken { IfOk result (IsScriptTaken (D.files desk.old) (D.take_faults desk.old) (D.take_faults desk.new) name.now) }
     ensures later { D.take_faults desk.old ≤ D.take_faults desk.new }
+    ensures looked_up { IfOk result (λ taken. D.lookups desk.new ≡ looked_up name.now (D.lookups desk.old)) }
+    ensures lookups { LooksUpFirst (name.now ∷ []) (D.lookups desk.old) (D.lookups desk.new) }
     ensures same_files { D.files desk.new ≡ D.files desk.old }
     ensures same_begun { D.begun desk.new ≡ D.begun desk.old }
     ensures same_said { D.said desk.new ≡ D.said desk.old }
@@ -80,6 +86,8 @@ pub(crate) fn take_log<D: Desk>(
 ) -> Result<Take<Log>, OutOfMemory>
     ensures taken { IfOk result (IsLogTaken (D.files desk.old) (D.take_faults desk.old) (D.take_faults desk.new) name.now) }
     ensures later { D.take_faults desk.old ≤ D.take_faults desk.new }
+    ensures looked_up { IfOk result (λ taken. D.lookups desk.new ≡ looked_up name.now (D.lookups desk.old)) }
+    ensures lookups { LooksUpFirst (name.now ∷ []) (D.lookups desk.old) (D.lookups desk.new) }
     ensures same_files { D.files desk.new ≡ D.files desk.old }
     ensures same_begun { D.begun desk.new ≡ D.begun desk.old }
     ensures same_said { D.said desk.new ≡ D.said desk.old }

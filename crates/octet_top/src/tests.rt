@@ -96,24 +96,24 @@ fn failed_calls_leave_prefixes(rt: HostRuntime) -> Result<(), Failed> {
     Ok(())
 }
 
-/// A command asks for no file but those that its words name, and makes no other call: the last
-/// of its calls is counted where it fails, and one behind it is never made.
+/// A command asks for all files that it needs and makes no other call: the last of its calls is
+/// counted where it fails, and one behind it is never made.
 #[test]
 fn commands_make_so_many_calls(rt: HostRuntime) -> Result<(), Failed> {
     let alloc = rt.alloc();
-    for (line, calls) in [
-        ("run S L", 5),
-        ("tidy S", 2),
-        ("show L", 2),
-        ("replay S L", 3),
-        ("verify S L", 3),
-        ("profile S L", 3),
-        ("profile S L y", 3),
-        ("profile S L z", 2),
-        ("show S", 2),
-        ("replay L L", 2),
-        ("tidy T", 2),
-        ("neither S", 1),
+    for (line, calls, lookups) in [
+        ("run S L", 5, 1),
+        ("tidy S", 2, 1),
+        ("show L", 2, 1),
+        ("replay S L", 3, 2),
+        ("verify S L", 3, 2),
+        ("profile S L", 3, 2),
+        ("profile S L y", 3, 2),
+        ("profile S L z", 2, 1),
+        ("show S", 2, 1),
+        ("replay L L", 2, 1),
+        ("tidy T", 2, 1),
+        ("neither S", 1, 0),
     ] {
         let words = words_of(alloc, line)?;
         for (failing, faults) in [(calls, (0, 1)), (calls + 1, (0, 0))] {
@@ -121,6 +121,7 @@ fn commands_make_so_many_calls(rt: HostRuntime) -> Result<(), Failed> {
             desk.put(alloc, "L", LOG)?;
             serve(&rt, alloc, &words, &mut desk, &OpenGate);
             assert_eq!(rt; desk.faults(), faults, "{line}");
+            assert_eq!(rt; desk.lookups().len(), lookups, "{line}");
         }
     }
     Ok(())

@@ -20,6 +20,7 @@ loop-rest-preserved g c =
       begun = c.in_ok-add.ensures.same_begun ∙ c.loop-rest.invariant.begun;
       write_faults = c.in_ok-add.ensures.stays (λ failed. cc) ∙ c.loop-rest.invariant.write_faults;
       said = c.in_ok-add.ensures.same_said ∙ c.loop-rest.invariant.said;
+      lookups = c.in_ok-add.ensures.same_lookups ∙ c.loop-rest.invariant.lookups;
       take_faults = c.in_ok-add.ensures.same_faults ∙ c.loop-rest.invariant.take_faults;
     }
 

@@ -11,6 +11,7 @@ invariant-loop-rest g l =
       begun : D.begun l.desk ≡ Some l.name;
       write_faults : D.write_faults l.desk ≡ D.write_faults l.fn.desk;
       said : D.said l.desk ≡ D.said l.fn.desk;
+      lookups : D.lookups l.desk ≡ D.lookups l.fn.desk;
       take_faults : D.take_faults l.desk ≡ D.take_faults l.fn.desk;
     }
 

@@ -15,5 +15,6 @@ invariant-loop-output g l =
       begun : D.begun l.desk ≡ None;
       write_faults : D.write_faults l.desk ≡ D.write_faults l.fn.desk;
       said : D.said l.desk ≡ D.said l.fn.desk;
+      lookups : D.lookups l.desk ≡ D.lookups l.fn.desk;
       take_faults : D.take_faults l.desk ≡ D.take_faults l.fn.desk;
     }
