@@ -1,5 +1,5 @@
 -- From the words and the files to the status that is due.
-use Rattle.std.proofs.Common.{◌≡◌, ◌≢◌, ◌∙◌, ◌<◌, ◌⊎◌, ℕ, List, length, Option, None, Some, IsSomeAnd, inl, inr, sym, ap, subst, refl, arith}
+use Rattle.std.proofs.Common.{◌≡◌, ◌∙◌, ◌<◌, ◌⊎◌, ℕ, List, length, Option, None, Some, IsSomeAnd, inl, inr, sym, ap, subst, refl, arith}
 use Rattle.std.specs.FinMap.{get}
 use Rattle.octet_base.specs.Desk.{Files, Rose, spoken}
 use Rattle.octet_model.specs.declared.script.Script.{Script}
@@ -15,9 +15,7 @@ use Rattle.octet_log.specs.declared.cause.LogCause.{LogCause}
 use Rattle.octet_log.specs.Judgement.{judgement}
 use Rattle.octet_log.specs.Texts.{log_text}
 use Rattle.octet_log.proofs.Whole.{judgement_is, one_log}
-use Rattle.octet_replay.specs.declared.fault.ReplayFault.{ReplayFault}
-use Rattle.octet_replay.specs.declared.fault.ReplayFault.TheVariants.{OutOfMemory}
-use Rattle.octet_replay.specs.Judged.{HasCause, IsLawful}
+use Rattle.octet_replay.specs.Judged.{IsLawful}
 use Rattle.octet_replay.proofs.Answered.{faithful, not_refused}
 use Rattle.octet_clock.specs.declared.verdict.Verdict.{Verdict}
 use Rattle.octet_clock.specs.declared.verdict.Verdict.TheVariants as verdict
@@ -28,7 +26,7 @@ use Rattle.octet_top.specs.Answer.{Answer, code_of, told, writes_and_tells, not_
 use Rattle.octet_top.specs.Profile.{profile_text}
 use Rattle.octet_top.specs.Taking.{Taking, Parsing, Decoding, TakingScript, TakingLog, IsTaken, IsAbsent, IsTooLong, Refuses, RefusesLog, script_limit, log_limit}
 use Rattle.octet_top.specs.Request.{Command, Run, Tidy, Show, Replay, Verify, Profile, Gen, Asks, script_taken, log_taken}
-use Rattle.octet_top.specs.Commands.{IsAnswer, AreAnswered, CommandAnswers, IsRecording, IsReplayed, IsVerdictTold, IsProfiled, Choosing}
+use Rattle.octet_top.specs.Commands.{IsAnswer, AreAnswered, CommandAnswers, IsRecording, Fitting, TellsOutcome, TellsVerdict, TellsCounts, IsReplayed, IsVerdictTold, IsProfiled, Choosing}
 use Rattle.octet_top.specs.Serving.{DeskState}
 use Rattle.octet_top.specs.Promises.{IsThere, HasScript, HasLog, HasRecording, HasFiles, IsWellMet, RepeatsRecordings}
 use Rattle.octet_top.specs.Due.{IsOver, KnowsObject, ReachesTake, HasLawful, OrdersAll, HasAll, IsDue}
@@ -75,21 +73,8 @@ over_not_taken None name taken limit over is = over
 script_differs : (line line' : ℕ) (cause cause' : ScriptCause) (text : List ℕ) → Refuses text line cause → Refuses text line' cause' → script_refused line' cause' ≡ script_refused line cause
 script_differs line line' cause cause' text refused refused' = let both = sym refused' ∙ refused in cc
 
--- a command's answer to a log that fits, or the refusal of one that does not
-abbrev FittingLog : (Answer → Type 0) → Script → List ThreadLog → Answer → Type 0
-FittingLog Onward script log answer = ((fault : ReplayFault) × (fault ≢ OutOfMemory) × HasCause script log fault × (answer ≡ does_not_fit fault)) ⊎ (IsLawful script log × Onward answer)
-
-abbrev pub Replayed : Script → List ThreadLog → Answer → Type 0
-Replayed script log answer = answer ≡ told exit.Done (outcome_text script (execution script log (lowest_order script log)))
-
-abbrev pub Verified : Script → List ThreadLog → Answer → Type 0
-Verified script log answer = (verdict : Verdict) × IsVerified script log verdict × (answer ≡ verdict_told verdict)
-
-abbrev pub Profiled : Option ℕ → Script → List ThreadLog → Answer → Type 0
-Profiled wanted script log answer = answer ≡ told exit.Done (profile_text wanted (journals_after script log (lowest_order script log)))
-
 -- where a log fits, the command goes on with it
-fits_on : (Onward : Answer → Type 0) (script : Script) (log : List ThreadLog) (answer : Answer) → IsLawful script log → FittingLog Onward script log answer → Onward answer
+fits_on : (Onward : Answer → Type 0) (script : Script) (log : List ThreadLog) (answer : Answer) → IsLawful script log → Fitting Onward script log answer → Onward answer
 fits_on Onward script log answer lawful (inl refused) = absurd (not_refused script log refused.0 lawful refused.1 refused.2)
 fits_on Onward script log answer lawful (inr fits) = fits.1
 
@@ -163,7 +148,7 @@ module _ (files : Option Files) (faults faults' : ℕ) (answer : Answer) (none :
 
   after_name : (script_name log_name : List ℕ) (object_name : Option (List ℕ)) (has : HasScript files script_name) → KnowsObject (Profile script_name log_name object_name) has.script
       → CommandAnswers (Profile script_name log_name object_name) files faults faults' answer
-      → (wanted : Option ℕ) × TakingLog files faults faults' log_name (λ log. FittingLog (Profiled wanted has.script log.threads) has.script log.threads) answer
+      → (wanted : Option ℕ) × TakingLog files faults faults' log_name (λ log. Fitting (TellsCounts wanted has.script log.threads) has.script log.threads) answer
   after_name script_name log_name object_name has knows answers =
       elim (goes_on_with_script script_name (λ script answer. Choosing (λ wanted answer. TakingLog files faults faults' log_name (IsProfiled wanted script) answer) script object_name answer) has answers) [
         | inl unknown ↦ absurd (let both : Some knows.0 ≡ None = sym knows.1 ∙ unknown.0 in cc)
@@ -180,54 +165,54 @@ module _ (files : Option Files) (faults faults' : ℕ) (answer : Answer) (none :
   at_log (Show log) name is passes answers Goal on = on (λ log answer. answer ≡ told exit.Done (log_text log)) (rw (← same_value log name is) answers)
   at_log (Replay script log) name is passes answers Goal on =
       let has = (passes script refl).0 in
-      let Onward : Script → List ThreadLog → Answer → Type 0 = λ s l. FittingLog (Replayed s l) s l in
+      let Onward : Script → List ThreadLog → Answer → Type 0 = λ s l. Fitting (TellsOutcome s l) s l in
       on (Onward has.script) (rw (← same_value log name is) (after_script script log Onward has answers))
   at_log (Verify script log) name is passes answers Goal on =
       let has = (passes script refl).0 in
-      let Onward : Script → List ThreadLog → Answer → Type 0 = λ s l. FittingLog (Verified s l) s l in
+      let Onward : Script → List ThreadLog → Answer → Type 0 = λ s l. Fitting (TellsVerdict s l) s l in
       on (Onward has.script) (rw (← same_value log name is) (after_script script log Onward has answers))
   at_log (Profile script log object) name is passes answers Goal on =
       let p = passes script refl in
       let known = after_name script log object p.0 p.1 answers in
-      on (λ l. FittingLog (Profiled known.0 p.0.script l) p.0.script l) (rw (← same_value log name is) known.1)
+      on (λ l. Fitting (TellsCounts known.0 p.0.script l) p.0.script l) (rw (← same_value log name is) known.1)
 
   replay_fits : (script_name log_name : List ℕ) (script : HasScript files script_name) (log : HasLog files log_name) → CommandAnswers (Replay script_name log_name) files faults faults' answer
-      → FittingLog (Replayed script.script log.log.threads) script.script log.log.threads answer
+      → Fitting (TellsOutcome script.script log.log.threads) script.script log.log.threads answer
   replay_fits script_name log_name script log answers =
-      let Onward : Script → List ThreadLog → Answer → Type 0 = λ s l. FittingLog (Replayed s l) s l in
+      let Onward : Script → List ThreadLog → Answer → Type 0 = λ s l. Fitting (TellsOutcome s l) s l in
       goes_on_with_log log_name (Onward script.script) log (after_script script_name log_name Onward script answers)
 
   verify_fits : (script_name log_name : List ℕ) (script : HasScript files script_name) (log : HasLog files log_name) → CommandAnswers (Verify script_name log_name) files faults faults' answer
-      → FittingLog (Verified script.script log.log.threads) script.script log.log.threads answer
+      → Fitting (TellsVerdict script.script log.log.threads) script.script log.log.threads answer
   verify_fits script_name log_name script log answers =
-      let Onward : Script → List ThreadLog → Answer → Type 0 = λ s l. FittingLog (Verified s l) s l in
+      let Onward : Script → List ThreadLog → Answer → Type 0 = λ s l. Fitting (TellsVerdict s l) s l in
       goes_on_with_log log_name (Onward script.script) log (after_script script_name log_name Onward script answers)
 
   profile_fits : (script_name log_name : List ℕ) (object_name : Option (List ℕ)) (script : HasScript files script_name) (log : HasLog files log_name)
       → KnowsObject (Profile script_name log_name object_name) script.script → CommandAnswers (Profile script_name log_name object_name) files faults faults' answer
-      → (wanted : Option ℕ) × FittingLog (Profiled wanted script.script log.log.threads) script.script log.log.threads answer
+      → (wanted : Option ℕ) × Fitting (TellsCounts wanted script.script log.log.threads) script.script log.log.threads answer
   profile_fits script_name log_name object_name script log knows answers =
       let known = after_name script_name log_name object_name script knows answers in
-      (known.0, goes_on_with_log log_name (λ l. FittingLog (Profiled known.0 script.script l) script.script l) log known.1)
+      (known.0, goes_on_with_log log_name (λ l. Fitting (TellsCounts known.0 script.script l) script.script l) log known.1)
 
   -- with both, where they are there
   at_fit : (command : Command) (script_name log_name : List ℕ) → script_taken command ≡ Some script_name → log_taken command ≡ Some log_name
       → (script : HasScript files script_name) (log : HasLog files log_name) → KnowsObject command script.script → CommandAnswers command files faults faults' answer
-      → (Goal : Type 0) → ((Onward : Answer → Type 0) → FittingLog Onward script.script log.log.threads answer → Goal) → Goal
+      → (Goal : Type 0) → ((Onward : Answer → Type 0) → Fitting Onward script.script log.log.threads answer → Goal) → Goal
   at_fit (Run script log) script_name log_name is is' has has' knows answers Goal on = absurd cc
   at_fit (Tidy script) script_name log_name is is' has has' knows answers Goal on = absurd cc
   at_fit (Show log) script_name log_name is is' has has' knows answers Goal on = absurd cc
   at_fit (Gen number script log) script_name log_name is is' has has' knows answers Goal on = absurd cc
   at_fit (Replay script log) script_name log_name is is' has has' knows answers Goal on =
       let answers' : CommandAnswers (Replay script_name log_name) files faults faults' answer = rw (← same_value script script_name is, ← same_value log log_name is') answers in
-      on (Replayed has.script has'.log.threads) (replay_fits script_name log_name has has' answers')
+      on (TellsOutcome has.script has'.log.threads) (replay_fits script_name log_name has has' answers')
   at_fit (Verify script log) script_name log_name is is' has has' knows answers Goal on =
       let answers' : CommandAnswers (Verify script_name log_name) files faults faults' answer = rw (← same_value script script_name is, ← same_value log log_name is') answers in
-      on (Verified has.script has'.log.threads) (verify_fits script_name log_name has has' answers')
+      on (TellsVerdict has.script has'.log.threads) (verify_fits script_name log_name has has' answers')
   at_fit (Profile script log object) script_name log_name is is' has has' knows answers Goal on =
       let answers' : CommandAnswers (Profile script_name log_name object) files faults faults' answer = rw (← same_value script script_name is, ← same_value log log_name is') answers in
       let fits = profile_fits script_name log_name object has has' knows answers' in
-      on (Profiled fits.0 has.script has'.log.threads) fits.1
+      on (TellsCounts fits.0 has.script has'.log.threads) fits.1
 
   as_told : (said : Answer) (status : Status) → answer ≡ said → said.status ≡ status → answer.status ≡ status
   as_told said status is status_is = ap (λ (a : Answer). a.status) is ∙ status_is
@@ -243,17 +228,17 @@ module _ (files : Option Files) (faults faults' : ℕ) (answer : Answer) (none :
       let script = has.script.script in
       let log = has.log.log.threads in
       as_told (told exit.Done (outcome_text script (execution script log (lowest_order script log)))) exit.Done
-      (fits_on (Replayed script log) script log answer has.lawful (replay_fits script_name log_name has.script has.log answers)) refl
+      (fits_on (TellsOutcome script log) script log answer has.lawful (replay_fits script_name log_name has.script has.log answers)) refl
   done (Verify script_name log_name) (has, ordered) answers =
       let script = has.script.script in
       let log = has.log.log.threads in
-      let verified = fits_on (Verified script log) script log answer has.lawful (verify_fits script_name log_name has.script has.log answers) in
+      let verified = fits_on (TellsVerdict script log) script log answer has.lawful (verify_fits script_name log_name has.script has.log answers) in
       as_told (verdict_told verdict.Ordered) exit.Done (verified.2 ∙ ap verdict_told (verified.1.told.ordered.1 ordered)) refl
   done (Profile script_name log_name object_name) (has, knows) answers =
       let script = has.script.script in
       let log = has.log.log.threads in
       let fits = profile_fits script_name log_name object_name has.script has.log knows answers in
-      as_told (told exit.Done (profile_text fits.0 (journals_after script log (lowest_order script log)))) exit.Done (fits_on (Profiled fits.0 script log) script log answer has.lawful fits.1) refl
+      as_told (told exit.Done (profile_text fits.0 (journals_after script log (lowest_order script log)))) exit.Done (fits_on (TellsCounts fits.0 script log) script log answer has.lawful fits.1) refl
   done (Gen number script_name log_name) has answers = ap (λ (a : Answer). a.status) answers.5
 
   -- a log that is not ordered is told so
@@ -262,7 +247,7 @@ module _ (files : Option Files) (faults faults' : ℕ) (answer : Answer) (none :
   unordered script_name log_name has not answers =
       let script = has.script.script in
       let log = has.log.log.threads in
-      let verified = fits_on (Verified script log) script log answer has.lawful (verify_fits script_name log_name has.script has.log answers) in
+      let verified = fits_on (TellsVerdict script log) script log answer has.lawful (verify_fits script_name log_name has.script has.log answers) in
       by verified.0 verified.1 verified.2
     where
       by : (verdict : Verdict) → IsVerified has.script.script has.log.log.threads verdict → answer ≡ verdict_told verdict → answer.status ≡ exit.Unordered
@@ -320,7 +305,7 @@ module _ (files : Option Files) (faults faults' : ℕ) (answer : Answer) (none :
         let script = recording.script.script in
         let log = recording.log.log.threads in
         let lawful = faithful script log recording.outcome recording.faithful in
-        fits_on (Replayed script log) script log answer lawful.0 (replay_fits script_name log_name recording.script recording.log (answers_for (Replay script_name log_name) asked answers))
+        fits_on (TellsOutcome script log) script log answer lawful.0 (replay_fits script_name log_name recording.script recording.log (answers_for (Replay script_name log_name) asked answers))
         ∙ ap (λ (o : Outcome). told exit.Done (outcome_text script o)) lawful.1
 
 module _ (words : List (List ℕ)) (before after : DeskState) (code : ℕ) (served : AreAnswered words before after code) where

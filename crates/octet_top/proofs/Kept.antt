@@ -4,6 +4,7 @@ use Rattle.std.specs.FinMap.{get, insert}
 use Rattle.octet_base.specs.Desk.{Files}
 use Rattle.octet_model.specs.declared.script.Script.{Script}
 use Rattle.octet_model.specs.declared.log.Log.{Log}
+use Rattle.octet_model.specs.declared.log.ThreadLog.{ThreadLog}
 use Rattle.octet_model.specs.Texts.{log_bytes, outcome_text}
 use Rattle.octet_script.specs.Spelling.{canonical_text}
 use Rattle.octet_log.specs.Texts.{log_text}
@@ -13,12 +14,11 @@ use Rattle.octet_top.specs.declared.reply.Status.TheVariants.{Done}
 use Rattle.octet_top.specs.Answer.{Answer, told, writes_and_tells, writes_both, not_a_command, no_such_object, read_failed, too_long, script_refused, log_refused, does_not_fit, verdict_told, summary}
 use Rattle.octet_top.specs.Taking.{TakingScript, TakingLog, script_limit, log_limit}
 use Rattle.octet_top.specs.Request.{Command, Run, Tidy, Show, Replay, Verify, Profile, Gen}
-use Rattle.octet_top.specs.Commands.{IsAnswer, AreAnswered, CommandAnswers, IsRecording, IsProfiled, Fitting, Choosing}
+use Rattle.octet_top.specs.Commands.{IsAnswer, AreAnswered, CommandAnswers, IsRecording, IsProfiled, Fitting, TellsOutcome, TellsVerdict, TellsCounts, Choosing}
 use Rattle.octet_top.specs.Serving.{DeskState, written, IsPrefixPut, IsPartlyWritten}
 use Rattle.octet_top.specs.Kept.{Writes, NamesOutput, KeepsOtherFiles}
 use Rattle.octet_top.proofs.Files.{get-other}
 use Rattle.octet_top.proofs.Promises.{same_value}
-use Rattle.octet_top.proofs.Due.{Replayed, Verified, Profiled}
 
 -- none of the files has the name
 abbrev Misses : List ℕ → List (List ℕ × List ℕ) → Type 0
@@ -47,7 +47,7 @@ module _ (name : List ℕ) where
     misses_told : {text : List ℕ} → answer ≡ told Done text → Misses name answer.files
     misses_told {text} is = misses_as answer (told Done text) is tt
 
-    misses_fitting : (Onward : Answer → Type 0) (script : Script) (log : Log) → (Onward answer → Misses name answer.files) → Fitting Onward script log answer → Misses name answer.files
+    misses_fitting : (Onward : Answer → Type 0) (script : Script) (log : List ThreadLog) → (Onward answer → Misses name answer.files) → Fitting Onward script log answer → Misses name answer.files
     misses_fitting Onward script log on (inl refused) = misses_as answer (does_not_fit refused.0) refused.3 tt
     misses_fitting Onward script log on (inr fits) = on fits.1
 
@@ -56,10 +56,10 @@ module _ (name : List ℕ) where
     misses_verdict (verdict.Unordered first second) is = misses_as answer (verdict_told (verdict.Unordered first second)) is tt
 
     misses_both : (script_name log_name : List ℕ) (Onward : Script → Log → Answer → Type 0) → ((script : Script) (log : Log) → Onward script log answer → Misses name answer.files)
-        → TakingScript files faults faults' script_name (λ script answer. TakingLog files faults faults' log_name (λ log answer. Fitting (Onward script log) script log answer) answer) answer → Misses name answer.files
+        → TakingScript files faults faults' script_name (λ script answer. TakingLog files faults faults' log_name (λ log answer. Fitting (Onward script log) script log.threads answer) answer) answer → Misses name answer.files
     misses_both script_name log_name Onward on =
-        misses_script script_name (λ script answer. TakingLog files faults faults' log_name (λ log answer. Fitting (Onward script log) script log answer) answer)
-        (λ script. misses_log log_name (λ log answer. Fitting (Onward script log) script log answer) (λ log. misses_fitting (Onward script log) script log (on script log)))
+        misses_script script_name (λ script answer. TakingLog files faults faults' log_name (λ log answer. Fitting (Onward script log) script log.threads answer) answer)
+        (λ script. misses_log log_name (λ log answer. Fitting (Onward script log) script log.threads answer) (λ log. misses_fitting (Onward script log) script log.threads (on script log)))
 
     -- a command's answer has no file but those that it writes
     misses_command : (command : Command) → ¬ Writes command name → CommandAnswers command files faults faults' answer → Misses name answer.files
@@ -67,13 +67,13 @@ module _ (name : List ℕ) where
         misses_script script_name (IsRecording log_name) (λ script recording. misses_as answer (writes_and_tells log_name (log_bytes recording.0.threads) (outcome_text script recording.1)) recording.3 (not, tt))
     misses_command (Tidy script_name) not = misses_script script_name (λ script answer. answer ≡ told Done (canonical_text script)) (λ script. misses_told)
     misses_command (Show log_name) not = misses_log log_name (λ log answer. answer ≡ told Done (log_text log.threads)) (λ log. misses_told)
-    misses_command (Replay script_name log_name) not = misses_both script_name log_name (λ script log. Replayed script log.threads) (λ script log. misses_told)
-    misses_command (Verify script_name log_name) not = misses_both script_name log_name (λ script log. Verified script log.threads) (λ script log verified. misses_verdict verified.0 verified.2)
+    misses_command (Replay script_name log_name) not = misses_both script_name log_name (λ script log. TellsOutcome script log.threads) (λ script log. misses_told)
+    misses_command (Verify script_name log_name) not = misses_both script_name log_name (λ script log. TellsVerdict script log.threads) (λ script log verified. misses_verdict verified.0 verified.2)
     misses_command (Profile script_name log_name object_name) not =
         misses_script script_name (λ script answer. Choosing (λ wanted answer. TakingLog files faults faults' log_name (IsProfiled wanted script) answer) script object_name answer) (λ script choosing.
         elim choosing [
           | inl unknown ↦ misses_as answer no_such_object unknown.1 tt
-          | inr known ↦ misses_log log_name (IsProfiled known.0 script) (λ log. misses_fitting (Profiled known.0 script log.threads) script log misses_told) known.2
+          | inr known ↦ misses_log log_name (IsProfiled known.0 script) (λ log. misses_fitting (TellsCounts known.0 script log.threads) script log.threads misses_told) known.2
         ])
     misses_command (Gen number script_name log_name) not =
         λ made. misses_as answer (writes_both (script_name, canonical_text made.0) (log_name, log_bytes made.1.threads) summary) made.5 ((λ same. not (inl same)), ((λ same. not (inr same)), tt))

@@ -30,7 +30,7 @@ use Rattle.octet_top.specs.Answer.{Answer, code_of, told, writes_and_tells, not_
 use Rattle.octet_top.specs.Profile.{profile_text}
 use Rattle.octet_top.specs.Taking.{TakingScript, TakingLog, IsTaken, IsAbsent, IsTooLong, script_limit, log_limit}
 use Rattle.octet_top.specs.Request.{Command, Run, Tidy, Show, Replay, Verify, Profile, Gen, Asks, IsNotACommand, NamesScript, NamesLog}
-use Rattle.octet_top.specs.Commands.{IsAnswer, AreAnswered, CommandAnswers, IsRecording, IsVerdictTold, IsProfiled, Fitting, Choosing}
+use Rattle.octet_top.specs.Commands.{IsAnswer, AreAnswered, CommandAnswers, IsRecording, IsVerdictTold, IsProfiled, Fitting, TellsVerdict, Choosing}
 use Rattle.octet_top.specs.Serving.{DeskState, put, written, IsGiven, IsDelivered}
 use Rattle.octet_top.specs.Promises.{RunsFaithfully, TakesBoth, VerifiesOrdered, IsFoundUnordered, GeneratesFaithfully, SaysToTake, IsScriptRefused, IsLogRefused, IsMisfitting, IsFileAbsent, IsFileTooLong, NamesNoObject}
 use Rattle.octet_top.proofs.Files.{get-inserted, get-other}
@@ -226,10 +226,10 @@ module _ (words : List (List ℕ)) (before after : DeskState) (answer : Answer) 
   of_fitting : (script_name log_name : List ℕ) (text : List ℕ) (script : Script) (Onward : Log → Answer → Type 0) → NamesScript words script_name → NamesLog words log_name
       → IsTaken before.files script_name script_limit text → Spells text script
       → ((log : Log) → TakesBoth before.files script_name log_name script log → Onward log answer → Cause words before after answer)
-      → TakingLog before.files before.take_faults after.take_faults log_name (λ log answer. Fitting (Onward log) script log answer) answer
+      → TakingLog before.files before.take_faults after.take_faults log_name (λ log answer. Fitting (Onward log) script log.threads answer) answer
       → Cause words before after answer
   of_fitting script_name log_name text script Onward script_named log_named taken spells on answers =
-      of_log log_name (λ log answer. Fitting (Onward log) script log answer) log_named (λ bytes log log_is_taken spelled fitting.
+      of_log log_name (λ log answer. Fitting (Onward log) script log.threads answer) log_named (λ bytes log log_is_taken spelled fitting.
       elim fitting [
         | inl refused ↦ ByFit refused.0 refused.3 (record {
           script_name = script_name;
@@ -250,10 +250,10 @@ module _ (words : List (List ℕ)) (before after : DeskState) (answer : Answer) 
   of_both : (script_name log_name : List ℕ) (Onward : Script → Log → Answer → Type 0) → NamesScript words script_name → NamesLog words log_name
       → ((script : Script) (log : Log) → TakesBoth before.files script_name log_name script log → Onward script log answer → Cause words before after answer)
       → TakingScript before.files before.take_faults after.take_faults script_name
-      (λ script answer. TakingLog before.files before.take_faults after.take_faults log_name (λ log answer. Fitting (Onward script log) script log answer) answer) answer
+      (λ script answer. TakingLog before.files before.take_faults after.take_faults log_name (λ log answer. Fitting (Onward script log) script log.threads answer) answer) answer
       → Cause words before after answer
   of_both script_name log_name Onward script_named log_named on answers =
-      of_script script_name (λ script answer. TakingLog before.files before.take_faults after.take_faults log_name (λ log answer. Fitting (Onward script log) script log answer) answer) script_named
+      of_script script_name (λ script answer. TakingLog before.files before.take_faults after.take_faults log_name (λ log answer. Fitting (Onward script log) script log.threads answer) answer) script_named
       (λ text script taken spells. of_fitting script_name log_name text script (Onward script) script_named log_named taken spells (on script)) answers
 
   -- of a profile, with or without a name
@@ -298,7 +298,7 @@ module _ (words : List (List ℕ)) (before after : DeskState) (answer : Answer) 
   of_command (Verify script_name log_name) is answers =
       let script_named : NamesScript words script_name = record { command = Verify script_name log_name; asked = is; takes = refl } in
       let log_named : NamesLog words log_name = record { command = Verify script_name log_name; asked = is; takes = refl } in
-      of_both script_name log_name (λ script log answer. (verdict : Verdict) × IsVerified script log.threads verdict × (answer ≡ verdict_told verdict)) script_named log_named
+      of_both script_name log_name (λ script log. TellsVerdict script log.threads) script_named log_named
       (λ script log taken told. by_verdict script log taken script_named log_named told.0 told.1 told.2) answers
     where
       by_verdict : (script : Script) (log : Log) → TakesBoth before.files script_name log_name script log → NamesScript words script_name → NamesLog words log_name

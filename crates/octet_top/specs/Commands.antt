@@ -3,6 +3,7 @@ use Rattle.std.specs.Prelude.{ℕ, ◌≡◌, ◌≢◌, ◌⊎◌, List, Option
 use Rattle.octet_base.specs.Desk.{Files}
 use Rattle.octet_model.specs.declared.script.Script.{Script}
 use Rattle.octet_model.specs.declared.log.Log.{Log}
+use Rattle.octet_model.specs.declared.log.ThreadLog.{ThreadLog}
 use Rattle.octet_model.specs.declared.outcome.Outcome.{Outcome}
 use Rattle.octet_model.specs.Texts.{log_bytes, outcome_text}
 use Rattle.octet_model.specs.Orders.{execution, journals_after, lowest_order, IsFaithful}
@@ -28,22 +29,34 @@ IsRecording log_name script answer =
     × (answer ≡ writes_and_tells log_name (log_bytes log.threads) (outcome_text script outcome))
 
 -- the log does not fit the script, and why is said; or it does, with which the command goes on
-abbrev pub Fitting : (Answer → Type 0) → Script → Log → Answer → Type 0
+abbrev pub Fitting : (Answer → Type 0) → Script → List ThreadLog → Answer → Type 0
 Fitting Onward script log answer =
-    ((fault : ReplayFault) × (fault ≢ OutOfMemory) × HasCause script log.threads fault × (answer ≡ does_not_fit fault))
-    ⊎ (IsLawful script log.threads × Onward answer)
+    ((fault : ReplayFault) × (fault ≢ OutOfMemory) × HasCause script log fault × (answer ≡ does_not_fit fault))
+    ⊎ (IsLawful script log × Onward answer)
 
--- the outcome of the lowest order is said, which is lawful
+-- the outcome of the lowest order is said
+abbrev pub TellsOutcome : Script → List ThreadLog → Answer → Type 0
+TellsOutcome script log answer = answer ≡ told Done (outcome_text script (execution script log (lowest_order script log)))
+
+-- the verdict on the journals of the lowest order is said
+abbrev pub TellsVerdict : Script → List ThreadLog → Answer → Type 0
+TellsVerdict script log answer = (verdict : Verdict) × IsVerified script log verdict × (answer ≡ verdict_told verdict)
+
+-- the counts over the journals of the lowest order are said
+abbrev pub TellsCounts : Option ℕ → Script → List ThreadLog → Answer → Type 0
+TellsCounts wanted script log answer = answer ≡ told Done (profile_text wanted (journals_after script log (lowest_order script log)))
+
+-- the answer of a replay: the outcome, where that order is lawful
 abbrev pub IsReplayed : Script → Log → Answer → Type 0
-IsReplayed script log answer = Fitting (λ answer. answer ≡ told Done (outcome_text script (execution script log.threads (lowest_order script log.threads)))) script log answer
+IsReplayed script log answer = Fitting (TellsOutcome script log.threads) script log.threads answer
 
--- the verdict on the journals of the lowest order is said, which is lawful
+-- that of a check: the verdict
 abbrev pub IsVerdictTold : Script → Log → Answer → Type 0
-IsVerdictTold script log answer = Fitting (λ answer. (verdict : Verdict) × IsVerified script log.threads verdict × (answer ≡ verdict_told verdict)) script log answer
+IsVerdictTold script log answer = Fitting (TellsVerdict script log.threads) script log.threads answer
 
--- the counts over the journals of the lowest order are said, which is lawful
+-- that of a profile: the counts
 abbrev pub IsProfiled : Option ℕ → Script → Log → Answer → Type 0
-IsProfiled wanted script log answer = Fitting (λ answer. answer ≡ told Done (profile_text wanted (journals_after script log.threads (lowest_order script log.threads)))) script log answer
+IsProfiled wanted script log answer = Fitting (TellsCounts wanted script log.threads) script log.threads answer
 
 -- the script has no object of this name; or it has, or none is named, and the command goes on
 abbrev pub Choosing : (Option ℕ → Answer → Type 0) → Script → Option (List ℕ) → Answer → Type 0

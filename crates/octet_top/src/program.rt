@@ -61,9 +61,10 @@ pub fn serve<R: Threads + Wait + Sync, D: Desk, G: Gate>(
     // What is left alone: at every status each file that the words do not name to be written, and
     // all files at a refusal.
     ensures others { KeepsOtherFiles (texts words.now) (D.files desk.old) (D.files desk.new) }
-    // No file is asked for but those that the words name to be taken.
-    ensures lookups { LooksUpNamed (texts words.now) (D.lookups desk.old) (D.lookups desk.new) }
     ensures untouched { result ≢ 0 → result ≢ 6 → result ≢ 7 → D.files desk.new ≡ D.files desk.old }
+
+    // And no file is asked for but those that the words name to be taken.
+    ensures lookups { LooksUpNamed (texts words.now) (D.lookups desk.old) (D.lookups desk.new) }
 
     // When each status comes: only with its cause, and, where no call of the desk fails, whenever
     // words and files call for it, unless memory was refused.
