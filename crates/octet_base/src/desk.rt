@@ -42,7 +42,8 @@ impl<T: Drop> From<AllocFailed<T>> for DeskFault {
 
 /// Files by their names, at most one of which is being written, and a place to say the answer.
 /// A desk may tell what its files hold, what was said and which names were asked for, or not. After
-/// a call that ran out of memory stands what stands after one that failed.
+/// a call that ran out of memory stands what stands after one that failed, but that a name may not
+/// be kept.
 pub trait Desk: Send {
     /// The files, where the desk tells them.
     ghost files: { Self → Option Files };

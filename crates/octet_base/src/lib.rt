@@ -1,5 +1,6 @@
 //! The desk and the gate: all that the program is handed of the world outside. A desk has files
-//! and a place to say an answer; a gate is passed before each access of a running thread.
+//! and a place to say an answer; a gate is for threads that run beside each other, which are to
+//! pass it before each access. No thread does so yet.
 #![tactic(auto)]
 
 mod desk;

@@ -37,7 +37,7 @@ pub record KeepsAllMarks (journals : Journals) (play : List ℕ) (index : ℕ) (
   pub as_many : length marks ≡ length journals
   pub each : (thread : ℕ) (one : Marks) → slice_get marks thread ≡ Some one → KeepsMarks journals thread (made_by play index thread) one.kept.items
 
--- a thread's event takes in the past of first events of another, and nothing else
+-- a thread's event takes in the past of these first events, and nothing else
 pub record IsSource (journals : Journals) (play : List ℕ) (index thread : ℕ) (first : Prefix) : Type 0 where
   pub made : first.count ≤ made_by play index first.thread
   pub taken : (place : Place) → InPast journals first.thread first.count place → InPast journals thread (suc (made_by play index thread)) place

@@ -134,8 +134,8 @@ impl Checker {
 /// If they are not, the first access in their lowest play that misses an earlier one, and the
 /// one that it misses.
 ///
-/// Each thread has a vector clock. Behind a mark the clock is kept, since a `Join` of a thread's
-/// first events takes in what the thread knew behind these, and not what it knows by now.
+/// Behind each mark its thread's vector clock is kept, since a `Join` of a thread's first events
+/// takes in what the thread knew behind these, and not what it knows by now.
 pub fn check(alloc: Global, journals: &List<List<Event>>) -> Result<Verdict, OutOfMemory>
     requires places { HavePlaces journals.now }
     requires whole { IsWholePlay journals.now (lowest_play [] journals.now) }

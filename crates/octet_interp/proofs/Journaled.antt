@@ -1,9 +1,8 @@
 -- Journals keep up with their threads.
-use Rattle.std.proofs.Common.{◌≡◌, Bool, List, [], ◌∷◌, ◌++◌, refl, sym, ap, ◌∙◌}
-use Rattle.octet_model.specs.declared.command.Command.{Command}
+use Rattle.std.proofs.Common.{Bool, List, [], ◌∷◌, sym, ap, ◌∙◌}
 use Rattle.octet_model.specs.declared.event.Event.{Event}
 use Rattle.octet_model.specs.declared.event.Event.TheVariants.{Read, Write, Marked}
-use Rattle.octet_model.specs.Thread.{Configuration, settled, past_demanded, configuration_after, FitsFrom}
+use Rattle.octet_model.specs.Thread.{Configuration, settled, configuration_after}
 use Rattle.octet_model.proofs.Splits.{configuration_split, fits_join}
 use Rattle.octet_interp.specs.declared.demand.Demand.{Demand}
 use Rattle.octet_interp.specs.declared.demand.Demand.TheVariants.{Read, Write, Ended}

@@ -75,8 +75,7 @@ impl Config {
         })
     }
 
-    /// Runs to the next demand and tells it, in constant time per command. A read then waits
-    /// for its value.
+    /// Runs to the next demand and tells it. A read then waits for its value.
     pub fn next(&mut self) -> Demand
         requires { self.old.waits ≡ false }
         ensures told { result ≡ told self.old }

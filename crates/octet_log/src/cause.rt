@@ -1,9 +1,8 @@
 //! Why bytes are refused as a log.
-ghost use Rattle.std.specs.Prelude.{◌≡◌, ◌++◌, OnOk, IfOk};
-ghost use Rattle.std.specs.Fmt.{decimal};
+ghost use Rattle.std.specs.Prelude.{◌≡◌};
 ghost use Rattle.octet_log.specs.declared.cause.LogFault.TheVariants.{OutOfMemory};
 
-use std::alloc::{AllocError, AllocFailed, Global};
+use std::alloc::{AllocError, AllocFailed};
 use thiserror::Error;
 
 /// What is wrong with the bytes: the first refusal from the front. A place counts bytes from 0.

@@ -26,7 +26,8 @@ pub fn no_log_is_a_prefix()
     ensures { NoLogGoesOn }
 {}
 
-/// A log's spelling without some of its last bytes is refused as cut, where it ends.
+/// A log's spelling without some of its last bytes is refused as cut, where it ends; below four
+/// bytes it has no magic.
 pub fn front_of_log_is_cut()
     ensures { FrontIsCut }
 {}

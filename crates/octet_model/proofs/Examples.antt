@@ -1,12 +1,14 @@
--- Journals that are ordered, and journals that are not.
-use Rattle.std.proofs.Common.{◌≡◌, ℕ, zero, suc, inl, inr, List, [], ◌∷◌, ◌++◌, Some, slice_get, refl, ◌∙◌, arith}
+-- Journals that are ordered, journals that are not, and journals that are not frugal.
+use Rattle.std.proofs.Common.{◌≡◌, ℕ, zero, suc, inl, inr, List, [], ◌∷◌, ◌++◌, Option, Some, None, slice_get, refl, ap, ◌∙◌, arith}
+use Rattle.std.specs.Option.{option_map, unwrap_or}
 use Rattle.octet_model.specs.declared.event.Event.{Event}
 use Rattle.octet_model.specs.declared.event.Event.TheVariants.{Read, Write, Marked}
 use Rattle.octet_model.specs.declared.event.Mark.{Mark}
 use Rattle.octet_model.specs.declared.event.Mark.TheVariants.{Join}
 use Rattle.octet_model.specs.declared.event.Place.{Place}
 use Rattle.octet_model.specs.Machine.{Journals, journal_of}
-use Rattle.octet_model.specs.HappensBefore.{event_at, Edge, ProgramOrder, Joined, Drawn, Fenced, IsPath, IsOrdered}
+use Rattle.octet_model.specs.HappensBefore.{event_at, object_of, Edge, ProgramOrder, Joined, Drawn, Fenced, IsPath, IsOrdered}
+use Rattle.octet_model.specs.Frugal.{IsPrivate, IsFrugal}
 use Rattle.octet_model.specs.Plays.{IsOneHistory}
 use Rattle.octet_model.specs.Past.{AreOwned}
 use Rattle.octet_model.proofs.Growing.{history_begins}
@@ -72,3 +74,25 @@ joined_is_ordered =
     others : (o : ℕ) → (o ≡ 0 → ⊥) → owner' o ≡ 0
     others zero differ = absurd (differ refl)
     others (suc o) differ = refl
+
+-- a Join before the second access of an object that one thread has to itself
+abbrev chained : Journals
+chained = (Write 0 7 ∷ []) ∷ (Write 1 7 ∷ Marked (Join 0 1) ∷ Write 1 8 ∷ []) ∷ []
+
+chained_is_not_frugal : IsFrugal chained → ⊥
+chained_is_not_frugal frugal =
+    let second : Place = record { thread = 1; event = 2 } in
+    let first : Place = record { thread = 1; event = 0 } in
+    elim (frugal.unmarked second 1 (Write 1 8, refl, refl) private) [
+      | inl none ↦ cc none
+      | inr joined ↦ omega (arith, joined.is_first first refl (Write 1 7, refl, refl))
+    ]
+  where
+    by : (t k : ℕ) (x : Event) → slice_get (journal_of chained t) k ≡ Some x → object_of x ≡ Some 1 → t ≡ 1
+    by zero zero x is of = let same : Some 0 ≡ Some 1 = ap (λ (o : Option Event). unwrap_or (option_map object_of o) None) is ∙ of in cc same
+    by zero (suc k) x is of = cc is
+    by (suc zero) k x is of = refl
+    by (suc (suc t)) k x is of = cc is
+
+    private : IsPrivate chained 1 1
+    private place accesses = by place.thread place.event accesses.0 accesses.1 accesses.2

@@ -11,6 +11,6 @@ pub mod Lowest
 pub mod Following
 pub mod Short
 pub mod MarksSeen
-pub mod Rows
+pub mod Executions
 pub mod Examples
 pub mod Validity

@@ -18,11 +18,6 @@ pub record InPast (journals : Journals) (thread now : ℕ) (place : Place) : Typ
   pub below : near < now
   pub reaches : Reaches journals place (record { thread = thread; event = near })
 
--- an event with a path to another
-pub record IsBefore (journals : Journals) (later place : Place) : Type 0 where
-  pub is_event : IsEvent journals place
-  pub happens_before : HappensBefore journals place later
-
 -- no two draws of the journals have one number
 abbrev pub DrawsDiffer : Journals → Type 0
 DrawsDiffer journals = (a b : Place) (number : ℕ) → event_at journals a ≡ Some (Marked (Draw number)) → event_at journals b ≡ Some (Marked (Draw number)) → a ≡ b

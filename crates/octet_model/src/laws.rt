@@ -20,8 +20,8 @@ pub fn lowest_play_is_as_good()
     ensures order { LowestPlayIsLowestOrder }
 {}
 
-/// A lowest front takes always the lowest thread that may step, until none may. There is one
-/// from each state, and it is a front. The lowest order of a script and a log, and the lowest
+/// A lowest front takes always the lowest thread that may step, until none may. From one state
+/// there is at most one, and it is a front. The lowest order of a script and a log, and the lowest
 /// play of journals, are lowest fronts: the number of steps that they may take is enough. Where
 /// the journals of one lawful order are ordered, the lowest order is a lawful order.
 pub fn lowest_is_one()
@@ -33,7 +33,7 @@ pub fn lowest_is_one()
 {}
 
 /// Journals that grow by one event keep their paths, and a past never changes: each event in it
-/// stays, and where heap and marks allow the new event, none comes into it.
+/// stays, and in one history, where heap and marks allow the new event, none comes into it.
 pub fn pasts_never_change()
     ensures paths { PathsStay }
     ensures stay { PastsStay }

@@ -17,7 +17,8 @@ pub enum ReplayFault {
     #[error("stuck")]
     Stuck { positions: List<u64> },
     /// When no thread may step, this is the lowest thread that ended with fewer accesses than
-    /// the log says, or demands one more than it says.
+    /// the log says, or, with no mark left, demands one more. `wanted` is the log's number; `found`
+    /// is how many the thread made, or one more than `wanted`.
     #[error("thread {thread} wants {wanted} accesses, found {found}")]
     Misfit { thread: u8, wanted: u32, found: u32 },
     #[error("out of memory")]

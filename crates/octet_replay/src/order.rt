@@ -104,7 +104,7 @@ fn journals_of(alloc: Global, threads: Vec<ThreadReplay>) -> Result<List<List<Ev
 
 /// Replays a log in the lowest order, and answers what it comes to where that order is lawful:
 /// each thread's end, the values that it read, and the objects' final values. Takes time in
-/// proportion to the log's events, and memory likewise.
+/// proportion to the script, the commands that are run and the log's events.
 pub fn replay(alloc: Global, script: &Script, log: &Log) -> Result<Outcome, ReplayFault>
     ensures lawful { IfOk result (λ _. IsLawful script.now log.now.threads) }
     ensures outcome { IfOk result (λ outcome. outcome ≡ execution script.now log.now.threads (lowest_order script.now log.now.threads)) }

@@ -260,11 +260,12 @@ judgement text = do
   p ← judged_lines (lines text) start 1
   judged_end p (length (lines text))
 
--- what a function returned, as seen by view, is what a judgement gives, unless memory ran out
+-- a fault is the refusal that a judgement gives, or want of memory
 abbrev pub Fails : {Y : Type 0} → ScriptFault → Result Y ScriptFault → Type 0
 Fails OutOfMemory judged = Unit {0}
 Fails (Refused line cause) judged = judged ≡ Err (Refused line cause)
 
+-- what a function returned, as seen by view, is what a judgement gives, unless memory ran out
 abbrev pub Gives : {X Y : Type 0} → (X → Y) → Result X ScriptFault → Result Y ScriptFault → Type 0
 Gives view (Ok x) judged = judged ≡ Ok (view x)
 Gives view (Err e) judged = Fails e judged

@@ -5,7 +5,7 @@ ghost use Rattle.std.specs.Fmt.{decimal};
 ghost use Rattle.octet_script.specs.Spelling.{declaration, object_names, object_word, register_word, canonical_words, canonical_line, canonical_text, command_form, head_form, thread_forms, ObjectHead, Spells};
 ghost use Rattle.octet_model.specs.Name.{IsName};
 
-use octet_model::{Command, List, Object, OutOfMemory, Script};
+use octet_model::{Command, Object, OutOfMemory, Script};
 use std::alloc::Global;
 
 fn push_number(alloc: Global, out: &mut Vec<u8>, number: u64) -> Result<(), OutOfMemory>

@@ -28,7 +28,7 @@ use Rattle.octet_model.specs.Orders.{starting_heap, end_of, ends_of, values_read
 use Rattle.octet_model.proofs.Fronts.{no_journal}
 use Rattle.octet_model.proofs.Growing.{history_begins, faithful_from_history}
 use Rattle.octet_model.proofs.Splits.{length-gapped_marks}
-use Rattle.octet_serial.specs.Recorded.{IsPaired, IsRecorded, HaveEnded}
+use Rattle.octet_serial.specs.Recorded.{IsPaired, IsOwnerMarked, IsRecorded, HaveEnded}
 
 -- the bounds of a valid script
 pub record IsBounded (fuel : ℕ) (threads : ℕ) : Type 0 where
@@ -169,17 +169,26 @@ ends_are fuel (commands ∷ threads) (journal ∷ js) (end ∷ ends) journals as
     let rest = ends_are fuel threads js ends (omega arith) (omega arith) (λ t x is. ended (suc t) x is) in
     ap (λ (x : End). x ∷ ends_of fuel threads js) first ∙ ap (λ (xs : List End). end ∷ xs) rest
 
--- once every thread has ended, what is recorded is faithful
+-- once every thread has ended, the journals fit the script
+fits_script : (script : Script) (js : Journals) (heap owners : List ℕ) (ends : List End) → IsRecorded script js heap owners → length ends ≡ length script.threads → HaveEnded script js ends → FitsScript script js
+fits_script script js heap owners ends r as_many ended t lt =
+    let end = get_or ends t Done in
+    let has = ended t end (slice_get-get_or ends t Done (omega (arith, as_many, r.threads_there))) in
+    (has.fits, (end, has.ends))
+
+-- and have the marks of their log
+pub owner_marked : (script : Script) (js : Journals) (heap owners : List ℕ) (ends : List End) → IsRecorded script js heap owners → length ends ≡ length script.threads → HaveEnded script js ends
+    → (logs : List ThreadLog) (reads : List (List ℕ)) → logs ≡ log_of js → reads ≡ map values_read js → IsOwnerMarked script logs reads
+owner_marked script js heap owners ends r as_many ended logs reads logs_are reads_are =
+    record { journals = js; fit = fits_script script js heap owners ends r as_many ended; logged = logs_are; told = reads_are; marked = r.has_owner_marks }
+
+-- and what is recorded is faithful
 pub faithful : (script : Script) (js : Journals) (heap owners : List ℕ) (ends : List End) → IsRecorded script js heap owners → length ends ≡ length script.threads → HaveEnded script js ends
     → IsFaithful script (log_of js) (record { ends = ends; reads = map values_read js; heap = heap })
 faithful script js heap owners ends r as_many ended =
-    let fits : FitsScript script js = λ t lt.
-    let end = get_or ends t Done in
-    let has = ended t end (slice_get-get_or ends t Done (omega (arith, as_many, r.threads_there))) in
-    (has.fits, (end, has.ends)) in
     let told : ends_of script.fuel script.threads js ≡ ends = ends_are script.fuel script.threads js ends r.threads_there as_many (λ t end is. (ended t end is).ends) in
     subst (λ (x : List End). IsFaithful script (log_of js) (record { ends = x; reads = map values_read js; heap = heap })) told
-    (faithful_from_history script js heap 0 r.history (frugal script js heap owners r) (sym r.threads_there) fits)
+    (faithful_from_history script js heap 0 r.history (frugal script js heap owners r) (sym r.threads_there) (fits_script script js heap owners ends r as_many ended))
 
 -- the same by what the calls tell
 pub faithful_as : (script : Script) (js : Journals) (heap owners : List ℕ) (ends : List End) → IsRecorded script js heap owners → length ends ≡ length script.threads → HaveEnded script js ends

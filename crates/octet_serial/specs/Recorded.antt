@@ -1,19 +1,20 @@
 -- What the recorder keeps from one access to the next.
-use Rattle.std.specs.Prelude.{◌≡◌, ◌≢◌, ℕ, ◌≤◌, ◌<◌, ◌⊎◌, List, [], ◌∷◌, length, IsTrue, slice_get, slice_index, Some}
+use Rattle.std.specs.Prelude.{◌≡◌, ◌≢◌, ℕ, ◌≤◌, ◌<◌, ◌⊎◌, List, [], ◌∷◌, length, map, IsTrue, slice_get, slice_index, Some}
 use Rattle.octet_model.specs.declared.event.Mark.{Mark}
 use Rattle.octet_model.specs.declared.event.Mark.TheVariants.{Join}
 use Rattle.octet_model.specs.declared.event.Event.{Event}
 use Rattle.octet_model.specs.declared.event.Event.TheVariants.{Marked}
 use Rattle.octet_model.specs.declared.event.Place.{Place}
+use Rattle.octet_model.specs.declared.log.ThreadLog.{ThreadLog}
 use Rattle.octet_model.specs.declared.outcome.End.{End}
 use Rattle.octet_model.specs.declared.script.Script.{Script}
 use Rattle.octet_model.specs.Thread.{starting_configuration, configuration_after, demanded, ToEnd}
 use Rattle.octet_model.specs.Machine.{Journals, journal_of}
-use Rattle.octet_model.specs.Journals.{access_count, mark_count}
+use Rattle.octet_model.specs.Journals.{access_count, mark_count, log_of}
 use Rattle.octet_model.specs.HappensBefore.{event_at}
 use Rattle.octet_model.specs.Frugal.{marks_before, marks_at_end, Accesses, IsFirstOf}
 use Rattle.octet_model.specs.Log.{is_mark}
-use Rattle.octet_model.specs.Orders.{commands_of, starting_heap, FitsThread}
+use Rattle.octet_model.specs.Orders.{commands_of, starting_heap, values_read, FitsThread, FitsScript}
 use Rattle.octet_model.specs.Past.{AreOwned}
 use Rattle.octet_model.specs.Plays.{IsOneHistory}
 
@@ -75,6 +76,14 @@ pub record HasEnded (script : Script) (journals : Journals) (thread : ℕ) (end 
 -- each thread that has an end here came to it
 abbrev pub HaveEnded : Script → Journals → List End → Type 0
 HaveEnded script journals ends = (thread : ℕ) (end : End) → slice_get ends thread ≡ Some end → HasEnded script journals thread end
+
+-- a log and the values read are those of journals that fit the script, in which before each access stands no mark, or one Join of an owner that the object had
+pub record IsOwnerMarked (script : Script) (log : List ThreadLog) (reads : List (List ℕ)) : Type 0 where
+  pub journals : Journals
+  pub fit : FitsScript script journals
+  pub logged : log ≡ log_of journals
+  pub told : reads ≡ map values_read journals
+  pub marked : HasOwnerMarks journals
 
 -- the threads from this one on have made nothing
 abbrev pub AreEmptyFrom : Journals → ℕ → Type 0

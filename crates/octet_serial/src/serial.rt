@@ -2,7 +2,7 @@
 ghost use Rattle.std.specs.Prelude.{◌≡◌, ◌<◌, [], length, IfOk, OnOk};
 ghost use Rattle.octet_model.specs.Machine.{journal_of};
 ghost use Rattle.octet_model.specs.Orders.{IsFaithful};
-ghost use Rattle.octet_serial.specs.Recorded.{AreEmptyFrom, HasEnded, HaveEnded, IsRecorded};
+ghost use Rattle.octet_serial.specs.Recorded.{AreEmptyFrom, HasEnded, HaveEnded, IsOwnerMarked, IsRecorded};
 ghost use Rattle.octet_serial.specs.Running.{AreOthersSame};
 
 use crate::recording::Recording;
@@ -79,6 +79,7 @@ fn recorded(
     requires all { length ends ≡ length script.now.threads }
     requires ended { HaveEnded script.now recording.journals.items ends }
     ensures faithful { IfOk result (λ r. IsFaithful script.now r.log.threads r.outcome) }
+    ensures marks { IfOk result (λ r. IsOwnerMarked script.now r.log.threads r.outcome.reads) }
     ensures ends { IfOk result (λ r. length r.outcome.ends ≡ length script.now.threads) }
     ensures reads { IfOk result (λ r. length r.outcome.reads ≡ length script.now.threads) }
     ensures heap { IfOk result (λ r. length r.outcome.heap ≡ length script.now.objects) }
@@ -101,6 +102,7 @@ fn recorded(
 /// the script.
 pub fn run_serially(alloc: Global, script: &Script) -> Result<Recorded, OutOfMemory>
     ensures faithful { IfOk result (λ r. IsFaithful script.now r.log.threads r.outcome) }
+    ensures marks { IfOk result (λ r. IsOwnerMarked script.now r.log.threads r.outcome.reads) }
     ensures ends { IfOk result (λ r. length r.outcome.ends ≡ length script.now.threads) }
     ensures reads { IfOk result (λ r. length r.outcome.reads ≡ length script.now.threads) }
     ensures heap { IfOk result (λ r. length r.outcome.heap ≡ length script.now.objects) }

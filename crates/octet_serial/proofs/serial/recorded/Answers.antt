@@ -4,7 +4,7 @@ use Rattle.octet_model.specs.Journals.{log_of}
 use Rattle.octet_model.specs.Log.{is_log}
 use Rattle.octet_model.specs.Machine.{Journals}
 use Rattle.octet_model.specs.Orders.{values_read}
-use Rattle.octet_serial.proofs.Faithful.{bounded, log_valid, faithful_as}
+use Rattle.octet_serial.proofs.Faithful.{bounded, log_valid, faithful_as, owner_marked}
 use Rattle.octet_serial.proofs.serial.recorded.Goals as goal
 
 pub log_of-requires-clause-valid : goal.log_of-requires-clause-valid
@@ -22,3 +22,11 @@ returns-clause-faithful c =
     (c.in_ok-log.ensures ∙ ap log_of c.deref.ensures.value)
     (c.in_ok-reads.ensures ∙ ap (map values_read) c.deref-2.ensures.value)
     c.from_vec.ensures
+
+pub returns-clause-marks : goal.returns-clause-marks
+returns-clause-marks c =
+    let r = c.args.recording in
+    owner_marked c.args.script.now r.journals.items r.heap.items r.owners.items c.args.ends c.requires.recorded c.requires.all c.requires.ended
+    c.in_ok-log.log.threads c.in_ok-reads.reads
+    (c.in_ok-log.ensures ∙ ap log_of c.deref.ensures.value)
+    (c.in_ok-reads.ensures ∙ ap (map values_read) c.deref-2.ensures.value)
