@@ -23,13 +23,13 @@ use Rattle.octet_clock.specs.Verified.{IsVerified}
 use Rattle.octet_top.specs.declared.reply.Status.{Status}
 use Rattle.octet_top.specs.declared.reply.Status.TheVariants as exit
 use Rattle.octet_top.specs.Answer.{Answer, code_of, told, writes_and_tells, not_a_command, no_such_object, read_failed, too_long, script_refused, log_refused, does_not_fit, verdict_told}
-use Rattle.octet_top.specs.Profile.{profile_text}
+use Rattle.octet_top.specs.Profile.{profile_text, KnowsObject}
 use Rattle.octet_top.specs.Taking.{Taking, Parsing, Decoding, TakingScript, TakingLog, IsTaken, IsAbsent, IsTooLong, Refuses, RefusesLog, script_limit, log_limit}
 use Rattle.octet_top.specs.Request.{Command, Run, Tidy, Show, Replay, Verify, Profile, Gen, Asks, script_taken, log_taken}
 use Rattle.octet_top.specs.Commands.{IsAnswer, AreAnswered, CommandAnswers, IsRecording, Fitting, TellsOutcome, TellsVerdict, TellsCounts, IsReplayed, IsVerdictTold, IsProfiled, Choosing}
 use Rattle.octet_top.specs.Serving.{DeskState}
 use Rattle.octet_top.specs.Promises.{IsThere, HasScript, HasLog, HasRecording, HasFiles, IsWellMet, RepeatsRecordings}
-use Rattle.octet_top.specs.Due.{IsOver, KnowsObject, ReachesTake, HasLawful, OrdersAll, HasAll, IsDue}
+use Rattle.octet_top.specs.Due.{IsOver, ReachesTake, HasLawful, OrdersAll, HasAll, IsDue}
 use Rattle.octet_top.proofs.Promises.{same_value, answers_to, status_is, given_at}
 
 -- what is told of a file excludes the rest

@@ -13,18 +13,13 @@ use Rattle.octet_replay.specs.Judged.{HasCause, IsLawful}
 use Rattle.octet_top.specs.declared.reply.Status.{Status}
 use Rattle.octet_top.specs.declared.reply.Status.TheVariants as exit
 use Rattle.octet_top.specs.Request.{Command, Run, Tidy, Show, Replay, Verify, Profile, Gen, Asks, script_taken, log_taken, IsNotACommand, NamesScript}
-use Rattle.octet_top.specs.Profile.{wanted_by}
+use Rattle.octet_top.specs.Profile.{wanted_by, KnowsObject}
 use Rattle.octet_top.specs.Taking.{script_limit, log_limit, IsAbsent, Refuses, RefusesLog}
 use Rattle.octet_top.specs.Promises.{IsThere, HasScript, HasLog}
 
 -- files are told, and the one of this name is over the limit
 abbrev pub IsOver : Option Files → List ℕ → ℕ → Type 0
 IsOver files name limit = IsSomeAnd files (λ fs. IsSomeAnd (get fs name) (λ bytes. limit < length bytes))
-
--- the script has the object that the command names, if it names one
-abbrev pub KnowsObject : Command → Script → Type 0
-KnowsObject (Profile script_name log_name object_name) script = (wanted : Option ℕ) × (wanted_by script object_name ≡ Some wanted)
-KnowsObject _ script = Unit {0}
 
 -- a log's file comes to be taken: the script, where the command takes one, is there as it should be
 pub record ReachesLog (words : List (List ℕ)) (files : Option Files) (name : List ℕ) : Type 0 where

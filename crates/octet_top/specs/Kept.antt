@@ -1,8 +1,12 @@
 -- What a call leaves as it was, and which files it asks for.
-use Rattle.std.specs.Prelude.{ℕ, ◌≡◌, ◌⊎◌, ◌++◌, List, [], ◌∷◌, Option, None, Some}
+use Rattle.std.specs.Prelude.{ℕ, ◌≡◌, ◌⊎◌, List, Option, Some}
 use Rattle.std.specs.FinMap.{get}
 use Rattle.octet_base.specs.Desk.{Files, looked_up}
-use Rattle.octet_top.specs.Request.{Command, Run, Gen, Asks, script_taken, log_taken, IsNotACommand}
+use Rattle.octet_model.specs.declared.script.Script.{Script}
+use Rattle.octet_script.specs.Spelling.{Spells}
+use Rattle.octet_top.specs.Request.{Command, Run, Tidy, Show, Replay, Verify, Profile, Gen, Asks, IsNotACommand}
+use Rattle.octet_top.specs.Profile.{KnowsObject}
+use Rattle.octet_top.specs.Taking.{script_limit, IsTaken}
 
 -- the command writes a file of this name
 abbrev pub Writes : Command → List ℕ → Type 0
@@ -21,22 +25,32 @@ abbrev pub KeepsOtherFiles : List (List ℕ) → Option Files → Option Files �
 KeepsOtherFiles words before after =
     (files files' : Files) → before ≡ Some files → after ≡ Some files' → (name : List ℕ) → ¬ NamesOutput words name → get files' name ≡ get files name
 
--- the name alone, if there is one
-abbrev listed : Option (List ℕ) → List (List ℕ)
-listed None = []
-listed (Some name) = name ∷ []
+-- the name is asked for, or not
+abbrev pub LooksUpOne : List ℕ → Option (List (List ℕ)) → Option (List (List ℕ)) → Type 0
+LooksUpOne name old new = (new ≡ old) ⊎ (new ≡ looked_up name old)
 
--- the files that a command takes, in order
-abbrev pub files_taken : Command → List (List ℕ)
-files_taken command = listed (script_taken command) ++ listed (log_taken command)
+-- the script's file is there and within its limit, where files are told; its text spells a script; and that has the object that the command names, if it names one
+abbrev pub PassesScript : Command → Option Files → List ℕ → Type 0
+PassesScript command files name = (text : List ℕ) × (script : Script) × IsTaken files name script_limit text × Spells text script × KnowsObject command script
 
--- of these names some first ones were asked for, in their order: none, or the first and then some first ones of the others
-abbrev pub LooksUpFirst : List (List ℕ) → Option (List (List ℕ)) → Option (List (List ℕ)) → Type 0
-LooksUpFirst [] old new = new ≡ old
-LooksUpFirst (name ∷ names) old new = (new ≡ old) ⊎ LooksUpFirst names (looked_up name old) new
+-- the script's name is asked for, or not; and behind it the log's, only where the script passes
+abbrev pub LooksUpBoth : Command → Option Files → List ℕ → List ℕ → Option (List (List ℕ)) → Option (List (List ℕ)) → Type 0
+LooksUpBoth command files script_name log_name old new =
+    LooksUpOne script_name old new
+    ⊎ (PassesScript command files script_name × (new ≡ looked_up log_name (looked_up script_name old)))
 
--- no file was asked for but those that the words name to be taken, in their order
-abbrev pub LooksUpNamed : List (List ℕ) → Option (List (List ℕ)) → Option (List (List ℕ)) → Type 0
-LooksUpNamed words old new =
-    ((command : Command) × Asks words command × LooksUpFirst (files_taken command) old new)
+-- a command asks for no names but those of the files that it takes, each once at most, and for none behind a script that does not pass
+abbrev pub LooksUpOwn : Command → Option Files → Option (List (List ℕ)) → Option (List (List ℕ)) → Type 0
+LooksUpOwn (Run script log) files old new = LooksUpOne script old new
+LooksUpOwn (Tidy script) files old new = LooksUpOne script old new
+LooksUpOwn (Show log) files old new = LooksUpOne log old new
+LooksUpOwn (Replay script log) files old new = LooksUpBoth (Replay script log) files script log old new
+LooksUpOwn (Verify script log) files old new = LooksUpBoth (Verify script log) files script log old new
+LooksUpOwn (Profile script log object) files old new = LooksUpBoth (Profile script log object) files script log old new
+LooksUpOwn (Gen number script log) files old new = new ≡ old
+
+-- words ask for the names that their command asks for, and for none where they are no command
+abbrev pub LooksUpNamed : List (List ℕ) → Option Files → Option (List (List ℕ)) → Option (List (List ℕ)) → Type 0
+LooksUpNamed words files old new =
+    ((command : Command) × Asks words command × LooksUpOwn command files old new)
     ⊎ (IsNotACommand words × (new ≡ old))

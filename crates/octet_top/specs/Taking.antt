@@ -11,6 +11,8 @@ use Rattle.octet_model.specs.declared.log.Log.{Log}
 use Rattle.octet_model.specs.Texts.{log_bytes}
 use Rattle.octet_log.specs.declared.cause.LogCause.{LogCause}
 use Rattle.octet_log.specs.Judgement as log
+use Rattle.octet_top.specs.declared.reply.Reply.{Reply}
+use Rattle.octet_top.specs.declared.reply.Status.TheVariants.{Read}
 use Rattle.octet_top.specs.declared.take.Take.{Take}
 use Rattle.octet_top.specs.declared.take.Take.TheVariants.{Taken, Refused}
 use Rattle.octet_top.specs.Answer.{Answer, answer_of, read_failed, too_long, script_refused, log_refused}
@@ -84,3 +86,12 @@ IsScriptTaken files before after name (Refused reply) = TakingScript files befor
 abbrev pub IsLogTaken : Option Files → ℕ → ℕ → List ℕ → Take Log → Type 0
 IsLogTaken files before after name (Taken log) = (bytes : List ℕ) × IsTaken files name log_limit bytes × (bytes ≡ log_bytes log.threads)
 IsLogTaken files before after name (Refused reply) = TakingLog files before after name (λ log answer. ⊥) (answer_of reply)
+
+-- a take failed only where the answer is that reading failed
+abbrev pub TellsFailure : Reply → ℕ → ℕ → Type 0
+TellsFailure reply before after = (reply.status ≡ Read) ⊎ (after ≡ before)
+
+-- and not where something was taken
+abbrev pub TellsFailedTake : {T : Type 0} → Take T → ℕ → ℕ → Type 0
+TellsFailedTake (Taken thing) before after = after ≡ before
+TellsFailedTake (Refused reply) before after = TellsFailure reply before after

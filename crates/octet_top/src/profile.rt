@@ -1,12 +1,13 @@
 //! The commands `profile SCRIPT LOG` and `profile SCRIPT LOG NAME`.
-ghost use Rattle.std.specs.Prelude.{◌≡◌, ◌≤◌, ◌<◌, [], ◌∷◌, ◌^◌, ℕ, length, IfOk};
+ghost use Rattle.std.specs.Prelude.{◌≡◌, ◌≤◌, ◌⊎◌, ◌<◌, ◌^◌, ℕ, Option, Some, length, IfOk};
+ghost use Rattle.octet_base.specs.Desk.{looked_up};
 ghost use Rattle.octet_watch.specs.Tally.{all_events};
 ghost use Rattle.octet_top.specs.Answer.{answer_of};
 ghost use Rattle.octet_top.specs.Request.{Profile, name_in};
-ghost use Rattle.octet_top.specs.Taking.{TakingLog};
+ghost use Rattle.octet_top.specs.Taking.{TakingLog, TellsFailure};
 ghost use Rattle.octet_top.specs.Profile.{class_of, class_count, counts, counts_text, object_named, wanted_by};
 ghost use Rattle.octet_top.specs.Commands.{CommandAnswers, Choosing, IsProfiled};
-ghost use Rattle.octet_top.specs.Kept.{files_taken, LooksUpFirst};
+ghost use Rattle.octet_top.specs.Kept.{LooksUpOwn, LooksUpOne};
 
 use crate::refusal::{does_not_fit, no_such_object};
 use crate::reply::{Reply, Status};
@@ -27,7 +28,8 @@ pub(crate) fn profile<D: Desk>(
     object_name: Option<&str>,
 ) -> Result<Reply, OutOfMemory>
     ensures answers { IfOk result (λ reply. CommandAnswers (Profile script_name.now log_name.now (name_in object_name.entry)) (D.files desk.old) (D.take_faults desk.old) (D.take_faults desk.new) (answer_of reply)) }
-    ensures lookups { LooksUpFirst (files_taken (Profile script_name.now log_name.now (name_in object_name.entry))) (D.lookups desk.old) (D.lookups desk.new) }
+    ensures told { IfOk result (λ reply. TellsFailure reply (D.take_faults desk.old) (D.take_faults desk.new)) }
+    ensures lookups { LooksUpOwn (Profile script_name.now log_name.now (name_in object_name.entry)) (D.files desk.old) (D.lookups desk.old) (D.lookups desk.new) }
     ensures same_files { D.files desk.new ≡ D.files desk.old }
     ensures same_begun { D.begun desk.new ≡ D.begun desk.old }
     ensures same_said { D.said desk.new ≡ D.said desk.old }
@@ -48,7 +50,9 @@ fn profile_script<D: Desk>(
 ) -> Result<Reply, OutOfMemory>
     ensures answers { IfOk result (λ reply. Choosing (λ wanted answer. TakingLog (D.files desk.old) (D.take_faults desk.old) (D.take_faults desk.new) log_name.now (IsProfiled wanted script.now) answer) script.now (name_in object_name.entry) (answer_of reply)) }
     ensures later { D.take_faults desk.old ≤ D.take_faults desk.new }
-    ensures lookups { LooksUpFirst (log_name.now ∷ []) (D.lookups desk.old) (D.lookups desk.new) }
+    ensures told { IfOk result (λ reply. TellsFailure reply (D.take_faults desk.old) (D.take_faults desk.new)) }
+    ensures lookups { (D.lookups desk.new ≡ D.lookups desk.old)
+        ⊎ ((wanted : Option ℕ) × (wanted_by script.now (name_in object_name.entry) ≡ Some wanted) × (D.lookups desk.new ≡ looked_up log_name.now (D.lookups desk.old))) }
     ensures same_files { D.files desk.new ≡ D.files desk.old }
     ensures same_begun { D.begun desk.new ≡ D.begun desk.old }
     ensures same_said { D.said desk.new ≡ D.said desk.old }
@@ -90,7 +94,8 @@ fn profile_wanted<D: Desk>(
 ) -> Result<Reply, OutOfMemory>
     ensures answers { IfOk result (λ reply. TakingLog (D.files desk.old) (D.take_faults desk.old) (D.take_faults desk.new) log_name.now (IsProfiled wanted script.now) (answer_of reply)) }
     ensures later { D.take_faults desk.old ≤ D.take_faults desk.new }
-    ensures lookups { LooksUpFirst (log_name.now ∷ []) (D.lookups desk.old) (D.lookups desk.new) }
+    ensures told { IfOk result (λ reply. TellsFailure reply (D.take_faults desk.old) (D.take_faults desk.new)) }
+    ensures lookups { LooksUpOne log_name.now (D.lookups desk.old) (D.lookups desk.new) }
     ensures same_files { D.files desk.new ≡ D.files desk.old }
     ensures same_begun { D.begun desk.new ≡ D.begun desk.old }
     ensures same_said { D.said desk.new ≡ D.said desk.old }

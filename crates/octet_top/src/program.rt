@@ -4,11 +4,12 @@ ghost use Rattle.octet_base.specs.Desk.{Rose};
 ghost use Rattle.octet_top.specs.declared.reply.Status.{Status};
 ghost use Rattle.octet_top.specs.Answer.{answer_of, code_of};
 ghost use Rattle.octet_top.specs.Request.{texts, command_of, Asks, Run, Verify, Gen, IsNotACommand};
+ghost use Rattle.octet_top.specs.Taking.{TellsFailure};
 ghost use Rattle.octet_top.specs.Commands.{IsAnswer, CommandAnswers, AreAnswered};
 ghost use Rattle.octet_top.specs.Serving.{state_of};
 ghost use Rattle.octet_top.specs.Promises.{RunsFaithfully, IsScriptRefused, IsLogRefused, IsMisfitting, IsFoundUnordered, VerifiesOrdered, GeneratesFaithfully, NamesNoObject, IsFileAbsent, IsFileTooLong, IsWellMet, RepeatsRecordings};
 ghost use Rattle.octet_top.specs.Due.{IsDue};
-ghost use Rattle.octet_top.specs.Kept.{KeepsOtherFiles, files_taken, LooksUpFirst, LooksUpNamed};
+ghost use Rattle.octet_top.specs.Kept.{KeepsOtherFiles, LooksUpOwn, LooksUpNamed};
 
 use crate::deliver::deliver;
 use crate::generate::generate;
@@ -64,7 +65,7 @@ pub fn serve<R: Threads + Wait + Sync, D: Desk, G: Gate>(
     ensures untouched { result ≢ 0 → result ≢ 6 → result ≢ 7 → D.files desk.new ≡ D.files desk.old }
 
     // And no file is asked for but those that the words name to be taken.
-    ensures lookups { LooksUpNamed (texts words.now) (D.lookups desk.old) (D.lookups desk.new) }
+    ensures lookups { LooksUpNamed (texts words.now) (D.files desk.old) (D.lookups desk.old) (D.lookups desk.new) }
 
     // When each status comes: only with its cause, and, where no call of the desk fails, whenever
     // words and files call for it, unless memory was refused.
@@ -76,6 +77,7 @@ pub fn serve<R: Threads + Wait + Sync, D: Desk, G: Gate>(
     ensures read { result ≡ 5 → Rose (D.take_faults desk.old) (D.take_faults desk.new) ⊎ IsFileAbsent (texts words.now) (D.files desk.old) }
     ensures write { result ≡ 6 → Rose (D.write_faults desk.old) (D.write_faults desk.new) }
     ensures no_other_write { result ≢ 6 → D.write_faults desk.new ≡ D.write_faults desk.old }
+    ensures no_other_read { result ≢ 5 → result ≢ 6 → result ≢ 7 → D.take_faults desk.new ≡ D.take_faults desk.old }
     ensures too_long { result ≡ 8 → IsFileTooLong (texts words.now) (D.files desk.old) }
     ensures due { (status : Status) → IsDue (texts words.now) (D.files desk.old) status → ¬ Rose (D.take_faults desk.old) (D.take_faults desk.new) → ¬ Rose (D.write_faults desk.old) (D.write_faults desk.new)
         → (result ≡ code_of status) ⊎ (result ≡ 7) }
@@ -87,7 +89,8 @@ pub fn serve<R: Threads + Wait + Sync, D: Desk, G: Gate>(
 
 fn answer_words<D: Desk>(alloc: Global, words: &[String], desk: &mut D) -> u8
     requires { D.begun desk.old ≡ None }
-    ensures lookups { LooksUpNamed (texts words.now) (D.lookups desk.old) (D.lookups desk.new) }
+    ensures told { result ≢ 5 → result ≢ 6 → result ≢ 7 → D.take_faults desk.new ≡ D.take_faults desk.old }
+    ensures lookups { LooksUpNamed (texts words.now) (D.files desk.old) (D.lookups desk.old) (D.lookups desk.new) }
     ensures answered { let state = state_of D.files D.begun D.said D.take_faults D.write_faults in
         AreAnswered (texts words.now) (state desk.old) (state desk.new) result }
 {
@@ -100,7 +103,8 @@ fn answer_words<D: Desk>(alloc: Global, words: &[String], desk: &mut D) -> u8
 /// The reply to the words. Files are taken, and nothing is written or said yet.
 fn reply_to<D: Desk>(alloc: Global, desk: &mut D, words: &[String]) -> Result<Reply, OutOfMemory>
     ensures answers { IfOk result (λ reply. IsAnswer (texts words.now) (D.files desk.old) (D.take_faults desk.old) (D.take_faults desk.new) (answer_of reply)) }
-    ensures lookups { LooksUpNamed (texts words.now) (D.lookups desk.old) (D.lookups desk.new) }
+    ensures told { IfOk result (λ reply. TellsFailure reply (D.take_faults desk.old) (D.take_faults desk.new)) }
+    ensures lookups { LooksUpNamed (texts words.now) (D.files desk.old) (D.lookups desk.old) (D.lookups desk.new) }
     ensures same_files { D.files desk.new ≡ D.files desk.old }
     ensures same_begun { D.begun desk.new ≡ D.begun desk.old }
     ensures same_said { D.said desk.new ≡ D.said desk.old }
@@ -118,7 +122,8 @@ fn carry_out<D: Desk>(
     request: Request<'_>,
 ) -> Result<Reply, OutOfMemory>
     ensures answers { IfOk result (λ reply. CommandAnswers (command_of request.entry) (D.files desk.old) (D.take_faults desk.old) (D.take_faults desk.new) (answer_of reply)) }
-    ensures lookups { LooksUpFirst (files_taken (command_of request.entry)) (D.lookups desk.old) (D.lookups desk.new) }
+    ensures told { IfOk result (λ reply. TellsFailure reply (D.take_faults desk.old) (D.take_faults desk.new)) }
+    ensures lookups { LooksUpOwn (command_of request.entry) (D.files desk.old) (D.lookups desk.old) (D.lookups desk.new) }
     ensures same_files { D.files desk.new ≡ D.files desk.old }
     ensures same_begun { D.begun desk.new ≡ D.begun desk.old }
     ensures same_said { D.said desk.new ≡ D.said desk.old }

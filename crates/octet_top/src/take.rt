@@ -1,8 +1,8 @@
 //! Takes files from the desk and reads them, and refuses where that fails.
-ghost use Rattle.std.specs.Prelude.{◌≡◌, ◌≤◌, [], ◌∷◌, IfOk};
+ghost use Rattle.std.specs.Prelude.{◌≡◌, ◌≤◌, IfOk};
 ghost use Rattle.octet_base.specs.Desk.{looked_up};
-ghost use Rattle.octet_top.specs.Taking.{IsFileTaken, IsScriptTaken, IsLogTaken};
-ghost use Rattle.octet_top.specs.Kept.{LooksUpFirst};
+ghost use Rattle.octet_top.specs.Taking.{IsFileTaken, IsScriptTaken, IsLogTaken, TellsFailedTake};
+ghost use Rattle.octet_top.specs.Kept.{LooksUpOne};
 
 use crate::refusal::{log_refused, read_failed, script_refused, too_long};
 use crate::reply::Reply;
@@ -33,9 +33,10 @@ fn take_file<D: Desk>(
     limit: u32,
 ) -> Result<Take<List<u8>>, OutOfMemory>
     ensures taken { IfOk result (IsFileTaken (D.files desk.old) (D.take_faults desk.old) (D.take_faults desk.new) name.now limit) }
+    ensures told { IfOk result (λ taken. TellsFailedTake taken (D.take_faults desk.old) (D.take_faults desk.new)) }
     ensures later { D.take_faults desk.old ≤ D.take_faults desk.new }
     ensures looked_up { IfOk result (λ taken. D.lookups desk.new ≡ looked_up name.now (D.lookups desk.old)) }
-    ensures lookups { LooksUpFirst (name.now ∷ []) (D.lookups desk.old) (D.lookups desk.new) }
+    ensures lookups { LooksUpOne name.now (D.lookups desk.old) (D.lookups desk.new) }
     ensures same_files { D.files desk.new ≡ D.files desk.old }
     ensures same_begun { D.begun desk.new ≡ D.begun desk.old }
     ensures same_said { D.said desk.new ≡ D.said desk.old }
@@ -57,9 +58,10 @@ pub(crate) fn take_script<D: Desk>(
     name: &str,
 ) -> Result<Take<Script>, OutOfMemory>
     ensures taken { IfOk result (IsScriptTaken (D.files desk.old) (D.take_faults desk.old) (D.take_faults desk.new) name.now) }
+    ensures told { IfOk result (λ taken. TellsFailedTake taken (D.take_faults desk.old) (D.take_faults desk.new)) }
     ensures later { D.take_faults desk.old ≤ D.take_faults desk.new }
     ensures looked_up { IfOk result (λ taken. D.lookups desk.new ≡ looked_up name.now (D.lookups desk.old)) }
-    ensures lookups { LooksUpFirst (name.now ∷ []) (D.lookups desk.old) (D.lookups desk.new) }
+    ensures lookups { LooksUpOne name.now (D.lookups desk.old) (D.lookups desk.new) }
     ensures same_files { D.files desk.new ≡ D.files desk.old }
     ensures same_begun { D.begun desk.new ≡ D.begun desk.old }
     ensures same_said { D.said desk.new ≡ D.said desk.old }
@@ -85,9 +87,10 @@ pub(crate) fn take_log<D: Desk>(
     name: &str,
 ) -> Result<Take<Log>, OutOfMemory>
     ensures taken { IfOk result (IsLogTaken (D.files desk.old) (D.take_faults desk.old) (D.take_faults desk.new) name.now) }
+    ensures told { IfOk result (λ taken. TellsFailedTake taken (D.take_faults desk.old) (D.take_faults desk.new)) }
     ensures later { D.take_faults desk.old ≤ D.take_faults desk.new }
     ensures looked_up { IfOk result (λ taken. D.lookups desk.new ≡ looked_up name.now (D.lookups desk.old)) }
-    ensures lookups { LooksUpFirst (name.now ∷ []) (D.lookups desk.old) (D.lookups desk.new) }
+    ensures lookups { LooksUpOne name.now (D.lookups desk.old) (D.lookups desk.new) }
     ensures same_files { D.files desk.new ≡ D.files desk.old }
     ensures same_begun { D.begun desk.new ≡ D.begun desk.old }
     ensures same_said { D.said desk.new ≡ D.said desk.old }

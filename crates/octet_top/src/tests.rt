@@ -110,6 +110,7 @@ fn commands_make_so_many_calls(rt: HostRuntime) -> Result<(), Failed> {
         ("profile S L", 3, 2),
         ("profile S L y", 3, 2),
         ("profile S L z", 2, 1),
+        ("gen 1 T L", 7, 0),
         ("show S", 2, 1),
         ("replay L L", 2, 1),
         ("tidy T", 2, 1),
@@ -123,6 +124,48 @@ fn commands_make_so_many_calls(rt: HostRuntime) -> Result<(), Failed> {
             assert_eq!(rt; desk.faults(), faults, "{line}");
             assert_eq!(rt; desk.lookups().len(), lookups, "{line}");
         }
+    }
+    Ok(())
+}
+
+/// Behind a take that failed its line is said, and no other call is made.
+#[test]
+fn nothing_follows_a_failed_take(rt: HostRuntime) -> Result<(), Failed> {
+    let alloc = rt.alloc();
+    for (line, takes) in [
+        ("run S L", 1),
+        ("tidy S", 1),
+        ("show L", 1),
+        ("replay S L", 2),
+        ("verify S L", 2),
+        ("profile S L", 2),
+        ("profile S L y", 2),
+    ] {
+        let words = words_of(alloc, line)?;
+        for take in 1..=takes {
+            let mut desk = desk_with(alloc, SCRIPT, &[(take, 0), (take + 2, 0)])?;
+            desk.put(alloc, "L", LOG)?;
+            let answer = serve(&rt, alloc, &words, &mut desk, &OpenGate);
+            assert_eq!(rt; answer, 5, "{line}");
+            assert_eq!(rt; desk.said(), b"read: failed\n".as_slice(), "{line}");
+            assert_eq!(rt; desk.faults(), (1, 0), "{line}");
+            assert_eq!(rt; desk.lookups().len() as u64, take, "{line}");
+        }
+    }
+    Ok(())
+}
+
+/// `gen` begins, adds to and finishes each of its two files, and says a line. Behind a call that
+/// failed it makes none.
+#[test]
+fn nothing_follows_a_failed_write(rt: HostRuntime) -> Result<(), Failed> {
+    let alloc = rt.alloc();
+    let words = words_of(alloc, "gen 1 T L")?;
+    for failing in 1..=7 {
+        let mut desk = desk_with(alloc, SCRIPT, &[(failing, 0), (failing + 1, 0)])?;
+        let answer = serve(&rt, alloc, &words, &mut desk, &OpenGate);
+        assert_eq!(rt; answer, 6, "failing at {failing}");
+        assert_eq!(rt; desk.faults(), (0, 1), "failing at {failing}");
     }
     Ok(())
 }

@@ -2,8 +2,9 @@
 ghost use Rattle.std.specs.Prelude.{◌≡◌, ◌≤◌, IfOk};
 ghost use Rattle.octet_top.specs.Answer.{answer_of};
 ghost use Rattle.octet_top.specs.Request.{Tidy};
+ghost use Rattle.octet_top.specs.Taking.{TellsFailure};
 ghost use Rattle.octet_top.specs.Commands.{CommandAnswers};
-ghost use Rattle.octet_top.specs.Kept.{files_taken, LooksUpFirst};
+ghost use Rattle.octet_top.specs.Kept.{LooksUpOwn};
 
 use crate::reply::{Reply, Status};
 use crate::take::{Take, take_script};
@@ -19,7 +20,8 @@ pub(crate) fn tidy<D: Desk>(
     script_name: &str,
 ) -> Result<Reply, OutOfMemory>
     ensures answers { IfOk result (λ reply. CommandAnswers (Tidy script_name.now) (D.files desk.old) (D.take_faults desk.old) (D.take_faults desk.new) (answer_of reply)) }
-    ensures lookups { LooksUpFirst (files_taken (Tidy script_name.now)) (D.lookups desk.old) (D.lookups desk.new) }
+    ensures told { IfOk result (λ reply. TellsFailure reply (D.take_faults desk.old) (D.take_faults desk.new)) }
+    ensures lookups { LooksUpOwn (Tidy script_name.now) (D.files desk.old) (D.lookups desk.old) (D.lookups desk.new) }
     ensures same_files { D.files desk.new ≡ D.files desk.old }
     ensures same_begun { D.begun desk.new ≡ D.begun desk.old }
     ensures same_said { D.said desk.new ≡ D.said desk.old }

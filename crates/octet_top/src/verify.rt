@@ -1,11 +1,11 @@
 //! The command `verify SCRIPT LOG`.
-ghost use Rattle.std.specs.Prelude.{◌≡◌, ◌≤◌, [], ◌∷◌, IfOk};
+ghost use Rattle.std.specs.Prelude.{◌≡◌, ◌≤◌, IfOk};
 ghost use Rattle.octet_top.specs.Answer.{answer_of, verdict_told};
 ghost use Rattle.octet_top.specs.Request.{Verify};
 ghost use Rattle.octet_clock.specs.declared.verdict.Verdict.TheVariants as verdict;
-ghost use Rattle.octet_top.specs.Taking.{TakingLog};
+ghost use Rattle.octet_top.specs.Taking.{TakingLog, TellsFailure};
 ghost use Rattle.octet_top.specs.Commands.{CommandAnswers, IsVerdictTold};
-ghost use Rattle.octet_top.specs.Kept.{files_taken, LooksUpFirst};
+ghost use Rattle.octet_top.specs.Kept.{LooksUpOwn, LooksUpOne};
 
 use crate::refusal::does_not_fit;
 use crate::reply::{Reply, Status};
@@ -24,7 +24,8 @@ pub(crate) fn verify<D: Desk>(
     log_name: &str,
 ) -> Result<Reply, OutOfMemory>
     ensures answers { IfOk result (λ reply. CommandAnswers (Verify script_name.now log_name.now) (D.files desk.old) (D.take_faults desk.old) (D.take_faults desk.new) (answer_of reply)) }
-    ensures lookups { LooksUpFirst (files_taken (Verify script_name.now log_name.now)) (D.lookups desk.old) (D.lookups desk.new) }
+    ensures told { IfOk result (λ reply. TellsFailure reply (D.take_faults desk.old) (D.take_faults desk.new)) }
+    ensures lookups { LooksUpOwn (Verify script_name.now log_name.now) (D.files desk.old) (D.lookups desk.old) (D.lookups desk.new) }
     ensures same_files { D.files desk.new ≡ D.files desk.old }
     ensures same_begun { D.begun desk.new ≡ D.begun desk.old }
     ensures same_said { D.said desk.new ≡ D.said desk.old }
@@ -44,7 +45,8 @@ fn verify_script<D: Desk>(
 ) -> Result<Reply, OutOfMemory>
     ensures answers { IfOk result (λ reply. TakingLog (D.files desk.old) (D.take_faults desk.old) (D.take_faults desk.new) log_name.now (IsVerdictTold script.now) (answer_of reply)) }
     ensures later { D.take_faults desk.old ≤ D.take_faults desk.new }
-    ensures lookups { LooksUpFirst (log_name.now ∷ []) (D.lookups desk.old) (D.lookups desk.new) }
+    ensures told { IfOk result (λ reply. TellsFailure reply (D.take_faults desk.old) (D.take_faults desk.new)) }
+    ensures lookups { LooksUpOne log_name.now (D.lookups desk.old) (D.lookups desk.new) }
     ensures same_files { D.files desk.new ≡ D.files desk.old }
     ensures same_begun { D.begun desk.new ≡ D.begun desk.old }
     ensures same_said { D.said desk.new ≡ D.said desk.old }

@@ -3,6 +3,7 @@ use Rattle.octet_top.specs.declared.request.Request.{Request}
 use Rattle.octet_top.specs.Answer.{answer_of}
 use Rattle.octet_top.specs.Request.{command_of}
 use Rattle.octet_top.specs.Commands.{CommandAnswers}
+use Rattle.octet_top.specs.Kept.{LooksUpOwn}
 use Rattle.octet_top.proofs.program.carry_out.Goals as goal
 
 pub returns-in-Run-clause-answers : goal.returns-in-Run-clause-answers
@@ -35,3 +36,8 @@ returns-in-Gen-clause-answers g c =
     let always : (after : ℕ) → IfOk c.generate.result (λ reply. CommandAnswers (command_of c.args.request) (D.files c.args.desk.now) (D.take_faults c.args.desk.now) after (answer_of reply)) =
     λ after. subst (λ (request : Request). IfOk c.generate.result (λ reply. CommandAnswers (command_of request) (D.files c.args.desk.now) (D.take_faults c.args.desk.now) after (answer_of reply))) (sym c.in-Gen.is) c.generate.ensures in
     always _
+
+pub returns-in-Profile-clause-lookups : goal.returns-in-Profile-clause-lookups
+returns-in-Profile-clause-lookups g c =
+    let D = g.D.Desk in
+    subst (λ (request : Request). LooksUpOwn (command_of request) (D.files c.args.desk.now) (D.lookups c.args.desk.now) (D.lookups c.profile.new.desk)) (sym c.in-Profile.is) c.profile.ensures.lookups
