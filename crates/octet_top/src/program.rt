@@ -47,7 +47,7 @@ pub fn serve<R: Threads + Wait + Sync, D: Desk, G: Gate>(
     ensures ordered { let files = D.files desk.old in
         (script_name log_name : List ℕ) → Asks (texts words.now) (Verify script_name log_name) → result ≡ 0 → VerifiesOrdered script_name log_name files }
 
-    // And of `gen`.
+    // Status 0 of `gen` comes with the generated script and a faithful recording of it.
     ensures generated { let state = state_of D.files D.begun D.said D.take_faults D.write_faults in
         (number : ℕ) (script_name log_name : List ℕ) → Asks (texts words.now) (Gen number script_name log_name) → result ≡ 0 → GeneratesFaithfully number script_name log_name (state desk.old) (state desk.new) }
 
