@@ -51,7 +51,7 @@ HasValidMarks journals = (place : Place) (mark : Mark) → event_at journals pla
 abbrev pub HasOwners : Journals → List ℕ → Type 0
 HasOwners journals owners = (object : ℕ) → HasAccessed journals (slice_index owners object) object ⊎ IsUntouched journals owners object
 
--- before each access stands no mark, or a Join of the owner that the object had
+-- before each access stands no mark, or one Join as above
 abbrev pub HasOwnerMarks : Journals → Type 0
 HasOwnerMarks journals = (place : Place) (object : ℕ) → Accesses journals place object → (marks_before journals place ≡ []) ⊎ IsOwnerJoined journals place object
 
@@ -77,7 +77,7 @@ pub record HasEnded (script : Script) (journals : Journals) (thread : ℕ) (end 
 abbrev pub HaveEnded : Script → Journals → List End → Type 0
 HaveEnded script journals ends = (thread : ℕ) (end : End) → slice_get ends thread ≡ Some end → HasEnded script journals thread end
 
--- a log and the values read are those of journals that fit the script, in which before each access stands no mark, or one Join of an owner that the object had
+-- a log and the values read are those of journals that fit the script, in which before each access stands no mark, or one Join as above
 pub record IsOwnerMarked (script : Script) (log : List ThreadLog) (reads : List (List ℕ)) : Type 0 where
   pub journals : Journals
   pub fit : FitsScript script journals

@@ -46,15 +46,15 @@ TellsVerdict script log answer = (verdict : Verdict) × IsVerified script log ve
 abbrev pub TellsCounts : Option ℕ → Script → List ThreadLog → Answer → Type 0
 TellsCounts wanted script log answer = answer ≡ told Done (profile_text wanted (journals_after script log (lowest_order script log)))
 
--- the answer of a replay: the outcome, where that order is lawful
+-- the answer of a replay: why the log does not fit the script, or the outcome of its lowest order
 abbrev pub IsReplayed : Script → Log → Answer → Type 0
 IsReplayed script log answer = Fitting (TellsOutcome script log.threads) script log.threads answer
 
--- that of a check: the verdict
+-- that of a check: why it does not fit, or the verdict
 abbrev pub IsVerdictTold : Script → Log → Answer → Type 0
 IsVerdictTold script log answer = Fitting (TellsVerdict script log.threads) script log.threads answer
 
--- that of a profile: the counts
+-- that of a profile: why it does not fit, or the counts
 abbrev pub IsProfiled : Option ℕ → Script → Log → Answer → Type 0
 IsProfiled wanted script log answer = Fitting (TellsCounts wanted script log.threads) script log.threads answer
 

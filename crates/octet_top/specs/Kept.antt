@@ -39,7 +39,7 @@ LooksUpBoth command files script_name log_name old new =
     LooksUpOne script_name old new
     ⊎ (PassesScript command files script_name × (new ≡ looked_up log_name (looked_up script_name old)))
 
--- a command asks for no names but those of the files that it takes, each once at most, and for none behind a script that does not pass
+-- a command asks for no names but those of the files that it takes, once at most as its script and once at most as its log; and for no log behind a script that does not pass
 abbrev pub LooksUpOwn : Command → Option Files → Option (List (List ℕ)) → Option (List (List ℕ)) → Type 0
 LooksUpOwn (Run script log) files old new = LooksUpOne script old new
 LooksUpOwn (Tidy script) files old new = LooksUpOne script old new
