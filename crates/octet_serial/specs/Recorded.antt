@@ -29,7 +29,7 @@ pub record IsUntouched (journals : Journals) (owners : List ℕ) (object : ℕ) 
   pub of_zero : slice_index owners object ≡ 0
   pub none : (place : Place) → Accesses journals place object → ⊥
 
--- one Join stands before an access of the object, of another thread that has made an access of it, or of thread 0 where no access of it stands earlier in the journal
+-- one Join stands before an access of the object, of another thread that makes an access of it, or of thread 0 where no access of it stands earlier in the journal
 pub record IsOwnerJoined (journals : Journals) (place : Place) (object : ℕ) : Type 0 where
   pub from : ℕ
   pub upto : ℕ
@@ -51,7 +51,7 @@ HasValidMarks journals = (place : Place) (mark : Mark) → event_at journals pla
 abbrev pub HasOwners : Journals → List ℕ → Type 0
 HasOwners journals owners = (object : ℕ) → HasAccessed journals (slice_index owners object) object ⊎ IsUntouched journals owners object
 
--- before each access stands no mark, or one Join as above
+-- before each access stands no mark, or such a Join (`IsOwnerJoined`)
 abbrev pub HasOwnerMarks : Journals → Type 0
 HasOwnerMarks journals = (place : Place) (object : ℕ) → Accesses journals place object → (marks_before journals place ≡ []) ⊎ IsOwnerJoined journals place object
 
@@ -77,7 +77,7 @@ pub record HasEnded (script : Script) (journals : Journals) (thread : ℕ) (end 
 abbrev pub HaveEnded : Script → Journals → List End → Type 0
 HaveEnded script journals ends = (thread : ℕ) (end : End) → slice_get ends thread ≡ Some end → HasEnded script journals thread end
 
--- a log and the values read are those of journals that fit the script, in which before each access stands no mark, or one Join as above
+-- a log and the values read are those of journals that fit the script, in which before each access stands no mark, or one Join of an owner (`IsOwnerJoined`)
 pub record IsOwnerMarked (script : Script) (log : List ThreadLog) (reads : List (List ℕ)) : Type 0 where
   pub journals : Journals
   pub fit : FitsScript script journals

@@ -1,10 +1,10 @@
 -- What a call leaves as it was, and which files it asks for.
-use Rattle.std.specs.Prelude.{ℕ, ◌≡◌, ◌⊎◌, List, Option, Some}
+use Rattle.std.specs.Prelude.{ℕ, ◌≡◌, ◌⊎◌, List, Option, None, Some}
 use Rattle.std.specs.FinMap.{get}
 use Rattle.octet_base.specs.Desk.{Files, looked_up}
 use Rattle.octet_model.specs.declared.script.Script.{Script}
 use Rattle.octet_script.specs.Spelling.{Spells}
-use Rattle.octet_top.specs.Request.{Command, Run, Tidy, Show, Replay, Verify, Profile, Gen, Asks, IsNotACommand}
+use Rattle.octet_top.specs.Request.{Command, Run, Gen, Asks, script_taken, log_taken, IsNotACommand}
 use Rattle.octet_top.specs.Profile.{KnowsObject}
 use Rattle.octet_top.specs.Taking.{script_limit, IsTaken}
 
@@ -39,15 +39,16 @@ LooksUpBoth command files script_name log_name old new =
     LooksUpOne script_name old new
     ⊎ (PassesScript command files script_name × (new ≡ looked_up log_name (looked_up script_name old)))
 
+-- no names are asked for but those of the script and of the log that are to be taken, if any
+abbrev pub LooksUpTaken : Command → Option Files → Option (List ℕ) → Option (List ℕ) → Option (List (List ℕ)) → Option (List (List ℕ)) → Type 0
+LooksUpTaken command files None None old new = new ≡ old
+LooksUpTaken command files (Some script_name) None old new = LooksUpOne script_name old new
+LooksUpTaken command files None (Some log_name) old new = LooksUpOne log_name old new
+LooksUpTaken command files (Some script_name) (Some log_name) old new = LooksUpBoth command files script_name log_name old new
+
 -- a command asks for no names but those of the files that it takes, once at most as its script and once at most as its log; and for no log behind a script that does not pass
 abbrev pub LooksUpOwn : Command → Option Files → Option (List (List ℕ)) → Option (List (List ℕ)) → Type 0
-LooksUpOwn (Run script log) files old new = LooksUpOne script old new
-LooksUpOwn (Tidy script) files old new = LooksUpOne script old new
-LooksUpOwn (Show log) files old new = LooksUpOne log old new
-LooksUpOwn (Replay script log) files old new = LooksUpBoth (Replay script log) files script log old new
-LooksUpOwn (Verify script log) files old new = LooksUpBoth (Verify script log) files script log old new
-LooksUpOwn (Profile script log object) files old new = LooksUpBoth (Profile script log object) files script log old new
-LooksUpOwn (Gen number script log) files old new = new ≡ old
+LooksUpOwn command files old new = LooksUpTaken command files (script_taken command) (log_taken command) old new
 
 -- words ask for the names that their command asks for, and for none where they are no command
 abbrev pub LooksUpNamed : List (List ℕ) → Option Files → Option (List (List ℕ)) → Option (List (List ℕ)) → Type 0

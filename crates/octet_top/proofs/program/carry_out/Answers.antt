@@ -41,3 +41,13 @@ pub returns-in-Profile-clause-lookups : goal.returns-in-Profile-clause-lookups
 returns-in-Profile-clause-lookups g c =
     let D = g.D.Desk in
     subst (λ (request : Request). LooksUpOwn (command_of request) (D.files c.args.desk.now) (D.lookups c.args.desk.now) (D.lookups c.profile.new.desk)) (sym c.in-Profile.is) c.profile.ensures.lookups
+
+pub returns-in-Replay-clause-lookups : goal.returns-in-Replay-clause-lookups
+returns-in-Replay-clause-lookups g c =
+    let D = g.D.Desk in
+    subst (λ (request : Request). LooksUpOwn (command_of request) (D.files c.args.desk.now) (D.lookups c.args.desk.now) (D.lookups c.replay.new.desk)) (sym c.in-Replay.is) c.replay.ensures.lookups
+
+pub returns-in-Verify-clause-lookups : goal.returns-in-Verify-clause-lookups
+returns-in-Verify-clause-lookups g c =
+    let D = g.D.Desk in
+    subst (λ (request : Request). LooksUpOwn (command_of request) (D.files c.args.desk.now) (D.lookups c.args.desk.now) (D.lookups c.verify.new.desk)) (sym c.in-Verify.is) c.verify.ensures.lookups
