@@ -2,8 +2,9 @@
 use Rattle.std.specs.Prelude.{ℕ, ◌≡◌, ◌≤◌, ◌<◌, ◌⊎◌, ◌++◌, List, [], ◌∷◌, length, Option, None, Some, Result, Ok, Err, IfSome, IsSomeAnd}
 use Rattle.std.specs.FinMap.{get}
 use Rattle.std.specs.Option.{option_map}
-use Rattle.octet_base.specs.Desk.{Contents, DeskState, Rose}
-use Rattle.octet_base.specs.declared.call.Call.{Call}
+use Rattle.octet_base.specs.Desk.{Contents, DeskState, Takes, Rose}
+use Rattle.octet_base.specs.declared.fault.DeskFault.{DeskFault}
+use Rattle.std.specs.Global.{Vec}
 use Rattle.octet_model.specs.declared.script.Script.{Script}
 use Rattle.octet_script.specs.declared.cause.ScriptCause.{ScriptCause}
 use Rattle.octet_script.specs.declared.cause.ScriptFault.TheVariants as faults
@@ -77,6 +78,10 @@ abbrev pub stop_of : Result Reply NoMemory → Stop
 stop_of (Ok reply) = Refused reply
 stop_of (Err none) = OutOfMemory
 
+abbrev pub WasRefused : {T E : Type 0} → Result T E → Type 0
+WasRefused (Ok value) = ⊥
+WasRefused (Err fault) = Unit {0}
+
 -- what a step comes to, unless memory was refused
 abbrev pub Comes : {T : Type 0} → (Result T Answer → Type 0) → Result T Stop → Type 0
 Comes Step (Ok value) = Step (Ok value)
@@ -89,32 +94,12 @@ Ends Steps before (Ok value) after = Steps (Ok value) × (after ≡ before)
 Ends Steps before (Err (Refused reply)) after = (Steps (Err (answer_of reply)) × (after ≡ before)) ⊎ ((answer_of reply ≡ read_failed) × Rose before after)
 Ends Steps before (Err OutOfMemory) after = Unit {0}
 
--- these calls were made, and changed nothing else
-abbrev pub with_calls : List Call → Option Contents → Option Contents
-with_calls calls contents = option_map (λ t. record { files = t.files; said = t.said; calls = t.calls ++ calls }) contents
+-- a file is asked for, and taken unless what follows is short
+abbrev pub TakesOne : List ℕ → ℕ → Type 0 → DeskState → DeskState → Type 0
+TakesOne name limit Short before after = (taken : Result (Vec ℕ) DeskFault) × Takes name limit before taken after × (Short ⊎ (¬ WasRefused taken))
 
-abbrev pub WasRefused : {T E : Type 0} → Result T E → Type 0
-WasRefused (Ok value) = ⊥
-WasRefused (Err fault) = Unit {0}
-
-abbrev pub LacksMemory : {T : Type 0} → Result T Stop → Type 0
-LacksMemory (Err OutOfMemory) = Unit {0}
-LacksMemory _ = ⊥
-
--- one file was asked for; or memory was refused before
-abbrev pub TakesOne : {T : Type 0} → Call → Option Contents → Result T Stop → Option Contents → Type 0
-TakesOne call before result after = (after ≡ with_calls (call ∷ []) before) ⊎ (LacksMemory result × (after ≡ before))
-
--- two files were asked for, the second only after a first that passes; or the first alone, and the reading was refused; or memory was refused before
-abbrev pub TakesTwo : {T : Type 0} → Call → (Option Contents → Type 0) → Call → Option Contents → Result T Stop → Option Contents → Type 0
-TakesTwo first Passes second before result after =
-    (Passes before × (after ≡ with_calls (first ∷ second ∷ []) before))
-    ⊎ (WasRefused result × (after ≡ with_calls (first ∷ []) before))
-    ⊎ (LacksMemory result × (after ≡ before))
-
--- what a reading comes to, which calls it makes, and that it changes nothing else
-pub record Reads {T : Type 0} (Steps : Option Contents → Result T Answer → Type 0) (Makes : Option Contents → Result T Stop → Option Contents → Type 0) (before : DeskState) (result : Result T Stop) (after : DeskState) : Type 0 where
-  pub ends : Ends (Steps before.contents) before.take_faults result after.take_faults
-  pub contents : Makes before.contents result after.contents
-  pub begun : after.begun ≡ before.begun
-  pub write_faults : after.write_faults ≡ before.write_faults
+-- a script's file is asked for, and where it is taken and passes, that of the log; or the script's alone, and what follows is short
+abbrev pub TakesBoth : List ℕ → List ℕ → Option (List ℕ) → Type 0 → DeskState → DeskState → Type 0
+TakesBoth script log object Short before after =
+    ((bytes : Vec ℕ) × (mid : DeskState) × Takes script script_limit before (Ok bytes) mid × PassesScript script object before.contents × TakesOne log log_limit Short mid after)
+    ⊎ (Short × ((taken : Result (Vec ℕ) DeskFault) × Takes script script_limit before taken after))

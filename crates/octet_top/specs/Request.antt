@@ -110,6 +110,10 @@ outputs_of (Run task script log) = log ∷ []
 outputs_of (Gen number script log) = script ∷ log ∷ []
 outputs_of _ = []
 
+abbrev pub outputs_in : Option Request → List (List ℕ)
+outputs_in None = []
+outputs_in (Some request) = outputs_of request
+
 -- a name, where there is one
 abbrev pub name_in : Option (Bor (List ℕ)) → Option (List ℕ)
 name_in name = option_map (λ (shown : Bor (List ℕ)). shown.now) name

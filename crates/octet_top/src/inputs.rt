@@ -1,8 +1,7 @@
 //! Takes the files of a request from the desk and reads them, or refuses where that fails.
 ghost use Rattle.std.specs.Prelude.{◌≡◌, ◌≤◌, length};
-ghost use Rattle.octet_base.specs.declared.call.Call.TheVariants.{Take};
 ghost use Rattle.octet_top.specs.Request.{script_limit, log_limit, name_in};
-ghost use Rattle.octet_top.specs.Inputs.{Comes, Reads, IsTaken, IsParsed, IsDecoded, IsScriptRead, IsLogRead, IsChosen, IsScriptChosen, IsPairRead, PassesScript, TakesOne, TakesTwo, stop_of};
+ghost use Rattle.octet_top.specs.Inputs.{Comes, Ends, IsTaken, IsParsed, IsDecoded, IsScriptRead, IsLogRead, IsChosen, IsScriptChosen, IsPairRead, TakesOne, TakesBoth, WasRefused, stop_of};
 ghost use Rattle.octet_top.specs.Profile.{object_named};
 
 use crate::refusal::{log_refused, no_such_object, read_failed, script_refused, too_long};
@@ -53,7 +52,8 @@ fn stop_with(reply: Result<Reply, OutOfMemory>) -> Stop
 
 /// Takes the bytes of a file that has at most `limit`.
 fn take_file<D: Desk>(alloc: Global, desk: &mut D, name: &str, limit: u32) -> Result<List<u8>, Stop>
-    ensures { Reads (IsTaken name.now limit) (TakesOne (Take name.now limit)) (D.state desk.old) result (D.state desk.new) }
+    ensures ends { Ends (IsTaken name.now limit (D.state desk.old).contents) (D.state desk.old).take_faults result (D.state desk.new).take_faults }
+    ensures calls { TakesOne name.now limit (WasRefused result) (D.state desk.old) (D.state desk.new) }
 {
     match desk.take(alloc, name, limit) {
         Ok(bytes) => Ok(List::from_vec(bytes)),
@@ -91,7 +91,8 @@ fn decode_bytes(alloc: Global, bytes: &[u8]) -> Result<Log, Stop>
 
 /// Takes a file and reads it as a script.
 pub(crate) fn read_script<D: Desk>(alloc: Global, desk: &mut D, name: &str) -> Result<Source, Stop>
-    ensures { Reads (IsScriptRead name.now) (TakesOne (Take name.now script_limit)) (D.state desk.old) result (D.state desk.new) }
+    ensures ends { Ends (IsScriptRead name.now (D.state desk.old).contents) (D.state desk.old).take_faults result (D.state desk.new).take_faults }
+    ensures calls { TakesOne name.now script_limit (WasRefused result) (D.state desk.old) (D.state desk.new) }
 {
     match take_file(alloc, desk, name, SCRIPT_LIMIT) {
         Ok(text) => parse_text(alloc, text),
@@ -101,7 +102,8 @@ pub(crate) fn read_script<D: Desk>(alloc: Global, desk: &mut D, name: &str) -> R
 
 /// Takes a file and reads it as a log.
 pub(crate) fn read_log<D: Desk>(alloc: Global, desk: &mut D, name: &str) -> Result<Log, Stop>
-    ensures { Reads (IsLogRead name.now) (TakesOne (Take name.now log_limit)) (D.state desk.old) result (D.state desk.new) }
+    ensures ends { Ends (IsLogRead name.now (D.state desk.old).contents) (D.state desk.old).take_faults result (D.state desk.new).take_faults }
+    ensures calls { TakesOne name.now log_limit (WasRefused result) (D.state desk.old) (D.state desk.new) }
 {
     match take_file(alloc, desk, name, LOG_LIMIT) {
         Ok(bytes) => decode_bytes(alloc, bytes.as_slice()),
@@ -139,7 +141,8 @@ fn read_chosen<D: Desk>(
     script_name: &str,
     object_name: Option<&str>,
 ) -> Result<(Source, Option<usize>), Stop>
-    ensures { Reads (IsScriptChosen script_name.now (name_in object_name.entry)) (TakesOne (Take script_name.now script_limit)) (D.state desk.old) result (D.state desk.new) }
+    ensures ends { Ends (IsScriptChosen script_name.now (name_in object_name.entry) (D.state desk.old).contents) (D.state desk.old).take_faults result (D.state desk.new).take_faults }
+    ensures calls { TakesOne script_name.now script_limit (WasRefused result) (D.state desk.old) (D.state desk.new) }
 {
     match read_script(alloc, desk, script_name) {
         Ok(source) => match choose(alloc, &source.script, object_name) {
@@ -158,7 +161,8 @@ pub(crate) fn read_pair<D: Desk>(
     log_name: &str,
     object_name: Option<&str>,
 ) -> Result<Pair, Stop>
-    ensures { Reads (IsPairRead script_name.now log_name.now (name_in object_name.entry)) (TakesTwo (Take script_name.now script_limit) (λ contents. PassesScript script_name.now (name_in object_name.entry) contents) (Take log_name.now log_limit)) (D.state desk.old) result (D.state desk.new) }
+    ensures ends { Ends (IsPairRead script_name.now log_name.now (name_in object_name.entry) (D.state desk.old).contents) (D.state desk.old).take_faults result (D.state desk.new).take_faults }
+    ensures calls { TakesBoth script_name.now log_name.now (name_in object_name.entry) (WasRefused result) (D.state desk.old) (D.state desk.new) }
 {
     match read_chosen(alloc, desk, script_name, object_name) {
         Ok((source, wanted)) => match read_log(alloc, desk, log_name) {
