@@ -28,7 +28,7 @@ use Rattle.octet_model.specs.Orders.{starting_heap, end_of, ends_of, values_read
 use Rattle.octet_model.proofs.lemmas.Fronts.{no_journal}
 use Rattle.octet_model.proofs.lemmas.Growth.{history_begins, faithful_from_history}
 use Rattle.octet_model.proofs.lemmas.Splits.{length-gapped_marks}
-use Rattle.octet_serial.specs.Recorded.{IsPaired, IsOwnerMarked, IsRecorded, HaveEnded}
+use Rattle.octet_serial.specs.Recorded.{HasFewMarks, IsOwnerMarked, IsRecorded, HaveEnded}
 
 -- nothing is there before the first event
 none_there : {A : Type 0} (threads : List A) (a : Place) (x : Event) → event_at (no_events threads) a ≡ Some x → ⊥
@@ -55,7 +55,7 @@ recorded_at_start script some_thread =
       has_owners = λ object. inr (record { of_zero = all_zero (length script.objects) object; none = λ a is. none a object is });
       has_owner_marks = λ a object is. absurd (none a object is);
       has_valid_marks = λ a mark is. absurd (none_there script.threads a (Marked mark) is);
-      is_paired = λ thread. subst (λ (j : List Event). IsPaired script.fuel j) (sym (no_journal script.threads thread)) (record { none_after = refl; few_marks = omega arith; fuelled = omega arith });
+      has_few_marks = λ thread. subst (λ (j : List Event). HasFewMarks script.fuel j) (sym (no_journal script.threads thread)) (record { none_after = refl; few_marks = omega arith; fuelled = omega arith });
     }
 
 pub recorded_as : (script : Script) (js : Journals) (heap owners : List ℕ) → 1 ≤ length script.threads
@@ -85,7 +85,7 @@ frugal script js heap owners r =
         | inl none ↦ omega (arith, ap (λ (ms : List Mark). length ms) none)
         | inr joined ↦ omega (arith, ap (λ (ms : List Mark). length ms) joined.one_join)
       ];
-      none_after = λ thread. (r.is_paired thread).none_after;
+      none_after = λ thread. (r.has_few_marks thread).none_after;
     }
 
 -- the gaps of marks sum to at most the accesses
@@ -101,7 +101,7 @@ marks_valid threads thread before (Read object value ∷ journal) valid = marks_
 marks_valid threads thread before (Write object value ∷ journal) valid = marks_valid threads thread (suc before) journal (λ k mark is. valid (suc k) mark is)
 marks_valid threads thread before (Marked mark ∷ journal) valid = and_from _ _ (valid 0 mark refl) (marks_valid threads thread 0 journal (λ k other is. valid (suc k) other is))
 
-thread_log_valid : (threads thread fuel : ℕ) (journal : List Event) → fuel ≤ 262144 → IsPaired fuel journal
+thread_log_valid : (threads thread fuel : ℕ) (journal : List Event) → fuel ≤ 262144 → HasFewMarks fuel journal
     → ((k : ℕ) (mark : Mark) → slice_get journal k ≡ Some (Marked mark) → IsTrue (is_mark threads thread mark)) → is_thread_log threads thread (log_of_journal journal) ≡ true
 thread_log_valid threads thread fuel journal small paired valid =
     let marks = gapped_marks 0 journal in
@@ -123,7 +123,7 @@ log_valid script js heap owners bound r =
     let as_many : length logs ≡ length script.threads = length-map js log_of_journal ∙ r.threads_there in
     let each : All (λ (log : ThreadLog). log.accesses ≤ script.fuel) logs = λ k d lt.
     let at_k : get_or logs k d ≡ log_of_journal (journal_of js k) = get_or-map log_of_journal js k [] d (omega (arith, length-map js log_of_journal)) in
-    omega (arith, ap (λ (log : ThreadLog). log.accesses) at_k, (r.is_paired k).fuelled) in
+    omega (arith, ap (λ (log : ThreadLog). log.accesses) at_k, (r.has_few_marks k).fuelled) in
     let sum : sum_by (λ log. log.accesses) logs ≤ length script.threads * script.fuel = subst (λ (n : ℕ). sum_by (λ log. log.accesses) logs ≤ n * script.fuel) as_many (sum_by-le (λ (log : ThreadLog). log.accesses) script.fuel logs each) in
     let total : sum_by (λ log. log.accesses) logs ≤ 262144 = omega (arith, bound.fuel_of_all) in
     and_from _ _
@@ -132,7 +132,7 @@ log_valid script js heap owners bound r =
     (le-leb (sum_by (λ log. log.accesses) logs) 262144 total))
     (thread_logs_valid (length logs) 0 js (λ u.
     subst (λ (n : ℕ). is_thread_log n (0 + u) (log_of_journal (journal_of js u)) ≡ true) (sym (length-map js log_of_journal))
-    (ap (λ (t : ℕ). is_thread_log (length js) t (log_of_journal (journal_of js u))) (omega arith) ∙ thread_log_valid (length js) u script.fuel (journal_of js u) bound.most_fuel (r.is_paired u) (λ k mark is. r.has_valid_marks (record { thread = u; event = k }) mark is))))
+    (ap (λ (t : ℕ). is_thread_log (length js) t (log_of_journal (journal_of js u))) (omega arith) ∙ thread_log_valid (length js) u script.fuel (journal_of js u) bound.most_fuel (r.has_few_marks u) (λ k mark is. r.has_valid_marks (record { thread = u; event = k }) mark is))))
 
 ends_are : (fuel : ℕ) (threads : List (List Command)) (js : Journals) (ends : List End) → length js ≡ length threads → length ends ≡ length threads
     → ((t : ℕ) (end : End) → slice_get ends t ≡ Some end → demanded (get_or threads t []) (configuration_after (get_or threads t []) (starting_configuration fuel) (journal_of js t)) ≡ ToEnd end)

@@ -16,7 +16,7 @@ use Rattle.octet_model.proofs.lemmas.Steps.{at, count, same_journal, other_journ
 use Rattle.octet_model.proofs.lemmas.Growth.{old_or_new, new}
 use Rattle.octet_serial.specs.Recorded.{HasAccessed, IsOwnerJoined, HasOwnerMarks, HasValidMarks}
 
--- a mark stands behind those since the last access; an access has none behind it
+-- a mark stands after those since the last access; an access has none after it
 pub since_mark : (marks : List Mark) (journal : List Event) (mark : Mark) → marks_since marks (journal ++ Marked mark ∷ []) ≡ marks_since marks journal ++ mark ∷ []
 since_mark marks [] mark = refl
 since_mark marks (Read object value ∷ journal) mark = since_mark [] journal mark

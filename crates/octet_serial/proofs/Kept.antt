@@ -1,4 +1,4 @@
--- An access behind the Join of its object's owner keeps what the recorder keeps.
+-- An access after the Join of its object's owner keeps what the recorder keeps.
 use Rattle.std.proofs.Common.{◌≡◌, ℕ, suc, ◌<◌, ◌≤◌, ◌^◌, ◌⊎◌, inl, inr, Bool, cond, not, List, [], ◌∷◌, ◌++◌, length, Some, IsTrue, slice_index, slice_set, refl, sym, ap, ◌∙◌, subst, arith}
 use Rattle.std.proofs.lemmas.Bool.{cases_eq, eq-eqb, ne_eqb, lt-ltb, le-leb, and_from}
 use Rattle.std.proofs.lemmas.List.{length-set, get_or-set_same, get_or-set_other, set-get_or}
@@ -21,7 +21,7 @@ use Rattle.octet_model.proofs.lemmas.Growth.{new}
 use Rattle.octet_model.proofs.lemmas.Splits.{accesses_split, marks_split, length_parts}
 use Rattle.octet_model.proofs.lemmas.Owners.{history_with_mark, history_with_access, owned_with_event, owned_with_join}
 use Rattle.octet_serial.specs.Recording.{join_of_all, with_event}
-use Rattle.octet_serial.specs.Recorded.{HasAccessed, IsOwnerJoined, IsPaired, HasOwners, HasOwnerMarks, HasValidMarks, IsRecorded}
+use Rattle.octet_serial.specs.Recorded.{HasAccessed, IsOwnerJoined, HasFewMarks, HasOwners, HasOwnerMarks, HasValidMarks, IsRecorded}
 use Rattle.octet_serial.proofs.Grown.{since_mark, since_access, each_journal, marks_of_new, accessed_stays, old_access, owner_marks_stay, valid_marks_stay}
 
 -- a read of what the heap holds, or a write
@@ -49,7 +49,7 @@ other_is : (owners : List ℕ) (o t other : ℕ) → (other ≡ o → ⊥) → s
 other_is owners o t other differ = get_or-set_other owners o other t 0 differ
 
 -- one journal with a mark and an access more, or with an access alone
-paired_with_access : (fuel : ℕ) (journal : List Event) (e : Event) (object : ℕ) (heap : List ℕ) → IsAccess e object heap → mark_count journal ≤ suc (access_count journal) → suc (access_count journal) ≤ fuel → IsPaired fuel (journal ++ e ∷ [])
+paired_with_access : (fuel : ℕ) (journal : List Event) (e : Event) (object : ℕ) (heap : List ℕ) → IsAccess e object heap → mark_count journal ≤ suc (access_count journal) → suc (access_count journal) ≤ fuel → HasFewMarks fuel (journal ++ e ∷ [])
 paired_with_access fuel journal e object heap access few fuelled =
     record {
       none_after = since_access [] journal e access.clears;
@@ -89,7 +89,7 @@ module _ (script : Script) (js : Journals) (heap owners : List ℕ) (t o : ℕ) 
       → IsOneHistory (starting_heap script) js heap 0 → AreOwned js (slice_index owners') → ((object : ℕ) → slice_index owners object < length js)
       → HasOwners js owners → HasOwnerMarks js → HasValidMarks js
       → ((marks_at_end (journal_of js t) ≡ []) ⊎ IsOwnerJoined (appended js t e) (new js t e) o)
-      → ((u : ℕ) → (u ≡ t → ⊥) → IsPaired script.fuel (journal_of js u)) → mark_count (journal_of js t) ≤ suc (access_count (journal_of js t)) → suc (access_count (journal_of js t)) ≤ script.fuel
+      → ((u : ℕ) → (u ≡ t → ⊥) → HasFewMarks script.fuel (journal_of js u)) → mark_count (journal_of js t) ≤ suc (access_count (journal_of js t)) → suc (access_count (journal_of js t)) ≤ script.fuel
       → IsRecorded script (appended js t e) (heap_after (operation_of e) heap) owners'
   with_access threads cells objects history owned own known marked valid shape others few fuelled =
       record {
@@ -110,7 +110,7 @@ module _ (script : Script) (js : Journals) (heap owners : List ℕ) (t o : ℕ) 
           | inr joined ↦ inr (subst (λ (x : ℕ). IsOwnerJoined (appended js t e) (new js t e) x) (let one : Some o ≡ Some object = sym access.of_object ∙ is in cc (one)) joined)
         ]);
         has_valid_marks = valid_marks_stay js t e lt valid (λ mark is. absurd (not_a_mark mark is));
-        is_paired = each_journal js t e lt (λ u j. IsPaired script.fuel j) others (paired_with_access script.fuel (journal_of js t) e o heap access few fuelled);
+        has_few_marks = each_journal js t e lt (λ u j. HasFewMarks script.fuel j) others (paired_with_access script.fuel (journal_of js t) e o heap access few fuelled);
       }
 
 -- a mark changes nothing of who owns what
@@ -142,13 +142,13 @@ module _ (script : Script) (js : Journals) (heap owners : List ℕ) (t o : ℕ) 
       → IsRecorded script (appended js t e) (heap_after (operation_of e) heap) taken
   kept_by_owner r fuelled same =
       let unchanged : owners ≡ taken = sym (ap (slice_set owners o) (sym same) ∙ set-get_or owners o 0) in
-      let mine = r.is_paired t in
+      let mine = r.has_few_marks t in
       with_access script js heap owners t o e lt within access r.threads_there r.heap_there r.owners_there r.history (subst (λ (x : List ℕ). AreOwned js (slice_index x)) unchanged r.owned) r.threads_own r.has_owners r.has_owner_marks r.has_valid_marks
-      (inl mine.none_after) (λ u differ. r.is_paired u) (omega (arith, mine.few_marks)) fuelled
+      (inl mine.none_after) (λ u differ. r.has_few_marks u) (omega (arith, mine.few_marks)) fuelled
 
   join_is_valid : IsRecorded script js heap owners → script.fuel ≤ 262144 → (owner ≡ t → ⊥) → IsTrue (is_mark (length js) t (Join owner (count js owner)))
   join_is_valid r small differ =
-      let paired = r.is_paired owner in
+      let paired = r.has_few_marks owner in
       let short : count js owner < 2 ^ 64 = omega (arith, length_parts (journal_of js owner), paired.few_marks, paired.fuelled) in
       and_from _ _ (and_from _ _ (lt-ltb owner (length js) (r.threads_own o)) (ap not (ne_eqb owner t differ))) (lt-ltb (count js owner) (2 ^ 64) short)
 
@@ -158,7 +158,7 @@ module _ (script : Script) (js : Journals) (heap owners : List ℕ) (t o : ℕ) 
       let m = join_of_all js owner in
       let lt' : t < length joined = omega (arith, as_many js t m) in
       let before : marks_before (appended joined t e) (new joined t e) ≡ Join owner (count js owner) ∷ [] =
-      marks_of_new joined t e lt' ∙ ap marks_at_end (same_journal js t m lt) ∙ since_mark [] (journal_of js t) (Join owner (count js owner)) ∙ ap (λ (ms : List Mark). ms ++ Join owner (count js owner) ∷ []) (r.is_paired t).none_after in
+      marks_of_new joined t e lt' ∙ ap marks_at_end (same_journal js t m lt) ∙ since_mark [] (journal_of js t) (Join owner (count js owner)) ∙ ap (λ (ms : List Mark). ms ++ Join owner (count js owner) ∷ []) (r.has_few_marks t).none_after in
       record {
         from = owner;
         upto = count js owner;
@@ -185,7 +185,7 @@ module _ (script : Script) (js : Journals) (heap owners : List ℕ) (t o : ℕ) 
   kept_by_other r small fuelled differ =
       let m = join_of_all js owner in
       let lt' : t < length joined = omega (arith, as_many js t m) in
-      let mine = r.is_paired t in
+      let mine = r.has_few_marks t in
       let longer = same_journal js t m lt in
       let marks : mark_count (journal_of joined t) ≡ suc (mark_count (journal_of js t)) = ap mark_count longer ∙ omega (arith, marks_split (journal_of js t) (m ∷ [])) in
       let accesses : access_count (journal_of joined t) ≡ access_count (journal_of js t) = ap access_count longer ∙ omega (arith, accesses_split (journal_of js t) (m ∷ [])) in
@@ -199,10 +199,10 @@ module _ (script : Script) (js : Journals) (heap owners : List ℕ) (t o : ℕ) 
       (owner_marks_stay js t m lt r.has_owner_marks (λ object is. absurd (cc (is))))
       (valid_marks_stay js t m lt r.has_valid_marks (λ mark is. let one : Join owner (count js owner) ≡ mark = cc (is) in subst (λ (x : Mark). IsTrue (is_mark (length js) t x)) one (join_is_valid r small differ)))
       (inr (join_before r differ))
-      (λ u apart. subst (λ (j : List Event). IsPaired script.fuel j) (sym (other_journal js t u m apart)) (r.is_paired u))
+      (λ u apart. subst (λ (j : List Event). HasFewMarks script.fuel j) (sym (other_journal js t u m apart)) (r.has_few_marks u))
       (omega (arith, mine.few_marks)) (omega arith)
 
-  -- an access behind the Join of the object's owner, if that is another thread, keeps what is recorded
+  -- an access after the Join of the object's owner, if that is another thread, keeps what is recorded
   pub kept : IsRecorded script js heap owners → script.fuel ≤ 262144 → suc (access_count (journal_of js t)) ≤ script.fuel
       → IsRecorded script (with_event js owners t o e) (heap_after (operation_of e) heap) taken
   kept r small fuelled =

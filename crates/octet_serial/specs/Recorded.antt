@@ -37,8 +37,8 @@ pub record IsOwnerJoined (journals : Journals) (place : Place) (object : ℕ) : 
   pub one_join : marks_before journals place ≡ Join from upto ∷ []
   pub was_owner : HasAccessed journals from object ⊎ ((from ≡ 0) × IsFirstOf journals place object)
 
--- no mark stands behind the last access of a journal, there are no more marks than accesses, and no more accesses than fuel
-pub record IsPaired (fuel : ℕ) (journal : List Event) : Type 0 where
+-- no mark stands after the last access of a journal, there are no more marks than accesses, and no more accesses than fuel
+pub record HasFewMarks (fuel : ℕ) (journal : List Event) : Type 0 where
   pub none_after : marks_at_end journal ≡ []
   pub few_marks : mark_count journal ≤ access_count journal
   pub fuelled : access_count journal ≤ fuel
@@ -66,7 +66,7 @@ pub record IsRecorded (script : Script) (journals : Journals) (heap owners : Lis
   pub has_owners : HasOwners journals owners
   pub has_owner_marks : HasOwnerMarks journals
   pub has_valid_marks : HasValidMarks journals
-  pub is_paired : (thread : ℕ) → IsPaired script.fuel (journal_of journals thread)
+  pub has_few_marks : (thread : ℕ) → HasFewMarks script.fuel (journal_of journals thread)
 
 -- a thread's journal fits its commands, and leads to this end
 pub record HasEnded (script : Script) (journals : Journals) (thread : ℕ) (end : End) : Type 0 where

@@ -14,6 +14,6 @@ abbrev pub with_join : Journals → List ℕ → ℕ → ℕ → Journals
 with_join journals owners thread object =
     if slice_index owners object == thread then journals else appended journals thread (join_of_all journals (slice_index owners object))
 
--- with this event directly behind that Join
+-- with this event directly after that Join
 abbrev pub with_event : Journals → List ℕ → ℕ → ℕ → Event → Journals
 with_event journals owners thread object event = appended (with_join journals owners thread object) thread event

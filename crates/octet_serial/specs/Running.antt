@@ -1,4 +1,4 @@
--- A thread that runs alone, behind those before it.
+-- A thread that runs alone, after those before it.
 use Rattle.std.specs.Prelude.{◌≡◌, ◌≢◌, ℕ, ◌+◌, ◌≤◌, false, List, length}
 use Rattle.octet_model.specs.declared.script.Script.{Script}
 use Rattle.octet_model.specs.Thread.{starting_configuration, configuration_after, settled}

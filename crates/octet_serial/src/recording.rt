@@ -55,7 +55,7 @@ impl Recording {
         })
     }
 
-    // Makes a thread the owner of an object, behind a Join where another one was.
+    // Makes a thread the owner of an object, after a Join where another one was.
     fn take_object(&mut self, thread: u8, object: u16) -> Result<(), OutOfMemory>
         requires thread { thread < length self.old.journals.items }
         requires owner { slice_index self.old.owners.items object < length self.old.journals.items }
