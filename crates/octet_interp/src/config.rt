@@ -89,6 +89,15 @@ impl Config {
         demand
     }
 
+    /// What `next` would tell. Changes nothing, and takes no memory.
+    pub fn peek(&self) -> Demand
+        requires { self.now.waits ≡ false }
+        ensures { result ≡ told self.now }
+    {
+        let mut ahead = self.progress;
+        advance(&self.commands, &self.leads, &mut ahead)
+    }
+
     /// Gives the read that waits its value.
     pub fn give(&mut self, value: u64)
         requires { self.old.waits ≡ true }

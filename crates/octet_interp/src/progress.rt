@@ -10,7 +10,7 @@ use crate::Demand;
 use octet_model::{Command, End};
 
 /// A place among a thread's commands, its registers, and the fuel left.
-#[derive(Debug, Drop)]
+#[derive(Clone, Copy, Debug)]
 pub(crate) struct Progress {
     pub(crate) place: usize,
     pub(crate) registers: [u64; 16],
