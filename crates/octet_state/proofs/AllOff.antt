@@ -45,10 +45,10 @@ module _ (s : ProtocolState) (sound : IsSound s) (off : (t : ℕ) → (thread_of
   or_same true c none = refl
   or_same false c none = none
 
-  touches_is : (object t : ℕ) → touches s object t ≡ has_access (journal_of s.journals t) object
+  touches_is : (object t : ℕ) → touches s.journals s.threads object t ≡ has_access (journal_of s.journals t) object
   touches_is object t = or_same (has_access (journal_of s.journals t) object) (is_on (thread_of s t).phase object) (ap (λ (p : Phase). is_on p object) (off t))
 
-  touched_by : (place : Place) (object : ℕ) → Accesses s.journals place object → IsPrivate s.journals object place.thread → IsTouchedBy s object place.thread
+  touched_by : (place : Place) (object : ℕ) → Accesses s.journals place object → IsPrivate s.journals object place.thread → IsTouchedBy s.journals s.threads object place.thread
   touched_by place object is private = (
     touches_is object place.thread ∙ has_it place object is,
     λ other touching.

@@ -175,7 +175,7 @@ module _ (s : ProtocolState) (t object : ℕ) (mode : Mode) (prior : StateWord) 
   reader_on number y same h = subst (λ (w : Whom). ReaderHandsOver (appended s.journals t event) object t number y (status_of s y).upto (is_done w t (suc done) y) false) same
       (reader_by number y (subst (λ (w : Whom). ReaderHandsOver s.journals object t number y (status_of s y).upto (is_done w t done y) (has_answered w t done asked y (status_of s y))) (sym same) h))
 
-  hands_on : (p : StateWord) → prior ≡ p → HandsOver s object t p done asked → HandsOver next object t p (suc done) false
+  hands_on : (p : StateWord) → prior ≡ p → HandsOver s.journals s.statuses object t p done asked → HandsOver next.journals next.statuses object t p (suc done) false
   hands_on (WrEx owner) same h = owner_on owner (ap whom_to_ask same) h
   hands_on (RdEx owner since) same h = owner_on owner (ap whom_to_ask same) h
   hands_on (RdSh number) same h = (draw_on s t behind (Join whom upto) inside sound object number h.0, λ y. reader_on number y (ap whom_to_ask same) (h.1 y))
@@ -190,16 +190,16 @@ module _ (s : ProtocolState) (t object : ℕ) (mode : Mode) (prior : StateWord) 
   asks = asks_still s t object mode prior done (suc done) asked false Nothing (Some event) inside is
 
   -- an object that it alone touches it takes from thread 0, for its first access
-  takes_from_zero : IsPrivateState s object t (state_of s object) → (whom_to_ask prior ≡ One 0) × (t ≢ 0) × IsFalse (has_access (journal_of s.journals t) object)
+  takes_from_zero : IsPrivateState s.journals s.threads object t (state_of s object) → (whom_to_ask prior ≡ One 0) × (t ≢ 0) × IsFalse (has_access (journal_of s.journals t) object)
   takes_from_zero h = elim (claimed_state s t object mode prior done asked sound is) [
-    | inl at ↦ let own = subst (IsPrivateState s object t) at h in (subst AsksThreadZero is own.1, own.2, own.3)
-    | inr at ↦ let own = subst (IsPrivateState s object t) at h in (subst AsksThreadZero is own.1, own.2, own.3)
+    | inl at ↦ let own = subst (IsPrivateState s.journals s.threads object t) at h in (subst AsksThreadZero is own.1, own.2, own.3)
+    | inr at ↦ let own = subst (IsPrivateState s.journals s.threads object t) at h in (subst AsksThreadZero is own.1, own.2, own.3)
   ]
 
-  comes : (o : ℕ) → IsPrivateShape s o t → IsTrue (object == o) → IsFirstJoinToCome next o t (marks_at_end (journal_of (appended s.journals t event) t))
+  comes : (o : ℕ) → IsPrivateShape s.journals s.states s.threads o t → IsTrue (object == o) → IsFirstJoinToCome next.journals o t
   comes o shape for =
       let same : object ≡ o = eqb-true object o for in
-      let zero = takes_from_zero (subst (λ (q : ℕ). IsPrivateState s q t (state_of s q)) (sym same) shape.state) in
+      let zero = takes_from_zero (subst (λ (q : ℕ). IsPrivateState s.journals s.threads q t (state_of s q)) (sym same) shape.state) in
       let first : whom ≡ 0 = ap (λ (w : Whom). next_to_ask w t done) zero.0 in
       let one : done < number_to_ask (One 0) (length s.threads) = subst (λ (w : Whom). done < number_to_ask w (length s.threads)) zero.0 left in
       let none : marks_at_end (journal_of s.journals t) ≡ [] = no_item (marks_at_end (journal_of s.journals t)) (let a = ends.0 in omega arith) in
@@ -224,7 +224,7 @@ module _ (s : ProtocolState) (t object : ℕ) (mode : Mode) (prior : StateWord) 
     intermediate = changes_still s t object mode prior done (suc done) asked false Nothing (Some event) inside is sound.intermediate;
     pasts = pasts_on s t behind (Join whom upto) inside sound no_draw tt (sound.pasts.counts t)
         (draws_on s t behind (Join whom upto) inside sound no_draw (thread_of s t).count t (now s t) (now next t) (now_grows s t behind event inside sound t) (sound.pasts.draws t));
-    handover = each_thread s t behind inside (Some event) (λ u y. ClaimHandsOver next u y.phase) (hands_on prior refl (subst (ClaimHandsOver s t) is (sound.handover t)))
+    handover = each_thread s t behind inside (Some event) (λ u y. ClaimHandsOver next.journals next.statuses u y.phase) (hands_on prior refl (subst (ClaimHandsOver s.journals s.statuses t) is (sound.handover t)))
         (λ u differ. claim_on s t behind (Join whom upto) inside sound no_draw u (thread_of s u).phase (sound.handover u));
     frugal = shape_behind s t behind (Join whom upto) inside sound touching asks comes;
   }

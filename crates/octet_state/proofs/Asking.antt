@@ -1,9 +1,8 @@
 -- An ask keeps the state sound: the bit that it puts into a status, and what the thread becomes by the status found.
-use Rattle.std.proofs.Common.{◌≡◌, ◌≢◌, ℕ, suc, ◌+◌, ◌^◌, ◌<◌, ◌≤◌, ◌⊎◌, inl, inr, Bool, true, false, ◌&&◌, ◌||◌, IsTrue, List, [], length, Some, None, sym, refl, ap, ◌∙◌, subst, arith, length-set, get_or-set_same, get_or-set_other}
+use Rattle.std.proofs.Common.{◌≡◌, ◌≢◌, ℕ, suc, ◌+◌, ◌^◌, ◌<◌, ◌≤◌, ◌⊎◌, inl, inr, Bool, true, false, ◌&&◌, ◌||◌, IsTrue, List, length, Some, None, sym, refl, ap, ◌∙◌, subst, arith, length-set, get_or-set_same, get_or-set_other}
 use Rattle.std.specs.Prelude.{◌==◌, not, bit_or, if◌then◌else◌}
 use Rattle.std.proofs.lemmas.Bool.{cases_eq, eq-eqb, ne_eqb}
 use Rattle.std.proofs.lemmas.List.{set-get_or}
-use Rattle.octet_model.specs.declared.event.Mark.{Mark}
 use Rattle.octet_model.specs.declared.event.Mark.TheVariants.{Join}
 use Rattle.octet_model.specs.declared.event.Event.TheVariants.{Marked}
 use Rattle.octet_model.specs.Machine.{journal_of}
@@ -26,9 +25,8 @@ use Rattle.octet_state.specs.Form.{HoldsPhase, HasForm}
 use Rattle.octet_state.specs.Positions.{is_resting, PriorNamesThread, access_to_come, HasMarksAtEnd, HasPositions}
 use Rattle.octet_state.specs.Passing.{lets_pass, claim_lets_pass, may_pass, passes}
 use Rattle.octet_state.specs.Intermediate.{change_by}
-use Rattle.octet_state.specs.Pasts.{HasPasts}
 use Rattle.octet_state.specs.Handover.{OwnerHandsOver, OwnerTells, ReaderHandsOver, ReaderTells, HandsOver, ClaimHandsOver}
-use Rattle.octet_state.specs.FrugalShape.{marks_for, fences_for, IsPrivateState, IsFirstJoinToCome, HasFrugalShape}
+use Rattle.octet_state.specs.FrugalShape.{marks_for, fences_for, IsPrivateState}
 use Rattle.octet_state.specs.Soundness.{IsSound}
 use Rattle.octet_state.specs.Laws.{Stands, AskIsLawful}
 use Rattle.octet_state.proofs.Looks.{TouchesAlike}
@@ -92,7 +90,7 @@ module _ (s : ProtocolState) (t whom : ℕ) (inside : t < length s.threads) (the
   reader_on o v number y done asked far = each_status (λ u status. ReaderTells s.journals o v number u done asked (status_of s u) → ReaderTells s.journals o v number u done asked status)
       (subst (ReaderHandsOver s.journals o v number whom (status_of s whom).upto (is_done All v done whom)) (heard_same v done asked All far)) (λ u h. h) y
 
-  claim_on : (v : ℕ) (p : Phase) → IsUntold t v p → ClaimHandsOver s v p → ClaimHandsOver next v p
+  claim_on : (v : ℕ) (p : Phase) → IsUntold t v p → ClaimHandsOver s.journals s.statuses v p → ClaimHandsOver next.journals next.statuses v p
   claim_on v (Claimed o how (WrEx owner) done asked) far h = owner_on o v owner done asked far h
   claim_on v (Claimed o how (RdEx owner upto) done asked) far h = owner_on o v owner done asked far h
   claim_on v (Claimed o how (RdSh number) done asked) far h = (h.0, λ y. reader_on o v number y done asked far (h.1 y))
@@ -118,7 +116,7 @@ module _ (s : ProtocolState) (t whom : ℕ) (inside : t < length s.threads) (the
   claim_same how u o v (Sharing q drawn) far = refl
   claim_same how u o v Blocked far = refl
 
-  may_pass_same : (how : Mode) (u o : ℕ) (state : StateWord) → may_pass next how u o state ≡ may_pass s how u o state
+  may_pass_same : (how : Mode) (u o : ℕ) (state : StateWord) → may_pass next.statuses next.threads how u o state ≡ may_pass s.statuses s.threads how u o state
   may_pass_same how u o (WrInt by) = claim_same how u o by (thread_of s by).phase (untold_all by)
   may_pass_same how u o (RdInt by) = claim_same how u o by (thread_of s by).phase (untold_all by)
   may_pass_same how u o (WrEx owner) = refl
@@ -126,7 +124,7 @@ module _ (s : ProtocolState) (t whom : ℕ) (inside : t < length s.threads) (the
   may_pass_same how u o (RdSh number) = refl
   may_pass_same how u o (ShInt by) = refl
 
-  passes_same : (u : ℕ) (p : Phase) → passes next u p ≡ passes s u p
+  passes_same : (u : ℕ) (p : Phase) → passes next.statuses next.states next.threads u p ≡ passes s.statuses s.states s.threads u p
   passes_same u (Pass o how) = may_pass_same how u o (state_of s o)
   passes_same u (FenceDue o number) = may_pass_same Read u o (state_of s o)
   passes_same u Off = refl
@@ -162,24 +160,6 @@ module _ (s : ProtocolState) (t whom : ℕ) (inside : t < length s.threads) (the
     at_end = old.at_end;
   }
 
-  pasts_marked : HasPasts next
-  pasts_marked = let old = sound.pasts in record { states = old.states; phases = old.phases; counts = old.counts; draws = old.draws }
-
-  shape_marked : HasFrugalShape next
-  shape_marked = record {
-    untouched = sound.frugal.untouched;
-    private = λ o u one. let old = sound.frugal.private o u one in record {
-      state = old.state;
-      no_fence = old.no_fence;
-      before = old.before;
-      to_come = λ marks. to_come o u (marks_at_end (journal_of s.journals u)) (old.to_come marks);
-    };
-  }
-    where
-      to_come : (o u : ℕ) (marks : List Mark) → (marks ≡ []) ⊎ IsFirstJoinToCome s o u marks → (marks ≡ []) ⊎ IsFirstJoinToCome next o u marks
-      to_come o u marks (inl none) = inl none
-      to_come o u marks (inr first) = inr record { upto = first.upto; not_zero = first.not_zero; is_first = first.is_first; one_join = first.one_join }
-
   pub marks_soundly : IsSound (with_status s whom (asked_by t (status_of s whom)))
   marks_soundly = record {
     form = form_marked;
@@ -187,9 +167,9 @@ module _ (s : ProtocolState) (t whom : ℕ) (inside : t < length s.threads) (the
     positions = positions_marked;
     passing = λ u. subst IsTrue (sym (passes_same u (thread_of s u).phase)) (sound.passing u);
     intermediate = sound.intermediate;
-    pasts = pasts_marked;
+    pasts = sound.pasts;
     handover = λ v. claim_on v (thread_of s v).phase (untold_all v) (sound.handover v);
-    frugal = shape_marked;
+    frugal = sound.frugal;
   }
 
 -- a claim has asked its next thread, which does not answer yet
@@ -207,7 +187,7 @@ module _ (s : ProtocolState) (t object : ℕ) (mode : Mode) (prior : StateWord) 
   none_heard : (u : ℕ) (w : Whom) → whom_to_ask prior ≡ w → false ≡ has_answered w t done true u (status_of s u)
   none_heard u w same = subst (λ (v : Whom). false ≡ has_answered v t done true u (status_of s u)) same (sym (none_answered (whom_to_ask prior) t done u (status_of s u) (waits_at u)))
 
-  hands_on : (p : StateWord) → prior ≡ p → HandsOver s object t p done false → HandsOver s object t p done true
+  hands_on : (p : StateWord) → prior ≡ p → HandsOver s.journals s.statuses object t p done false → HandsOver s.journals s.statuses object t p done true
   hands_on (WrEx owner) same h = subst (OwnerHandsOver s.journals object t owner (status_of s owner).upto (is_done (One owner) t done owner)) (none_heard owner (One owner) (ap whom_to_ask same)) h
   hands_on (RdEx owner upto) same h = subst (OwnerHandsOver s.journals object t owner (status_of s owner).upto (is_done (One owner) t done owner)) (none_heard owner (One owner) (ap whom_to_ask same)) h
   hands_on (RdSh number) same h = (h.0, λ y. subst (ReaderHandsOver s.journals object t number y (status_of s y).upto (is_done All t done y)) (none_heard y All (ap whom_to_ask same)) (h.1 y))
@@ -243,13 +223,13 @@ module _ (s : ProtocolState) (t object : ℕ) (mode : Mode) (prior : StateWord) 
     state_knows = sound.pasts.states object;
     knows = tt;
     counts = refl;
-    handover = hands_on prior refl (subst (ClaimHandsOver s t) is (sound.handover t));
+    handover = hands_on prior refl (subst (ClaimHandsOver s.journals s.statuses t) is (sound.handover t));
   }
 
   touching : TouchesAlike waiting (thread_of s t)
   touching = record { marks_same = λ o. sym (ap (λ (p : Phase). marks_for p o) is); fences_same = λ o. sym (ap (λ (p : Phase). fences_for p o) is) }
 
-  private : (u : ℕ) (state : StateWord) → IsPrivateState s object u state → IsPrivateState (proceeded s t waiting None) object u state
+  private : (u : ℕ) (state : StateWord) → IsPrivateState s.journals s.threads object u state → IsPrivateState (proceeded s t waiting None).journals (proceeded s t waiting None).threads object u state
   private u (WrEx owner) h = h
   private u (RdEx owner upto) h = h
   private u (WrInt by) h = (h.0, asks_still s t object mode prior done done false true Glance None inside is u h.1, h.2, h.3)

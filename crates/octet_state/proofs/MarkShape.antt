@@ -1,5 +1,5 @@
 -- The frugal shape behind a mark, of a thread that touches the same objects as before.
-use Rattle.std.proofs.Common.{◌≡◌, ◌≢◌, ℕ, ◌<◌, ◌≤◌, ◌⊎◌, inl, inr, ◌||◌, IsTrue, List, [], length, Some, sym, refl, ap, ◌∙◌, subst, arith, get_or-set_same, get_or-set_other}
+use Rattle.std.proofs.Common.{◌≡◌, ◌≢◌, ℕ, ◌<◌, ◌≤◌, inl, inr, ◌||◌, IsTrue, List, length, Some, sym, refl, ap, ◌∙◌, subst, arith, get_or-set_same, get_or-set_other}
 use Rattle.std.proofs.lemmas.Bool.{cases_eq}
 use Rattle.std.proofs.lemmas.Option.{slice_get_within}
 use Rattle.octet_model.specs.declared.event.Mark.{Mark}
@@ -7,13 +7,13 @@ use Rattle.octet_model.specs.declared.event.Event.{Event}
 use Rattle.octet_model.specs.declared.event.Event.TheVariants.{Marked}
 use Rattle.octet_model.specs.declared.event.Place.{Place}
 use Rattle.octet_model.specs.Machine.{journal_of, appended}
-use Rattle.octet_model.specs.Frugal.{marks_at_end, marks_before, Accesses, IsFirstJoin}
+use Rattle.octet_model.specs.Frugal.{marks_at_end, Accesses}
 use Rattle.octet_model.proofs.Steps.{same_journal, other_journal}
 use Rattle.octet_state.specs.declared.state_word.StateWord.{StateWord}
 use Rattle.octet_state.specs.declared.state_word.StateWord.TheVariants.{WrEx, RdEx, RdSh, WrInt, RdInt, ShInt}
 use Rattle.octet_state.specs.State.{Thread, ProtocolState, thread_of, state_of, unstarted}
 use Rattle.octet_state.specs.Steps.{proceeded}
-use Rattle.octet_state.specs.FrugalShape.{has_access, marks_for, fences_for, is_on, touches, AsksThreadZero, IsPrivateState, IsFirstJoinToCome, IsPrivateShape, HasFrugalShape}
+use Rattle.octet_state.specs.FrugalShape.{has_access, marks_for, fences_for, is_on, touches, AsksThreadZero, IsPrivateState, IsFirstJoinToCome, IsPrivateShape, HasFrugalShape, AreFrugalBefore, AreFrugalAtEnd}
 use Rattle.octet_state.specs.Soundness.{IsSound}
 use Rattle.octet_state.proofs.Looks.{TouchesAlike, each_thread}
 use Rattle.octet_state.proofs.Longer.{old_or_new_access, before_same}
@@ -42,10 +42,10 @@ module _ (s : ProtocolState) (t : ℕ) (x : Thread) (m : Mark) (inside : t < len
   fences_on : (object u : ℕ) → fences_for (thread_of next u).phase object ≡ fences_for (thread_of s u).phase object
   fences_on object = each_thread s t x inside (Some (Marked m)) (λ u y. fences_for y.phase object ≡ fences_for (thread_of s u).phase object) (touching.fences_same object) (λ u differ. refl)
 
-  touches_same : (object u : ℕ) → touches next object u ≡ touches s object u
+  touches_same : (object u : ℕ) → touches next.journals next.threads object u ≡ touches s.journals s.threads object u
   touches_same object u = λ i. access_same u object i || on_same object u i
 
-  private_same : (object u : ℕ) (state : StateWord) → IsPrivateState s object u state → IsPrivateState next object u state
+  private_same : (object u : ℕ) (state : StateWord) → IsPrivateState s.journals s.threads object u state → IsPrivateState next.journals next.threads object u state
   private_same object u (WrEx owner) h = h
   private_same object u (RdEx owner upto) h = h
   private_same object u (WrInt by) h = (h.0, asks u h.1, h.2, access_same u object ∙ h.3)
@@ -59,8 +59,8 @@ module _ (s : ProtocolState) (t : ℕ) (x : Thread) (m : Mark) (inside : t < len
   at_most : (place : Place) (object : ℕ) → Accesses s.journals place object → place.event ≤ length (journal_of s.journals place.thread)
   at_most place object access = let h = slice_get_within (journal_of s.journals place.thread) place.event access.0 access.1 in omega arith
 
-  before_on : (place : Place) (object : ℕ) → Accesses s.journals place object → (marks_before s.journals place ≡ []) ⊎ IsFirstJoin s.journals place object
-      → (marks_before (appended s.journals t (Marked m)) place ≡ []) ⊎ IsFirstJoin (appended s.journals t (Marked m)) place object
+  before_on : (place : Place) (object : ℕ) → Accesses s.journals place object → AreFrugalBefore s.journals place object
+      → AreFrugalBefore (appended s.journals t (Marked m)) place object
   before_on place object access (inl none) = inl (before_same s.journals t (Marked m) there place (at_most place object access) ∙ none)
   before_on place object access (inr first) = inr record {
     upto = first.upto;
@@ -69,8 +69,8 @@ module _ (s : ProtocolState) (t : ℕ) (x : Thread) (m : Mark) (inside : t < len
     one_join = before_same s.journals t (Marked m) there place (at_most place object access) ∙ first.one_join;
   }
 
-  to_come_on : (object u : ℕ) → u ≢ t → (marks_at_end (journal_of s.journals u) ≡ []) ⊎ IsFirstJoinToCome s object u (marks_at_end (journal_of s.journals u))
-      → (marks_at_end (journal_of (appended s.journals t (Marked m)) u) ≡ []) ⊎ IsFirstJoinToCome next object u (marks_at_end (journal_of (appended s.journals t (Marked m)) u))
+  to_come_on : (object u : ℕ) → u ≢ t → AreFrugalAtEnd s.journals object u
+      → AreFrugalAtEnd next.journals object u
   to_come_on object u differ (inl none) = inl (ap (λ (j : List Event). marks_at_end j) (other_journal s.journals t u (Marked m) differ) ∙ none)
   to_come_on object u differ (inr first) = inr record {
     upto = first.upto;
@@ -80,7 +80,7 @@ module _ (s : ProtocolState) (t : ℕ) (x : Thread) (m : Mark) (inside : t < len
   }
 
   -- where an object that its marks are for, and that it alone touches, has one Join to come
-  pub shape_behind : ((object : ℕ) → IsPrivateShape s object t → IsTrue (marks_for x.phase object) → IsFirstJoinToCome (proceeded s t x (Some (Marked m))) object t (marks_at_end (journal_of (appended s.journals t (Marked m)) t)))
+  pub shape_behind : ((object : ℕ) → IsPrivateShape s.journals s.states s.threads object t → IsTrue (marks_for x.phase object) → IsFirstJoinToCome (proceeded s t x (Some (Marked m))).journals object t)
       → HasFrugalShape (proceeded s t x (Some (Marked m)))
   shape_behind comes = record {
     untouched = λ object none. sound.frugal.untouched object (λ u. sym (touches_same object u) ∙ none u);
@@ -89,8 +89,8 @@ module _ (s : ProtocolState) (t : ℕ) (x : Thread) (m : Mark) (inside : t < len
       no_fence = fences_on object u ∙ old.no_fence;
       before = λ place access. before_on place object (old_of place object access) (old.before place (old_of place object access));
       to_come = elim (cases_eq u t) [
-        | inl same ↦ λ marks. inr (subst (λ (v : ℕ). IsFirstJoinToCome next object v (marks_at_end (journal_of (appended s.journals t (Marked m)) v))) (sym same)
-            (comes object (subst (λ (v : ℕ). IsPrivateShape s object v) same old)
+        | inl same ↦ λ marks. inr (subst (λ (v : ℕ). IsFirstJoinToCome next.journals object v) (sym same)
+            (comes object (subst (λ (v : ℕ). IsPrivateShape s.journals s.states s.threads object v) same old)
             (subst (λ (y : Thread). IsTrue (marks_for y.phase object)) (get_or-set_same s.threads t x unstarted inside) (subst (λ (v : ℕ). IsTrue (marks_for (thread_of next v).phase object)) same marks))))
         | inr differ ↦ λ marks. to_come_on object u differ (old.to_come (subst (λ (y : Thread). IsTrue (marks_for y.phase object)) (get_or-set_other s.threads t u x unstarted differ) marks))
       ];
