@@ -36,7 +36,7 @@ use Rattle.octet_state.specs.Handover.{KnowsShare, OwnerHandsOver, OwnerTells, R
 use Rattle.octet_state.specs.FrugalShape.{has_access, marks_for, fences_for, AsksThreadZero, IsPrivateState, IsFirstJoinToCome, IsPrivateShape}
 use Rattle.octet_state.specs.Soundness.{IsSound}
 use Rattle.octet_state.proofs.Looks.{TouchesAlike, each_thread}
-use Rattle.octet_state.proofs.Widths.{few_events}
+use Rattle.octet_state.proofs.lemmas.Widths.{few_events}
 use Rattle.octet_state.proofs.Longer.{ends_marked}
 use Rattle.octet_state.proofs.Events.{StandsBehind, mine, now_grows, now_more, form, positions}
 use Rattle.octet_state.proofs.Marks.{mark_keeps_order, accesses_on, draw_on, draws_on, share_on, claim_on, pasts_on}

@@ -30,8 +30,8 @@ use Rattle.octet_state.specs.FrugalShape.{marks_for, fences_for, IsPrivateState}
 use Rattle.octet_state.specs.Soundness.{IsSound}
 use Rattle.octet_state.specs.Laws.{Stands, AskIsLawful}
 use Rattle.octet_state.proofs.Looks.{TouchesAlike}
-use Rattle.octet_state.proofs.Packing.{status_back, asked_packed}
-use Rattle.octet_state.proofs.Widths.{status_fits}
+use Rattle.octet_state.proofs.lemmas.Packing.{status_back, asked_packed}
+use Rattle.octet_state.proofs.lemmas.Widths.{status_fits}
 use Rattle.octet_state.proofs.Changing.{ChangesWell, changes_soundly, shape_kept}
 use Rattle.octet_state.proofs.AskingOn.{next_there, none_answered, unanswered_once_asked, asks_still, may_pass_still}
 use Rattle.octet_state.proofs.AskedBit.{asked_waits, answers_others, bits_fit}

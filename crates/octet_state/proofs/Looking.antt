@@ -16,9 +16,9 @@ use Rattle.octet_state.specs.Form.{HoldsPhase}
 use Rattle.octet_state.specs.Positions.{PriorNamesThread}
 use Rattle.octet_state.specs.Soundness.{IsSound}
 use Rattle.octet_state.specs.Laws.{Stands, LookIsLawful}
-use Rattle.octet_state.proofs.Packing.{status_back}
+use Rattle.octet_state.proofs.lemmas.Packing.{status_back}
 use Rattle.octet_state.proofs.Glancing.{due_soundly}
-use Rattle.octet_state.proofs.Widths.{status_fits}
+use Rattle.octet_state.proofs.lemmas.Widths.{status_fits}
 use Rattle.octet_state.proofs.AskingOn.{next_there}
 use Rattle.octet_state.proofs.Answered.{answered_soundly}
 use Rattle.octet_state.proofs.Doing.{does_at}
