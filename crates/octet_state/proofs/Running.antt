@@ -49,4 +49,4 @@ step_is_sound ToShare t s sound inside (due, (object, mode, seen, from, upto, is
 
 pub run_is_sound : RunIsSound
 run_is_sound s [] sound is = sound
-run_is_sound s (taken ∷ run) sound is = run_is_sound (step taken.kind taken.by s) run (step_is_sound taken.kind taken.by s sound is.0 is.1) is.2
+run_is_sound s (taken ∷ run) sound is = run_is_sound (step taken.kind taken.thread s) run (step_is_sound taken.kind taken.thread s sound is.0 is.1) is.2
