@@ -6,7 +6,7 @@ mod config;
 mod demand;
 pub mod laws;
 mod leads;
-mod progress;
+mod context;
 
 pub use config::Config;
 pub use demand::Demand;

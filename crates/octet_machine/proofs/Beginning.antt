@@ -6,12 +6,12 @@ use Rattle.octet_model.specs.declared.event.Event.{Event}
 use Rattle.octet_model.specs.declared.script.Script.{Script}
 use Rattle.octet_model.specs.Machine.{journal_of, no_events}
 use Rattle.octet_model.specs.Orders.{starting_heap}
-use Rattle.octet_model.proofs.Fronts.{no_journal}
-use Rattle.octet_interp.specs.Told.{starting_standing}
+use Rattle.octet_model.proofs.lemmas.Fronts.{no_journal}
+use Rattle.octet_interp.specs.Demands.{starting_thread}
 use Rattle.octet_state.specs.State.{Thread, thread_of, unstarted, resting, opening}
 use Rattle.octet_state.specs.declared.state_word.StateWord.TheVariants.{WrEx}
-use Rattle.octet_state.proofs.Opening.{opening_is_sound}
-use Rattle.octet_machine.specs.declared.memory.Stand.{Stand}
+use Rattle.octet_state.proofs.lemmas.Laws.{opening_is_sound}
+use Rattle.octet_machine.specs.declared.memory.ProtocolThread.{ProtocolThread}
 use Rattle.octet_machine.specs.declared.memory.Memory.{Memory}
 use Rattle.octet_machine.specs.declared.run.Runner.{Runner}
 use Rattle.octet_machine.specs.declared.run.Run.{Run}
@@ -20,7 +20,7 @@ use Rattle.octet_machine.specs.Machine.{MachineState, no_runner, starting_runner
 use Rattle.octet_machine.specs.Running.{IsAt, KeepsUp, IsRunning}
 use Rattle.octet_machine.specs.Run.{machine_in, IsHeld}
 use Rattle.octet_machine.specs.Laws.{OpeningIsRunning}
-use Rattle.octet_machine.proofs.Journals.{bounded}
+use Rattle.octet_model.proofs.lemmas.Validity.{valid_script}
 
 pub map_replicate : {A B : Type 0} (f : A → B) (n : ℕ) (x : A) → map f (replicate n x) ≡ replicate n (f x)
 map_replicate f zero x = refl
@@ -28,7 +28,7 @@ map_replicate f (suc n) x = ap (λ (xs : List _). f x ∷ xs) (map_replicate f n
 
 -- a thread of a script, at its start
 abbrev pub started : Script → ℕ → Runner
-started script thread = starting_runner (starting_standing script thread)
+started script thread = starting_runner (starting_thread script thread)
 
 many_runners : (script : Script) (n : ℕ) → length (starting_runners script n) ≡ n
 many_runners script n = length-map-range_with_len (started script) 0 n
@@ -36,17 +36,17 @@ many_runners script n = length-map-range_with_len (started script) 0 n
 runner_at : (script : Script) (n t : ℕ) → t < n → get_or (starting_runners script n) t no_runner ≡ started script t
 runner_at script n t lt = get_or-map-range_with_len (started script) 0 n t t no_runner lt (omega arith)
 
-starts_at : (script : Script) (t : ℕ) → IsAt script t [] (starting_standing script t)
+starts_at : (script : Script) (t : ℕ) → IsAt script t [] (starting_thread script t)
 starts_at script t = record { has_commands = refl; has_objects = refl; is_journal = record { fits = tt; settles = refl }; fuelled = omega arith; is_idle = refl }
 
 pub opening_is_running : OpeningIsRunning
 opening_is_running script =
     let n = length script.threads in
-    let b = bounded script.fuel script.objects script.threads script.valid in
+    let b = valid_script script.fuel script.objects script.threads script.valid in
     let m = opening_machine script in
-    let low = b.some_thread in
+    let low = b.some_threads in
     record {
-      sound = opening_is_sound n (starting_heap script) (omega arith) b.few_threads;
+      sound = opening_is_sound n (starting_heap script) (omega arith) b.most_threads;
       starts = refl;
       threads = length-replicate n unstarted;
       runners = many_runners script n ∙ sym (length-replicate n unstarted);
@@ -54,13 +54,13 @@ opening_is_running script =
       keeps_up = λ t lt.
           let here : t < n = omega (arith, many_runners script n) in
           subst (λ (x : Runner). KeepsUp script t (journal_of m.protocol.journals t) (thread_of m.protocol t).phase x.value x.end x.config) (sym (runner_at script n t here))
-          (subst (λ (y : Thread). KeepsUp script t (journal_of m.protocol.journals t) y.phase 0 None (starting_standing script t)) (sym (get_or-replicate n t unstarted unstarted here))
-          (subst (λ (j : List Event). IsAt script t j (starting_standing script t)) (sym (no_journal (replicate n unstarted) t)) (starts_at script t)));
+          (subst (λ (y : Thread). KeepsUp script t (journal_of m.protocol.journals t) y.phase 0 None (starting_thread script t)) (sym (get_or-replicate n t unstarted unstarted here))
+          (subst (λ (j : List Event). IsAt script t j (starting_thread script t)) (sym (no_journal (replicate n unstarted) t)) (starts_at script t)));
     }
 
 -- what is made of vectors of so many equal items
-pub opens : (m : Memory) (threads number : ℕ) (stand : Stand) (starts : List ℕ) → m.counter ≡ 0 → m.statuses.items ≡ replicate threads resting → m.states.items ≡ replicate number (WrEx 0) → number ≡ length starts → m.cells.items ≡ starts
-    → m.threads.items ≡ replicate threads stand → thread_in stand ≡ unstarted → map (λ j. j.events.items) m.journals.items ≡ replicate threads [] → held starts m ≡ opening threads starts
+pub opens : (m : Memory) (threads number : ℕ) (stand : ProtocolThread) (starts : List ℕ) → m.counter ≡ 0 → m.statuses.items ≡ replicate threads resting → m.states.items ≡ replicate number (WrEx 0) → number ≡ length starts → m.cells.items ≡ starts
+    → m.threads.items ≡ replicate threads stand → thread_in thread ≡ unstarted → map (λ j. j.events.items) m.journals.items ≡ replicate threads [] → held starts m ≡ opening threads starts
 opens m threads number stand starts none statuses states many cells stands start journals =
     let shown : m.states.items ≡ replicate (length starts) (WrEx 0) = states ∙ ap (λ (n : ℕ). replicate n (WrEx 0)) many in
     let standing : map thread_in m.threads.items ≡ replicate threads unstarted = ap (map thread_in) stands ∙ map_replicate thread_in threads stand ∙ ap (replicate threads) start in

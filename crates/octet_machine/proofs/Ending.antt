@@ -9,10 +9,10 @@ use Rattle.octet_model.specs.Machine.{journal_of}
 use Rattle.octet_model.specs.Journals.{access_count}
 use Rattle.octet_model.specs.Orders.{starting_heap, FitsScript}
 use Rattle.octet_model.specs.Plays.{IsOneHistory}
-use Rattle.octet_model.proofs.Growing.{faithful_from_history}
+use Rattle.octet_model.proofs.lemmas.Growth.{faithful_from_history}
 use Rattle.octet_state.specs.declared.phase.Phase.TheVariants.{Off}
 use Rattle.octet_state.specs.State.{Thread, thread_of, unstarted}
-use Rattle.octet_state.proofs.AllOff.{frugal_when_off}
+use Rattle.octet_state.proofs.lemmas.Laws.{off_is_frugal}
 use Rattle.octet_machine.specs.declared.run.Runner.{Runner}
 use Rattle.octet_machine.specs.Machine.{MachineState, runner_of, no_runner, have_ended}
 use Rattle.octet_machine.specs.Running.{IsRunning, KeepsUp}
@@ -65,5 +65,5 @@ module _ (m : MachineState) (r : IsRunning m) (ended : have_ended m ≡ true) wh
 
 pub end_is_faithful : EndIsFaithful
 end_is_faithful m r ended =
-    faithful_from_history m.script m.protocol.journals m.protocol.cells m.protocol.counter (has_history m r ended) (frugal_when_off m.protocol r.sound (all_off m r ended))
+    faithful_from_history m.script m.protocol.journals m.protocol.cells m.protocol.counter (has_history m r ended) (off_is_frugal m.protocol r.sound (all_off m r ended))
     (let a = r.threads in let b = r.sound.form.journals in omega arith) (fits_script m r ended)

@@ -5,12 +5,12 @@ use Rattle.octet_state.specs.declared.phase.Due.{Due}
 use Rattle.octet_state.specs.State.{thread_of}
 use Rattle.octet_state.specs.Steps.{Kind, step, told}
 use Rattle.octet_state.specs.NextStep.{kind_in_phase, kind_by_due, waits}
-use Rattle.octet_interp.specs.Told.{told as demand_told}
+use Rattle.octet_interp.specs.Demands.{next_demand}
 use Rattle.octet_machine.specs.Machine.{MachineState, runner_of, kind_of_demand, next_kind, run_in_phase, run_by_due, after_step, next_waits}
 
 module _ (m : MachineState) (me : ℕ) where
   abbrev pub kind_here : Phase → Kind
-  kind_here p = kind_in_phase (length m.protocol.threads) me (thread_of m.protocol me).count (kind_of_demand (demand_told (runner_of m me).config)) (runner_of m me).value p
+  kind_here p = kind_in_phase (length m.protocol.threads) me (thread_of m.protocol me).count (kind_of_demand (next_demand (runner_of m me).config)) (runner_of m me).value p
 
   -- after a step of this kind, taken where this is due in this phase
   abbrev pub ends_by : Kind → Due → Phase → MachineState

@@ -8,7 +8,7 @@ use Rattle.octet_model.specs.Machine.{journal_of}
 use Rattle.octet_model.specs.Journals.{access_count}
 use Rattle.octet_interp.specs.declared.demand.Demand.{Demand}
 use Rattle.octet_interp.specs.declared.demand.Demand.TheVariants as demand
-use Rattle.octet_interp.specs.Told.{Standing, told as tells, after_told, given}
+use Rattle.octet_interp.specs.Demands.{ThreadState, next_demand, after_demand, given}
 use Rattle.octet_state.specs.declared.state_word.StateWord.{StateWord}
 use Rattle.octet_state.specs.declared.act.Mode.{Mode}
 use Rattle.octet_state.specs.declared.act.Mode.TheVariants.{Read, Write}
@@ -26,25 +26,26 @@ use Rattle.octet_state.specs.Steps.{Kind, ToGlance, ToAnswer, ToBlock, ToUnblock
 use Rattle.octet_state.specs.NextStep.{kind_by_due, exchange_of, pursuit_of}
 use Rattle.octet_state.specs.Form.{is_nothing, is_exchange, HoldsPhase}
 use Rattle.octet_state.specs.Laws.{IsLawful, Stands}
-use Rattle.octet_state.proofs.Glancing.{glance_is_lawful}
-use Rattle.octet_state.proofs.Swapping.{answer_is_lawful, block_is_lawful, unblock_is_lawful}
-use Rattle.octet_state.proofs.Asking.{ask_is_lawful}
-use Rattle.octet_state.proofs.Looking.{look_is_lawful}
-use Rattle.octet_state.proofs.Loading.{load_is_lawful}
-use Rattle.octet_state.proofs.ReadsAndWrites.{read_is_lawful, write_is_lawful}
-use Rattle.octet_state.proofs.Claiming.{claim_is_lawful}
-use Rattle.octet_state.proofs.Settling.{settle_of_claim_is_lawful}
-use Rattle.octet_state.proofs.SharesSettled.{settle_of_share_is_lawful}
-use Rattle.octet_state.proofs.Drawing.{draw_is_lawful}
-use Rattle.octet_state.proofs.Fencing.{fence_is_lawful}
-use Rattle.octet_state.proofs.Raising.{raise_is_lawful}
-use Rattle.octet_state.proofs.Sharing.{share_is_lawful}
+use Rattle.octet_state.proofs.lemmas.Laws.{glance_is_lawful}
+use Rattle.octet_state.proofs.lemmas.Laws.{answer_is_lawful, block_is_lawful, unblock_is_lawful}
+use Rattle.octet_state.proofs.lemmas.Laws.{ask_is_lawful}
+use Rattle.octet_state.proofs.lemmas.Laws.{look_is_lawful}
+use Rattle.octet_state.proofs.lemmas.Laws.{load_is_lawful}
+use Rattle.octet_state.proofs.lemmas.Laws.{read_is_lawful, write_is_lawful}
+use Rattle.octet_state.proofs.lemmas.Laws.{claim_is_lawful}
+use Rattle.octet_state.proofs.lemmas.Laws.{settle_of_claim_is_lawful}
+use Rattle.octet_state.proofs.lemmas.Laws.{settle_of_share_is_lawful}
+use Rattle.octet_state.proofs.lemmas.Laws.{draw_is_lawful}
+use Rattle.octet_state.proofs.lemmas.Laws.{fence_is_lawful}
+use Rattle.octet_state.proofs.lemmas.Laws.{raise_is_lawful}
+use Rattle.octet_state.proofs.lemmas.Laws.{share_is_lawful}
 use Rattle.octet_machine.specs.declared.run.Runner.{Runner}
 use Rattle.octet_machine.specs.Machine.{MachineState, runner_of, no_runner, kind_of_demand, next_kind, after_step, state_of_turn, taken_up}
 use Rattle.octet_machine.specs.Running.{IsAt, StandsBy, KeepsUp, IsRunning, demand_for, demand_in}
 use Rattle.octet_machine.specs.Laws.{TurnsKeepRunning, NextStepsMayBeTaken}
 use Rattle.octet_machine.proofs.Going.{kind_here, ends_by, kind_is, after_is}
-use Rattle.octet_machine.proofs.Journals.{IsMarking, marked, past_safe, past_pause, at_end, wants, past_read, past_write, leaves_fuel, names_object, NamesObject, bounded}
+use Rattle.octet_machine.proofs.Journals.{IsMarking, marked, past_safe, past_pause, at_end, wants, past_read, past_write, leaves_fuel, names_object, NamesObject}
+use Rattle.octet_model.proofs.lemmas.Validity.{valid_script}
 use Rattle.octet_machine.proofs.Phases.{AboutSame, done_same, asked_same, lost_same, either_same, either_marks, share_marks, fence_reads, share_reads, load_same}
 
 module _ (m : MachineState) (me : ℕ) (r : IsRunning m) (there : me < length m.runners) (alive : (runner_of m me).end ≡ None) where
@@ -111,7 +112,7 @@ module _ (m : MachineState) (me : ℕ) (r : IsRunning m) (there : me < length m.
   by_now : StandsBy m.script me J (demand_in X.phase R.value) R.config
   by_now = subst (λ (e : Option End). KeepsUp m.script me J X.phase R.value e R.config) alive (r.keeps_up me there)
 
-  going : (j : List Event) (p : Phase) (value : ℕ) (at : Standing) → StandsBy m.script me j (demand_in p value) at → KeepsUp m.script me j p value R.end at
+  going : (j : List Event) (p : Phase) (value : ℕ) (at : ThreadState) → StandsBy m.script me j (demand_in p value) at → KeepsUp m.script me j p value R.end at
   going j p value at by = subst (λ (e : Option End). KeepsUp m.script me j p value e at) (sym alive) by
 
   -- a step on the way makes a mark or none, and stays about the same demand
@@ -195,7 +196,7 @@ module _ (m : MachineState) (me : ℕ) (r : IsRunning m) (there : me < length m.
       runs_on ToRead _ _ (read_is_lawful s me _ o r.sound inside (due, phase) refl) (record { config = given R.config word; value = R.value; end = R.end })
       (going (J ++ event.Read (target X.phase) word ∷ []) Idle R.value (given R.config word)
       (subst (λ (t : ℕ). IsAt m.script me (J ++ event.Read t word ∷ []) (given R.config word)) (sym (ap target phase))
-      (subst (λ (st : Standing). IsAt m.script me (J ++ event.Read o word ∷ []) (given st word)) (sym by.stands) (past_read m.script me J by.before by.at o word by.tells))))
+      (subst (λ (st : ThreadState). IsAt m.script me (J ++ event.Read o word ∷ []) (given st word)) (sym by.stands) (past_read m.script me J by.before by.at o word by.tells))))
 
   on_write : (o : ℕ) → X.due ≡ Nothing → X.phase ≡ Pass o Write → Goes (ToWrite R.value) (ends_by m me (ToWrite R.value) Nothing (Pass o Write))
   on_write o due phase =
@@ -203,7 +204,7 @@ module _ (m : MachineState) (me : ℕ) (r : IsRunning m) (there : me < length m.
       runs_on (ToWrite R.value) _ _ (write_is_lawful s me _ o R.value r.sound inside (due, phase) refl) R
       (going (J ++ event.Write (target X.phase) R.value ∷ []) Idle R.value R.config
       (subst (λ (t : ℕ). IsAt m.script me (J ++ event.Write t R.value ∷ []) R.config) (sym (ap target phase))
-      (subst (λ (st : Standing). IsAt m.script me (J ++ event.Write o R.value ∷ []) st) (sym by.stands) (past_write m.script me J by.before by.at o R.value by.tells))))
+      (subst (λ (st : ThreadState). IsAt m.script me (J ++ event.Write o R.value ∷ []) st) (sym by.stands) (past_write m.script me J by.before by.at o R.value by.tells))))
 
   on_fence : (o n : ℕ) → X.due ≡ Nothing → X.phase ≡ FenceDue o n → Goes ToFence (ends_by m me ToFence Nothing (FenceDue o n))
   on_fence o n due phase = on_the_way ToFence _ _ (fence_is_lawful s me _ o n r.sound inside (due, phase) refl) tt (about (FenceDue o n) passing phase refl)
@@ -256,43 +257,43 @@ module _ (m : MachineState) (me : ℕ) (r : IsRunning m) (there : me < length m.
 
   -- the first step of a demand
   on_demand : X.due ≡ Nothing → X.phase ≡ Idle → Goes (kind_here m me Idle) (ends_by m me (kind_here m me Idle) Nothing Idle)
-  on_demand due phase = go (tells R.config) refl
+  on_demand due phase = go (next_demand R.config) refl
     where
       at : IsAt m.script me J R.config
       at = by_phase Idle phase
 
-      named : NamesObject (length m.script.objects) (tells R.config)
+      named : NamesObject (length m.script.objects) (next_demand R.config)
       named = names_object m.script me J R.config at (let a = r.threads in omega (arith, inside))
 
-      few : (o : ℕ) (mode : Mode) (value : ℕ) → tells R.config ≡ demand_for o mode value → access_count J < most_accesses
+      few : (o : ℕ) (mode : Mode) (value : ℕ) → next_demand R.config ≡ demand_for o mode value → access_count J < most_accesses
       few o mode value is =
           let a = leaves_fuel m.script me J R.config at o mode value is in
-          let b = (bounded m.script.fuel m.script.objects m.script.threads m.script.valid).small in
+          let b = (valid_script m.script.fuel m.script.objects m.script.threads m.script.valid).most_fuel in
           omega arith
 
-      load : (o : ℕ) (mode : Mode) (value : ℕ) → tells R.config ≡ demand_for o mode value → o < length m.script.objects
-          → Goes (ToLoad o mode) (record { protocol = step (ToLoad o mode) me m.protocol; runners = slice_set m.runners me (record { config = after_told R.config; value = value; end = R.end }); script = m.script })
+      load : (o : ℕ) (mode : Mode) (value : ℕ) → next_demand R.config ≡ demand_for o mode value → o < length m.script.objects
+          → Goes (ToLoad o mode) (record { protocol = step (ToLoad o mode) me m.protocol; runners = slice_set m.runners me (record { config = after_demand R.config; value = value; end = R.end }); script = m.script })
       load o mode value is lies =
           let p = (after (ToLoad o mode) me (told (ToLoad o mode) me s) X).phase in
           let cells = r.cells in
-          runs_on (ToLoad o mode) _ _ (load_is_lawful s me _ o mode r.sound inside (omega arith) (inl ((due, phase), few o mode value is)) refl) (record { config = after_told R.config; value = value; end = R.end })
-          (going J p value (after_told R.config)
-          (subst (λ (d : Option Demand). StandsBy m.script me J d (after_told R.config))
+          runs_on (ToLoad o mode) _ _ (load_is_lawful s me _ o mode r.sound inside (omega arith) (inl ((due, phase), few o mode value is)) refl) (record { config = after_demand R.config; value = value; end = R.end })
+          (going J p value (after_demand R.config)
+          (subst (λ (d : Option Demand). StandsBy m.script me J d (after_demand R.config))
           (sym (load_same (decided (state_in (unpacked_state (told (ToLoad o mode) me s))) me mode X.count) o mode (state_in (unpacked_state (told (ToLoad o mode) me s))) X value (fence_only_reads o mode)))
           (wants m.script me J R.config at (demand_for o mode value) is)))
 
-      go : (d : Demand) → tells R.config ≡ d → Goes (kind_of_demand d) (record { protocol = step (kind_of_demand d) me m.protocol; runners = slice_set m.runners me (taken_up d R); script = m.script })
+      go : (d : Demand) → next_demand R.config ≡ d → Goes (kind_of_demand d) (record { protocol = step (kind_of_demand d) me m.protocol; runners = slice_set m.runners me (taken_up d R); script = m.script })
       go (demand.Read o) is = load o Read R.value is (subst (NamesObject (length m.script.objects)) is named)
       go (demand.Write o value) is = load o Write value is (subst (NamesObject (length m.script.objects)) is named)
       go demand.Safe is =
           runs_on ToGlance _ _ (glance_is_lawful s me _ r.sound inside (λ answer. let never : Nothing ≡ Answer = sym due ∙ answer in cc (never)) (subst (λ (q : Phase). IsTrue (is_safe_point q)) (sym phase) refl) refl)
-          (record { config = after_told R.config; value = R.value; end = R.end })
-          (going J X.phase R.value (after_told R.config) (subst (λ (q : Phase). StandsBy m.script me J (demand_in q R.value) (after_told R.config)) (sym phase) (past_safe m.script me J R.config at is)))
+          (record { config = after_demand R.config; value = R.value; end = R.end })
+          (going J X.phase R.value (after_demand R.config) (subst (λ (q : Phase). StandsBy m.script me J (demand_in q R.value) (after_demand R.config)) (sym phase) (past_safe m.script me J R.config at is)))
       go demand.Pause is =
-          runs_on (ToBlock false) _ _ (block_is_lawful s me _ _ false r.sound inside (due, phase) refl refl) (record { config = after_told R.config; value = R.value; end = R.end })
-          (going J Blocked R.value (after_told R.config) (past_pause m.script me J R.config at is))
+          runs_on (ToBlock false) _ _ (block_is_lawful s me _ _ false r.sound inside (due, phase) refl refl) (record { config = after_demand R.config; value = R.value; end = R.end })
+          (going J Blocked R.value (after_demand R.config) (past_pause m.script me J R.config at is))
       go (demand.Ended end) is =
-          runs_on (ToBlock true) _ _ (block_is_lawful s me _ _ true r.sound inside (due, phase) refl refl) (record { config = after_told R.config; value = R.value; end = Some end })
+          runs_on (ToBlock true) _ _ (block_is_lawful s me _ _ true r.sound inside (due, phase) refl refl) (record { config = after_demand R.config; value = R.value; end = Some end })
           (refl, at_end m.script me J R.config at end is)
 
   -- the step that is next, in each phase

@@ -17,13 +17,13 @@ use Rattle.octet_model.specs.Thread.{demanded, configuration_after, starting_con
 use Rattle.octet_model.specs.Machine.{Journals, journal_of}
 use Rattle.octet_model.specs.Journals.{access_count, mark_count, gapped_marks, log_of, log_of_journal}
 use Rattle.octet_model.specs.Orders.{commands_of, end_of, ends_of, values_read, outcome_of}
-use Rattle.octet_model.proofs.Splits.{length-gapped_marks}
+use Rattle.octet_model.proofs.lemmas.Splits.{length-gapped_marks}
 use Rattle.octet_state.specs.State.{thread_of}
-use Rattle.octet_state.proofs.Widths.{few_marks as few_events}
+use Rattle.octet_state.proofs.lemmas.Laws.{journals_are_short}
 use Rattle.octet_machine.specs.declared.run.Runner.{Runner}
 use Rattle.octet_machine.specs.Machine.{MachineState, runner_of, no_runner, have_ended, plain_state}
 use Rattle.octet_machine.specs.Running.{IsRunning, KeepsUp}
-use Rattle.octet_machine.proofs.Journals.{bounded}
+use Rattle.octet_model.proofs.lemmas.Validity.{valid_script}
 use Rattle.octet_machine.proofs.Ending.{each_ended, fuelled_at_end}
 
 -- the gaps of marks sum to at most the accesses
@@ -74,15 +74,12 @@ module _ (m : MachineState) (r : IsRunning m) (ended : have_ended m ≡ true) wh
   fuelled : (t : ℕ) → access_count (journal_of js t) ≤ m.script.fuel
   fuelled t = fuelled_at_end m r ended t
 
-  pub few_accesses : (t : ℕ) → access_count (journal_of js t) < 2 ^ 32
-  few_accesses t = let b = (bounded m.script.fuel m.script.objects m.script.threads m.script.valid).small in let f = fuelled t in omega arith
-
   thread_log_valid : (u : ℕ) → is_thread_log (length js) u (log_of_journal (journal_of js u)) ≡ true
   thread_log_valid u =
       let journal = journal_of js u in
       let marks = gapped_marks 0 journal in
-      let small = (bounded m.script.fuel m.script.objects m.script.threads m.script.valid).small in
-      let within = few_events m.protocol u r.sound in
+      let small = (valid_script m.script.fuel m.script.objects m.script.threads m.script.valid).most_fuel in
+      let within = journals_are_short m.protocol u r.sound in
       let f = fuelled u in
       let few : length marks < 2 ^ 31 = omega (arith, length-gapped_marks 0 journal, few_marks journal) in
       and_from _ _
@@ -93,17 +90,17 @@ module _ (m : MachineState) (r : IsRunning m) (ended : have_ended m ≡ true) wh
   pub log_valid : IsTrue (is_log (log_of js))
   log_valid =
       let logs = log_of js in
-      let bound = bounded m.script.fuel m.script.objects m.script.threads m.script.valid in
+      let bound = valid_script m.script.fuel m.script.objects m.script.threads m.script.valid in
       let many : length logs ≡ length m.script.threads = length-map js log_of_journal ∙ as_many in
       let each : All (λ (log : ThreadLog). log.accesses ≤ m.script.fuel) logs = λ k d lt.
       let at_k : get_or logs k d ≡ log_of_journal (journal_of js k) = get_or-map log_of_journal js k [] d (omega (arith, length-map js log_of_journal)) in
       let f = fuelled k in
       omega (arith, ap (λ (log : ThreadLog). log.accesses) at_k) in
       let sum : sum_by (λ log. log.accesses) logs ≤ length m.script.threads * m.script.fuel = subst (λ (n : ℕ). sum_by (λ log. log.accesses) logs ≤ n * m.script.fuel) many (sum_by-le (λ (log : ThreadLog). log.accesses) m.script.fuel logs each) in
-      let total : sum_by (λ log. log.accesses) logs ≤ 262144 = omega (arith, bound.in_all) in
+      let total : sum_by (λ log. log.accesses) logs ≤ 262144 = omega (arith, bound.fuel_of_all) in
       and_from _ _
       (and_from _ _
-      (and_from _ _ (le-leb 1 (length logs) (omega (arith, bound.some_thread))) (le-leb (length logs) 16 (omega (arith, bound.few_threads))))
+      (and_from _ _ (le-leb 1 (length logs) (omega (arith, bound.some_threads))) (le-leb (length logs) 16 (omega (arith, bound.most_threads))))
       (le-leb (sum_by (λ log. log.accesses) logs) 262144 total))
       (thread_logs_valid (length logs) 0 js (λ u.
       subst (λ (n : ℕ). is_thread_log n (0 + u) (log_of_journal (journal_of js u)) ≡ true) (sym (length-map js log_of_journal))
@@ -123,6 +120,3 @@ module _ (m : MachineState) (r : IsRunning m) (ended : have_ended m ≡ true) wh
       ends_told ∙ ends_are m.script.fuel m.script.threads js m.runners as_many (r.runners ∙ r.threads) end_at in
       λ i. record { ends = told i; reads = reads_told i; heap = heap_told i }
 
--- each of the vectors that hold the journals
-pub each_few : {V : Type 0} (items : V → List Event) (vs : List V) → ((t : ℕ) → access_count (journal_of (map items vs) t) < 2 ^ 32) → All (λ v. access_count (items v) < 2 ^ 32) vs
-each_few items vs few = λ k d lt. let h = few k in omega (arith, ap access_count (get_or-map items vs k d [] lt))

@@ -19,7 +19,7 @@ use Rattle.octet_state.specs.Table.{decided, is_changed_by}
 use Rattle.octet_state.specs.Asking.{answers}
 use Rattle.octet_state.specs.State.{Thread, ProtocolState, thread_of, status_of, state_of, cell_of, now}
 use Rattle.octet_state.specs.Steps.{ToGlance, ToAnswer, ToBlock, ToUnblock, ToAsk, ToLook, ToLoad, ToRead, ToWrite, ToClaim, ToSettle, ToDraw, ToFence, ToRaise, ToShare, step, told, moved, counted, target, mode_of, one_done, one_asked, wins, lost, claimed, claiming, owning, settling, passing, joined_by_share, loaded, shown, asked_by, with_status, with_state, exchanged, proceeded, state_in}
-use Rattle.octet_state.proofs.Packing.{state_in_back, status_back}
+use Rattle.octet_state.proofs.lemmas.Packing.{state_in_back, status_back}
 use Rattle.octet_state.specs.NextStep.{waits, held_by, word_seen, changed}
 use Rattle.octet_machine.specs.Memory.{due_by, blocked_in, with_thread, with_event, HasFewDone, IsClaimOf}
 

@@ -8,7 +8,7 @@ use Rattle.octet_model.specs.Machine.{journal_of}
 use Rattle.octet_model.specs.Orders.{starting_heap}
 use Rattle.octet_interp.specs.declared.demand.Demand.{Demand}
 use Rattle.octet_interp.specs.declared.demand.Demand.TheVariants as demand
-use Rattle.octet_interp.specs.Told.{Standing, told as told_next, after_told, given}
+use Rattle.octet_interp.specs.Demands.{ThreadState, next_demand, after_demand, given}
 use Rattle.octet_state.specs.declared.state_word.StateWord.{StateWord}
 use Rattle.octet_state.specs.declared.act.Mode.{Mode}
 use Rattle.octet_state.specs.declared.act.Whom.{Whom}
@@ -26,9 +26,10 @@ use Rattle.octet_state.specs.State.{Thread, thread_of, status_of, state_of}
 use Rattle.octet_state.specs.Steps.{Kind, ToClaim, step, told}
 use Rattle.octet_state.specs.NextStep.{exchange_of, pursuit_of, kind_by_due, waits}
 use Rattle.octet_state.specs.Form.{HoldsPhase}
-use Rattle.octet_state.proofs.Draws.{few_draws}
-use Rattle.octet_state.proofs.Widths.{state_fits, status_fits, few_marks}
-use Rattle.octet_machine.specs.declared.memory.Stand.{Stand}
+use Rattle.octet_state.proofs.lemmas.Laws.{counter_is_small}
+use Rattle.octet_state.proofs.lemmas.Widths.{state_fits, status_fits}
+use Rattle.octet_state.proofs.lemmas.Laws.{journals_are_short}
+use Rattle.octet_machine.specs.declared.memory.ProtocolThread.{ProtocolThread}
 use Rattle.octet_machine.specs.declared.memory.Memory.{Memory}
 use Rattle.octet_machine.specs.declared.run.Runner.{Runner}
 use Rattle.octet_machine.specs.declared.run.Run.{Run}
@@ -81,7 +82,7 @@ module _ (run : Run) (me : ℕ) (p : Phase) (at : StandsIn run me p) where
       let told_it : HasTold run.script me j (demand_for object mode value) R.config =
       subst (λ (d : Option Demand). StandsBy run.script me j d R.config) (ap (λ (q : Phase). demand_in q R.value) at.stands ∙ is) by in
       let fuel = leaves_fuel run.script me j told_it.before told_it.at object mode value told_it.tells in
-      let few = few_marks m.protocol me held.running.sound in
+      let few = journals_are_short m.protocol me held.running.sound in
       let room = held.rooms me at.is_next.there in
       omega arith
 
@@ -96,10 +97,10 @@ module _ (run : Run) (me : ℕ) (p : Phase) (at : StandsIn run me p) where
   is_run x is = same_at run.runners.items me x no_runner at.is_next.there is
 
   -- and with a value given
-  pub gives : (x : Runner) (config : Standing) (value word : ℕ) → x ≡ R → config ≡ given x.config value → value ≡ word
+  pub gives : (x : Runner) (config : ThreadState) (value word : ℕ) → x ≡ R → config ≡ given x.config value → value ≡ word
       → set run.runners.items me (record { config = config; value = x.value; end = x.end }) ≡ slice_set run.runners.items me (record { config = given R.config word; value = R.value; end = R.end })
   gives x config value word is gave same =
-      ap (λ (c : Standing). set run.runners.items me (record { config = c; value = x.value; end = x.end })) (gave ∙ ap (given x.config) same)
+      ap (λ (c : ThreadState). set run.runners.items me (record { config = c; value = x.value; end = x.end })) (gave ∙ ap (given x.config) same)
       ∙ ap (λ (y : Runner). set run.runners.items me (record { config = given y.config word; value = y.value; end = y.end })) is
 
 -- in the same phase under another name
@@ -107,7 +108,7 @@ pub stands_too : (run : Run) (me : ℕ) (p q : Phase) → p ≡ q → StandsIn r
 stands_too run me p q is at = subst (λ (r : Phase). StandsIn run me r) is at
 
 -- the exchange that the table says
-pub exchange_is : (run : Run) (me object : ℕ) (mode : Mode) (seen : StateWord) (x : Stand) (result : Act) → ((starts : List ℕ) → thread_in x ≡ thread_of (held starts run.memory) me) → result ≡ decided seen me mode x.count
+pub exchange_is : (run : Run) (me object : ℕ) (mode : Mode) (seen : StateWord) (x : ProtocolThread) (result : Act) → ((starts : List ℕ) → thread_in x ≡ thread_of (held starts run.memory) me) → result ≡ decided seen me mode x.count
     → kind_here (machine_in run) me (Want object mode (Some seen)) ≡ exchange_of result
 exchange_is run me object mode seen x result same is =
     ap exchange_of (sym (is ∙ ap (λ (y : Thread). decided seen me mode y.count) (same (starting_heap run.script))))
@@ -135,29 +136,29 @@ then_asks me done next prior whom asked how is follows same =
     ∙ ap (pursuit_of false how) (ap (λ (w : Whom). next_to_ask w me done) (sym is) ∙ sym follows)
 
 -- a run with another configuration, by the demand that it has told
-abbrev pub taken_with : Demand → Standing → Runner → Runner
+abbrev pub taken_with : Demand → ThreadState → Runner → Runner
 taken_with (demand.Write object value) config x = record { config = config; value = value; end = x.end }
 taken_with (demand.Ended end) config x = record { config = config; value = x.value; end = Some end }
 taken_with _ config x = record { config = config; value = x.value; end = x.end }
 
-taken_is : (d : Demand) (x : Runner) → taken_with d (after_told x.config) x ≡ taken_up d x
+taken_is : (d : Demand) (x : Runner) → taken_with d (after_demand x.config) x ≡ taken_up d x
 taken_is (demand.Read object) x = refl
 taken_is (demand.Write object value) x = refl
 taken_is demand.Safe x = refl
 taken_is demand.Pause x = refl
 taken_is (demand.Ended end) x = refl
 
-module _ (run : Run) (me : ℕ) (at : StandsIn run me Idle) (x : Runner) (config : Standing) (result d : Demand) (found : x ≡ get_or run.runners.items me x) (tells : result ≡ told_next x.config) (stands : config ≡ after_told x.config) (is : result ≡ d) where
+module _ (run : Run) (me : ℕ) (at : StandsIn run me Idle) (x : Runner) (config : ThreadState) (result d : Demand) (found : x ≡ get_or run.runners.items me x) (tells : result ≡ next_demand x.config) (stands : config ≡ after_demand x.config) (is : result ≡ d) where
   abbrev Q : Runner
   Q = runner_of (machine_in run) me
 
-  demand_is : told_next Q.config ≡ d
-  demand_is = sym (tells ∙ ap (λ (y : Runner). told_next y.config) (is_run run me Idle at x found)) ∙ is
+  demand_is : next_demand Q.config ≡ d
+  demand_is = sym (tells ∙ ap (λ (y : Runner). next_demand y.config) (is_run run me Idle at x found)) ∙ is
 
-  pub takes_up : set run.runners.items me (taken_with d config x) ≡ slice_set run.runners.items me (taken_up (told_next Q.config) Q)
+  pub takes_up : set run.runners.items me (taken_with d config x) ≡ slice_set run.runners.items me (taken_up (next_demand Q.config) Q)
   takes_up =
-      ap (λ (s : Standing). set run.runners.items me (taken_with d s x)) stands
-      ∙ ap (λ (y : Runner). set run.runners.items me (taken_with d (after_told y.config) y)) (is_run run me Idle at x found)
+      ap (λ (s : ThreadState). set run.runners.items me (taken_with d s x)) stands
+      ∙ ap (λ (y : Runner). set run.runners.items me (taken_with d (after_demand y.config) y)) (is_run run me Idle at x found)
       ∙ ap (set run.runners.items me) (taken_is d Q ∙ ap (λ (e : Demand). taken_up e Q) (sym demand_is))
 
   pub demand_steps : (memory : Memory) → TakesStep (kind_of_demand d) me run.memory memory → shape memory ≡ shape run.memory → (run' : Run) → run'.script ≡ run.script → run'.memory ≡ memory → run'.runners.items ≡ set run.runners.items me (taken_with d config x) → Steps me run run'
@@ -207,7 +208,7 @@ module _ (run run' : Run) (me : ℕ) (d : Due) (k : Kind) (due : (thread_of (mac
       none ∙ sym (waits_is n me d (thread_of n.protocol me).phase due refl ∙ ap (λ (j : Kind). waits j me (told j me n.protocol) (thread_of n.protocol me)) (kind (kind_here n me (thread_of n.protocol me).phase)))
 
 pub draws_on : (run : Run) (me : ℕ) → IsNext run me → run.memory.counter < 2 ^ 64 - 1
-draws_on run me next = let a = few_draws (machine_in run).protocol next.is_held.running.sound in omega arith
+draws_on run me next = let a = counter_is_small (machine_in run).protocol next.is_held.running.sound in omega arith
 
 pub status_fits_next : (run : Run) (me thread : ℕ) → IsNext run me → FitsStatusWord (status_of (machine_in run).protocol thread)
 status_fits_next run me thread next = status_fits (machine_in run).protocol thread next.is_held.running.sound

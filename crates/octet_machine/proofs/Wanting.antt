@@ -6,14 +6,14 @@ use Rattle.octet_model.specs.declared.event.Event.{Event}
 use Rattle.octet_model.specs.declared.outcome.End.{End}
 use Rattle.octet_model.specs.Machine.{journal_of}
 use Rattle.octet_model.specs.Journals.{access_count}
-use Rattle.octet_interp.specs.Told.{told as demand_told}
+use Rattle.octet_interp.specs.Demands.{next_demand}
 use Rattle.octet_state.specs.declared.phase.Phase.{Phase}
 use Rattle.octet_state.specs.declared.phase.Phase.TheVariants.{Off, Idle}
 use Rattle.octet_state.specs.State.{thread_of}
 use Rattle.octet_state.specs.Form.{is_nothing}
 use Rattle.octet_machine.specs.Machine.{MachineState, runner_of, is_idle, is_at_rest, is_access, wanted}
 use Rattle.octet_machine.specs.Running.{IsRunning, IsAt, KeepsUp}
-use Rattle.octet_machine.proofs.Journals.{bounded}
+use Rattle.octet_model.proofs.lemmas.Validity.{valid_script}
 
 is_idle_phase : (p : Phase) → is_idle p ≡ true → p ≡ Idle
 is_idle_phase Idle is = refl
@@ -34,7 +34,7 @@ rests_at m t running lt rests =
 pub few_accesses : (m : MachineState) (t : ℕ) → IsRunning m → t < length m.runners → is_at_rest (thread_of m.protocol t) ≡ true → access_count (journal_of m.protocol.journals t) < 2 ^ 32
 few_accesses m t running lt rests =
     let f = (rests_at m t running lt rests).fuelled in
-    let b = (bounded m.script.fuel m.script.objects m.script.threads m.script.valid).small in
+    let b = (valid_script m.script.fuel m.script.objects m.script.threads m.script.valid).most_fuel in
     omega arith
 
 -- the journal that the thread has
@@ -46,7 +46,7 @@ module _ (m : MachineState) (t : ℕ) where
   count = access_count (journal_of m.protocol.journals t)
 
   abbrev demands : Bool
-  demands = is_access (demand_told (runner_of m t).config)
+  demands = is_access (next_demand (runner_of m t).config)
 
   abbrev rests : Bool
   rests = is_at_rest (thread_of m.protocol t)

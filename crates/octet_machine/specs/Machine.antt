@@ -9,7 +9,7 @@ use Rattle.octet_model.specs.Journals.{access_count}
 use Rattle.octet_model.specs.Orders.{starting_heap}
 use Rattle.octet_interp.specs.declared.demand.Demand.{Demand}
 use Rattle.octet_interp.specs.declared.demand.Demand.TheVariants as demand
-use Rattle.octet_interp.specs.Told.{Standing, starting_standing, told as demand_told, after_told, given}
+use Rattle.octet_interp.specs.Demands.{ThreadState, starting_thread, next_demand, after_demand, given}
 use Rattle.octet_state.specs.declared.act.Mode.{Mode}
 use Rattle.octet_state.specs.declared.act.Mode.TheVariants.{Read, Write}
 use Rattle.octet_state.specs.declared.phase.Phase.{Phase}
@@ -32,8 +32,8 @@ pub record MachineState : Type 0 where
   pub script : Script
 
 -- a thread at its start
-abbrev pub starting_runner : Standing → Runner
-starting_runner standing = record { config = standing; value = 0; end = None }
+abbrev pub starting_runner : ThreadState → Runner
+starting_runner state = record { config = state; value = 0; end = None }
 
 -- there is none of that number
 abbrev pub no_runner : Runner
@@ -44,7 +44,7 @@ runner_of m thread = slice_index_or m.runners thread no_runner
 
 -- the first so many threads of a script, each at its start
 abbrev pub starting_runners : Script → ℕ → List Runner
-starting_runners script many = map (λ thread. starting_runner (starting_standing script thread)) (range_with_len 0 many)
+starting_runners script many = map (λ thread. starting_runner (starting_thread script thread)) (range_with_len 0 many)
 
 -- before the first step
 abbrev pub opening_machine : Script → MachineState
@@ -65,17 +65,17 @@ kind_of_demand (demand.Ended end) = ToBlock true
 -- the next step of a thread that has not ended, by its phase and by what its script demands
 abbrev pub next_kind : MachineState → ℕ → Kind
 next_kind m me = let runner = runner_of m me in
-    next_kind_by (length m.protocol.threads) me (kind_of_demand (demand_told runner.config)) runner.value (thread_of m.protocol me)
+    next_kind_by (length m.protocol.threads) me (kind_of_demand (next_demand runner.config)) runner.value (thread_of m.protocol me)
 
 -- a thread that was told what its script demands next
 abbrev pub taken_up : Demand → Runner → Runner
-taken_up (demand.Write object value) runner = record { config = after_told runner.config; value = value; end = runner.end }
-taken_up (demand.Ended end) runner = record { config = after_told runner.config; value = runner.value; end = Some end }
-taken_up _ runner = record { config = after_told runner.config; value = runner.value; end = runner.end }
+taken_up (demand.Write object value) runner = record { config = after_demand runner.config; value = value; end = runner.end }
+taken_up (demand.Ended end) runner = record { config = after_demand runner.config; value = runner.value; end = Some end }
+taken_up _ runner = record { config = after_demand runner.config; value = runner.value; end = runner.end }
 
 -- what the step of a phase makes of a thread's run. A read gives it the word that it is told
 abbrev pub run_in_phase : ℕ → Phase → Runner → Runner
-run_in_phase word Idle runner = taken_up (demand_told runner.config) runner
+run_in_phase word Idle runner = taken_up (next_demand runner.config) runner
 run_in_phase word (Pass object Read) runner = record { config = given runner.config word; value = runner.value; end = runner.end }
 run_in_phase word _ runner = runner
 
@@ -144,4 +144,4 @@ is_at_rest x = is_idle x.phase && is_nothing x.due
 -- how many accesses the thread has made, where it is idle, owes nothing, and is to demand an access next
 abbrev pub wanted : MachineState → ℕ → Option ℕ
 wanted m thread =
-    if is_at_rest (thread_of m.protocol thread) && is_access (demand_told (runner_of m thread).config) then Some (access_count (journal_of m.protocol.journals thread)) else None
+    if is_at_rest (thread_of m.protocol thread) && is_access (next_demand (runner_of m thread).config) then Some (access_count (journal_of m.protocol.journals thread)) else None

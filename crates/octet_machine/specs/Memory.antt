@@ -12,10 +12,10 @@ use Rattle.octet_state.specs.declared.why.Why.{Why}
 use Rattle.octet_state.specs.State.{Thread, ProtocolState, thread_of, now}
 use Rattle.octet_state.specs.Steps.{Kind, step, told}
 use Rattle.octet_state.specs.NextStep.{waits}
-use Rattle.octet_machine.specs.declared.memory.Stand.{Stand}
+use Rattle.octet_machine.specs.declared.memory.ProtocolThread.{ProtocolThread}
 use Rattle.octet_machine.specs.declared.memory.Memory.{Memory}
 
-abbrev pub thread_in : Stand → Thread
+abbrev pub thread_in : ProtocolThread → Thread
 thread_in x = record { phase = x.phase; due = x.due; count = x.count }
 
 -- the state that the memory holds, of a run that started with these values

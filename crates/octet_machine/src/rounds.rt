@@ -1,6 +1,7 @@
 //! Runs of the machine by picks, and by rounds until all threads have ended.
-ghost use Rattle.std.specs.Prelude.{◌≡◌, ◌<◌, length, IfOk};
+ghost use Rattle.std.specs.Prelude.{◌≡◌, true, length, IfOk};
 ghost use Rattle.octet_model.specs.Orders.{IsFaithful};
+ghost use Rattle.octet_machine.specs.Machine.{have_ended};
 ghost use Rattle.octet_machine.specs.Turns.{after_picks, after_round, EndsByRounds, IsPlayed};
 
 use crate::machine::Machine;
@@ -30,7 +31,9 @@ fn take_round(machine: &mut Machine)
 /// Takes rounds, each a turn of every thread in order, until all threads have ended: the least
 /// number of rounds after which they have.
 pub fn take_rounds<R: Wait>(rt: &R, machine: &mut Machine)
-    ensures { EndsByRounds machine.old machine.new }
+    ensures rounds { EndsByRounds machine.old machine.new }
+    ensures ended { have_ended machine.new ≡ true }
+    ensures script { machine.new.script ≡ machine.old.script }
 {
     for _ in rt.forever() {
         if machine.ended() {

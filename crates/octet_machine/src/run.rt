@@ -5,7 +5,7 @@ ghost use Rattle.octet_machine.specs.Machine.{is_access, is_at_rest, next_waits,
 ghost use Rattle.octet_machine.specs.Memory.{thread_in};
 ghost use Rattle.octet_machine.specs.Run.{machine_in, IsHeld, IsNext, StandsIn, Steps};
 
-use crate::memory::{Memory, Stand};
+use crate::memory::{Memory, ProtocolThread};
 use octet_interp::{Config, Demand};
 use octet_model::{End, Script};
 use octet_state::{Act, Due, Mode, Phase, StateWord, Why, decide};
@@ -38,10 +38,10 @@ fn is_access(demand: Demand) -> bool
 }
 
 // Whether the thread is idle, and owes nothing.
-fn is_at_rest(stand: Stand) -> bool
-    ensures { result ≡ is_at_rest (thread_in stand) }
+fn is_at_rest(thread: ProtocolThread) -> bool
+    ensures { result ≡ is_at_rest (thread_in thread) }
 {
-    match (stand.phase, stand.due) {
+    match (thread.phase, thread.due) {
         (Phase::Idle, Due::Nothing) => true,
         _ => false,
     }
@@ -55,7 +55,7 @@ impl Run {
         requires there { me < length self.now.runners.items }
         ensures { result ≡ wanted (machine_in self.now) me }
     {
-        if !is_at_rest(self.memory.stand(me))
+        if !is_at_rest(self.memory.thread(me))
             || !is_access(self.runners[me as usize].config.peek())
         {
             return None;
@@ -69,8 +69,8 @@ impl Run {
         ensures steps { Steps me self.old self.new }
         ensures waits { result ≡ next_waits (machine_in self.old) me }
     {
-        let stand = self.memory.stand(me);
-        match stand.due {
+        let thread = self.memory.thread(me);
+        match thread.due {
             Due::Glance => {
                 self.memory.glance(me);
                 None
@@ -79,7 +79,7 @@ impl Run {
                 self.memory.answer(me);
                 None
             }
-            Due::Nothing => self.go_on(me, stand.phase),
+            Due::Nothing => self.go_on(me, thread.phase),
         }
     }
 
@@ -136,7 +136,7 @@ impl Run {
         }
     }
 
-    // A draw, or the settling behind it.
+    // A draw, or the settling after it.
     fn go_on_sharing(&mut self, me: u8, object: u16, drawn: Option<u64>)
         requires { StandsIn self.old me (Sharing object drawn) }
         ensures steps { Steps me self.old self.new }
@@ -183,7 +183,7 @@ impl Run {
         ensures steps { Steps me self.old self.new }
         ensures waits { result ≡ next_waits (machine_in self.old) me }
     {
-        let count = self.memory.stand(me).count;
+        let count = self.memory.thread(me).count;
         match decide(&seen, me, &mode, count) {
             Act::Raise => self.memory.raise(me, object, mode, seen),
             Act::Share { from, upto } => self.memory.share(me, object, mode, from, upto),

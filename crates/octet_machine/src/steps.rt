@@ -14,7 +14,7 @@ ghost use Rattle.octet_state.specs.Steps.{ToGlance, ToAnswer, ToBlock, ToUnblock
 ghost use Rattle.octet_state.specs.NextStep.{held_by};
 ghost use Rattle.octet_machine.specs.Memory.{blocked_in, due_by, held, shape, thread_here, waits_here, with_thread, with_event, IsClaimOf, IsThread, IsObject, HasRoom, HasFewDone, TakesStep};
 
-use crate::memory::{Memory, Stand};
+use crate::memory::{Memory, ProtocolThread};
 use octet_model::{Event, Mark};
 use octet_state::{Act, Due, Mode, Phase, StateWord, StatusWord, Why, decide};
 
@@ -180,7 +180,7 @@ impl Memory {
         ensures shape { shape self.new ≡ shape self.old }
     {
         let due = due_by(self.status(me));
-        let phase = self.stand(me).phase;
+        let phase = self.thread(me).phase;
         self.move_to(me, phase, due);
     }
 
@@ -191,7 +191,7 @@ impl Memory {
         ensures shape { shape self.new ≡ shape self.old }
     {
         self.show(me, false);
-        let phase = self.stand(me).phase;
+        let phase = self.thread(me).phase;
         self.move_to(me, phase, Due::Nothing);
     }
 
@@ -238,7 +238,7 @@ impl Memory {
         ensures waits { result ≡ waits_here (ToAsk whom) me self.old }
     {
         let status = self.status(whom);
-        let phase = self.stand(me).phase;
+        let phase = self.thread(me).phase;
         let asked = StatusWord {
             asked: status.asked | bit_of(me),
             ..status
@@ -269,7 +269,7 @@ impl Memory {
         ensures waits { result ≡ waits_here (ToLook whom) me self.old }
     {
         let status = self.status(whom);
-        let phase = self.stand(me).phase;
+        let phase = self.thread(me).phase;
         if status.answers(me) {
             self.join(me, whom, status.upto);
             self.move_to(me, one_done(phase), Due::Nothing);
@@ -294,7 +294,7 @@ impl Memory {
     {
         let state = self.state(object);
         let word = state.pack();
-        let count = self.stand(me).count;
+        let count = self.thread(me).count;
         let act = decide(&state, me, &mode, count);
         let (phase, due) = loaded(act, object, mode, state);
         self.move_to(me, phase, due);
@@ -404,8 +404,8 @@ impl Memory {
         None
     }
 
-    /// Begins to make read-shared an object that was read-exclusive of a thread behind so many of
-    /// its events.
+    /// Begins to make read-shared an object that was read-exclusive of a thread, since its first
+    /// so many events.
     pub(crate) fn share(
         &mut self,
         me: u8,
@@ -481,7 +481,7 @@ impl Memory {
         };
         let due = Due::Nothing;
         let count = number;
-        self.set_stand(me, Stand { phase, due, count });
+        self.set_thread(me, ProtocolThread { phase, due, count });
     }
 
     /// Loads the counter before a read of an object whose draw the thread does not know of.
@@ -499,6 +499,6 @@ impl Memory {
         let phase = Phase::Pass { object, mode };
         let due = Due::Nothing;
         let count = number;
-        self.set_stand(me, Stand { phase, due, count });
+        self.set_thread(me, ProtocolThread { phase, due, count });
     }
 }

@@ -17,14 +17,14 @@ pub share-requires-clause-room : goal.share-requires-clause-room
 share-requires-clause-room c = has_room c.args.self.now c.args.me _ c.requires c.args.object c.args.mode _ refl
 
 raises : (c : goal.After-raise) → kind_here (machine_in c.args.self.now) c.args.me (Want c.args.object c.args.mode (Some c.args.seen)) ≡ ToRaise
-raises c = exchange_is c.args.self.now c.args.me c.args.object c.args.mode c.args.seen c.stand-count.result c.decide.result c.stand-count.ensures c.decide.ensures ∙ ap exchange_of c.in-Raise.is
+raises c = exchange_is c.args.self.now c.args.me c.args.object c.args.mode c.args.seen c.thread-count.result c.decide.result c.thread-count.ensures c.decide.ensures ∙ ap exchange_of c.in-Raise.is
 
 pub returns-in-Raise-clause-steps : goal.returns-in-Raise-clause-steps
 returns-in-Raise-clause-steps c = takes c.args.self.now c.args.me _ c.requires ToRaise _ (raises c) (λ word. refl) refl c.raise.ensures.step c.raise.ensures.shape refl
 
 claims : (c : goal.After-claim) → kind_here (machine_in c.args.self.now) c.args.me (Want c.args.object c.args.mode (Some c.args.seen)) ≡ ToClaim
 claims c =
-    exchange_is c.args.self.now c.args.me c.args.object c.args.mode c.args.seen c.stand-count.result c.decide.result c.stand-count.ensures c.decide.ensures
+    exchange_is c.args.self.now c.args.me c.args.object c.args.mode c.args.seen c.thread-count.result c.decide.result c.thread-count.ensures c.decide.ensures
     ∙ claims_else c.decide.result c.in_default.not-Raise c.in_default.not-Share
 
 pub claim-requires : goal.claim-requires

@@ -1,47 +1,47 @@
-//! Where a thread stands, and its run up to the next command that is told.
+//! Where a thread is, and its run up to the next command that is a demand.
 ghost use Rattle.std.specs.Prelude.{◌≡◌, ◌<◌, ◌≤◌, ◌↔◌, false, length, slice_get, slice_index, All, IfSome, IsNone};
 ghost use Rattle.octet_model.specs.Thread.{moved_to, with_register};
 ghost use Rattle.octet_interp.specs.Leads.{IsLeadTable};
-ghost use Rattle.octet_interp.specs.Registers.{HasRegisters};
-ghost use Rattle.octet_interp.specs.Progress.{configuration_of, is_calculation, leads_away, Calculates, CanPass, HasSmallValue, Obeys};
-ghost use Rattle.octet_interp.specs.Told.{arrived, demand_of, past_told, told_at};
+ghost use Rattle.octet_model.specs.Validity.{HasRegisters};
+ghost use Rattle.octet_interp.specs.Context.{configuration_of, is_calculation, leads_away, Calculates, CanPass, HasSmallValue, Obeys};
+ghost use Rattle.octet_interp.specs.Demands.{at_demand, demand_of_command, past_demand, demand_from};
 
 use crate::Demand;
-use octet_model::{Command, End};
+use octet_model::{Command, End, REGISTERS};
 
 /// A place among a thread's commands, its registers, and the fuel left.
 #[derive(Clone, Copy, Debug)]
-pub(crate) struct Progress {
+pub(crate) struct Context {
     pub(crate) place: usize,
-    pub(crate) registers: [u64; 16],
+    pub(crate) registers: [u64; REGISTERS],
     pub(crate) fuel: u32,
 }
 
 /// One command on, to this place.
-pub(crate) fn move_to(progress: &mut Progress, place: usize)
-    requires { 0 < progress.old.fuel }
-    ensures { configuration_of progress.new ≡ moved_to (configuration_of progress.old) place }
+pub(crate) fn move_to(context: &mut Context, place: usize)
+    requires { 0 < context.old.fuel }
+    ensures { configuration_of context.new ≡ moved_to (configuration_of context.old) place }
 {
-    progress.place = place;
-    progress.fuel -= 1;
+    context.place = place;
+    context.fuel -= 1;
 }
 
 /// One command on, to the next place, with this value in a register.
-pub(crate) fn set_register(progress: &mut Progress, to: u8, value: u64)
-    requires register { to < 16 }
-    requires fuelled { 0 < progress.old.fuel }
-    requires room { progress.old.place < usize.MAX }
-    ensures { configuration_of progress.new ≡ with_register (configuration_of progress.old) to value }
+pub(crate) fn set_register(context: &mut Context, to: u8, value: u64)
+    requires register { to < REGISTERS }
+    requires fuelled { 0 < context.old.fuel }
+    requires room { context.old.place < usize.MAX }
+    ensures { configuration_of context.new ≡ with_register (configuration_of context.old) to value }
 {
-    progress.registers[to as usize] = value;
-    let next = progress.place + 1;
-    move_to(progress, next);
+    context.registers[to as usize] = value;
+    let next = context.place + 1;
+    move_to(context, next);
 }
 
-// The demand of a command that is told.
-fn demand_of(command: Command, registers: &[u64; 16]) -> Option<Demand>
+// The demand of a command, if it is one.
+fn demand_of_command(command: Command, registers: &[u64; REGISTERS]) -> Option<Demand>
     requires { HasRegisters command }
-    ensures demand { result ≡ demand_of command registers.now }
+    ensures demand { result ≡ demand_of_command command registers.now }
     ensures small { IfSome result HasSmallValue }
 {
     match command {
@@ -56,15 +56,15 @@ fn demand_of(command: Command, registers: &[u64; 16]) -> Option<Demand>
     }
 }
 
-fn value_in(registers: &[u64; 16], register: u8) -> u64
-    requires { register < 16 }
+fn value_in(registers: &[u64; REGISTERS], register: u8) -> u64
+    requires { register < REGISTERS }
     ensures { result ≡ slice_index registers.now register }
 {
     registers[register as usize]
 }
 
 // The register that a command sets, if it sets one, and its value.
-fn calculated(command: Command, registers: &[u64; 16]) -> Option<(u8, u64)>
+fn calculated(command: Command, registers: &[u64; REGISTERS]) -> Option<(u8, u64)>
     requires { HasRegisters command }
     ensures none { IsNone result ↔ (is_calculation command ≡ false) }
     ensures some { IfSome result (Calculates command registers.now) }
@@ -100,7 +100,7 @@ fn calculated(command: Command, registers: &[u64; 16]) -> Option<(u8, u64)>
 }
 
 // Whether a command leads away from the next place.
-fn leads_away(command: Command, registers: &[u64; 16]) -> bool
+fn leads_away(command: Command, registers: &[u64; REGISTERS]) -> bool
     requires { HasRegisters command }
     ensures { result ≡ leads_away command registers.now }
 {
@@ -111,58 +111,58 @@ fn leads_away(command: Command, registers: &[u64; 16]) -> bool
     }
 }
 
-// One command that nobody is told of; the lead is where it leads, if it leads away.
-fn obey(progress: &mut Progress, command: Command, lead: usize)
+// One command that is no demand; the lead is where it leads, if it leads away.
+fn obey(context: &mut Context, command: Command, lead: usize)
     requires registers { HasRegisters command }
-    requires fuelled { 0 < progress.old.fuel }
-    requires room { progress.old.place < usize.MAX }
-    ensures { Obeys command lead (configuration_of progress.old) (configuration_of progress.new) }
+    requires fuelled { 0 < context.old.fuel }
+    requires room { context.old.place < usize.MAX }
+    ensures { Obeys command lead (configuration_of context.old) (configuration_of context.new) }
 {
-    if let Some((to, value)) = calculated(command, &progress.registers) {
-        set_register(progress, to, value);
+    if let Some((to, value)) = calculated(command, &context.registers) {
+        set_register(context, to, value);
         return;
     }
-    if leads_away(command, &progress.registers) {
-        move_to(progress, lead);
+    if leads_away(command, &context.registers) {
+        move_to(context, lead);
         return;
     }
-    let next = progress.place + 1;
-    move_to(progress, next);
+    let next = context.place + 1;
+    move_to(context, next);
 }
 
-/// Runs on to the next command that is told, or to the thread's end, and tells it.
-pub(crate) fn advance(commands: &[Command], leads: &[usize], progress: &mut Progress) -> Demand
+/// Runs on to the next command that is a demand, or to the thread's end, and answers the demand.
+pub(crate) fn advance(commands: &[Command], leads: &[usize], context: &mut Context) -> Demand
     requires registers { All HasRegisters commands.now }
     requires leads { IsLeadTable commands.now leads.now }
-    ensures arrived { configuration_of progress.new ≡ arrived commands.now (configuration_of progress.old) }
-    ensures told { result ≡ told_at (slice_get commands.now progress.new.place) (configuration_of progress.new) }
-    ensures fuel { progress.new.fuel ≤ progress.old.fuel }
-    ensures ready { CanPass result progress.new.place progress.new.fuel (length commands.now) }
+    ensures at_demand { configuration_of context.new ≡ at_demand commands.now (configuration_of context.old) }
+    ensures demand { result ≡ demand_from (slice_get commands.now context.new.place) (configuration_of context.new) }
+    ensures fuel { context.new.fuel ≤ context.old.fuel }
+    ensures ready { CanPass result context.new.place context.new.fuel (length commands.now) }
     ensures small { HasSmallValue result }
 {
-    while progress.place < commands.len() {
-        if progress.fuel == 0 {
+    while context.place < commands.len() {
+        if context.fuel == 0 {
             return Demand::Ended { end: End::Spent };
         }
-        let command = commands[progress.place];
-        if let Some(demand) = demand_of(command, &progress.registers) {
+        let command = commands[context.place];
+        if let Some(demand) = demand_of_command(command, &context.registers) {
             return demand;
         }
-        let lead = leads[progress.place];
-        obey(progress, command, lead);
+        let lead = leads[context.place];
+        obey(context, command, lead);
     }
     Demand::Ended { end: End::Done }
 }
 
 /// Goes past a demand: a read stays where it is till its value comes, and so does the end.
-pub(crate) fn pass(progress: &mut Progress, demand: Demand)
-    requires ready { CanPass demand progress.old.place progress.old.fuel usize.MAX }
-    ensures { configuration_of progress.new ≡ past_told demand (configuration_of progress.old) }
+pub(crate) fn pass(context: &mut Context, demand: Demand)
+    requires ready { CanPass demand context.old.place context.old.fuel usize.MAX }
+    ensures { configuration_of context.new ≡ past_demand demand (configuration_of context.old) }
 {
     match demand {
         Demand::Write { .. } | Demand::Safe | Demand::Pause => {
-            let next = progress.place + 1;
-            move_to(progress, next);
+            let next = context.place + 1;
+            move_to(context, next);
         }
         Demand::Read { .. } | Demand::Ended { .. } => {}
     }

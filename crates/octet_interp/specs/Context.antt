@@ -4,14 +4,14 @@ use Rattle.octet_model.specs.declared.command.Command.{Command}
 use Rattle.octet_model.specs.declared.command.Command.TheVariants.{Set, Copy, Add, Sub, Mul, Xor, Less, Same, Read, Loop, Branch, Close}
 use Rattle.octet_model.specs.Thread.{Configuration, stepped, with_register}
 use Rattle.octet_interp.specs.Leads.{lead_of, IsLeadTable}
-use Rattle.octet_model.specs.Validity.{HasRegisters, HasObject}
+use Rattle.octet_model.specs.Validity.{IsRegister, HasRegisters, HasObject}
 use Rattle.octet_interp.specs.declared.demand.Demand.{Demand}
 use Rattle.octet_interp.specs.declared.demand.Demand.TheVariants.{Read, Write, Ended}
-use Rattle.octet_interp.specs.declared.progress.Progress.{Progress}
+use Rattle.octet_interp.specs.declared.context.Context.{Context}
 
 -- the configuration that the code keeps
-abbrev pub configuration_of : Progress → Configuration
-configuration_of progress = record { place = progress.place; registers = progress.registers; fuel = progress.fuel }
+abbrev pub configuration_of : Context → Configuration
+configuration_of context = record { place = context.place; registers = context.registers; fuel = context.fuel }
 
 -- the value of a write is below 2 ^ 64
 abbrev pub HasSmallValue : Demand → Type 0
@@ -33,7 +33,7 @@ is_calculation _ = false
 -- with these registers, the command gives the register of the first number the value of the second
 abbrev pub Calculates : Command → List ℕ → ℕ × ℕ → Type 0
 Calculates command registers result =
-    (result.0 < 16) × ((commands : List Command) (c : Configuration) → c.registers ≡ registers → stepped commands c command ≡ with_register c result.0 result.1)
+    (IsRegister result.0) × ((commands : List Command) (c : Configuration) → c.registers ≡ registers → stepped commands c command ≡ with_register c result.0 result.1)
 
 -- an opener where its register is 0, and an end
 abbrev pub leads_away : Command → List ℕ → Bool
@@ -57,8 +57,8 @@ WaitsAt (Some (Read to object)) fuel = 0 < fuel
 WaitsAt _ fuel = ⊥
 
 -- commands of a thread of so many objects, with the table of their leads, and a read where one waits
-pub record IsConsistent (commands : List Command) (leads : List ℕ) (objects : ℕ) (progress : Progress) (waits : Bool) : Type 0 where
+pub record IsConsistent (commands : List Command) (leads : List ℕ) (objects : ℕ) (context : Context) (waits : Bool) : Type 0 where
   pub registers_there : All HasRegisters commands
   pub objects_there : All (HasObject objects) commands
   pub led : IsLeadTable commands leads
-  pub read_waits : waits ≡ true → WaitsAt (slice_get commands progress.place) progress.fuel
+  pub read_waits : waits ≡ true → WaitsAt (slice_get commands context.place) context.fuel
