@@ -59,11 +59,11 @@ opening_is_running script =
     }
 
 -- what is made of vectors of so many equal items
-pub opens : (m : Memory) (threads number : ℕ) (stand : ProtocolThread) (starts : List ℕ) → m.counter ≡ 0 → m.statuses.items ≡ replicate threads resting → m.states.items ≡ replicate number (WrEx 0) → number ≡ length starts → m.cells.items ≡ starts
-    → m.threads.items ≡ replicate threads stand → thread_in thread ≡ unstarted → map (λ j. j.events.items) m.journals.items ≡ replicate threads [] → held starts m ≡ opening threads starts
-opens m threads number stand starts none statuses states many cells stands start journals =
+pub opens : (m : Memory) (threads number : ℕ) (thread : ProtocolThread) (starts : List ℕ) → m.counter ≡ 0 → m.statuses.items ≡ replicate threads resting → m.states.items ≡ replicate number (WrEx 0) → number ≡ length starts → m.cells.items ≡ starts
+    → m.threads.items ≡ replicate threads thread → thread_in thread ≡ unstarted → map (λ j. j.events.items) m.journals.items ≡ replicate threads [] → held starts m ≡ opening threads starts
+opens m threads number thread starts none statuses states many cells stands start journals =
     let shown : m.states.items ≡ replicate (length starts) (WrEx 0) = states ∙ ap (λ (n : ℕ). replicate n (WrEx 0)) many in
-    let standing : map thread_in m.threads.items ≡ replicate threads unstarted = ap (map thread_in) stands ∙ map_replicate thread_in threads stand ∙ ap (replicate threads) start in
+    let standing : map thread_in m.threads.items ≡ replicate threads unstarted = ap (map thread_in) stands ∙ map_replicate thread_in threads thread ∙ ap (replicate threads) start in
     let events : map (λ j. j.events.items) m.journals.items ≡ no_events (replicate threads unstarted) = journals ∙ sym (map_replicate (λ (x : Thread). []) threads unstarted) in
     λ i. record { counter = none i; statuses = statuses i; states = shown i; cells = cells i; threads = standing i; journals = events i; starts = starts }
 
