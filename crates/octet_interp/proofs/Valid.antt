@@ -1,12 +1,11 @@
 -- What the validity of a script says of one of its threads.
-use Rattle.std.proofs.Common.{◌≡◌, ℕ, ◌<◌, Bool, true, false, ◌&&◌, IsTrue, List, length, All, get_or, nat_lt, refl, sym, subst₂, ◌∙◌}
+use Rattle.std.proofs.Common.{◌≡◌, ℕ, ◌<◌, Bool, true, false, IsTrue, List, length, All, get_or, refl, sym, subst₂, ◌∙◌}
 use Rattle.std.specs.List.{list_all}
-use Rattle.std.proofs.lemmas.Bool.{and_parts, ltb-true}
+use Rattle.std.proofs.lemmas.Bool.{and_parts}
 use Rattle.std.proofs.lemmas.List.Folds.{list_all_at}
 use Rattle.octet_model.specs.declared.command.Command.{Command}
-use Rattle.octet_model.specs.declared.command.Command.TheVariants.{Set, Copy, Add, Sub, Mul, Xor, Less, Same, Read, Write, Loop, Branch}
 use Rattle.octet_model.specs.declared.object.Object.{Object}
-use Rattle.octet_model.specs.Script.{is_command, is_nested, is_thread, is_script}
+use Rattle.octet_model.specs.Script.{is_thread, is_script}
 use Rattle.octet_interp.specs.declared.context.Context.{Context}
 use Rattle.octet_interp.specs.Leads.{IsLeadTable}
 use Rattle.octet_model.specs.Validity.{IsCommand}

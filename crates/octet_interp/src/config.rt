@@ -5,8 +5,8 @@ ghost use Rattle.octet_model.specs.Validity.{IsCommand};
 ghost use Rattle.octet_interp.specs.Demands.{after_demand, given, is_read, starting_thread, next_demand, IsPossible, TakesFuel};
 
 use crate::Demand;
-use crate::leads::find_leads;
 use crate::context::{Context, advance, pass, set_register};
+use crate::leads::find_leads;
 use octet_model::{Command, OutOfMemory, REGISTERS, Script};
 use std::alloc::Global;
 use std::marker::Model;

@@ -157,7 +157,10 @@ fn loops_nest_and_branches_go_on(rt: HostRuntime) -> Result<(), Fail> {
         Command::Close,
     ];
     let next_demand = [written(2), written(1), written(2), written(1), DONE];
-    assert_eq!(rt; demands(alloc, 100, &nested)?.as_slice(), next_demand.as_slice());
+    assert_eq!(rt;
+        demands(alloc, 100, &nested)?.as_slice(),
+        next_demand.as_slice()
+    );
     let branches = [
         Command::Branch { test: 0 },
         Command::Safe,
@@ -170,7 +173,10 @@ fn loops_nest_and_branches_go_on(rt: HostRuntime) -> Result<(), Fail> {
         Command::Close,
     ];
     let next_demand = [Demand::Pause, READ, Demand::Safe, written(7), DONE];
-    assert_eq!(rt; demands(alloc, 100, &branches)?.as_slice(), next_demand.as_slice());
+    assert_eq!(rt;
+        demands(alloc, 100, &branches)?.as_slice(),
+        next_demand.as_slice()
+    );
     Ok(())
 }
 
@@ -205,7 +211,10 @@ fn arithmetic_wraps(rt: HostRuntime) -> Result<(), Fail> {
         written(u64::MAX - 2),
         DONE,
     ];
-    assert_eq!(rt; demands(alloc, 10, &sums)?.as_slice(), next_demand.as_slice());
+    assert_eq!(rt;
+        demands(alloc, 10, &sums)?.as_slice(),
+        next_demand.as_slice()
+    );
     let tests = [
         set(left, u64::MAX),
         set(right, 2),
@@ -227,6 +236,9 @@ fn arithmetic_wraps(rt: HostRuntime) -> Result<(), Fail> {
         write(to),
     ];
     let next_demand = [written(1), written(0), written(1), written(0), DONE];
-    assert_eq!(rt; demands(alloc, 10, &tests)?.as_slice(), next_demand.as_slice());
+    assert_eq!(rt;
+        demands(alloc, 10, &tests)?.as_slice(),
+        next_demand.as_slice()
+    );
     Ok(())
 }

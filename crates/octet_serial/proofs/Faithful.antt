@@ -125,14 +125,14 @@ log_valid script js heap owners bound r =
     let at_k : get_or logs k d ≡ log_of_journal (journal_of js k) = get_or-map log_of_journal js k [] d (omega (arith, length-map js log_of_journal)) in
     omega (arith, ap (λ (log : ThreadLog). log.accesses) at_k, (r.is_paired k).fuelled) in
     let sum : sum_by (λ log. log.accesses) logs ≤ length script.threads * script.fuel = subst (λ (n : ℕ). sum_by (λ log. log.accesses) logs ≤ n * script.fuel) as_many (sum_by-le (λ (log : ThreadLog). log.accesses) script.fuel logs each) in
-    let total : sum_by (λ log. log.accesses) logs ≤ 262144 = omega (arith, bound.in_all) in
+    let total : sum_by (λ log. log.accesses) logs ≤ 262144 = omega (arith, bound.fuel_of_all) in
     and_from _ _
     (and_from _ _
-    (and_from _ _ (le-leb 1 (length logs) (omega (arith, bound.some_thread))) (le-leb (length logs) 16 (omega (arith, bound.few_threads))))
+    (and_from _ _ (le-leb 1 (length logs) (omega (arith, bound.some_threads))) (le-leb (length logs) 16 (omega (arith, bound.most_threads))))
     (le-leb (sum_by (λ log. log.accesses) logs) 262144 total))
     (thread_logs_valid (length logs) 0 js (λ u.
     subst (λ (n : ℕ). is_thread_log n (0 + u) (log_of_journal (journal_of js u)) ≡ true) (sym (length-map js log_of_journal))
-    (ap (λ (t : ℕ). is_thread_log (length js) t (log_of_journal (journal_of js u))) (omega arith) ∙ thread_log_valid (length js) u script.fuel (journal_of js u) bound.small (r.is_paired u) (λ k mark is. r.has_valid_marks (record { thread = u; event = k }) mark is))))
+    (ap (λ (t : ℕ). is_thread_log (length js) t (log_of_journal (journal_of js u))) (omega arith) ∙ thread_log_valid (length js) u script.fuel (journal_of js u) bound.most_fuel (r.is_paired u) (λ k mark is. r.has_valid_marks (record { thread = u; event = k }) mark is))))
 
 ends_are : (fuel : ℕ) (threads : List (List Command)) (js : Journals) (ends : List End) → length js ≡ length threads → length ends ≡ length threads
     → ((t : ℕ) (end : End) → slice_get ends t ≡ Some end → demanded (get_or threads t []) (configuration_after (get_or threads t []) (starting_configuration fuel) (journal_of js t)) ≡ ToEnd end)
