@@ -99,8 +99,8 @@ request_own (OfLog Show log) contents' answer (inr (read, is-read, is)) = own an
 request_own (OfPair command script log object) contents' answer (inl read) = pair_own script log object contents' answer read
 request_own (OfPair command script log object) contents' answer (inr (pair, read, inl (fault, memory, cause, is))) = own answer (does_not_fit fault) is refl
 request_own (OfPair command script log object) contents' answer (inr (pair, read, inr (lawful, tells))) = tells_own command pair answer tells
-request_own (Run task script log) contents' answer (inl read) = script_own script contents' answer read
-request_own (Run task script log) contents' answer (inr (source, read, (recorded, outcome, faithful, is))) = own answer (writes_file log (log_bytes recorded.threads) (outcome_text source.script outcome)) is refl
+request_own (Run way script log) contents' answer (inl read) = script_own script contents' answer read
+request_own (Run way script log) contents' answer (inr (source, read, (recorded, outcome, faithful, is))) = own answer (writes_file log (log_bytes recorded.threads) (outcome_text source.script outcome)) is refl
 request_own (Gen number script log) contents' answer (made, recorded, outcome, generated, faithful, is) = own answer (writes_both (script, canonical_text made) (log, log_bytes recorded.threads) summary) is refl
 
 answers_own : (request : Option Request) (contents' : Option Contents) (answer : Answer) → Answers request contents' answer → Own answer

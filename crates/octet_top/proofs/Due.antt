@@ -159,7 +159,7 @@ request_status : (t : Contents) (request : Request) (a b : Answer) → RequestAn
 request_status t (OfScript Tidy script) a b = one_status (IsScriptRead script (Some t)) (ScriptAnswers Tidy) (script_single t script) (λ source x y is is'. as_said x y (says exit.Done (canonical_text source.script)) (says exit.Done (canonical_text source.script)) is is' refl) a b
 request_status t (OfLog Show log) a b = one_status (IsLogRead log (Some t)) (LogAnswers Show) (log_single t log) (λ read x y is is'. as_said x y (says exit.Done (log_text read.threads)) (says exit.Done (log_text read.threads)) is is' refl) a b
 request_status t (OfPair command script log object) a b = one_status (IsPairRead script log object (Some t)) (PairAnswers command) (pair_single t script log object) (pair_status command) a b
-request_status t (Run task script log) a b = one_status (IsScriptRead script (Some t)) (RunAnswers task log) (script_single t script) (λ source x y p q. as_said x y _ _ p.3 q.3 refl) a b
+request_status t (Run way script log) a b = one_status (IsScriptRead script (Some t)) (RunAnswers way log) (script_single t script) (λ source x y p q. as_said x y _ _ p.3 q.3 refl) a b
 request_status t (Gen number script log) a b = λ p q. as_said a b _ _ p.5 q.5 refl
 
 answers_status : (t : Contents) (request : Option Request) (a b : Answer) → Answers request (Some t) a → Answers request (Some t) b → a.status ≡ b.status

@@ -6,18 +6,17 @@ use Rattle.octet_base.specs.declared.fault.DeskFault.{DeskFault}
 use Rattle.octet_base.specs.declared.fault.DeskFault.TheVariants as fault
 use Rattle.octet_model.specs.declared.list.OutOfMemory.{OutOfMemory as NoMemory}
 use Rattle.octet_model.specs.Texts.{log_bytes, outcome_text}
-use Rattle.octet_model.proofs.Short.{faithful_log_is_short}
+use Rattle.octet_model.proofs.lemmas.LogLength.{faithful_log_is_short}
 use Rattle.octet_top.specs.declared.reply.Reply.{Reply}
 use Rattle.octet_top.specs.declared.reply.Status.TheVariants.{Done}
 use Rattle.octet_top.specs.Answer.{Answer, answer_of, writes_file}
-use Rattle.octet_top.specs.Request.{Run, request_in}
+use Rattle.octet_top.specs.Request.{Way, Run, request_in}
 use Rattle.octet_top.specs.Inputs.{with_calls}
 use Rattle.octet_top.specs.Commands.{Answers, RequestAnswers}
 use Rattle.octet_top.specs.Replies.{Replies, Finds}
 use Rattle.octet_top.specs.Delivery.{Makes, acts_of, code_after, IsGiven, IsServed}
 use Rattle.octet_top.specs.Written.{IsWhole}
 use Rattle.octet_top.specs.Promises.{IsFaithfulRun, RunsFaithfully, IsOrderedPair, VerifiesOrdered, RepeatsRecordings}
-use Rattle.octet_top.specs.declared.request.RunTask.{RunTask}
 use Rattle.octet_top.proofs.Recorded.{recorded_faithfully}
 use Rattle.octet_top.proofs.Causes.{same_status}
 use Rattle.octet_model.specs.declared.outcome.Outcome.{Outcome}
@@ -45,7 +44,7 @@ use Rattle.octet_model.specs.declared.script.Script.{Script}
 use Rattle.octet_model.specs.declared.log.ThreadLog.{ThreadLog}
 use Rattle.octet_model.specs.Journals.{log_of_journal, log_of}
 use Rattle.octet_model.specs.Orders.{journals_after}
-use Rattle.octet_model.proofs.Following.{lawful_order_has_its_log, lawful_order_fits}
+use Rattle.octet_model.proofs.lemmas.LawfulOrders.{lawful_order_has_its_log, lawful_order_fits}
 use Rattle.octet_gen.specs.Generated.{IsGenerated}
 use Rattle.octet_gen.proofs.Accesses.{script_makes_its_accesses}
 
@@ -110,10 +109,10 @@ at_success words before after code contents contents' served zero tells tells' =
     by (Err none) found (same, is) = absurd (omega (arith, zero, is))
 
 -- a run
-recorded : (task : RunTask) (script log : List ℕ) (contents contents' : Contents) (answer : Answer) → RequestAnswers (Run task script log) (Some contents) answer → answer.status ≡ Done → IsWhole answer contents contents' → IsFaithfulRun script log contents contents'
-recorded task script log contents contents' answer (inl refused) done given = absurd (script_short script (Some contents) answer refused done)
-recorded task script log contents contents' answer (inr (source, (text, taken, parsed), (logged, outcome, records, is))) done given =
-    let faithful = recorded_faithfully task source.script logged outcome records in
+recorded : (way : Way) (script log : List ℕ) (contents contents' : Contents) (answer : Answer) → RequestAnswers (Run way script log) (Some contents) answer → answer.status ≡ Done → IsWhole answer contents contents' → IsFaithfulRun way script log contents contents'
+recorded way script log contents contents' answer (inl refused) done given = absurd (script_short script (Some contents) answer refused done)
+recorded way script log contents contents' answer (inr (source, (text, taken, parsed), (logged, outcome, records, is))) done given =
+    let faithful = recorded_faithfully way source.script logged outcome records in
     let said : IsWhole (writes_file log (log_bytes logged.threads) (outcome_text source.script outcome)) contents contents' = subst (λ (a : Answer). IsWhole a contents contents') is given in
     record {
       text = text;
@@ -126,12 +125,13 @@ recorded task script log contents contents' answer (inr (source, (text, taken, p
       within_limit = omega (arith, faithful_log_is_short source.script logged.threads outcome faithful logged.valid);
       contents = said.said;
       faithful = faithful;
+      recorded = records;
     }
 
 pub headline : (words : List (List ℕ)) (before after : DeskState) (code : ℕ) → IsServed (request_in words) before after code → RunsFaithfully words before after code
-headline words before after code served task script log contents contents' asked zero tells tells' =
+headline words before after code served way script log contents contents' asked zero tells tells' =
     let success = at_success words before after code contents contents' served zero tells tells' in
-    recorded task script log contents contents' success.answer (subst (λ request. Answers request (Some contents) success.answer) asked success.answers) success.done success.given
+    recorded way script log contents contents' success.answer (subst (λ request. Answers request (Some contents) success.answer) asked success.answers) success.done success.given
 
 -- a check
 verified : (script log : List ℕ) (contents : Option Contents) (answer : Answer) → RequestAnswers (OfPair Verify script log None) contents answer → answer.status ≡ Done → IsOrderedPair script log contents
