@@ -1,349 +1,190 @@
--- From the words and the files to the status that is due.
-use Rattle.std.proofs.Common.{◌≡◌, ◌∙◌, ◌<◌, ◌⊎◌, ℕ, List, length, Option, None, Some, IsSomeAnd, inl, inr, sym, ap, subst, refl, arith}
+-- Where files are told, words have answers of one status alone.
+use Rattle.std.proofs.Common.{◌≡◌, ◌∙◌, ◌⊎◌, ◌<◌, ℕ, List, length, Option, None, Some, IsSomeAnd, Result, Ok, Err, inl, inr, ap, sym, refl, subst, arith, IsTrue}
 use Rattle.std.specs.FinMap.{get}
-use Rattle.octet_base.specs.Desk.{Files, Rose, spoken}
+use std.HLevel.{prop→path_p}
+use Rattle.std.proofs.Props.{props}
+use Rattle.octet_base.specs.Desk.{Contents, DeskState}
+use Rattle.octet_base.specs.declared.fault.DeskFault.{DeskFault}
+use Rattle.octet_base.specs.declared.fault.DeskFault.TheVariants as fault
+use Rattle.octet_model.specs.Log.{is_log}
+use Rattle.octet_model.specs.declared.list.OutOfMemory.{OutOfMemory as NoMemory}
 use Rattle.octet_model.specs.declared.script.Script.{Script}
 use Rattle.octet_model.specs.declared.log.Log.{Log}
-use Rattle.octet_model.specs.declared.log.ThreadLog.{ThreadLog}
-use Rattle.octet_model.specs.declared.outcome.Outcome.{Outcome}
-use Rattle.octet_model.specs.Texts.{log_bytes, outcome_text}
-use Rattle.octet_model.specs.Orders.{execution, journals_after, lowest_order}
-use Rattle.octet_script.specs.declared.cause.ScriptCause.{ScriptCause}
 use Rattle.octet_script.specs.Spelling.{canonical_text}
 use Rattle.octet_script.proofs.Spelled.{spells_judged, one_script}
-use Rattle.octet_log.specs.declared.cause.LogCause.{LogCause}
-use Rattle.octet_log.specs.Judgement.{judgement}
+use Rattle.octet_log.specs.Judgement as log
 use Rattle.octet_log.specs.Texts.{log_text}
 use Rattle.octet_log.proofs.Whole.{judgement_is, one_log}
-use Rattle.octet_replay.specs.Judged.{IsLawful}
-use Rattle.octet_replay.proofs.Answered.{faithful, not_refused}
+use Rattle.octet_replay.proofs.Answered.{not_refused}
 use Rattle.octet_clock.specs.declared.verdict.Verdict.{Verdict}
 use Rattle.octet_clock.specs.declared.verdict.Verdict.TheVariants as verdict
 use Rattle.octet_clock.specs.Verified.{IsVerified}
+use Rattle.octet_top.specs.declared.inputs.Pair.{Pair}
+use Rattle.octet_top.specs.declared.request.ScriptTask.TheVariants.{Tidy}
+use Rattle.octet_top.specs.declared.request.LogTask.TheVariants.{Show}
+use Rattle.octet_top.specs.declared.request.PairTask.{PairTask}
+use Rattle.octet_top.specs.declared.request.PairTask.TheVariants.{Replay, Verify, Profile}
+use Rattle.octet_top.specs.declared.reply.Reply.{Reply}
 use Rattle.octet_top.specs.declared.reply.Status.{Status}
 use Rattle.octet_top.specs.declared.reply.Status.TheVariants as exit
-use Rattle.octet_top.specs.Answer.{Answer, code_of, told, writes_and_tells, not_a_command, no_such_object, read_failed, too_long, script_refused, log_refused, does_not_fit, verdict_told}
-use Rattle.octet_top.specs.Profile.{profile_text, KnowsObject}
-use Rattle.octet_top.specs.Taking.{Taking, Parsing, Decoding, TakingScript, TakingLog, IsTaken, IsAbsent, IsTooLong, Refuses, RefusesLog, script_limit, log_limit}
-use Rattle.octet_top.specs.Request.{Command, Run, Tidy, Show, Replay, Verify, Profile, Gen, Asks, script_taken, log_taken}
-use Rattle.octet_top.specs.Commands.{IsAnswer, AreAnswered, CommandAnswers, IsRecording, Fitting, TellsOutcome, TellsVerdict, TellsCounts, IsReplayed, IsVerdictTold, IsProfiled, Choosing}
-use Rattle.octet_top.specs.Serving.{DeskState}
-use Rattle.octet_top.specs.Promises.{IsThere, HasScript, HasLog, HasRecording, HasFiles, IsWellMet, RepeatsRecordings}
-use Rattle.octet_top.specs.Due.{IsOver, ReachesTake, HasLawful, OrdersAll, HasAll, IsDue}
-use Rattle.octet_top.proofs.Promises.{same_value, answers_to, status_is, given_at}
+use Rattle.octet_top.specs.Answer.{Answer, answer_of, code_of, says, not_a_command, read_failed, too_long, script_refused, log_refused, verdict_said}
+use Rattle.octet_top.specs.Request.{Request, OfScript, OfLog, OfPair, Run, Gen, request_in, script_limit, log_limit}
+use Rattle.octet_top.specs.Inputs.{◌>>=◌, IsTaken, IsParsed, IsDecoded, IsChosen, IsScriptRead, IsLogRead, IsScriptChosen, IsPairRead}
+use Rattle.octet_top.specs.Replies.{Replies}
+use Rattle.octet_top.specs.Delivery.{Makes, acts_of, code_after, IsGiven, IsServed}
+use Rattle.octet_top.specs.Causes.{IsDue, NoneFailed}
+use Rattle.octet_top.proofs.Causes.{makes_keep, makes_fail}
+use Rattle.octet_top.specs.Commands.{Answering, Answers, RequestAnswers, IsAnswer, ScriptAnswers, LogAnswers, PairAnswers, PairSays, RunAnswers}
 
--- what is told of a file excludes the rest
-taken_is : (files : Option Files) (name bytes taken : List ℕ) (limit : ℕ) → IsThere files name limit bytes → IsTaken files name limit taken → bytes ≡ taken
-taken_is (Some fs) name bytes taken limit there is = same_value bytes taken (sym there.0 ∙ is.0)
-taken_is None name bytes taken limit there is = absurd there.0
+-- a step ends in one way
+pub record Single {A : Type 0} (Step : Result A Answer → Type 0) : Type 0 where
+  pub one : (x y : A) → Step (Ok x) → Step (Ok y) → x ≡ y
+  pub never : (x : A) (a : Answer) → Step (Ok x) → Step (Err a) → ⊥
+  pub same : (a b : Answer) → Step (Err a) → Step (Err b) → a ≡ b
 
-not_absent : (files : Option Files) (name bytes : List ℕ) (limit : ℕ) → IsThere files name limit bytes → IsAbsent files name → ⊥
-not_absent (Some fs) name bytes limit there absent = let both = sym there.0 ∙ absent in cc
-not_absent None name bytes limit there absent = absurd there.0
+both : (x y z : Answer) → x ≡ z → y ≡ z → x ≡ y
+both x y z is is' = is ∙ sym is'
+
+-- and so do steps one after the other
+then_single : {A B : Type 0} (first : Result A Answer → Type 0) (next : A → Result B Answer → Type 0) → Single first → ((x : A) → Single (next x)) → Single (first >>= next)
+then_single {A} {B} first next f n = record {
+  one = λ u v p q. (n p.0).one u v p.2 (subst (λ x. next x (Ok v)) (f.one q.0 p.0 q.1 p.1) q.2);
+  never = λ u a p q. elim q [
+    | inl refused ↦ f.never p.0 a p.1 refused
+    | inr (x, is, refused) ↦ (n p.0).never u a p.2 (subst (λ y. next y (Err a)) (f.one x p.0 is p.1) refused)
+  ];
+  same = λ a b p q. elim p [
+    | inl refused ↦ elim q [ inl refused' ↦ f.same a b refused refused' | inr (y, is, refused') ↦ absurd (f.never y a is refused) ]
+    | inr (x, is, refused) ↦ elim q [
+      | inl refused' ↦ absurd (f.never x b is refused')
+      | inr (y, is', refused') ↦ (n x).same a b refused (subst (λ z. next z (Err b)) (f.one y x is' is) refused')
+    ]
+  ];
+}
+
+value_single : {A : Type 0} (value : A) → Single {A = A} (λ read. read ≡ Ok value)
+value_single value = record { one = λ x y p q. cc; never = λ x a p q. cc; same = λ a b p q. cc }
 
 -- the length of a file that is there
-of_length : (file : Option (List ℕ)) (bytes : List ℕ) (limit : ℕ) → file ≡ Some bytes → IsSomeAnd file (λ b. limit < length b) → limit < length bytes
-of_length None bytes limit is long = absurd long
-of_length (Some b) bytes limit is long = omega (arith, long, ap (λ (x : List ℕ). length x) (same_value b bytes is))
+over : (file : Option (List ℕ)) (bytes : List ℕ) (limit : ℕ) → file ≡ Some bytes → IsSomeAnd file (λ b. limit < length b) → limit < length bytes
+over None bytes limit is long = absurd long
+over (Some b) bytes limit is long = let same : b ≡ bytes = cc in rw (← same) long
 
-none_of_length : (file : Option (List ℕ)) (limit : ℕ) → file ≡ None → IsSomeAnd file (λ b. limit < length b) → ⊥
-none_of_length None limit is long = long
-none_of_length (Some b) limit is long = absurd cc
+over_none : (file : Option (List ℕ)) (limit : ℕ) → file ≡ None → IsSomeAnd file (λ b. limit < length b) → ⊥
+over_none None limit is long = long
+over_none (Some b) limit is long = cc
 
-not_too_long : (files : Option Files) (name bytes : List ℕ) (limit : ℕ) → IsThere files name limit bytes → IsTooLong files name limit → ⊥
-not_too_long (Some fs) name bytes limit there long = omega (arith, of_length (get fs name) bytes limit there.0 long, there.1)
-not_too_long None name bytes limit there long = there.0
+taken_single : (name : List ℕ) (limit : ℕ) (t : Contents) → Single (IsTaken name limit (Some t))
+taken_single name limit t = record {
+  one = λ x y p q. (let both = sym p.0 ∙ q.0 in cc);
+  never = λ x a p q. elim q [
+    | inl (absent, is) ↦ (let both = sym p.0 ∙ absent in cc)
+    | inr (long, is) ↦ omega (arith, over (get t.files name) x limit p.0 long, p.1)
+  ];
+  same = λ a b p q. elim p [
+    | inl (absent, is) ↦ elim q [ inl (absent', is') ↦ both a b read_failed is is' | inr (long, is') ↦ absurd (over_none (get t.files name) limit absent long) ]
+    | inr (long, is) ↦ elim q [ inl (absent, is') ↦ absurd (over_none (get t.files name) limit absent long) | inr (long', is') ↦ both a b (too_long name limit) is is' ]
+  ];
+}
 
-absent_not_too_long : (files : Option Files) (name : List ℕ) (limit : ℕ) → IsAbsent files name → IsTooLong files name limit → ⊥
-absent_not_too_long (Some fs) name limit absent long = none_of_length (get fs name) limit absent long
-absent_not_too_long None name limit absent long = absent
+parsed_single : (text : List ℕ) → Single (IsParsed text)
+parsed_single text = record {
+  one = λ x y p q. (let same : x.script ≡ y.script = one_script text y.script x.script q.1 p.1 in let t : x.text ≡ y.text = p.0 ∙ sym q.0 in λ i. record { text = t i; script = same i });
+  never = λ x a p q. (let judged = sym q.2 ∙ spells_judged text x.script p.1 in cc);
+  same = λ a b p q. both a b (script_refused q.0 q.1) (p.3 ∙ (let judged = sym p.2 ∙ q.2 in cc)) q.3;
+}
 
-absent_not_taken : (files : Option Files) (name taken : List ℕ) (limit : ℕ) → IsAbsent files name → IsTaken files name limit taken → ⊥
-absent_not_taken (Some fs) name taken limit absent is = let both = sym is.0 ∙ absent in cc
-absent_not_taken None name taken limit absent is = absent
+same_log : (a b : Log) → a.threads ≡ b.threads → a ≡ b
+same_log a b e = λ i. record { threads = e i; valid = prop→path_p (λ j. IsTrue (is_log (e j))) (hlevel props) a.valid b.valid i }
 
-over_not_absent : (files : Option Files) (name : List ℕ) (limit : ℕ) → IsOver files name limit → IsAbsent files name → ⊥
-over_not_absent (Some fs) name limit over absent = none_of_length (get fs name) limit absent over
-over_not_absent None name limit over absent = over
+decoded_single : (bytes : List ℕ) → Single (IsDecoded bytes)
+decoded_single bytes = record {
+  one = λ x y p q. same_log x y (one_log x.threads y.threads x.valid y.valid (sym p ∙ q));
+  never = λ x a p q. (let judged = sym q.1 ∙ ap log.judgement p ∙ judgement_is x.threads x.valid in cc);
+  same = λ a b p q. both a b (log_refused q.0) (p.2 ∙ (let judged = sym p.1 ∙ q.1 in cc)) q.2;
+}
 
-over_not_taken : (files : Option Files) (name taken : List ℕ) (limit : ℕ) → IsOver files name limit → IsTaken files name limit taken → ⊥
-over_not_taken (Some fs) name taken limit over is = omega (arith, of_length (get fs name) taken limit is.0 over, is.1)
-over_not_taken None name taken limit over is = over
+chosen_single : (s : Script) (object : Option (List ℕ)) → Single (IsChosen s object)
+chosen_single s object = record {
+  one = λ x y p q. (let both = sym p ∙ q in cc);
+  never = λ x a p q. (let both = sym p ∙ q.0 in cc);
+  same = λ a b p q. p.1 ∙ sym q.1;
+}
 
-script_differs : (line line' : ℕ) (cause cause' : ScriptCause) (text : List ℕ) → Refuses text line cause → Refuses text line' cause' → script_refused line' cause' ≡ script_refused line cause
-script_differs line line' cause cause' text refused refused' = let both = sym refused' ∙ refused in cc
+module _ (t : Contents) where
+  script_single : (name : List ℕ) → Single (IsScriptRead name (Some t))
+  script_single name = then_single (IsTaken name script_limit (Some t)) IsParsed (taken_single name script_limit t) parsed_single
 
--- where a log fits, the command goes on with it
-fits_on : (Onward : Answer → Type 0) (script : Script) (log : List ThreadLog) (answer : Answer) → IsLawful script log → Fitting Onward script log answer → Onward answer
-fits_on Onward script log answer lawful (inl refused) = absurd (not_refused script log refused.0 lawful refused.1 refused.2)
-fits_on Onward script log answer lawful (inr fits) = fits.1
+  log_single : (name : List ℕ) → Single (IsLogRead name (Some t))
+  log_single name = then_single (IsTaken name log_limit (Some t)) IsDecoded (taken_single name log_limit t) decoded_single
 
--- where no take fails that is answered so, each step of a command goes as the files say
-module _ (files : Option Files) (faults faults' : ℕ) (answer : Answer) (none : answer ≡ read_failed → Rose faults faults' → ⊥) where
-  absent_fails : (name : List ℕ) (limit : ℕ) (Onward : List ℕ → Answer → Type 0) → IsAbsent files name → Taking files faults faults' name limit Onward answer → answer ≡ read_failed
-  absent_fails name limit Onward absent (inl failed) = failed.0
-  absent_fails name limit Onward absent (inr (inl long)) = absurd (absent_not_too_long files name limit absent long.1)
-  absent_fails name limit Onward absent (inr (inr (bytes, taken, on))) = absurd (absent_not_taken files name bytes limit absent taken)
+  script_chosen_single : (name : List ℕ) (object : Option (List ℕ)) → Single (IsScriptChosen name object (Some t))
+  script_chosen_single name object =
+      then_single (IsScriptRead name (Some t)) _ (script_single name) (λ source. then_single (IsChosen source.script object) _ (chosen_single source.script object) (λ wanted. value_single (source, wanted)))
 
-  over_is_long : (name : List ℕ) (limit : ℕ) (Onward : List ℕ → Answer → Type 0) → IsOver files name limit → Taking files faults faults' name limit Onward answer → answer ≡ too_long name limit
-  over_is_long name limit Onward over (inl (is, inl rose)) = absurd (none is rose)
-  over_is_long name limit Onward over (inl (is, inr absent)) = absurd (over_not_absent files name limit over absent)
-  over_is_long name limit Onward over (inr (inl long)) = long.0
-  over_is_long name limit Onward over (inr (inr (bytes, taken, on))) = absurd (over_not_taken files name bytes limit over taken)
+  pub pair_single : (script_name log_name : List ℕ) (object : Option (List ℕ)) → Single (IsPairRead script_name log_name object (Some t))
+  pair_single script_name log_name object =
+      then_single (IsScriptChosen script_name object (Some t)) _ (script_chosen_single script_name object)
+      (λ chosen. then_single (IsLogRead log_name (Some t)) _ (log_single log_name) (λ read. value_single _))
 
-  there_goes_on : (name bytes : List ℕ) (limit : ℕ) (Onward : List ℕ → Answer → Type 0) → IsThere files name limit bytes → Taking files faults faults' name limit Onward answer → Onward bytes answer
-  there_goes_on name bytes limit Onward there (inl (is, inl rose)) = absurd (none is rose)
-  there_goes_on name bytes limit Onward there (inl (is, inr absent)) = absurd (not_absent files name bytes limit there absent)
-  there_goes_on name bytes limit Onward there (inr (inl long)) = absurd (not_too_long files name bytes limit there long.1)
-  there_goes_on name bytes limit Onward there (inr (inr (taken, is, on))) = subst (λ (b : List ℕ). Onward b answer) (sym (taken_is files name bytes taken limit there is)) on
+-- answers by what was read have one status, where the reading ends in one way
+one_status : {T : Type 0} (Reading : Result T Answer → Type 0) (Answers' : T → Answer → Type 0) → Single Reading → ((input : T) (a b : Answer) → Answers' input a → Answers' input b → a.status ≡ b.status)
+    → (a b : Answer) → Answering Reading Answers' a → Answering Reading Answers' b → a.status ≡ b.status
+one_status Reading Answers' single same a b (inl p) (inl q) = ap (λ (x : Answer). x.status) (single.same a b p q)
+one_status Reading Answers' single same a b (inl p) (inr (y, is, q)) = absurd (single.never y a is p)
+one_status Reading Answers' single same a b (inr (x, is, p)) (inl q) = absurd (single.never x b is q)
+one_status Reading Answers' single same a b (inr (x, is, p)) (inr (y, is', q)) = same x a b p (subst (λ z. Answers' z b) (single.one y x is' is) q)
 
-  bad_script_is_refused : (name text : List ℕ) (line : ℕ) (cause : ScriptCause) (Onward : Script → Answer → Type 0) → IsThere files name script_limit text → Refuses text line cause
-      → TakingScript files faults faults' name Onward answer → answer ≡ script_refused line cause
-  bad_script_is_refused name text line cause Onward there refused taking =
-      elim (there_goes_on name text script_limit (Parsing Onward) there taking) [
-        | inl (line', cause', refused', is) ↦ is ∙ script_differs line line' cause cause' text refused refused'
-        | inr (script, spells, on) ↦ absurd (let judged = sym refused ∙ spells_judged text script spells in cc)
-      ]
+as_said : (a b x y : Answer) → a ≡ x → b ≡ y → x.status ≡ y.status → a.status ≡ b.status
+as_said a b x y is is' same = ap (λ (z : Answer). z.status) is ∙ same ∙ ap (λ (z : Answer). z.status) (sym is')
 
-  -- a script that is there is taken
-  goes_on_with_script : (name : List ℕ) (Onward : Script → Answer → Type 0) (has : HasScript files name) → TakingScript files faults faults' name Onward answer → Onward has.script answer
-  goes_on_with_script name Onward has taking =
-      elim (there_goes_on name has.text script_limit (Parsing Onward) has.there taking) [
-        | inl (line, cause, refused, is) ↦ absurd (let judged = sym refused ∙ spells_judged has.text has.script has.spelled in cc)
-        | inr (script, spells, on) ↦ subst (λ (s : Script). Onward s answer) (one_script has.text has.script script has.spelled spells) on
-      ]
+verdict_status : (pair : Pair) (a b : Answer) (v w : Verdict) → IsVerified pair.source.script pair.log.threads v → IsVerified pair.source.script pair.log.threads w → a ≡ verdict_said v → b ≡ verdict_said w → a.status ≡ b.status
+verdict_status pair a b verdict.Ordered verdict.Ordered p q is is' = as_said a b _ _ is is' refl
+verdict_status pair a b verdict.Ordered (verdict.Unordered first second) p q is is' = absurd (let ordered = q.told.ordered.1 (p.told.ordered.0 refl) in cc)
+verdict_status pair a b (verdict.Unordered first second) verdict.Ordered p q is is' = absurd (let ordered = p.told.ordered.1 (q.told.ordered.0 refl) in cc)
+verdict_status pair a b (verdict.Unordered first second) (verdict.Unordered first' second') p q is is' = as_said a b _ _ is is' refl
 
-  bad_log_is_refused : (name bytes : List ℕ) (cause : LogCause) (Onward : Log → Answer → Type 0) → IsThere files name log_limit bytes → RefusesLog bytes cause
-      → TakingLog files faults faults' name Onward answer → answer ≡ log_refused cause
-  bad_log_is_refused name bytes cause Onward there refused taking =
-      elim (there_goes_on name bytes log_limit (Decoding Onward) there taking) [
-        | inl (cause', refused', is) ↦ (let both = sym refused' ∙ refused in cc)
-        | inr (log, spelled, on) ↦ absurd (let judged = sym refused ∙ ap judgement spelled ∙ judgement_is log.threads log.valid in cc)
-      ]
+tells_status : (command : PairTask) (pair : Pair) (a b : Answer) → PairSays command pair a → PairSays command pair b → a.status ≡ b.status
+tells_status Replay pair a b is is' = as_said a b _ _ is is' refl
+tells_status Verify pair a b (v, p, is) (w, q, is') = verdict_status pair a b v w p q is is'
+tells_status Profile pair a b is is' = as_said a b _ _ is is' refl
 
-  goes_on_with_log : (name : List ℕ) (Onward : List ThreadLog → Answer → Type 0) (has : HasLog files name) → TakingLog files faults faults' name (λ log. Onward log.threads) answer → Onward has.log.threads answer
-  goes_on_with_log name Onward has taking =
-      elim (there_goes_on name has.bytes log_limit (Decoding (λ log. Onward log.threads)) has.there taking) [
-        | inl (cause, refused, is) ↦ absurd (let judged = sym refused ∙ ap judgement has.spelled ∙ judgement_is has.log.threads has.log.valid in cc)
-        | inr (log, spelled, on) ↦ subst (λ (l : List ThreadLog). Onward l answer) (one_log log.threads has.log.threads log.valid has.log.valid (sym spelled ∙ has.spelled)) on
-      ]
+pair_status : (command : PairTask) (pair : Pair) (a b : Answer) → PairAnswers command pair a → PairAnswers command pair b → a.status ≡ b.status
+pair_status command pair a b (inl p) (inl q) = as_said a b _ _ p.3 q.3 refl
+pair_status command pair a b (inl p) (inr (lawful, tells)) = absurd (not_refused pair.source.script pair.log.threads p.0 lawful p.1 p.2)
+pair_status command pair a b (inr (lawful, tells)) (inl q) = absurd (not_refused pair.source.script pair.log.threads q.0 lawful q.1 q.2)
+pair_status command pair a b (inr (lawful, tells)) (inr (lawful', tells')) = tells_status command pair a b tells tells'
 
-  -- what a command does with a script that it takes
-  at_script : (command : Command) (name : List ℕ) → script_taken command ≡ Some name → CommandAnswers command files faults faults' answer
-      → (Goal : Type 0) → ((Onward : Script → Answer → Type 0) → TakingScript files faults faults' name Onward answer → Goal) → Goal
-  at_script (Run script log) name is answers Goal on = on (IsRecording log) (rw (← same_value script name is) answers)
-  at_script (Tidy script) name is answers Goal on = on (λ script answer. answer ≡ told exit.Done (canonical_text script)) (rw (← same_value script name is) answers)
-  at_script (Show log) name is answers Goal on = absurd cc
-  at_script (Replay script log) name is answers Goal on = on (λ script answer. TakingLog files faults faults' log (IsReplayed script) answer) (rw (← same_value script name is) answers)
-  at_script (Verify script log) name is answers Goal on = on (λ script answer. TakingLog files faults faults' log (IsVerdictTold script) answer) (rw (← same_value script name is) answers)
-  at_script (Profile script log object) name is answers Goal on =
-      on (λ script answer. Choosing (λ wanted answer. TakingLog files faults faults' log (IsProfiled wanted script) answer) script object answer) (rw (← same_value script name is) answers)
-  at_script (Gen number script log) name is answers Goal on = absurd cc
+request_status : (t : Contents) (request : Request) (a b : Answer) → RequestAnswers request (Some t) a → RequestAnswers request (Some t) b → a.status ≡ b.status
+request_status t (OfScript Tidy script) a b = one_status (IsScriptRead script (Some t)) (ScriptAnswers Tidy) (script_single t script) (λ source x y is is'. as_said x y (says exit.Done (canonical_text source.script)) (says exit.Done (canonical_text source.script)) is is' refl) a b
+request_status t (OfLog Show log) a b = one_status (IsLogRead log (Some t)) (LogAnswers Show) (log_single t log) (λ read x y is is'. as_said x y (says exit.Done (log_text read.threads)) (says exit.Done (log_text read.threads)) is is' refl) a b
+request_status t (OfPair command script log object) a b = one_status (IsPairRead script log object (Some t)) (PairAnswers command) (pair_single t script log object) (pair_status command) a b
+request_status t (Run way script log) a b = one_status (IsScriptRead script (Some t)) (RunAnswers way log) (script_single t script) (λ source x y p q. as_said x y _ _ p.3 q.3 refl) a b
+request_status t (Gen number script log) a b = λ p q. as_said a b _ _ p.5 q.5 refl
 
-  -- with a log that it takes, where its script is there and has the object that is named
-  after_script : (script_name log_name : List ℕ) (Onward : Script → List ThreadLog → Answer → Type 0) (has : HasScript files script_name)
-      → TakingScript files faults faults' script_name (λ script answer. TakingLog files faults faults' log_name (λ log. Onward script log.threads) answer) answer
-      → TakingLog files faults faults' log_name (λ log. Onward has.script log.threads) answer
-  after_script script_name log_name Onward has answers = goes_on_with_script script_name (λ script answer. TakingLog files faults faults' log_name (λ log. Onward script log.threads) answer) has answers
+answers_status : (t : Contents) (request : Option Request) (a b : Answer) → Answers request (Some t) a → Answers request (Some t) b → a.status ≡ b.status
+answers_status t None a b is is' = as_said a b not_a_command not_a_command is is' refl
+answers_status t (Some request) a b p q = request_status t request a b p q
 
-  after_name : (script_name log_name : List ℕ) (object_name : Option (List ℕ)) (has : HasScript files script_name) → KnowsObject (Profile script_name log_name object_name) has.script
-      → CommandAnswers (Profile script_name log_name object_name) files faults faults' answer
-      → (wanted : Option ℕ) × TakingLog files faults faults' log_name (λ log. Fitting (TellsCounts wanted has.script log.threads) has.script log.threads) answer
-  after_name script_name log_name object_name has knows answers =
-      elim (goes_on_with_script script_name (λ script answer. Choosing (λ wanted answer. TakingLog files faults faults' log_name (IsProfiled wanted script) answer) script object_name answer) has answers) [
-        | inl unknown ↦ absurd (let both : Some knows.0 ≡ None = sym knows.1 ∙ unknown.0 in cc)
-        | inr known ↦ (known.0, known.2)
-      ]
+-- exactly one status is due
+pub one_due : (words : List (List ℕ)) (t : Contents) (status other : Status) → IsDue words (Some t) status → IsDue words (Some t) other → status ≡ other
+one_due words t status other (a, p, is) (b, q, is') = sym is ∙ answers_status t (request_in words) a b p q ∙ is'
 
-  at_log : (command : Command) (name : List ℕ) → log_taken command ≡ Some name
-      → ((script_name : List ℕ) → script_taken command ≡ Some script_name → (has : HasScript files script_name) × KnowsObject command has.script)
-      → CommandAnswers command files faults faults' answer
-      → (Goal : Type 0) → ((Onward : List ThreadLog → Answer → Type 0) → TakingLog files faults faults' name (λ log. Onward log.threads) answer → Goal) → Goal
-  at_log (Run script log) name is passes answers Goal on = absurd cc
-  at_log (Tidy script) name is passes answers Goal on = absurd cc
-  at_log (Gen number script log) name is passes answers Goal on = absurd cc
-  at_log (Show log) name is passes answers Goal on = on (λ log answer. answer ≡ told exit.Done (log_text log)) (rw (← same_value log name is) answers)
-  at_log (Replay script log) name is passes answers Goal on =
-      let has = (passes script refl).0 in
-      let Onward : Script → List ThreadLog → Answer → Type 0 = λ s l. Fitting (TellsOutcome s l) s l in
-      on (Onward has.script) (rw (← same_value log name is) (after_script script log Onward has answers))
-  at_log (Verify script log) name is passes answers Goal on =
-      let has = (passes script refl).0 in
-      let Onward : Script → List ThreadLog → Answer → Type 0 = λ s l. Fitting (TellsVerdict s l) s l in
-      on (Onward has.script) (rw (← same_value log name is) (after_script script log Onward has answers))
-  at_log (Profile script log object) name is passes answers Goal on =
-      let p = passes script refl in
-      let known = after_name script log object p.0 p.1 answers in
-      on (λ l. Fitting (TellsCounts known.0 p.0.script l) p.0.script l) (rw (← same_value log name is) known.1)
+-- the status that is due comes, where no call of the desk fails, unless memory was refused
+pub comes_as_due : (words : List (List ℕ)) (before after : DeskState) (code : ℕ) → IsServed (request_in words) before after code → (t : Contents) → before.contents ≡ Some t → (status : Status) → IsDue words before.contents status
+    → NoneFailed before after → (code ≡ code_of status) ⊎ (code ≡ 7)
+comes_as_due words before after code served t tells status due none = by served.reply served.found served.given
+  where
+    given : (reply : Reply) (made : Result (Unit {0}) DeskFault) → Replies (request_in words) before (Ok reply) served.mid → Makes (acts_of (answer_of reply)) served.mid made after → code ≡ code_after (answer_of reply) made → (code ≡ code_of status) ⊎ (code ≡ 7)
+    given reply (Ok tt) found makes is = elim found.found [
+      | inl (answers, same) ↦ inl (is ∙ ap code_of (one_due words t reply.status status (answer_of reply, subst (λ contents. IsAnswer words contents (answer_of reply)) tells answers, refl) (subst (λ contents. IsDue words contents status) tells due)))
+      | inr (said, rose) ↦ absurd (none.takes (rw (makes_keep (acts_of (answer_of reply)) served.mid (Ok tt) after makes) rose))
+    ]
+    given reply (Err fault.OutOfMemory) found makes is = inr is
+    given reply (Err fault.Failed) found makes is = absurd (none.writes (rw (← found.write_faults) (makes_fail (acts_of (answer_of reply)) served.mid fault.Failed after makes (λ e. cc))))
+    given reply (Err fault.Absent) found makes is = absurd (none.writes (rw (← found.write_faults) (makes_fail (acts_of (answer_of reply)) served.mid fault.Absent after makes (λ e. cc))))
+    given reply (Err fault.TooLong) found makes is = absurd (none.writes (rw (← found.write_faults) (makes_fail (acts_of (answer_of reply)) served.mid fault.TooLong after makes (λ e. cc))))
 
-  replay_fits : (script_name log_name : List ℕ) (script : HasScript files script_name) (log : HasLog files log_name) → CommandAnswers (Replay script_name log_name) files faults faults' answer
-      → Fitting (TellsOutcome script.script log.log.threads) script.script log.log.threads answer
-  replay_fits script_name log_name script log answers =
-      let Onward : Script → List ThreadLog → Answer → Type 0 = λ s l. Fitting (TellsOutcome s l) s l in
-      goes_on_with_log log_name (Onward script.script) log (after_script script_name log_name Onward script answers)
-
-  verify_fits : (script_name log_name : List ℕ) (script : HasScript files script_name) (log : HasLog files log_name) → CommandAnswers (Verify script_name log_name) files faults faults' answer
-      → Fitting (TellsVerdict script.script log.log.threads) script.script log.log.threads answer
-  verify_fits script_name log_name script log answers =
-      let Onward : Script → List ThreadLog → Answer → Type 0 = λ s l. Fitting (TellsVerdict s l) s l in
-      goes_on_with_log log_name (Onward script.script) log (after_script script_name log_name Onward script answers)
-
-  profile_fits : (script_name log_name : List ℕ) (object_name : Option (List ℕ)) (script : HasScript files script_name) (log : HasLog files log_name)
-      → KnowsObject (Profile script_name log_name object_name) script.script → CommandAnswers (Profile script_name log_name object_name) files faults faults' answer
-      → (wanted : Option ℕ) × Fitting (TellsCounts wanted script.script log.log.threads) script.script log.log.threads answer
-  profile_fits script_name log_name object_name script log knows answers =
-      let known = after_name script_name log_name object_name script knows answers in
-      (known.0, goes_on_with_log log_name (λ l. Fitting (TellsCounts known.0 script.script l) script.script l) log known.1)
-
-  -- with both, where they are there
-  at_fit : (command : Command) (script_name log_name : List ℕ) → script_taken command ≡ Some script_name → log_taken command ≡ Some log_name
-      → (script : HasScript files script_name) (log : HasLog files log_name) → KnowsObject command script.script → CommandAnswers command files faults faults' answer
-      → (Goal : Type 0) → ((Onward : Answer → Type 0) → Fitting Onward script.script log.log.threads answer → Goal) → Goal
-  at_fit (Run script log) script_name log_name is is' has has' knows answers Goal on = absurd cc
-  at_fit (Tidy script) script_name log_name is is' has has' knows answers Goal on = absurd cc
-  at_fit (Show log) script_name log_name is is' has has' knows answers Goal on = absurd cc
-  at_fit (Gen number script log) script_name log_name is is' has has' knows answers Goal on = absurd cc
-  at_fit (Replay script log) script_name log_name is is' has has' knows answers Goal on =
-      let answers' : CommandAnswers (Replay script_name log_name) files faults faults' answer = rw (← same_value script script_name is, ← same_value log log_name is') answers in
-      on (TellsOutcome has.script has'.log.threads) (replay_fits script_name log_name has has' answers')
-  at_fit (Verify script log) script_name log_name is is' has has' knows answers Goal on =
-      let answers' : CommandAnswers (Verify script_name log_name) files faults faults' answer = rw (← same_value script script_name is, ← same_value log log_name is') answers in
-      on (TellsVerdict has.script has'.log.threads) (verify_fits script_name log_name has has' answers')
-  at_fit (Profile script log object) script_name log_name is is' has has' knows answers Goal on =
-      let answers' : CommandAnswers (Profile script_name log_name object) files faults faults' answer = rw (← same_value script script_name is, ← same_value log log_name is') answers in
-      let fits = profile_fits script_name log_name object has has' knows answers' in
-      on (TellsCounts fits.0 has.script has'.log.threads) fits.1
-
-  as_told : (said : Answer) (status : Status) → answer ≡ said → said.status ≡ status → answer.status ≡ status
-  as_told said status is status_is = ap (λ (a : Answer). a.status) is ∙ status_is
-
-  -- a command that has all that it takes is done
-  done : (command : Command) → HasAll command files → CommandAnswers command files faults faults' answer → answer.status ≡ exit.Done
-  done (Run script_name log_name) has answers =
-      let recording = goes_on_with_script script_name (IsRecording log_name) has answers in
-      as_told (writes_and_tells log_name (log_bytes recording.0.threads) (outcome_text has.script recording.1)) exit.Done recording.3 refl
-  done (Tidy script_name) has answers = as_told (told exit.Done (canonical_text has.script)) exit.Done (goes_on_with_script script_name (λ script answer. answer ≡ told exit.Done (canonical_text script)) has answers) refl
-  done (Show log_name) has answers = as_told (told exit.Done (log_text has.log.threads)) exit.Done (goes_on_with_log log_name (λ log answer. answer ≡ told exit.Done (log_text log)) has answers) refl
-  done (Replay script_name log_name) has answers =
-      let script = has.script.script in
-      let log = has.log.log.threads in
-      as_told (told exit.Done (outcome_text script (execution script log (lowest_order script log)))) exit.Done
-      (fits_on (TellsOutcome script log) script log answer has.lawful (replay_fits script_name log_name has.script has.log answers)) refl
-  done (Verify script_name log_name) (has, ordered) answers =
-      let script = has.script.script in
-      let log = has.log.log.threads in
-      let verified = fits_on (TellsVerdict script log) script log answer has.lawful (verify_fits script_name log_name has.script has.log answers) in
-      as_told (verdict_told verdict.Ordered) exit.Done (verified.2 ∙ ap verdict_told (verified.1.told.ordered.1 ordered)) refl
-  done (Profile script_name log_name object_name) (has, knows) answers =
-      let script = has.script.script in
-      let log = has.log.log.threads in
-      let fits = profile_fits script_name log_name object_name has.script has.log knows answers in
-      as_told (told exit.Done (profile_text fits.0 (journals_after script log (lowest_order script log)))) exit.Done (fits_on (TellsCounts fits.0 script log) script log answer has.lawful fits.1) refl
-  done (Gen number script_name log_name) has answers = ap (λ (a : Answer). a.status) answers.5
-
-  -- a log that is not ordered is told so
-  unordered : (script_name log_name : List ℕ) (has : HasLawful files script_name log_name) → ¬ OrdersAll files script_name log_name has
-      → CommandAnswers (Verify script_name log_name) files faults faults' answer → answer.status ≡ exit.Unordered
-  unordered script_name log_name has not answers =
-      let script = has.script.script in
-      let log = has.log.log.threads in
-      let verified = fits_on (TellsVerdict script log) script log answer has.lawful (verify_fits script_name log_name has.script has.log answers) in
-      by verified.0 verified.1 verified.2
-    where
-      by : (verdict : Verdict) → IsVerified has.script.script has.log.log.threads verdict → answer ≡ verdict_told verdict → answer.status ≡ exit.Unordered
-      by verdict.Ordered verified is = absurd (not (verified.told.ordered.0 refl))
-      by (verdict.Unordered first second) verified is = as_told (verdict_told (verdict.Unordered first second)) exit.Unordered is refl
-
-  module _ (words : List (List ℕ)) where
-    answers_for : (command : Command) → Asks words command → IsAnswer words files faults faults' answer → CommandAnswers command files faults faults' answer
-    answers_for command asked answers = answers_to words command files faults faults' answer asked answers
-
-    takes_it : (name : List ℕ) (limit : ℕ) → ReachesTake words files name limit → IsAnswer words files faults faults' answer
-        → (Goal : Type 0) → ((Onward : List ℕ → Answer → Type 0) → Taking files faults faults' name limit Onward answer → Goal) → Goal
-    takes_it name limit (inl (named, is)) answers Goal on =
-        at_script named.command name named.takes (answers_for named.command named.asked answers) Goal (λ Onward taking. on (Parsing Onward) (rw is taking))
-    takes_it name limit (inr (reached, is)) answers Goal on =
-        at_log reached.command name reached.takes reached.script (answers_for reached.command reached.asked answers) Goal (λ Onward taking. on (Decoding (λ log. Onward log.threads)) (rw is taking))
-
-    -- the answer has the status that is due
-    pub due_status : (status : Status) → IsDue words files status → IsAnswer words files faults faults' answer → answer.status ≡ status
-    due_status exit.Done (command, asked, has) answers = done command has (answers_for command asked answers)
-    due_status exit.Words (inl none_asked) (inl (command, asked, answers)) = absurd (none_asked command asked)
-    due_status exit.Words (inl none_asked) (inr (still_none, is)) = as_told not_a_command exit.Words is refl
-    due_status exit.Words (inr misses) answers =
-        elim (goes_on_with_script misses.script_name (λ script answer. Choosing (λ wanted answer. TakingLog files faults faults' misses.log_name (IsProfiled wanted script) answer) script misses.object_name answer) misses.script
-        (answers_for (Profile misses.script_name misses.log_name misses.object_name) misses.asked answers)) [
-          | inl unknown ↦ as_told no_such_object exit.Words unknown.1 refl
-          | inr known ↦ absurd (let both : None ≡ Some known.0 = sym misses.unknown ∙ known.1 in cc)
-        ]
-    due_status exit.Script meets answers =
-        at_script meets.named.command meets.name meets.named.takes (answers_for meets.named.command meets.named.asked answers) (answer.status ≡ exit.Script)
-        (λ Onward taking. as_told (script_refused meets.line meets.cause) exit.Script (bad_script_is_refused meets.name meets.text meets.line meets.cause Onward meets.there meets.refused taking) refl)
-    due_status exit.Log meets answers =
-        at_log meets.reached.command meets.name meets.reached.takes meets.reached.script (answers_for meets.reached.command meets.reached.asked answers) (answer.status ≡ exit.Log)
-        (λ Onward taking. as_told (log_refused meets.cause) exit.Log (bad_log_is_refused meets.name meets.bytes meets.cause (λ log. Onward log.threads) meets.there meets.refused taking) refl)
-    due_status exit.Fit meets answers =
-        let r = meets.reached in
-        at_fit r.command r.script_name r.log_name r.takes_script r.takes_log r.script r.log r.knows (answers_for r.command r.asked answers) (answer.status ≡ exit.Fit) (λ Onward fits.
-        elim fits [
-          | inl refused ↦ as_told (does_not_fit refused.0) exit.Fit refused.3 refl
-          | inr lawful ↦ absurd (not_refused r.script.script r.log.log.threads meets.fault lawful.0 meets.not_memory meets.has_cause)
-        ])
-    due_status exit.Read misses answers =
-        takes_it misses.name misses.limit misses.reached answers (answer.status ≡ exit.Read) (λ Onward taking. as_told read_failed exit.Read (absent_fails misses.name misses.limit Onward misses.absent taking) refl)
-    due_status exit.TooLong meets answers =
-        takes_it meets.name meets.limit meets.reached answers (answer.status ≡ exit.TooLong)
-        (λ Onward taking. as_told (too_long meets.name meets.limit) exit.TooLong (over_is_long meets.name meets.limit Onward meets.over taking) refl)
-    due_status exit.Unordered meets answers = unordered meets.script_name meets.log_name meets.has meets.unordered (answers_for (Verify meets.script_name meets.log_name) meets.asked answers)
-    due_status exit.Write due answers = absurd due
-    due_status exit.Memory due answers = absurd due
-
-    -- what a replay says of a recording is its outcome
-    pub replay_repeats : (script_name log_name : List ℕ) → Asks words (Replay script_name log_name) → (recording : HasRecording files script_name log_name)
-        → IsAnswer words files faults faults' answer → answer ≡ told exit.Done (outcome_text recording.script.script recording.outcome)
-    replay_repeats script_name log_name asked recording answers =
-        let script = recording.script.script in
-        let log = recording.log.log.threads in
-        let lawful = faithful script log recording.outcome recording.faithful in
-        fits_on (TellsOutcome script log) script log answer lawful.0 (replay_fits script_name log_name recording.script recording.log (answers_for (Replay script_name log_name) asked answers))
-        ∙ ap (λ (o : Outcome). told exit.Done (outcome_text script o)) lawful.1
-
-module _ (words : List (List ℕ)) (before after : DeskState) (code : ℕ) (served : AreAnswered words before after code) where
-  -- the status that is due comes, where no call fails, unless memory was refused
-  pub comes_as_due : (status : Status) → IsDue words before.files status → ¬ Rose before.take_faults after.take_faults → ¬ Rose before.write_faults after.write_faults
-      → (code ≡ code_of status) ⊎ (code ≡ 7)
-  comes_as_due status due no_read no_write = by served
-    where
-      by : AreAnswered words before after code → (code ≡ code_of status) ⊎ (code ≡ 7)
-      by (inl untouched) = inr untouched.status
-      by (inr (answer, answers, inr cut)) = elim cut.status [ inl failed ↦ absurd (no_write failed.1) | inr memory ↦ inr memory.0 ]
-      by (inr (answer, answers, inl given)) = inl (given.status ∙ ap code_of (due_status before.files before.take_faults after.take_faults answer (λ is rose. no_read rose) words status due answers))
-
-  -- of a recording: a replay is done and says its outcome
-  pub repeats : RepeatsRecordings words before after code
-  repeats script_name log_name asked zero recording said said' is is' =
-      let g = given_at words before after code (λ e. omega arith) (λ e. omega arith) served in
-      let not_read : g.answer ≡ read_failed → Rose before.take_faults after.take_faults → ⊥ = λ failed rose. omega (arith, status_is g.answer read_failed before after code failed g.given) in
-      let told_is = replay_repeats before.files before.take_faults after.take_faults g.answer not_read words script_name log_name asked recording g.answers in
-      same_value _ _ (sym is' ∙ g.given.said ∙ ap (λ (a : Answer). spoken a.text before.said) told_is ∙ ap (spoken (outcome_text recording.script.script recording.outcome)) is)
-
-abbrev lawful_of : (files : Option Files) (script_name log_name : List ℕ) → HasRecording files script_name log_name → HasLawful files script_name log_name
-lawful_of files script_name log_name recording =
-    record { script = recording.script; log = recording.log; lawful = (faithful recording.script.script recording.log.log.threads recording.outcome recording.faithful).0 }
-
--- the files of a faithful recording are all that a command takes
-has_all : (files : Option Files) (command : Command) → HasFiles command files → HasAll command files
-has_all files (Run script log) has = has
-has_all files (Tidy script) has = has
-has_all files (Show log) has = has
-has_all files (Replay script log) has = lawful_of files script log has
-has_all files (Verify script log) has =
-    let l = lawful_of files script log has in
-    (l, has.faithful.ordered (lowest_order has.script.script has.log.log.threads) l.lawful)
-has_all files (Profile script log object) has = (lawful_of files script log has.recording, (has.wanted, has.known))
-has_all files (Gen number script log) has = tt
-
--- a command over files that are there as they should be is done, unless memory was refused
-pub complete : (words : List (List ℕ)) (before after : DeskState) (code : ℕ) → AreAnswered words before after code
-    → IsWellMet words before.files → ¬ Rose before.take_faults after.take_faults → ¬ Rose before.write_faults after.write_faults → (code ≡ 0) ⊎ (code ≡ 7)
-complete words before after code served (command, asked, has) no_read no_write = comes_as_due words before after code served exit.Done (command, asked, has_all before.files command has) no_read no_write
+    by : (reply : Result Reply NoMemory) → Replies (request_in words) before reply served.mid → IsGiven reply served.mid after code → (code ≡ code_of status) ⊎ (code ≡ 7)
+    by (Ok reply) found (made, makes, is) = given reply made found makes is
+    by (Err none') found (same, is) = inr is

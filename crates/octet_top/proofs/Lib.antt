@@ -1,8 +1,9 @@
+pub mod Recorded
+pub mod Steps
 pub mod Counted
-pub mod Files
-pub mod Promises
-pub mod Requests
-pub mod Takes
-pub mod Words
+pub mod Found
+pub mod Made
+pub mod Causes
 pub mod Due
-pub mod Kept
+pub mod Whole
+pub mod Promises

@@ -1,6 +1,6 @@
--- The commands' answers.
-use Rattle.std.specs.Prelude.{ℕ, ◌≡◌, ◌≢◌, ◌⊎◌, List, Option, None, Some}
-use Rattle.octet_base.specs.Desk.{Files}
+-- The commands' answers, each by what was read.
+use Rattle.std.specs.Prelude.{ℕ, ◌≡◌, ◌≢◌, ◌⊎◌, List, Option, None, Some, Result, Ok, Err}
+use Rattle.octet_base.specs.Desk.{Contents}
 use Rattle.octet_model.specs.declared.script.Script.{Script}
 use Rattle.octet_model.specs.declared.log.Log.{Log}
 use Rattle.octet_model.specs.declared.log.ThreadLog.{ThreadLog}
@@ -16,53 +16,30 @@ use Rattle.octet_clock.specs.declared.verdict.Verdict.{Verdict}
 use Rattle.octet_clock.specs.Verified.{IsVerified}
 use Rattle.octet_gen.specs.Generated.{IsGenerated}
 use Rattle.octet_top.specs.declared.reply.Status.TheVariants.{Done}
-use Rattle.octet_top.specs.Answer.{Answer, told, writes_and_tells, writes_both, not_a_command, no_such_object, does_not_fit, verdict_told, summary}
-use Rattle.octet_top.specs.Request.{Command, Run, Tidy, Show, Replay, Verify, Profile, Gen, Asks, IsNotACommand}
-use Rattle.octet_top.specs.Profile.{profile_text, wanted_by}
-use Rattle.octet_top.specs.Taking.{TakingScript, TakingLog}
-use Rattle.octet_top.specs.Serving.{DeskState, IsServed}
+use Rattle.octet_top.specs.declared.inputs.Source.{Source}
+use Rattle.octet_top.specs.declared.inputs.Pair.{Pair}
+use Rattle.octet_top.specs.declared.request.ScriptTask.{ScriptTask}
+use Rattle.octet_top.specs.declared.request.ScriptTask.TheVariants.{Tidy}
+use Rattle.octet_top.specs.declared.request.LogTask.{LogTask}
+use Rattle.octet_top.specs.declared.request.LogTask.TheVariants.{Show}
+use Rattle.octet_top.specs.declared.request.PairTask.{PairTask}
+use Rattle.octet_top.specs.declared.request.PairTask.TheVariants.{Replay, Verify, Profile}
+use Rattle.octet_top.specs.Answer.{Answer, says, writes_file, writes_both, not_a_command, does_not_fit, verdict_said, summary}
+use Rattle.octet_machine.specs.Turns.{IsPlayed}
+use Rattle.octet_top.specs.Request.{Way, AsTheyCome, ByPicks, Request, OfScript, OfLog, OfPair, Run, Gen, request_in}
+use Rattle.octet_top.specs.Profile.{profile_text}
+use Rattle.octet_top.specs.Inputs.{IsScriptRead, IsLogRead, IsPairRead}
 
--- a log and an outcome that are a faithful recording of the script: the log's bytes are written, and the outcome is said
-abbrev pub IsRecording : List ℕ → Script → Answer → Type 0
-IsRecording log_name script answer =
-    (log : Log) × (outcome : Outcome) × IsFaithful script log.threads outcome
-    × (answer ≡ writes_and_tells log_name (log_bytes log.threads) (outcome_text script outcome))
+-- what each way to run a script records of it
+abbrev pub Records : Way → Script → Log → Outcome → Type 0
+Records AsTheyCome script log outcome = IsFaithful script log.threads outcome
+Records (ByPicks picks) script log outcome = IsFaithful script log.threads outcome × IsPlayed script picks (record { log = log; outcome = outcome })
 
--- the log does not fit the script, and why is said; or it does, with which the command goes on
-abbrev pub Fitting : (Answer → Type 0) → Script → List ThreadLog → Answer → Type 0
-Fitting Onward script log answer =
-    ((fault : ReplayFault) × (fault ≢ OutOfMemory) × HasCause script log fault × (answer ≡ does_not_fit fault))
-    ⊎ (IsLawful script log × Onward answer)
-
--- the outcome of the lowest order is said
-abbrev pub TellsOutcome : Script → List ThreadLog → Answer → Type 0
-TellsOutcome script log answer = answer ≡ told Done (outcome_text script (execution script log (lowest_order script log)))
-
--- the verdict on the journals of the lowest order is said
-abbrev pub TellsVerdict : Script → List ThreadLog → Answer → Type 0
-TellsVerdict script log answer = (verdict : Verdict) × IsVerified script log verdict × (answer ≡ verdict_told verdict)
-
--- the counts over the journals of the lowest order are said
-abbrev pub TellsCounts : Option ℕ → Script → List ThreadLog → Answer → Type 0
-TellsCounts wanted script log answer = answer ≡ told Done (profile_text wanted (journals_after script log (lowest_order script log)))
-
--- the answer of a replay: why the log does not fit the script, or the outcome of its lowest order
-abbrev pub IsReplayed : Script → Log → Answer → Type 0
-IsReplayed script log answer = Fitting (TellsOutcome script log.threads) script log.threads answer
-
--- that of a check: why it does not fit, or the verdict
-abbrev pub IsVerdictTold : Script → Log → Answer → Type 0
-IsVerdictTold script log answer = Fitting (TellsVerdict script log.threads) script log.threads answer
-
--- that of a profile: why it does not fit, or the counts
-abbrev pub IsProfiled : Option ℕ → Script → Log → Answer → Type 0
-IsProfiled wanted script log answer = Fitting (TellsCounts wanted script log.threads) script log.threads answer
-
--- the script has no object of this name; or it has, or none is named, and the command goes on
-abbrev pub Choosing : (Option ℕ → Answer → Type 0) → Script → Option (List ℕ) → Answer → Type 0
-Choosing Onward script name answer =
-    ((wanted_by script name ≡ None) × (answer ≡ no_such_object))
-    ⊎ ((wanted : Option ℕ) × (wanted_by script name ≡ Some wanted) × Onward wanted answer)
+-- a log and an outcome are recorded: the log's bytes are written, and the outcome is said
+abbrev pub IsRecording : Way → List ℕ → Script → Answer → Type 0
+IsRecording way log_name script answer =
+    (log : Log) × (outcome : Outcome) × Records way script log outcome
+    × (answer ≡ writes_file log_name (log_bytes log.threads) (outcome_text script outcome))
 
 -- the generated script of a number, and a log and an outcome that are a faithful recording of it: the script's canonical text and then the log's bytes are written, and the summary is said
 abbrev pub IsGeneration : ℕ → List ℕ → List ℕ → Answer → Type 0
@@ -70,23 +47,63 @@ IsGeneration number script_name log_name answer =
     (script : Script) × (log : Log) × (outcome : Outcome) × IsGenerated number script × IsFaithful script log.threads outcome
     × (answer ≡ writes_both (script_name, canonical_text script) (log_name, log_bytes log.threads) summary)
 
--- the answers to a command, with these files and these counts of failed takes before and after
-abbrev pub CommandAnswers : Command → Option Files → ℕ → ℕ → Answer → Type 0
-CommandAnswers (Run script log) files before after answer = TakingScript files before after script (IsRecording log) answer
-CommandAnswers (Tidy script) files before after answer = TakingScript files before after script (λ script answer. answer ≡ told Done (canonical_text script)) answer
-CommandAnswers (Show log) files before after answer = TakingLog files before after log (λ log answer. answer ≡ told Done (log_text log.threads)) answer
-CommandAnswers (Replay script log) files before after answer = TakingScript files before after script (λ script answer. TakingLog files before after log (IsReplayed script) answer) answer
-CommandAnswers (Verify script log) files before after answer = TakingScript files before after script (λ script answer. TakingLog files before after log (IsVerdictTold script) answer) answer
-CommandAnswers (Profile script log name) files before after answer =
-    TakingScript files before after script (λ script answer. Choosing (λ wanted answer. TakingLog files before after log (IsProfiled wanted script) answer) script name answer) answer
-CommandAnswers (Gen number script log) files before after answer = IsGeneration number script log answer
+-- the log does not pair the script, and why is said; or it does, with which the command goes on
+abbrev pub Fitting : (Answer → Type 0) → Script → List ThreadLog → Answer → Type 0
+Fitting Next script log answer =
+    ((fault : ReplayFault) × (fault ≢ OutOfMemory) × HasCause script log fault × (answer ≡ does_not_fit fault))
+    ⊎ (IsLawful script log × Next answer)
 
--- the answers to words: those to the command that they ask for, or that they are none
-abbrev pub IsAnswer : List (List ℕ) → Option Files → ℕ → ℕ → Answer → Type 0
-IsAnswer words files before after answer =
-    ((command : Command) × Asks words command × CommandAnswers command files before after answer)
-    ⊎ (IsNotACommand words × (answer ≡ not_a_command))
+-- the outcome of the lowest order is said
+abbrev pub SaysOutcome : Script → List ThreadLog → Answer → Type 0
+SaysOutcome script log answer = answer ≡ says Done (outcome_text script (execution script log (lowest_order script log)))
 
--- what comes of the words, from the desk before to the desk after, with this exit status
-abbrev pub AreAnswered : List (List ℕ) → DeskState → DeskState → ℕ → Type 0
-AreAnswered words before after code = IsServed (IsAnswer words before.files before.take_faults after.take_faults) before after code
+-- the verdict on the journals of the lowest order is said
+abbrev pub SaysVerdict : Script → List ThreadLog → Answer → Type 0
+SaysVerdict script log answer = (verdict : Verdict) × IsVerified script log verdict × (answer ≡ verdict_said verdict)
+
+-- the counts over the journals of the lowest order are said
+abbrev pub SaysCounts : Option ℕ → Script → List ThreadLog → Answer → Type 0
+SaysCounts wanted script log answer = answer ≡ says Done (profile_text wanted (journals_after script log (lowest_order script log)))
+
+-- the answer of each task on a script
+abbrev pub ScriptAnswers : ScriptTask → Source → Answer → Type 0
+ScriptAnswers Tidy source answer = answer ≡ says Done (canonical_text source.script)
+
+-- of each on a log
+abbrev pub LogAnswers : LogTask → Log → Answer → Type 0
+LogAnswers Show log answer = answer ≡ says Done (log_text log.threads)
+
+-- what each on a script and a log says where the log fits
+abbrev pub PairSays : PairTask → Pair → Answer → Type 0
+PairSays Replay pair = SaysOutcome pair.source.script pair.log.threads
+PairSays Verify pair = SaysVerdict pair.source.script pair.log.threads
+PairSays Profile pair = SaysCounts pair.wanted pair.source.script pair.log.threads
+
+-- and its answer
+abbrev pub PairAnswers : PairTask → Pair → Answer → Type 0
+PairAnswers task pair answer = Fitting (PairSays task pair) pair.source.script pair.log.threads answer
+
+-- the answer of each way to run a script
+abbrev pub RunAnswers : Way → List ℕ → Source → Answer → Type 0
+RunAnswers way log_name source answer = IsRecording way log_name source.script answer
+
+-- reading is refused, or the command answers by what was read
+abbrev pub Answering : {T : Type 0} → (Result T Answer → Type 0) → (T → Answer → Type 0) → Answer → Type 0
+Answering Reading Answers answer = Reading (Err answer) ⊎ ((input : _) × Reading (Ok input) × Answers input answer)
+
+-- the answers to a request, by what the desk tells of its files
+abbrev pub RequestAnswers : Request → Option Contents → Answer → Type 0
+RequestAnswers (OfScript task script) contents answer = Answering (IsScriptRead script contents) (ScriptAnswers task) answer
+RequestAnswers (OfLog task log) contents answer = Answering (IsLogRead log contents) (LogAnswers task) answer
+RequestAnswers (OfPair task script log object) contents answer = Answering (IsPairRead script log object contents) (PairAnswers task) answer
+RequestAnswers (Run way script log) contents answer = Answering (IsScriptRead script contents) (RunAnswers way log) answer
+RequestAnswers (Gen number script log) contents answer = IsGeneration number script log answer
+
+-- to what words ask for, or that they are no command
+abbrev pub Answers : Option Request → Option Contents → Answer → Type 0
+Answers None contents answer = answer ≡ not_a_command
+Answers (Some request) contents answer = RequestAnswers request contents answer
+
+-- the answers to words
+abbrev pub IsAnswer : List (List ℕ) → Option Contents → Answer → Type 0
+IsAnswer words contents answer = Answers (request_in words) contents answer

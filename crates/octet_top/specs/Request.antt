@@ -1,83 +1,142 @@
--- Which words ask for which command.
-use Rattle.std.specs.Prelude.{ℕ, ◌≡◌, List, [], ◌∷◌, map, codes, Option, Some, None, String, string_bytes}
+-- What words ask for, and which files that takes and writes.
+use Rattle.std.specs.Prelude.{ℕ, List, [], ◌∷◌, map, codes, if◌then◌else◌, Option, Some, None, String, string_bytes}
 use denote.Ref.{Bor}
 use Rattle.std.specs.Option.{option_map}
+use Rattle.std.specs.Str.{bytes_eq}
+use Rattle.std.specs.Char.{digit_value}
 use Rattle.std.specs.Global.{Global}
+use Rattle.octet_base.specs.declared.call.Call.{Call}
+use Rattle.octet_base.specs.declared.call.Call.TheVariants.{Take}
 use Rattle.octet_script.specs.Spelling.{number_of}
-use Rattle.octet_top.specs.declared.request.Request.{Request}
-use Rattle.octet_top.specs.declared.request.Request.TheVariants as request
+use Rattle.octet_top.specs.Picks.{are_picks}
+use Rattle.octet_top.specs.declared.request.ScriptTask.{ScriptTask}
+use Rattle.octet_top.specs.declared.request.ScriptTask.TheVariants.{Tidy}
+use Rattle.octet_top.specs.declared.request.LogTask.{LogTask}
+use Rattle.octet_top.specs.declared.request.LogTask.TheVariants.{Show}
+use Rattle.octet_top.specs.declared.request.PairTask.{PairTask}
+use Rattle.octet_top.specs.declared.request.PairTask.TheVariants.{Replay, Verify, Profile}
+use Rattle.octet_top.specs.declared.request.RunTask.{RunTask}
+use Rattle.octet_top.specs.declared.request.RunTask.TheVariants as run
+use Rattle.octet_top.specs.declared.request.Reading.{Reading}
+use Rattle.octet_top.specs.declared.request.Reading.TheVariants as reading
+use Rattle.octet_top.specs.declared.request.Running.{Running}
+use Rattle.octet_top.specs.declared.request.Running.TheVariants as running
+
+-- the limit of a script's file, in bytes
+abbrev pub script_limit : ℕ
+script_limit = 1048576
+
+-- the limit of a log's file, in bytes
+abbrev pub log_limit : ℕ
+log_limit = 67108864
 
 -- the bytes of each word
 abbrev pub texts : List (String Global) → List (List ℕ)
 texts words = map (λ word. string_bytes word) words
 
--- a command, with the names of its files
-pub data Command : Type 0 where
-  Run : (script log : List ℕ) → Command
-  Tidy : (script : List ℕ) → Command
-  Show : (log : List ℕ) → Command
-  Replay : (script log : List ℕ) → Command
-  Verify : (script log : List ℕ) → Command
-  Profile : (script log : List ℕ) (object : Option (List ℕ)) → Command
-  Gen : (number : ℕ) (script log : List ℕ) → Command
+-- a way to run a script: as its threads come, or by picks
+pub data Way : Type 0 where
+  AsTheyCome : Way
+  ByPicks : (picks : List ℕ) → Way
 
--- the words ask for the command
-abbrev pub Asks : List (List ℕ) → Command → Type 0
-Asks words (Run script log) = words ≡ codes "run" ∷ script ∷ log ∷ []
-Asks words (Tidy script) = words ≡ codes "tidy" ∷ script ∷ []
-Asks words (Show log) = words ≡ codes "show" ∷ log ∷ []
-Asks words (Replay script log) = words ≡ codes "replay" ∷ script ∷ log ∷ []
-Asks words (Verify script log) = words ≡ codes "verify" ∷ script ∷ log ∷ []
-Asks words (Profile script log None) = words ≡ codes "profile" ∷ script ∷ log ∷ []
-Asks words (Profile script log (Some object)) = words ≡ codes "profile" ∷ script ∷ log ∷ object ∷ []
-Asks words (Gen number script log) = (digits : List ℕ) × (number_of digits ≡ Some number) × (words ≡ codes "gen" ∷ digits ∷ script ∷ log ∷ [])
+-- a task, with the names of its files
+pub data Request : Type 0 where
+  OfScript : (task : ScriptTask) (script : List ℕ) → Request
+  OfLog : (task : LogTask) (log : List ℕ) → Request
+  OfPair : (task : PairTask) (script log : List ℕ) (object : Option (List ℕ)) → Request
+  Run : (way : Way) (script log : List ℕ) → Request
+  Gen : (number : ℕ) (script log : List ℕ) → Request
 
--- the file that it takes as a script, if any
-abbrev pub script_taken : Command → Option (List ℕ)
-script_taken (Run script log) = Some script
-script_taken (Tidy script) = Some script
-script_taken (Show log) = None
-script_taken (Replay script log) = Some script
-script_taken (Verify script log) = Some script
-script_taken (Profile script log object) = Some script
-script_taken (Gen number script log) = None
+-- the word of each task on a script
+abbrev pub script_task : List ℕ → Option ScriptTask
+script_task word = if bytes_eq word (codes "tidy") then Some Tidy else None
 
--- the file that it takes as a log, if any
-abbrev pub log_taken : Command → Option (List ℕ)
-log_taken (Run script log) = None
-log_taken (Tidy script) = None
-log_taken (Show log) = Some log
-log_taken (Replay script log) = Some log
-log_taken (Verify script log) = Some log
-log_taken (Profile script log object) = Some log
-log_taken (Gen number script log) = None
+-- of each on a log
+abbrev pub log_task : List ℕ → Option LogTask
+log_task word = if bytes_eq word (codes "show") then Some Show else None
 
--- the words ask for no command
-abbrev pub IsNotACommand : List (List ℕ) → Type 0
-IsNotACommand words = (command : Command) → Asks words command → ⊥
+-- of each on a script and a log
+abbrev pub pair_task : List ℕ → Option PairTask
+pair_task word =
+    if bytes_eq word (codes "replay") then Some Replay
+    else (if bytes_eq word (codes "verify") then Some Verify
+    else (if bytes_eq word (codes "profile") then Some Profile else None))
 
--- the words name this file, which is taken as a script
-pub record NamesScript (words : List (List ℕ)) (name : List ℕ) : Type 0 where
-  pub command : Command
-  pub asked : Asks words command
-  pub takes : script_taken command ≡ Some name
+-- of each way to run a script
+abbrev pub way_of : List ℕ → Option Way
+way_of word = if bytes_eq word (codes "run") then Some AsTheyCome else None
 
--- the words name this file, which is taken as a log
-pub record NamesLog (words : List (List ℕ)) (name : List ℕ) : Type 0 where
-  pub command : Command
-  pub asked : Asks words command
-  pub takes : log_taken command ≡ Some name
+-- of a run by picks, and these
+abbrev pub way_by_picks : List ℕ → List ℕ → Option Way
+way_by_picks word picks = if bytes_eq word (codes "turns") then (if are_picks picks then Some (ByPicks (map digit_value picks)) else None) else None
+
+-- the first of the two, if it is there
+abbrev pub or_else : {A : Type 0} → Option A → Option A → Option A
+or_else None other = other
+or_else (Some x) other = Some x
+
+-- what two, three and four words ask for that starts no thread
+abbrev pub reading_of_two : List ℕ → List ℕ → Option Request
+reading_of_two word file = or_else (option_map (λ t. OfScript t file) (script_task word)) (option_map (λ t. OfLog t file) (log_task word))
+
+abbrev pub reading_of_three : List ℕ → List ℕ → List ℕ → Option Request
+reading_of_three word script log = option_map (λ t. OfPair t script log None) (pair_task word)
+
+abbrev pub reading_of_four : List ℕ → List ℕ → List ℕ → List ℕ → Option Request
+reading_of_four word script log object = if bytes_eq word (codes "profile") then Some (OfPair Profile script log (Some object)) else None
+
+abbrev pub reading_in : List (List ℕ) → Option Request
+reading_in (word ∷ file ∷ []) = reading_of_two word file
+reading_in (word ∷ script ∷ log ∷ []) = reading_of_three word script log
+reading_in (word ∷ script ∷ log ∷ object ∷ []) = reading_of_four word script log object
+reading_in _ = None
+
+-- what three and four words ask for that runs a script
+abbrev pub running_of_three : List ℕ → List ℕ → List ℕ → Option Request
+running_of_three word script log = option_map (λ w. Run w script log) (way_of word)
+
+abbrev pub running_of_four : List ℕ → List ℕ → List ℕ → List ℕ → Option Request
+running_of_four word first second third =
+    if bytes_eq word (codes "gen") then option_map (λ n. Gen n second third) (number_of first)
+    else option_map (λ w. Run w first second) (way_by_picks word third)
+
+abbrev pub running_in : List (List ℕ) → Option Request
+running_in (word ∷ script ∷ log ∷ []) = running_of_three word script log
+running_in (word ∷ first ∷ second ∷ third ∷ []) = running_of_four word first second third
+running_in _ = None
+
+-- what words ask for, if they ask for anything
+abbrev pub request_in : List (List ℕ) → Option Request
+request_in words = or_else (running_in words) (reading_in words)
+
+-- the calls that take its files, each with its own limit, in order
+abbrev pub takes_of : Request → List Call
+takes_of (OfScript task script) = Take script script_limit ∷ []
+takes_of (OfLog task log) = Take log log_limit ∷ []
+takes_of (OfPair task script log object) = Take script script_limit ∷ Take log log_limit ∷ []
+takes_of (Run way script log) = Take script script_limit ∷ []
+takes_of (Gen number script log) = []
+
+-- the files that it writes, in order
+abbrev pub outputs_of : Request → List (List ℕ)
+outputs_of (Run way script log) = log ∷ []
+outputs_of (Gen number script log) = script ∷ log ∷ []
+outputs_of _ = []
 
 -- a name, where there is one
 abbrev pub name_in : Option (Bor (List ℕ)) → Option (List ℕ)
 name_in name = option_map (λ (shown : Bor (List ℕ)). shown.now) name
 
--- a request as a command
-abbrev pub command_of : Request → Command
-command_of (request.Run script log) = Run script.now log.now
-command_of (request.Tidy script) = Tidy script.now
-command_of (request.Show log) = Show log.now
-command_of (request.Replay script log) = Replay script.now log.now
-command_of (request.Verify script log) = Verify script.now log.now
-command_of (request.Profile script log object) = Profile script.now log.now (name_in object)
-command_of (request.Gen number script log) = Gen number script.now log.now
+-- a request as the program has it
+abbrev pub shown_reading : Reading → Request
+shown_reading (reading.OfScript task script) = OfScript task script.now
+shown_reading (reading.OfLog task log) = OfLog task log.now
+shown_reading (reading.OfPair task script log object) = OfPair task script.now log.now (name_in object)
+
+abbrev pub shown_task : RunTask → Way
+shown_task run.Run = AsTheyCome
+shown_task (run.Turns picks) = ByPicks (map digit_value picks.now)
+
+abbrev pub shown_running : Running → Request
+shown_running (running.OfScript task script log) = Run (shown_task task) script.now log.now
+shown_running (running.Gen number script log) = Gen number script.now log.now

@@ -2,19 +2,21 @@
 #![tactic(auto)]
 
 mod deliver;
-mod generate;
+mod inputs;
+mod picks;
 mod profile;
 mod program;
+mod reading;
+mod recording;
 mod refusal;
 mod replay;
 mod reply;
 mod request;
-mod run;
+mod running;
 mod show;
-mod take;
 #[cfg(test)]
 mod tests;
 mod tidy;
 mod verify;
 
-pub use program::serve;
+pub use program::{serve, serve_alone};

@@ -1,27 +1,21 @@
-//! The top call: words in, an exit status out.
-ghost use Rattle.std.specs.Prelude.{◌≡◌, ◌≢◌, ◌≤◌, ◌⊎◌, ℕ, List, None, IfOk};
-ghost use Rattle.octet_base.specs.Desk.{Rose};
+//! The top calls: words in, an exit status out.
+ghost use Rattle.std.specs.Prelude.{◌≡◌, ◌⊎◌, None};
+ghost use Rattle.octet_base.specs.Desk.{Contents};
 ghost use Rattle.octet_top.specs.declared.reply.Status.{Status};
-ghost use Rattle.octet_top.specs.Answer.{answer_of, code_of};
-ghost use Rattle.octet_top.specs.Request.{texts, command_of, Asks, Run, Verify, Gen, IsNotACommand};
-ghost use Rattle.octet_top.specs.Taking.{TellsFailure};
-ghost use Rattle.octet_top.specs.Commands.{IsAnswer, CommandAnswers, AreAnswered};
-ghost use Rattle.octet_top.specs.Serving.{state_of};
-ghost use Rattle.octet_top.specs.Promises.{RunsFaithfully, IsScriptRefused, IsLogRefused, IsMisfitting, IsFoundUnordered, VerifiesOrdered, GeneratesFaithfully, NamesNoObject, IsFileAbsent, IsFileTooLong, IsWellMet, RepeatsRecordings};
-ghost use Rattle.octet_top.specs.Due.{IsDue};
-ghost use Rattle.octet_top.specs.Kept.{KeepsOtherFiles, LooksUpOwn, LooksUpNamed};
+ghost use Rattle.octet_top.specs.declared.reply.Status.TheVariants.{Memory};
+ghost use Rattle.octet_top.specs.Answer.{code_of};
+ghost use Rattle.octet_top.specs.Request.{texts, request_in, reading_in, shown_running};
+ghost use Rattle.octet_top.specs.Causes.{IsCause, IsDue, NoneFailed};
+ghost use Rattle.octet_top.specs.Replies.{Replies};
+ghost use Rattle.octet_top.specs.Delivery.{IsServed};
+ghost use Rattle.octet_top.specs.Promises.{RunsFaithfully, VerifiesOrdered, RepeatsRecordings, GeneratesFaithfully};
 
 use crate::deliver::deliver;
-use crate::generate::generate;
-use crate::profile::profile;
+use crate::reading::read;
 use crate::refusal::not_a_command;
-use crate::replay::replay;
-use crate::reply::{Reply, Status};
-use crate::request::{Request, request_of};
-use crate::run::run;
-use crate::show::show;
-use crate::tidy::tidy;
-use crate::verify::verify;
+use crate::reply::Reply;
+use crate::request::{Running, reading_of, running_of};
+use crate::running::run;
 use octet_base::{Desk, Gate};
 use octet_model::OutOfMemory;
 use std::alloc::Global;
@@ -31,119 +25,90 @@ use std::thread::Threads;
 /// Does what the words of a command line say, over the desk, and answers the exit status. The
 /// words are those after the program's name.
 pub fn serve<R: Threads + Wait + Sync, D: Desk, G: Gate>(
-    _rt: &R,
+    rt: &R,
     alloc: Global,
     words: &[String],
     desk: &mut D,
-    _gate: &G,
+    gate: &G,
 ) -> u8
-    requires { D.begun desk.old ≡ None }
+    requires { (D.state desk.old).begun ≡ None }
 
     // What is read aloud of `run`: status 0 comes with a faithful recording.
-    ensures headline { let state = state_of D.files D.begun D.said D.take_faults D.write_faults in
-        (script_name log_name : List ℕ) → Asks (texts words.now) (Run script_name log_name) → result ≡ 0 → RunsFaithfully script_name log_name (state desk.old) (state desk.new) }
+    ensures headline { RunsFaithfully (texts words.now) (D.state desk.old) (D.state desk.new) result }
 
     // Of a log that `verify` calls ordered: all its lawful orders have one outcome.
-    ensures ordered { let files = D.files desk.old in
-        (script_name log_name : List ℕ) → Asks (texts words.now) (Verify script_name log_name) → result ≡ 0 → VerifiesOrdered script_name log_name files }
+    ensures ordered { VerifiesOrdered (texts words.now) (D.state desk.old) result }
 
     // Status 0 of `gen` comes with the generated script and a faithful recording of it.
-    ensures generated { let state = state_of D.files D.begun D.said D.take_faults D.write_faults in
-        (number : ℕ) (script_name log_name : List ℕ) → Asks (texts words.now) (Gen number script_name log_name) → result ≡ 0 → GeneratesFaithfully number script_name log_name (state desk.old) (state desk.new) }
+    ensures generated { GeneratesFaithfully (texts words.now) (D.state desk.old) (D.state desk.new) result }
 
     // A replay of a recording says what was recorded.
-    ensures repeats { let state = state_of D.files D.begun D.said D.take_faults D.write_faults in
-        RepeatsRecordings (texts words.now) (state desk.old) (state desk.new) result }
+    ensures repeats { RepeatsRecordings (texts words.now) (D.state desk.old) (D.state desk.new) result }
 
-    // All that is written, said and answered, for each command and each status.
-    ensures served { let state = state_of D.files D.begun D.said D.take_faults D.write_faults in
-        AreAnswered (texts words.now) (state desk.old) (state desk.new) result }
+    // Whatever status comes, its cause holds.
+    ensures cause { (status : Status) → result ≡ code_of status → IsCause (texts words.now) (D.state desk.old) (D.state desk.new) status }
 
-    // What is left alone: at every status each file that the words do not name to be written, and
-    // all files at a refusal.
-    ensures others { KeepsOtherFiles (texts words.now) (D.files desk.old) (D.files desk.new) }
-    ensures untouched { result ≢ 0 → result ≢ 6 → result ≢ 7 → D.files desk.new ≡ D.files desk.old }
+    // Where the desk tells its contents and no call fails, the status comes whose cause is the
+    // first that is met, unless memory was refused.
+    ensures due { (contents : Contents) → (D.state desk.old).contents ≡ Some contents → (status : Status) → IsDue (texts words.now) (D.state desk.old).contents status → NoneFailed (D.state desk.old) (D.state desk.new)
+        → (result ≡ code_of status) ⊎ (result ≡ code_of Memory) }
+    ensures one_due { (contents : Contents) (status other : Status) → IsDue (texts words.now) (Some contents) status → IsDue (texts words.now) (Some contents) other → status ≡ other }
 
-    // And no file is asked for but those that the words name to be taken.
-    ensures lookups { LooksUpNamed (texts words.now) (D.files desk.old) (D.lookups desk.old) (D.lookups desk.new) }
-
-    // When each status comes: only with its cause, and, where no call of the desk fails, whenever
-    // words and files call for it, unless memory was refused.
-    ensures words { result ≡ 1 → IsNotACommand (texts words.now) ⊎ NamesNoObject (texts words.now) (D.files desk.old) }
-    ensures script { result ≡ 2 → IsScriptRefused (texts words.now) (D.files desk.old) }
-    ensures log { result ≡ 3 → IsLogRefused (texts words.now) (D.files desk.old) }
-    ensures fit { result ≡ 4 → IsMisfitting (texts words.now) (D.files desk.old) }
-    ensures unordered { result ≡ 9 → IsFoundUnordered (texts words.now) (D.files desk.old) }
-    ensures read { result ≡ 5 → Rose (D.take_faults desk.old) (D.take_faults desk.new) ⊎ IsFileAbsent (texts words.now) (D.files desk.old) }
-    ensures write { result ≡ 6 → Rose (D.write_faults desk.old) (D.write_faults desk.new) }
-    ensures no_other_write { result ≢ 6 → D.write_faults desk.new ≡ D.write_faults desk.old }
-    ensures no_other_read { result ≢ 5 → result ≢ 6 → result ≢ 7 → D.take_faults desk.new ≡ D.take_faults desk.old }
-    ensures too_long { result ≡ 8 → IsFileTooLong (texts words.now) (D.files desk.old) }
-    ensures due { (status : Status) → IsDue (texts words.now) (D.files desk.old) status → ¬ Rose (D.take_faults desk.old) (D.take_faults desk.new) → ¬ Rose (D.write_faults desk.old) (D.write_faults desk.new)
-        → (result ≡ code_of status) ⊎ (result ≡ 7) }
-    ensures complete { IsWellMet (texts words.now) (D.files desk.old) → ¬ Rose (D.take_faults desk.old) (D.take_faults desk.new) → ¬ Rose (D.write_faults desk.old) (D.write_faults desk.new)
-        → (result ≡ 0) ⊎ (result ≡ 7) }
+    // All calls of the desk, in order, and what they leave.
+    ensures served { IsServed (request_in (texts words.now)) (D.state desk.old) (D.state desk.new) result }
 {
-    answer_words(alloc, words, desk)
+    serve_words(rt, alloc, words, desk, gate)
 }
 
-fn answer_words<D: Desk>(alloc: Global, words: &[String], desk: &mut D) -> u8
-    requires { D.begun desk.old ≡ None }
-    ensures told { result ≢ 5 → result ≢ 6 → result ≢ 7 → D.take_faults desk.new ≡ D.take_faults desk.old }
-    ensures lookups { LooksUpNamed (texts words.now) (D.files desk.old) (D.lookups desk.old) (D.lookups desk.new) }
-    ensures answered { let state = state_of D.files D.begun D.said D.take_faults D.write_faults in
-        AreAnswered (texts words.now) (state desk.old) (state desk.new) result }
+fn serve_words<R: Threads + Wait + Sync, D: Desk, G: Gate>(
+    rt: &R,
+    alloc: Global,
+    words: &[String],
+    desk: &mut D,
+    gate: &G,
+) -> u8
+    requires { (D.state desk.old).begun ≡ None }
+    ensures { IsServed (request_in (texts words.now)) (D.state desk.old) (D.state desk.new) result }
 {
-    match reply_to(alloc, desk, words) {
-        Ok(reply) => deliver(alloc, desk, &reply),
-        Err(OutOfMemory) => Status::Memory.code(),
+    match running_of(words) {
+        Some(running) => serve_running(rt, alloc, running, desk, gate),
+        None => serve_alone(alloc, words, desk),
     }
 }
 
-/// The reply to the words. Files are taken, and nothing is written or said yet.
-fn reply_to<D: Desk>(alloc: Global, desk: &mut D, words: &[String]) -> Result<Reply, OutOfMemory>
-    ensures answers { IfOk result (λ reply. IsAnswer (texts words.now) (D.files desk.old) (D.take_faults desk.old) (D.take_faults desk.new) (answer_of reply)) }
-    ensures told { IfOk result (λ reply. TellsFailure reply (D.take_faults desk.old) (D.take_faults desk.new)) }
-    ensures lookups { LooksUpNamed (texts words.now) (D.files desk.old) (D.lookups desk.old) (D.lookups desk.new) }
-    ensures same_files { D.files desk.new ≡ D.files desk.old }
-    ensures same_begun { D.begun desk.new ≡ D.begun desk.old }
-    ensures same_said { D.said desk.new ≡ D.said desk.old }
-    ensures same_faults { D.write_faults desk.new ≡ D.write_faults desk.old }
+/// Serves words that run no script, on the calling thread alone: it waits for nobody, and so it
+/// returns. To all other words it says that they are no command.
+pub fn serve_alone<D: Desk>(alloc: Global, words: &[String], desk: &mut D) -> u8
+    requires { (D.state desk.old).begun ≡ None }
+    ensures { IsServed (reading_in (texts words.now)) (D.state desk.old) (D.state desk.new) result }
 {
-    match request_of(words) {
-        Some(request) => carry_out(alloc, desk, request),
+    let reply = reply_alone(alloc, words, desk);
+    deliver(alloc, desk, reply)
+}
+
+fn reply_alone<D: Desk>(
+    alloc: Global,
+    words: &[String],
+    desk: &mut D,
+) -> Result<Reply, OutOfMemory>
+    ensures { Replies (reading_in (texts words.now)) (D.state desk.old) result (D.state desk.new) }
+{
+    match reading_of(words) {
+        Some(reading) => read(alloc, desk, reading),
         None => not_a_command(alloc),
     }
 }
 
-fn carry_out<D: Desk>(
+fn serve_running<R: Threads + Wait + Sync, D: Desk, G: Gate>(
+    rt: &R,
     alloc: Global,
+    running: Running<'_>,
     desk: &mut D,
-    request: Request<'_>,
-) -> Result<Reply, OutOfMemory>
-    ensures answers { IfOk result (λ reply. CommandAnswers (command_of request.entry) (D.files desk.old) (D.take_faults desk.old) (D.take_faults desk.new) (answer_of reply)) }
-    ensures told { IfOk result (λ reply. TellsFailure reply (D.take_faults desk.old) (D.take_faults desk.new)) }
-    ensures lookups { LooksUpOwn (command_of request.entry) (D.files desk.old) (D.lookups desk.old) (D.lookups desk.new) }
-    ensures same_files { D.files desk.new ≡ D.files desk.old }
-    ensures same_begun { D.begun desk.new ≡ D.begun desk.old }
-    ensures same_said { D.said desk.new ≡ D.said desk.old }
-    ensures same_faults { D.write_faults desk.new ≡ D.write_faults desk.old }
+    gate: &G,
+) -> u8
+    requires { (D.state desk.old).begun ≡ None }
+    ensures { IsServed (Some (shown_running running.entry)) (D.state desk.old) (D.state desk.new) result }
 {
-    match request {
-        Request::Run { script, log } => run(alloc, desk, script, log),
-        Request::Tidy { script } => tidy(alloc, desk, script),
-        Request::Show { log } => show(alloc, desk, log),
-        Request::Replay { script, log } => replay(alloc, desk, script, log),
-        Request::Verify { script, log } => verify(alloc, desk, script, log),
-        Request::Profile {
-            script,
-            log,
-            object,
-        } => profile(alloc, desk, script, log, object),
-        Request::Gen {
-            number,
-            script,
-            log,
-        } => generate(alloc, number, script, log),
-    }
+    let reply = run(rt, alloc, running, desk, gate);
+    deliver(alloc, desk, reply)
 }

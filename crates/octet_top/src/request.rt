@@ -1,35 +1,69 @@
-//! The commands that words ask for.
-ghost use Rattle.std.specs.Prelude.{◌≡◌, ◌∷◌, [], IfSome, IfNone};
-ghost use Rattle.octet_top.specs.Request.{texts, command_of, Asks, IsNotACommand};
+//! What words ask for: which task, and of which files.
+ghost use Rattle.std.specs.Prelude.{◌≡◌, ◌∷◌, []};
+ghost use Rattle.std.specs.Option.{option_map};
+ghost use Rattle.octet_top.specs.Request.{texts, shown_reading, shown_running, reading_in, running_in, script_task, log_task, pair_task, way_of, way_by_picks, shown_task, reading_of_two, reading_of_three, reading_of_four, running_of_three, running_of_four};
 
+use crate::picks::are_picks;
 use octet_script::number_of;
 
-/// A command, with the names of its files.
+/// Tasks on a script.
 #[derive(Clone, Copy, Debug)]
-pub(crate) enum Request<'a> {
-    Run {
+pub(crate) enum ScriptTask {
+    Tidy,
+}
+
+/// Tasks on a log.
+#[derive(Clone, Copy, Debug)]
+pub(crate) enum LogTask {
+    Show,
+}
+
+/// Tasks on a script and a log.
+#[derive(Clone, Copy, Debug)]
+pub(crate) enum PairTask {
+    Replay,
+    Verify,
+    Profile,
+}
+
+/// Ways to run a script and write its log.
+#[derive(Clone, Copy, Debug)]
+pub(crate) enum RunTask<'a> {
+    /// As its threads come.
+    Run,
+    /// A turn for each hexadecimal digit, and then by rounds.
+    Turns { picks: &'a str },
+}
+
+/// What words ask for that starts no thread and waits for nobody, with the names of its files.
+#[derive(Clone, Copy, Debug)]
+pub(crate) enum Reading<'a> {
+    OfScript {
+        task: ScriptTask,
         script: &'a str,
+    },
+    OfLog {
+        task: LogTask,
         log: &'a str,
     },
-    Tidy {
-        script: &'a str,
-    },
-    Show {
-        log: &'a str,
-    },
-    Replay {
-        script: &'a str,
-        log: &'a str,
-    },
-    Verify {
-        script: &'a str,
-        log: &'a str,
-    },
-    Profile {
+    /// Of a script and a log, and of one object where it is named.
+    OfPair {
+        task: PairTask,
         script: &'a str,
         log: &'a str,
         object: Option<&'a str>,
     },
+}
+
+/// What words ask for that runs a script, and so may wait.
+#[derive(Clone, Copy, Debug)]
+pub(crate) enum Running<'a> {
+    OfScript {
+        task: RunTask<'a>,
+        script: &'a str,
+        log: &'a str,
+    },
+    /// Of the script that the number generates.
     Gen {
         number: u64,
         script: &'a str,
@@ -37,18 +71,130 @@ pub(crate) enum Request<'a> {
     },
 }
 
-/// The command that the words ask for, or none where they are no command.
-pub(crate) fn request_of(words: &[String]) -> Option<Request<'_>>
-    ensures some { IfSome result (λ r. Asks (texts words.now) (command_of r)) }
-    ensures none { IfNone result (IsNotACommand (texts words.now)) }
+fn script_task(word: &str) -> Option<ScriptTask>
+    ensures { result ≡ script_task word.now }
+{
+    if word == "tidy" {
+        Some(ScriptTask::Tidy)
+    } else {
+        None
+    }
+}
+
+fn log_task(word: &str) -> Option<LogTask>
+    ensures { result ≡ log_task word.now }
+{
+    if word == "show" {
+        Some(LogTask::Show)
+    } else {
+        None
+    }
+}
+
+fn pair_task(word: &str) -> Option<PairTask>
+    ensures { result ≡ pair_task word.now }
+{
+    if word == "replay" {
+        Some(PairTask::Replay)
+    } else if word == "verify" {
+        Some(PairTask::Verify)
+    } else if word == "profile" {
+        Some(PairTask::Profile)
+    } else {
+        None
+    }
+}
+
+fn run_task(word: &str) -> Option<RunTask<'static>>
+    ensures { option_map shown_task result ≡ way_of word.now }
+{
+    if word == "run" {
+        Some(RunTask::Run)
+    } else {
+        None
+    }
+}
+
+fn turns_task<'a>(word: &str, picks: &'a str) -> Option<RunTask<'a>>
+    ensures { option_map shown_task result ≡ way_by_picks word.now picks.now }
+{
+    if word == "turns" && are_picks(picks) {
+        Some(RunTask::Turns { picks })
+    } else {
+        None
+    }
+}
+
+/// The reading that words ask for, if they ask for one.
+pub(crate) fn reading_of(words: &[String]) -> Option<Reading<'_>>
+    ensures { option_map shown_reading result ≡ reading_in (texts words.now) }
 {
     match words {
-        [command, file] => of_one_file(command.as_str(), file.as_str()),
-        [command, first, second] => {
-            of_two_files(command.as_str(), first.as_str(), second.as_str())
-        }
-        [command, first, second, third] => of_three(
-            command.as_str(),
+        [word, file] => reading_of_two(word.as_str(), file.as_str()),
+        [word, script, log] => reading_of_three(word.as_str(), script.as_str(), log.as_str()),
+        [word, script, log, object] => reading_of_four(
+            word.as_str(),
+            script.as_str(),
+            log.as_str(),
+            object.as_str(),
+        ),
+        _ => None,
+    }
+}
+
+fn reading_of_two<'a>(word: &str, file: &'a str) -> Option<Reading<'a>>
+    ensures { option_map shown_reading result ≡ reading_of_two word.now file.now }
+{
+    if let Some(task) = script_task(word) {
+        return Some(Reading::OfScript { task, script: file });
+    }
+    if let Some(task) = log_task(word) {
+        return Some(Reading::OfLog { task, log: file });
+    }
+    None
+}
+
+fn reading_of_three<'a>(word: &str, script: &'a str, log: &'a str) -> Option<Reading<'a>>
+    ensures { option_map shown_reading result ≡ reading_of_three word.now script.now log.now }
+{
+    if let Some(task) = pair_task(word) {
+        return Some(Reading::OfPair {
+            task,
+            script,
+            log,
+            object: None,
+        });
+    }
+    None
+}
+
+fn reading_of_four<'a>(
+    word: &str,
+    script: &'a str,
+    log: &'a str,
+    object: &'a str,
+) -> Option<Reading<'a>>
+    ensures { option_map shown_reading result ≡ reading_of_four word.now script.now log.now object.now }
+{
+    if word == "profile" {
+        return Some(Reading::OfPair {
+            task: PairTask::Profile,
+            script,
+            log,
+            object: Some(object),
+        });
+    }
+    None
+}
+
+/// The run that words ask for, if they ask for one.
+pub(crate) fn running_of(words: &[String]) -> Option<Running<'_>>
+    ensures { option_map shown_running result ≡ running_in (texts words.now) }
+{
+    match words {
+        [word, script, log] => running_of_three(word.as_str(), script.as_str(), log.as_str()),
+        [word, first, second, third] => running_of_four(
+            word.as_str(),
             first.as_str(),
             second.as_str(),
             third.as_str(),
@@ -57,66 +203,39 @@ pub(crate) fn request_of(words: &[String]) -> Option<Request<'_>>
     }
 }
 
-fn of_one_file<'a>(command: &str, file: &'a str) -> Option<Request<'a>>
-    ensures some { IfSome result (λ r. Asks (command.now ∷ file.now ∷ []) (command_of r)) }
-    ensures none { IfNone result (IsNotACommand (command.now ∷ file.now ∷ [])) }
+fn running_of_three<'a>(word: &str, script: &'a str, log: &'a str) -> Option<Running<'a>>
+    ensures { option_map shown_running result ≡ running_of_three word.now script.now log.now }
 {
-    if command == "tidy" {
-        Some(Request::Tidy { script: file })
-    } else if command == "show" {
-        Some(Request::Show { log: file })
-    } else {
-        None
+    if let Some(task) = run_task(word) {
+        return Some(Running::OfScript { task, script, log });
     }
+    None
 }
 
-fn of_two_files<'a>(command: &str, first: &'a str, second: &'a str) -> Option<Request<'a>>
-    ensures some { IfSome result (λ r. Asks (command.now ∷ first.now ∷ second.now ∷ []) (command_of r)) }
-    ensures none { IfNone result (IsNotACommand (command.now ∷ first.now ∷ second.now ∷ [])) }
-{
-    let (script, log) = (first, second);
-    if command == "run" {
-        Some(Request::Run { script, log })
-    } else if command == "replay" {
-        Some(Request::Replay { script, log })
-    } else if command == "verify" {
-        Some(Request::Verify { script, log })
-    } else if command == "profile" {
-        Some(Request::Profile {
-            script,
-            log,
-            object: None,
-        })
-    } else {
-        None
-    }
-}
-
-fn of_three<'a>(
-    command: &str,
+fn running_of_four<'a>(
+    word: &str,
     first: &'a str,
     second: &'a str,
     third: &'a str,
-) -> Option<Request<'a>>
-    ensures some { IfSome result (λ r. Asks (command.now ∷ first.now ∷ second.now ∷ third.now ∷ []) (command_of r)) }
-    ensures none { IfNone result (IsNotACommand (command.now ∷ first.now ∷ second.now ∷ third.now ∷ [])) }
+) -> Option<Running<'a>>
+    ensures { option_map shown_running result ≡ running_of_four word.now first.now second.now third.now }
 {
-    if command == "gen" {
-        match number_of(first.as_bytes()) {
-            Some(number) => Some(Request::Gen {
+    if word == "gen" {
+        if let Some(number) = number_of(first.as_bytes()) {
+            return Some(Running::Gen {
                 number,
                 script: second,
                 log: third,
-            }),
-            None => None,
+            });
         }
-    } else if command == "profile" {
-        Some(Request::Profile {
+        return None;
+    }
+    if let Some(task) = turns_task(word, third) {
+        return Some(Running::OfScript {
+            task,
             script: first,
             log: second,
-            object: Some(third),
-        })
-    } else {
-        None
+        });
     }
+    None
 }

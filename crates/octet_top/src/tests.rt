@@ -16,18 +16,19 @@ const SAID: &[u8] = b"thread 0 done\nthread 1 done 3\nobject y 3\n";
 const LOG: &[u8] =
     b"OCTL\x01\x02\x00\x00\x00\x00\x00\x00\x00\x00\x00\x00\x00\x01\x00\x00\x00\x01\x01\x00\x00\x00\x00\x00\x00\x00\x00\x00\x00\x00\x00\x00";
 
-/// A desk with the script as `S`, of whose calls these fail after so many bytes.
+/// A desk with the script as `S`. Each of `fails` is the number of a call that fails, and how many
+/// bytes it lets through.
 fn desk_with(alloc: Global, script: &[u8], fails: &[(u64, u32)]) -> Result<MemoryDesk, OutOfMemory>
-    ensures { IfOk result (λ desk. ⟦<MemoryDesk as Desk>⟧.begun desk ≡ None) }
+    ensures { IfOk result (λ desk. (⟦<MemoryDesk as Desk>⟧.state desk).begun ≡ None) }
 {
-    let mut told = List::new(alloc);
+    let mut contents = List::new(alloc);
     for (call, passed) in fails {
-        told.push(Fail {
+        contents.push(Fail {
             call: *call,
             passed: *passed,
         })?;
     }
-    let mut desk = MemoryDesk::new(alloc, told);
+    let mut desk = MemoryDesk::new(alloc, contents);
     desk.put(alloc, "S", script)?;
     Ok(desk)
 }
@@ -51,6 +52,9 @@ fn commands_answer(rt: HostRuntime) -> Result<(), Failed> {
         ("run S S", 0, SAID, None),
         ("tidy S", 0, canonical, None),
         ("tidy T", 5, b"read: failed\n".as_slice(), None),
+        ("turns S L 0", 0, SAID, Some(LOG)),
+        ("turns S L 0g", 1, no_command, None),
+        ("turns S L", 1, no_command, None),
         ("run S", 1, no_command, None),
         ("tidy S L", 1, no_command, None),
         ("", 1, no_command, None),
@@ -66,7 +70,7 @@ fn commands_answer(rt: HostRuntime) -> Result<(), Failed> {
     Ok(())
 }
 
-/// The call behind the one that ends the run would fail too, and be counted: it is not made.
+/// The call after the one that ends the run would fail too, and be counted: it is not made.
 #[test]
 fn failed_calls_leave_prefixes(rt: HostRuntime) -> Result<(), Failed> {
     let alloc = rt.alloc();
@@ -96,105 +100,98 @@ fn failed_calls_leave_prefixes(rt: HostRuntime) -> Result<(), Failed> {
     Ok(())
 }
 
-/// A command asks for all files that it needs and makes no other call: the last of its calls is
-/// counted where it fails, and one behind it is never made.
-#[test]
-fn commands_make_so_many_calls(rt: HostRuntime) -> Result<(), Failed> {
-    let alloc = rt.alloc();
-    for (line, calls, lookups) in [
-        ("run S L", 5, 1),
-        ("tidy S", 2, 1),
-        ("show L", 2, 1),
-        ("replay S L", 3, 2),
-        ("verify S L", 3, 2),
-        ("profile S L", 3, 2),
-        ("profile S L y", 3, 2),
-        ("profile S L z", 2, 1),
-        ("gen 1 T L", 7, 0),
-        ("show S", 2, 1),
-        ("replay L L", 2, 1),
-        ("tidy T", 2, 1),
-        ("neither S", 1, 0),
-    ] {
-        let words = words_of(alloc, line)?;
-        for (failing, faults) in [(calls, (0, 1)), (calls + 1, (0, 0))] {
-            let mut desk = desk_with(alloc, SCRIPT, &[(failing, 0), (failing + 1, 0)])?;
-            desk.put(alloc, "L", LOG)?;
-            serve(&rt, alloc, &words, &mut desk, &OpenGate);
-            assert_eq!(rt; desk.faults(), faults, "{line}");
-            assert_eq!(rt; desk.lookups().len(), lookups, "{line}");
+// The bytes that hexadecimal digits spell; what stands between them is skipped.
+fn bytes_of(alloc: Global, hex: &str) -> Result<Vec<u8>, AllocError> {
+    let mut bytes = Vec::new(alloc);
+    let mut half = None;
+    for digit in hex.bytes() {
+        let value = match digit {
+            b'0'..=b'9' => digit - b'0',
+            b'a'..=b'f' => digit - b'a' + 10,
+            _ => continue,
+        };
+        match half {
+            None => half = Some(value),
+            Some(high) => {
+                bytes.push((high & 15) * 16 + value)?;
+                half = None;
+            }
         }
     }
-    Ok(())
+    Ok(bytes)
 }
 
-/// Behind a take that failed its line is said, and no other call is made.
+/// Of each run the log by hand, which a replay repeats and a check finds ordered.
 #[test]
-fn nothing_follows_a_failed_take(rt: HostRuntime) -> Result<(), Failed> {
+fn runs_by_turns(rt: HostRuntime) -> Result<(), Failed> {
     let alloc = rt.alloc();
-    for (line, take) in [
-        ("run S L", 1),
-        ("tidy S", 1),
-        ("show L", 1),
-        ("replay S L", 1),
-        ("replay S L", 2),
-        ("verify S L", 1),
-        ("verify S L", 2),
-        ("profile S L", 1),
-        ("profile S L", 2),
-        ("profile S L y", 2),
+    let reading = b"object x 5\nthread\nset r0 7\nwrite x r0\nthread\nread r0 x\n".as_slice();
+    let sharing = b"object x 9\nthread\nthread\nread r0 x\nread r1 x\nthread\nread r0 x\n".as_slice();
+    let crossing = b"object x 0\nobject y 0\nthread\nset r0 1\nwrite y r0\nthread\nset r0 2\nwrite y r0\nwrite x r0\n".as_slice();
+    let pausing = b"object x 0\nthread\nset r0 1\nwrite x r0\npause\nwrite x r0\nthread\nset r0 2\nwrite x r0\n".as_slice();
+    let racing = b"object x 0\nthread\nthread\nset r0 1\nwrite x r0\nthread\nset r0 2\nwrite x r0\n".as_slice();
+    let raising =
+        b"object y 3\nthread\nthread\nread r0 y\nwrite y r0\nread r0 y\n".as_slice();
+    let asking = b"object x 1\nthread\nset r0 9\nwrite x r0\nthread\nread r0 x\nthread\nread r0 x\nthread\nread r0 x\nthread\nread r0 x\nthread\nread r0 x\nthread\nread r0 x\nthread\nread r0 x\nthread\nread r0 x\nthread\nread r0 x\nthread\nread r0 x\nthread\nread r0 x\nthread\nread r0 x\nthread\nread r0 x\nthread\nread r0 x\nthread\nread r0 x\n".as_slice();
+    for (script, words, said, log) in [
+        (
+            reading,
+            "turns S L 0000",
+            "thread 0 done\nthread 1 done 7\nobject x 7\n",
+            "4f43544c 01 02 00000001 00000000 00000001 00000001 01 00000000 00 0000000000000001",
+        ),
+        (
+            reading,
+            "turns S L 1111111",
+            "thread 0 done\nthread 1 done 5\nobject x 7\n",
+            "4f43544c 01 02 00000001 00000001 01 00000000 01 0000000000000002 00000001 00000001 01 00000000 00 0000000000000000",
+        ),
+        (
+            sharing,
+            "turns S L 1111112222222",
+            "thread 0 done\nthread 1 done 9 9\nthread 2 done 9\nobject x 9\n",
+            "4f43544c 01 03 00000000 00000000 00000002 00000002 01 00000000 00 0000000000000000 03 00000001 00 0000000000000001 00000001 00000002 01 00000000 01 0000000000000001 02 00000000 00 0000000000000001",
+        ),
+        (
+            crossing,
+            "turns S L 1111110010101001101",
+            "thread 0 done\nthread 1 done\nobject x 2\nobject y 1\n",
+            "4f43544c 01 02 00000001 00000001 01 00000000 01 0000000000000002 00000002 00000002 01 00000000 00 0000000000000000 01 00000001 00 0000000000000000",
+        ),
+        (
+            asking,
+            "turns S L 1111111222222233333444445555566666777778888899999aaaaaBBBBBcccccdddddeeeeefffff",
+            "thread 0 done\nthread 1 done 1\nthread 2 done 1\nthread 3 done 1\nthread 4 done 1\nthread 5 done 1\nthread 6 done 1\nthread 7 done 1\nthread 8 done 1\nthread 9 done 1\nthread 10 done 1\nthread 11 done 1\nthread 12 done 1\nthread 13 done 1\nthread 14 done 1\nthread 15 done 1\nobject x 9\n",
+            "4f43544c 01 10 00000001 0000000f 01 00000000 01 0000000000000002 01 00000000 02 0000000000000003 01 00000000 03 0000000000000002 01 00000000 04 0000000000000002 01 00000000 05 0000000000000002 01 00000000 06 0000000000000002 01 00000000 07 0000000000000002 01 00000000 08 0000000000000002 01 00000000 09 0000000000000002 01 00000000 0a 0000000000000002 01 00000000 0b 0000000000000002 01 00000000 0c 0000000000000002 01 00000000 0d 0000000000000002 01 00000000 0e 0000000000000002 01 00000000 0f 0000000000000002 00000001 00000001 01 00000000 00 0000000000000000 00000001 00000002 01 00000000 01 0000000000000001 02 00000000 00 0000000000000001 00000001 00000001 03 00000000 00 0000000000000001 00000001 00000001 03 00000000 00 0000000000000001 00000001 00000001 03 00000000 00 0000000000000001 00000001 00000001 03 00000000 00 0000000000000001 00000001 00000001 03 00000000 00 0000000000000001 00000001 00000001 03 00000000 00 0000000000000001 00000001 00000001 03 00000000 00 0000000000000001 00000001 00000001 03 00000000 00 0000000000000001 00000001 00000001 03 00000000 00 0000000000000001 00000001 00000001 03 00000000 00 0000000000000001 00000001 00000001 03 00000000 00 0000000000000001 00000001 00000001 03 00000000 00 0000000000000001 00000001 00000001 03 00000000 00 0000000000000001",
+        ),
+        (
+            pausing,
+            "turns S L 00001111110000100",
+            "thread 0 done\nthread 1 done\nobject x 1\n",
+            "4f43544c 01 02 00000002 00000001 01 00000001 01 0000000000000002 00000001 00000001 01 00000000 00 0000000000000001",
+        ),
+        (
+            racing,
+            "turns S L 1212121111",
+            "thread 0 done\nthread 1 done\nthread 2 done\nobject x 2\n",
+            "4f43544c 01 03 00000000 00000000 00000001 00000001 01 00000000 00 0000000000000000 00000001 00000001 01 00000000 01 0000000000000002",
+        ),
+        (
+            raising,
+            "run S L",
+            "thread 0 done\nthread 1 done 3 3\nobject y 3\n",
+            "4f43544c 01 02 00000000 00000000 00000003 00000001 01 00000000 00 0000000000000000",
+        ),
     ] {
-        let words = words_of(alloc, line)?;
-        let mut desk = desk_with(alloc, SCRIPT, &[(take, 0), (take + 2, 0)])?;
-        desk.put(alloc, "L", LOG)?;
-        let answer = serve(&rt, alloc, &words, &mut desk, &OpenGate);
-        assert_eq!(rt; answer, 5, "{line}");
-        assert_eq!(rt; desk.said(), b"read: failed\n".as_slice(), "{line}");
-        assert_eq!(rt; desk.faults(), (1, 0), "{line}");
-        assert_eq!(rt; desk.lookups().len() as u64, take, "{line}");
-    }
-    Ok(())
-}
-
-/// `gen` begins, adds to and finishes each of its two files, and says a line. Behind a call that
-/// failed it makes none.
-#[test]
-fn nothing_follows_a_failed_write(rt: HostRuntime) -> Result<(), Failed> {
-    let alloc = rt.alloc();
-    let words = words_of(alloc, "gen 1 T L")?;
-    for failing in 1..=7 {
-        let mut desk = desk_with(alloc, SCRIPT, &[(failing, 0), (failing + 1, 0)])?;
-        let answer = serve(&rt, alloc, &words, &mut desk, &OpenGate);
-        assert_eq!(rt; answer, 6, "failing at {failing}");
-        assert_eq!(rt; desk.faults(), (0, 1), "failing at {failing}");
-    }
-    Ok(())
-}
-
-/// A script whose log has 5,120 marks: each of six threads reads each of 1,024 objects.
-fn wide_script(alloc: Global) -> Result<String, AllocError> {
-    let mut text = String::new(alloc);
-    for object in 0..1024 {
-        text.push_str(&format!(in alloc; "object o{object} 0\n")?)?;
-    }
-    for _thread in 0..6 {
-        text.push_str("thread\n")?;
-        for object in 0..1024 {
-            text.push_str(&format!(in alloc; "read r0 o{object}\n")?)?;
+        let mut desk = desk_with(alloc, script, &[])?;
+        for line in [words, "replay S L", "verify S L"] {
+            let answer = serve(&rt, alloc, &words_of(alloc, line)?, &mut desk, &OpenGate);
+            assert_eq!(rt; answer, 0, "{line}");
         }
+        let all_said = format!(in alloc; "{said}{said}ordered\n")?;
+        let log = bytes_of(alloc, log)?;
+        assert_eq!(rt; desk.said(), all_said.as_bytes(), "{words}");
+        assert_eq!(rt; desk.file("L"), Some(log.as_slice()), "{words}");
     }
-    Ok(text)
-}
-
-#[test]
-fn file_is_written_in_pieces(rt: HostRuntime) -> Result<(), Failed> {
-    let alloc = rt.alloc();
-    let script = wide_script(alloc)?;
-    let words = words_of(alloc, "run S L")?;
-    let mut desk = desk_with(alloc, script.as_bytes(), &[(4, 9)])?;
-    let answer = serve(&rt, alloc, &words, &mut desk, &OpenGate);
-    assert_eq!(rt; answer, 6);
-    let written = desk.file("L").map(|log| log.len());
-    assert_eq!(rt; written, Some(65_536 + 9));
     Ok(())
 }

@@ -1,0 +1,10 @@
+use Rattle.std.proofs.Common.{Some, sym, subst}
+use Rattle.octet_top.specs.declared.request.Reading.{Reading}
+use Rattle.octet_top.specs.Request.{shown_reading}
+use Rattle.octet_top.specs.Replies.{Replies}
+use Rattle.octet_top.proofs.reading.read.Goals as goal
+
+pub returns-in-OfPair : goal.returns-in-OfPair
+returns-in-OfPair g c =
+    let state = g.D.Desk.state in
+    subst (λ (reading : Reading). Replies (Some (shown_reading reading)) (state c.args.desk.now) c.of_pair.result (state c.of_pair.new.desk)) (sym c.in-OfPair.is) c.of_pair.ensures

@@ -1,0 +1,23 @@
+-- The cause of each status.
+use Rattle.std.specs.Prelude.{ℕ, ◌≡◌, ◌⊎◌, List, Option}
+use Rattle.octet_base.specs.Desk.{Contents, DeskState, Rose}
+use Rattle.octet_top.specs.declared.reply.Status.{Status}
+use Rattle.octet_top.specs.declared.reply.Status.TheVariants.{Read, Write, Memory}
+use Rattle.octet_top.specs.Answer.{Answer}
+use Rattle.octet_top.specs.Commands.{IsAnswer}
+
+-- the words, with what is told of the files, have an answer of this status
+abbrev pub IsDue : List (List ℕ) → Option Contents → Status → Type 0
+IsDue words contents status = (answer : Answer) × IsAnswer words contents answer × (answer.status ≡ status)
+
+-- a status comes only with its cause: a write failed in this call; refused memory, which needs none; a take failed, or a file is not there; or the status is due
+abbrev pub IsCause : List (List ℕ) → DeskState → DeskState → Status → Type 0
+IsCause words before after Write = Rose before.write_faults after.write_faults
+IsCause words before after Memory = Unit {0}
+IsCause words before after Read = Rose before.take_faults after.take_faults ⊎ IsDue words before.contents Read
+IsCause words before after status = IsDue words before.contents status
+
+-- no call of the desk failed
+pub record NoneFailed (before after : DeskState) : Type 0 where
+  pub takes : ¬ Rose before.take_faults after.take_faults
+  pub writes : ¬ Rose before.write_faults after.write_faults

@@ -1,0 +1,77 @@
+-- How an answer is given to the desk: call by call, up to the first that is refused.
+use Rattle.std.specs.Prelude.{ℕ, zero, suc, ◌≡◌, ◌⊎◌, ◌++◌, List, [], ◌∷◌, map, take, drop, length, Option, Result, Ok, Err}
+use Rattle.std.specs.List.{flat_map}
+use Rattle.octet_base.specs.Desk.{DeskState, Begins, Adds, Finishes, Says}
+use Rattle.octet_base.specs.declared.fault.DeskFault.{DeskFault}
+use Rattle.octet_base.specs.declared.fault.DeskFault.TheVariants.{OutOfMemory}
+use Rattle.octet_model.specs.declared.list.OutOfMemory.{OutOfMemory as NoMemory}
+use Rattle.octet_top.specs.declared.reply.Reply.{Reply}
+use Rattle.octet_top.specs.declared.reply.Status.TheVariants.{Write, Memory}
+use Rattle.octet_top.specs.Answer.{Answer, answer_of, code_of}
+use Rattle.octet_top.specs.Request.{Request}
+use Rattle.octet_top.specs.Replies.{Replies}
+
+-- a call that writes or says, with its bytes
+pub data Act : Type 0 where
+  Begin : (name : List ℕ) → Act
+  Add : (bytes : List ℕ) → Act
+  Finish : Act
+  Say : (bytes : List ℕ) → Act
+
+-- what the call makes of the desk
+abbrev pub Does : Act → DeskState → Result (Unit {0}) DeskFault → DeskState → Type 0
+Does (Begin name) = Begins name
+Does (Add bytes) = Adds bytes
+Does Finish = Finishes
+Does (Say bytes) = Says bytes
+
+abbrev pub IsRefused : Result (Unit {0}) DeskFault → Type 0
+IsRefused (Ok done) = ⊥
+IsRefused (Err fault) = Unit {0}
+
+-- the calls are made one after the other, up to the first that is refused, and none after it
+abbrev pub Makes : List Act → DeskState → Result (Unit {0}) DeskFault → DeskState → Type 0
+Makes [] before result after = (result ≡ Ok tt) × (after ≡ before)
+Makes (act ∷ acts) before result after =
+    (IsRefused result × Does act before result after)
+    ⊎ ((mid : DeskState) × Does act before (Ok tt) mid × Makes acts mid result after)
+
+-- pieces of `size` bytes, the last one shorter if need be; `n` of them at most
+abbrev pub pieces_within : ℕ → ℕ → List ℕ → List (List ℕ)
+pieces_within size n [] = []
+pieces_within size zero (byte ∷ bytes) = []
+pieces_within size (suc n) (byte ∷ bytes) = take size (byte ∷ bytes) ∷ pieces_within size n (drop size (byte ∷ bytes))
+
+-- pieces of 65,536 bytes; there are no more of them than bytes
+abbrev pub pieces : List ℕ → List (List ℕ)
+pieces bytes = pieces_within 65536 (length bytes) bytes
+
+-- a file that is begun is written in pieces and finished
+abbrev pub rest_acts : List ℕ → List Act
+rest_acts bytes = map Add (pieces bytes) ++ Finish ∷ []
+
+abbrev pub file_acts : List ℕ × List ℕ → List Act
+file_acts file = Begin file.0 ∷ rest_acts file.1
+
+-- an answer's files are written in order, and then its text is said in one call
+abbrev pub acts_of : Answer → List Act
+acts_of answer = flat_map file_acts answer.files ++ Say answer.text ∷ []
+
+-- the exit status: the answer's own, or that of the call that was refused
+abbrev pub code_after : Answer → Result (Unit {0}) DeskFault → ℕ
+code_after answer (Ok done) = code_of answer.status
+code_after answer (Err OutOfMemory) = code_of Memory
+code_after answer (Err _) = code_of Write
+
+-- the reply is given to the desk; or there was no memory for one, and no call is made
+abbrev pub IsGiven : Result Reply NoMemory → DeskState → DeskState → ℕ → Type 0
+IsGiven (Ok reply) before after code =
+    (made : Result (Unit {0}) DeskFault) × Makes (acts_of (answer_of reply)) before made after × (code ≡ code_after (answer_of reply) made)
+IsGiven (Err none) before after code = (after ≡ before) × (code ≡ code_of Memory)
+
+-- a request is served, or words that ask for nothing: first the reply is found, with all that is to be written and said, and then it is given
+pub record IsServed (request : Option Request) (before after : DeskState) (code : ℕ) : Type 0 where
+  pub mid : DeskState
+  pub reply : Result Reply NoMemory
+  pub found : Replies request before reply mid
+  pub given : IsGiven reply mid after code

@@ -1,0 +1,174 @@
+//! Takes the files of a request from the desk and reads them, or refuses where that fails.
+ghost use Rattle.std.specs.Prelude.{◌≡◌, ◌≤◌, length};
+ghost use Rattle.octet_base.specs.declared.call.Call.TheVariants.{Take};
+ghost use Rattle.octet_top.specs.Request.{script_limit, log_limit, name_in};
+ghost use Rattle.octet_top.specs.Inputs.{Comes, Reads, IsTaken, IsParsed, IsDecoded, IsScriptRead, IsLogRead, IsChosen, IsScriptChosen, IsPairRead, PassesScript, TakesOne, TakesTwo, stop_of};
+ghost use Rattle.octet_top.specs.Profile.{object_named};
+
+use crate::refusal::{log_refused, no_such_object, read_failed, script_refused, too_long};
+use crate::reply::Reply;
+use octet_base::{Desk, DeskFault};
+use octet_log::{LogFault, decode};
+use octet_model::{List, Log, OutOfMemory, Script};
+use octet_script::{ScriptFault, parse};
+use std::alloc::Global;
+
+/// The limit of a script's file, in bytes.
+const SCRIPT_LIMIT: u32 = 1048576;
+
+/// The limit of a log's file, in bytes.
+const LOG_LIMIT: u32 = 67108864;
+
+/// A script and the text that it was read from.
+#[derive(Drop)]
+pub(crate) struct Source {
+    pub(crate) text: List<u8>,
+    pub(crate) script: Script,
+}
+
+/// A script, the place of the object that is named, and a log.
+#[derive(Drop)]
+pub(crate) struct Pair {
+    pub(crate) source: Source,
+    pub(crate) wanted: Option<usize>,
+    pub(crate) log: Log,
+}
+
+/// Why reading ended early.
+#[derive(Drop)]
+pub(crate) enum Stop {
+    Refused(Reply),
+    OutOfMemory,
+}
+
+/// A refusal, if there was memory for its line.
+fn stop_with(reply: Result<Reply, OutOfMemory>) -> Stop
+    ensures { result ≡ stop_of reply }
+{
+    match reply {
+        Ok(reply) => Stop::Refused(reply),
+        Err(OutOfMemory) => Stop::OutOfMemory,
+    }
+}
+
+/// Takes the bytes of a file that has at most `limit`.
+fn take_file<D: Desk>(alloc: Global, desk: &mut D, name: &str, limit: u32) -> Result<List<u8>, Stop>
+    ensures { Reads (IsTaken name.now limit) (TakesOne (Take name.now limit)) (D.state desk.old) result (D.state desk.new) }
+{
+    match desk.take(alloc, name, limit) {
+        Ok(bytes) => Ok(List::from_vec(bytes)),
+        Err(DeskFault::OutOfMemory) => Err(Stop::OutOfMemory),
+        Err(DeskFault::TooLong) => Err(stop_with(too_long(alloc, name, limit))),
+        Err(DeskFault::Failed) => Err(stop_with(read_failed(alloc))),
+        Err(DeskFault::Absent) => Err(stop_with(read_failed(alloc))),
+    }
+}
+
+fn parse_text(alloc: Global, text: List<u8>) -> Result<Source, Stop>
+    requires { length text ≤ script_limit }
+    ensures { Comes (IsParsed text) result }
+{
+    match parse(alloc, text.as_slice()) {
+        Ok(script) => Ok(Source { text, script }),
+        Err(ScriptFault::OutOfMemory) => Err(Stop::OutOfMemory),
+        Err(ScriptFault::Refused { line, cause }) => {
+            let refusal = script_refused(alloc, line, cause);
+            Err(stop_with(refusal))
+        }
+    }
+}
+
+fn decode_bytes(alloc: Global, bytes: &[u8]) -> Result<Log, Stop>
+    requires { length bytes.now ≤ log_limit }
+    ensures { Comes (IsDecoded bytes.now) result }
+{
+    match decode(alloc, bytes) {
+        Ok(log) => Ok(log),
+        Err(LogFault::OutOfMemory) => Err(Stop::OutOfMemory),
+        Err(LogFault::Refused { cause }) => Err(stop_with(log_refused(alloc, cause))),
+    }
+}
+
+/// Takes a file and reads it as a script.
+pub(crate) fn read_script<D: Desk>(alloc: Global, desk: &mut D, name: &str) -> Result<Source, Stop>
+    ensures { Reads (IsScriptRead name.now) (TakesOne (Take name.now script_limit)) (D.state desk.old) result (D.state desk.new) }
+{
+    match take_file(alloc, desk, name, SCRIPT_LIMIT) {
+        Ok(text) => parse_text(alloc, text),
+        Err(stop) => Err(stop),
+    }
+}
+
+/// Takes a file and reads it as a log.
+pub(crate) fn read_log<D: Desk>(alloc: Global, desk: &mut D, name: &str) -> Result<Log, Stop>
+    ensures { Reads (IsLogRead name.now) (TakesOne (Take name.now log_limit)) (D.state desk.old) result (D.state desk.new) }
+{
+    match take_file(alloc, desk, name, LOG_LIMIT) {
+        Ok(bytes) => decode_bytes(alloc, bytes.as_slice()),
+        Err(stop) => Err(stop),
+    }
+}
+
+/// The place of the object that the name asks for. Without a name none is asked for.
+fn choose(alloc: Global, script: &Script, name: Option<&str>) -> Result<Option<usize>, Stop>
+    ensures { Comes (IsChosen script.now (name_in name.entry)) result }
+{
+    let Some(name) = name else {
+        return Ok(None);
+    };
+    match object_named(script, name.as_bytes()) {
+        Some(place) => Ok(Some(place)),
+        None => Err(stop_with(no_such_object(alloc))),
+    }
+}
+
+fn object_named(script: &Script, name: &[u8]) -> Option<usize>
+    ensures { result ≡ object_named script.now name.now }
+{
+    script
+        .objects
+        .as_slice()
+        .iter()
+        .position(|object| name == object.name.as_bytes())
+}
+
+/// Takes a script's file, reads it, and finds the object that is named in it.
+fn read_chosen<D: Desk>(
+    alloc: Global,
+    desk: &mut D,
+    script_name: &str,
+    object_name: Option<&str>,
+) -> Result<(Source, Option<usize>), Stop>
+    ensures { Reads (IsScriptChosen script_name.now (name_in object_name.entry)) (TakesOne (Take script_name.now script_limit)) (D.state desk.old) result (D.state desk.new) }
+{
+    match read_script(alloc, desk, script_name) {
+        Ok(source) => match choose(alloc, &source.script, object_name) {
+            Ok(wanted) => Ok((source, wanted)),
+            Err(stop) => Err(stop),
+        },
+        Err(stop) => Err(stop),
+    }
+}
+
+/// Takes and reads a script and then a log.
+pub(crate) fn read_pair<D: Desk>(
+    alloc: Global,
+    desk: &mut D,
+    script_name: &str,
+    log_name: &str,
+    object_name: Option<&str>,
+) -> Result<Pair, Stop>
+    ensures { Reads (IsPairRead script_name.now log_name.now (name_in object_name.entry)) (TakesTwo (Take script_name.now script_limit) (λ contents. PassesScript script_name.now (name_in object_name.entry) contents) (Take log_name.now log_limit)) (D.state desk.old) result (D.state desk.new) }
+{
+    match read_chosen(alloc, desk, script_name, object_name) {
+        Ok((source, wanted)) => match read_log(alloc, desk, log_name) {
+            Ok(log) => Ok(Pair {
+                source,
+                wanted,
+                log,
+            }),
+            Err(stop) => Err(stop),
+        },
+        Err(stop) => Err(stop),
+    }
+}
