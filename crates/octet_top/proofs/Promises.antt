@@ -3,15 +3,14 @@ use Rattle.std.proofs.Common.{◌≡◌, ◌∙◌, ◌++◌, ℕ, List, Some, O
 use Rattle.std.specs.FinMap.{get}
 use Rattle.octet_base.specs.Desk.{Files, Contents, DeskState}
 use Rattle.octet_model.specs.Texts.{log_bytes, outcome_text}
-use Rattle.octet_model.proofs.Short.{faithful_log_is_short}
+use Rattle.octet_model.proofs.lemmas.LogLength.{faithful_log_is_short}
 use Rattle.octet_top.specs.declared.reply.Status.TheVariants.{Done, Read}
 use Rattle.octet_top.specs.Answer.{Answer, code_of, writes_file}
-use Rattle.octet_top.specs.Request.{Run, request_in}
+use Rattle.octet_top.specs.Request.{Way, Run, request_in}
 use Rattle.octet_top.specs.Commands.{Answers, RequestAnswers}
 use Rattle.octet_top.specs.Delivery.{IsServed}
 use Rattle.octet_top.specs.Outputs.{IsWhole}
 use Rattle.octet_top.specs.Promises.{IsFaithfulRun, RunsFaithfully, IsOrderedPair, VerifiesOrdered, RepeatsRecordings}
-use Rattle.octet_top.specs.declared.request.RunTask.{RunTask}
 use Rattle.octet_top.proofs.Recorded.{recorded_faithfully}
 use Rattle.octet_top.proofs.Causes.{same_status, has_cause}
 use Rattle.octet_top.proofs.Effects.{leaves}
@@ -38,7 +37,7 @@ use Rattle.octet_model.specs.declared.script.Script.{Script}
 use Rattle.octet_model.specs.declared.log.ThreadLog.{ThreadLog}
 use Rattle.octet_model.specs.Journals.{log_of_journal, log_of}
 use Rattle.octet_model.specs.Orders.{journals_after}
-use Rattle.octet_model.proofs.Following.{lawful_order_has_its_log, lawful_order_fits}
+use Rattle.octet_model.proofs.lemmas.LawfulOrders.{lawful_order_has_its_log, lawful_order_fits}
 use Rattle.octet_gen.specs.Generated.{IsGenerated}
 use Rattle.octet_gen.proofs.Accesses.{script_makes_its_accesses}
 
@@ -59,10 +58,10 @@ at_success words before after code contents contents' left done tells tells' = e
 ]
 
 -- a run
-recorded : (task : RunTask) (script log : List ℕ) (contents contents' : Contents) (answer : Answer) → RequestAnswers (Run task script log) (Some contents) answer → answer.status ≡ Done → IsWhole answer contents contents' → IsFaithfulRun script log contents contents'
-recorded task script log contents contents' answer (inl refused) done given = absurd (not_done answer (script_refused script (Some contents) answer refused) done)
-recorded task script log contents contents' answer (inr (source, (text, taken, parsed), (logged, outcome, records, is))) done given =
-    let faithful = recorded_faithfully task source.script logged outcome records in
+recorded : (way : Way) (script log : List ℕ) (contents contents' : Contents) (answer : Answer) → RequestAnswers (Run way script log) (Some contents) answer → answer.status ≡ Done → IsWhole answer contents contents' → IsFaithfulRun way script log contents contents'
+recorded way script log contents contents' answer (inl refused) done given = absurd (not_done answer (script_refused script (Some contents) answer refused) done)
+recorded way script log contents contents' answer (inr (source, (text, taken, parsed), (logged, outcome, records, is))) done given =
+    let faithful = recorded_faithfully way source.script logged outcome records in
     let said : IsWhole (writes_file log (log_bytes logged.threads) (outcome_text source.script outcome)) contents contents' = subst (λ (a : Answer). IsWhole a contents contents') is given in
     record {
       text = text;
@@ -75,12 +74,13 @@ recorded task script log contents contents' answer (inr (source, (text, taken, p
       within_limit = omega (arith, faithful_log_is_short source.script logged.threads outcome faithful logged.valid);
       contents = said.said;
       faithful = faithful;
+      recorded = records;
     }
 
 pub headline : (words : List (List ℕ)) (before after : DeskState) (code : ℕ) → IsServed (request_in words) before after code → RunsFaithfully words before after code
-headline words before after code served task script log contents contents' asked zero tells tells' =
+headline words before after code served way script log contents contents' asked zero tells tells' =
     let success = at_success words before after code contents contents' (leaves words before after code served) zero tells tells' in
-    recorded task script log contents contents' success.answer (subst (λ request. Answers request (Some contents) success.answer) asked success.answers) success.done success.given
+    recorded way script log contents contents' success.answer (subst (λ request. Answers request (Some contents) success.answer) asked success.answers) success.done success.given
 
 -- a check
 verified : (script log : List ℕ) (contents : Option Contents) (answer : Answer) → RequestAnswers (OfPair Verify script log None) contents answer → answer.status ≡ Done → IsOrderedPair script log contents

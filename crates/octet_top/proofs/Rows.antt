@@ -12,12 +12,11 @@ use Rattle.octet_top.specs.declared.request.LogTask.{LogTask}
 use Rattle.octet_top.specs.declared.request.LogTask.TheVariants.{Show}
 use Rattle.octet_top.specs.declared.request.PairTask.{PairTask}
 use Rattle.octet_top.specs.declared.request.PairTask.TheVariants.{Replay, Verify, Profile}
-use Rattle.octet_top.specs.declared.request.RunTask.{RunTask}
 use Rattle.octet_top.specs.declared.reply.Status.{Status}
 use Rattle.octet_top.specs.declared.reply.Status.TheVariants as exit
 use Rattle.octet_model.specs.declared.log.Log.{Log}
 use Rattle.octet_top.specs.Answer.{Answer}
-use Rattle.octet_top.specs.Request.{Request, OfScript, OfLog, OfPair, Run, Gen, outputs_of, outputs_in, script_limit, log_limit}
+use Rattle.octet_top.specs.Request.{Way, Request, OfScript, OfLog, OfPair, Run, Gen, outputs_of, outputs_in, script_limit, log_limit}
 use Rattle.octet_top.specs.Inputs.{IsTaken, IsScriptRead, IsLogRead, IsScriptChosen, IsPairRead}
 use Rattle.octet_top.specs.Commands.{Answers, RequestAnswers, ScriptAnswers, LogAnswers, PairSays, PairAnswers, RunAnswers}
 
@@ -77,8 +76,8 @@ script_row Tidy source answer is = done [] answer _ is refl refl
 pub log_row : (task : LogTask) (log : Log) (answer : Answer) → LogAnswers task log answer → IsDone [] answer
 log_row Show log answer is = done [] answer _ is refl refl
 
-pub run_row : (task : RunTask) (log : List ℕ) (source : Source) (answer : Answer) → RunAnswers task log source answer → IsDone (log ∷ []) answer
-run_row task log source answer (recorded, outcome, records, is) = done (log ∷ []) answer _ is refl refl
+pub run_row : (way : Way) (log : List ℕ) (source : Source) (answer : Answer) → RunAnswers way log source answer → IsDone (log ∷ []) answer
+run_row way log source answer (recorded, outcome, records, is) = done (log ∷ []) answer _ is refl refl
 
 -- the journals of the lowest order are ordered
 abbrev pub HasOrderedJournals : Pair → Type 0

@@ -24,21 +24,21 @@ use Rattle.octet_top.specs.declared.request.LogTask.{LogTask}
 use Rattle.octet_top.specs.declared.request.LogTask.TheVariants.{Show}
 use Rattle.octet_top.specs.declared.request.PairTask.{PairTask}
 use Rattle.octet_top.specs.declared.request.PairTask.TheVariants.{Replay, Verify, Profile}
-use Rattle.octet_top.specs.declared.request.RunTask.{RunTask}
-use Rattle.octet_top.specs.declared.request.RunTask.TheVariants as run
 use Rattle.octet_top.specs.Answer.{Answer, says, writes_file, writes_both, not_a_command, does_not_fit, verdict_said, summary}
-use Rattle.octet_top.specs.Request.{Request, OfScript, OfLog, OfPair, Run, Gen, request_in}
+use Rattle.octet_machine.specs.Turns.{IsPlayed}
+use Rattle.octet_top.specs.Request.{Way, AsTheyCome, ByPicks, Request, OfScript, OfLog, OfPair, Run, Gen, request_in}
 use Rattle.octet_top.specs.Profile.{profile_text}
 use Rattle.octet_top.specs.Inputs.{IsScriptRead, IsLogRead, IsPairRead}
 
 -- what each way to run a script records of it
-abbrev pub Records : RunTask → Script → Log → Outcome → Type 0
-Records run.Run script log outcome = IsFaithful script log.threads outcome
+abbrev pub Records : Way → Script → Log → Outcome → Type 0
+Records AsTheyCome script log outcome = IsFaithful script log.threads outcome
+Records (ByPicks picks) script log outcome = IsFaithful script log.threads outcome × IsPlayed script picks (record { log = log; outcome = outcome })
 
 -- a log and an outcome are recorded: the log's bytes are written, and the outcome is said
-abbrev pub IsRecording : RunTask → List ℕ → Script → Answer → Type 0
-IsRecording task log_name script answer =
-    (log : Log) × (outcome : Outcome) × Records task script log outcome
+abbrev pub IsRecording : Way → List ℕ → Script → Answer → Type 0
+IsRecording way log_name script answer =
+    (log : Log) × (outcome : Outcome) × Records way script log outcome
     × (answer ≡ writes_file log_name (log_bytes log.threads) (outcome_text script outcome))
 
 -- the generated script of a number, and a log and an outcome that are a faithful recording of it: the script's canonical text and then the log's bytes are written, and the summary is said
@@ -84,8 +84,8 @@ abbrev pub PairAnswers : PairTask → Pair → Answer → Type 0
 PairAnswers task pair answer = Fitting (PairSays task pair) pair.source.script pair.log.threads answer
 
 -- the answer of each way to run a script
-abbrev pub RunAnswers : RunTask → List ℕ → Source → Answer → Type 0
-RunAnswers task log_name source answer = IsRecording task log_name source.script answer
+abbrev pub RunAnswers : Way → List ℕ → Source → Answer → Type 0
+RunAnswers way log_name source answer = IsRecording way log_name source.script answer
 
 -- reading is refused, or the command answers by what was read
 abbrev pub Answering : {T : Type 0} → (Result T Answer → Type 0) → (T → Answer → Type 0) → Answer → Type 0
@@ -96,7 +96,7 @@ abbrev pub RequestAnswers : Request → Option Contents → Answer → Type 0
 RequestAnswers (OfScript task script) contents answer = Answering (IsScriptRead script contents) (ScriptAnswers task) answer
 RequestAnswers (OfLog task log) contents answer = Answering (IsLogRead log contents) (LogAnswers task) answer
 RequestAnswers (OfPair task script log object) contents answer = Answering (IsPairRead script log object contents) (PairAnswers task) answer
-RequestAnswers (Run task script log) contents answer = Answering (IsScriptRead script contents) (RunAnswers task log) answer
+RequestAnswers (Run way script log) contents answer = Answering (IsScriptRead script contents) (RunAnswers way log) answer
 RequestAnswers (Gen number script log) contents answer = IsGeneration number script log answer
 
 -- to what words ask for, or that they are no command

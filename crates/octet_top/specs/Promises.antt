@@ -12,8 +12,7 @@ use Rattle.octet_script.specs.Spelling.{Spells, canonical_text}
 use Rattle.octet_replay.specs.Judged.{IsLawful}
 use Rattle.octet_clock.specs.Verified.{HasOneOutcome}
 use Rattle.octet_gen.specs.Generated.{IsGenerated}
-use Rattle.octet_top.specs.Request.{Run, request_in, log_limit}
-use Rattle.octet_top.specs.declared.request.RunTask.{RunTask}
+use Rattle.octet_top.specs.Request.{Way, Run, request_in, log_limit}
 use Rattle.octet_top.specs.declared.reply.Status.TheVariants.{Done}
 use Rattle.std.specs.Prelude.{◌≢◌, Option, None, Ok}
 use Rattle.std.specs.List.{sum_by}
@@ -22,9 +21,10 @@ use Rattle.octet_top.specs.declared.request.PairTask.TheVariants.{Replay, Verify
 use Rattle.octet_top.specs.Answer.{summary, code_of}
 use Rattle.octet_top.specs.Request.{OfPair, Gen}
 use Rattle.octet_top.specs.Inputs.{IsPairRead}
+use Rattle.octet_top.specs.Commands.{Records}
 
--- the file of the script, as it was, spells a script; that of the log, as it is, has the bytes of a log, no more than a log's file may have; what was said grew by the text of an outcome; and the three are a faithful recording
-pub record IsFaithfulRun (script_name log_name : List ℕ) (before after : Contents) : Type 0 where
+-- the file of the script, as it was, spells a script; that of the log, as it is, has the bytes of a log, no more than a log's file may have; what was said grew by the text of an outcome; and the three are a faithful recording, of the run that was asked for
+pub record IsFaithfulRun (way : Way) (script_name log_name : List ℕ) (before after : Contents) : Type 0 where
   pub text : List ℕ
   pub script : Script
   pub log : Log
@@ -35,12 +35,13 @@ pub record IsFaithfulRun (script_name log_name : List ℕ) (before after : Conte
   pub within_limit : length (log_bytes log.threads) ≤ log_limit
   pub contents : after.said ≡ before.said ++ outcome_text script outcome
   pub faithful : IsFaithful script log.threads outcome
+  pub recorded : Records way script log outcome
 
 -- where the words ask for a run of a script, all was done, and the desk tells its contents
 abbrev pub RunsFaithfully : List (List ℕ) → DeskState → DeskState → ℕ → Type 0
 RunsFaithfully words before after code =
-    (task : RunTask) (script_name log_name : List ℕ) (contents contents' : Contents) → request_in words ≡ Some (Run task script_name log_name) → code ≡ code_of Done → before.contents ≡ Some contents → after.contents ≡ Some contents'
-    → IsFaithfulRun script_name log_name contents contents'
+    (way : Way) (script_name log_name : List ℕ) (contents contents' : Contents) → request_in words ≡ Some (Run way script_name log_name) → code ≡ code_of Done → before.contents ≡ Some contents → after.contents ≡ Some contents'
+    → IsFaithfulRun way script_name log_name contents contents'
 
 -- a script and a log were taken; the lowest order of the log is lawful, its journals are ordered, and all lawful orders have one outcome
 pub record IsOrderedPair (script_name log_name : List ℕ) (contents : Option Contents) : Type 0 where

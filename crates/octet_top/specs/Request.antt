@@ -3,10 +3,12 @@ use Rattle.std.specs.Prelude.{ℕ, List, [], ◌∷◌, map, codes, if◌then◌
 use denote.Ref.{Bor}
 use Rattle.std.specs.Option.{option_map}
 use Rattle.std.specs.Str.{bytes_eq}
+use Rattle.std.specs.Char.{digit_value}
 use Rattle.std.specs.Global.{Global}
 use Rattle.octet_base.specs.declared.call.Call.{Call}
 use Rattle.octet_base.specs.declared.call.Call.TheVariants.{Take}
 use Rattle.octet_script.specs.Spelling.{number_of}
+use Rattle.octet_top.specs.Picks.{are_picks}
 use Rattle.octet_top.specs.declared.request.ScriptTask.{ScriptTask}
 use Rattle.octet_top.specs.declared.request.ScriptTask.TheVariants.{Tidy}
 use Rattle.octet_top.specs.declared.request.LogTask.{LogTask}
@@ -32,12 +34,17 @@ log_limit = 67108864
 abbrev pub texts : List (String Global) → List (List ℕ)
 texts words = map (λ word. string_bytes word) words
 
+-- a way to run a script: as its threads come, or by picks
+pub data Way : Type 0 where
+  AsTheyCome : Way
+  ByPicks : (picks : List ℕ) → Way
+
 -- a task, with the names of its files
 pub data Request : Type 0 where
   OfScript : (task : ScriptTask) (script : List ℕ) → Request
   OfLog : (task : LogTask) (log : List ℕ) → Request
   OfPair : (task : PairTask) (script log : List ℕ) (object : Option (List ℕ)) → Request
-  Run : (task : RunTask) (script log : List ℕ) → Request
+  Run : (way : Way) (script log : List ℕ) → Request
   Gen : (number : ℕ) (script log : List ℕ) → Request
 
 -- the word of each task on a script
@@ -56,8 +63,12 @@ pair_task word =
     else (if bytes_eq word (codes "profile") then Some Profile else None))
 
 -- of each way to run a script
-abbrev pub run_task : List ℕ → Option RunTask
-run_task word = if bytes_eq word (codes "run") then Some run.Run else None
+abbrev pub way_of : List ℕ → Option Way
+way_of word = if bytes_eq word (codes "run") then Some AsTheyCome else None
+
+-- of a run by picks, and these
+abbrev pub way_by_picks : List ℕ → List ℕ → Option Way
+way_by_picks word picks = if bytes_eq word (codes "turns") then (if are_picks picks then Some (ByPicks (map digit_value picks)) else None) else None
 
 -- the first of the two, if it is there
 abbrev pub or_else : {A : Type 0} → Option A → Option A → Option A
@@ -82,14 +93,16 @@ reading_in _ = None
 
 -- what three and four words ask for that runs a script
 abbrev pub running_of_three : List ℕ → List ℕ → List ℕ → Option Request
-running_of_three word script log = option_map (λ t. Run t script log) (run_task word)
+running_of_three word script log = option_map (λ w. Run w script log) (way_of word)
 
 abbrev pub running_of_four : List ℕ → List ℕ → List ℕ → List ℕ → Option Request
-running_of_four word number script log = if bytes_eq word (codes "gen") then option_map (λ n. Gen n script log) (number_of number) else None
+running_of_four word first second third =
+    if bytes_eq word (codes "gen") then option_map (λ n. Gen n second third) (number_of first)
+    else option_map (λ w. Run w first second) (way_by_picks word third)
 
 abbrev pub running_in : List (List ℕ) → Option Request
 running_in (word ∷ script ∷ log ∷ []) = running_of_three word script log
-running_in (word ∷ number ∷ script ∷ log ∷ []) = running_of_four word number script log
+running_in (word ∷ first ∷ second ∷ third ∷ []) = running_of_four word first second third
 running_in _ = None
 
 -- what words ask for, if they ask for anything
@@ -101,12 +114,12 @@ abbrev pub takes_of : Request → List Call
 takes_of (OfScript task script) = Take script script_limit ∷ []
 takes_of (OfLog task log) = Take log log_limit ∷ []
 takes_of (OfPair task script log object) = Take script script_limit ∷ Take log log_limit ∷ []
-takes_of (Run task script log) = Take script script_limit ∷ []
+takes_of (Run way script log) = Take script script_limit ∷ []
 takes_of (Gen number script log) = []
 
 -- the files that it writes, in order
 abbrev pub outputs_of : Request → List (List ℕ)
-outputs_of (Run task script log) = log ∷ []
+outputs_of (Run way script log) = log ∷ []
 outputs_of (Gen number script log) = script ∷ log ∷ []
 outputs_of _ = []
 
@@ -124,6 +137,10 @@ shown_reading (reading.OfScript task script) = OfScript task script.now
 shown_reading (reading.OfLog task log) = OfLog task log.now
 shown_reading (reading.OfPair task script log object) = OfPair task script.now log.now (name_in object)
 
+abbrev pub shown_task : RunTask → Way
+shown_task run.Run = AsTheyCome
+shown_task (run.Turns picks) = ByPicks (map digit_value picks.now)
+
 abbrev pub shown_running : Running → Request
-shown_running (running.OfScript task script log) = Run task script.now log.now
+shown_running (running.OfScript task script log) = Run (shown_task task) script.now log.now
 shown_running (running.Gen number script log) = Gen number script.now log.now

@@ -3,6 +3,7 @@
 
 mod deliver;
 mod inputs;
+mod picks;
 mod profile;
 mod program;
 mod reading;

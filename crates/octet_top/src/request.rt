@@ -1,8 +1,9 @@
 //! What words ask for: which task, and of which files.
 ghost use Rattle.std.specs.Prelude.{◌≡◌, ◌∷◌, []};
 ghost use Rattle.std.specs.Option.{option_map};
-ghost use Rattle.octet_top.specs.Request.{texts, shown_reading, shown_running, reading_in, running_in, script_task, log_task, pair_task, run_task, reading_of_two, reading_of_three, reading_of_four, running_of_three, running_of_four};
+ghost use Rattle.octet_top.specs.Request.{texts, shown_reading, shown_running, reading_in, running_in, script_task, log_task, pair_task, way_of, way_by_picks, shown_task, reading_of_two, reading_of_three, reading_of_four, running_of_three, running_of_four};
 
+use crate::picks::are_picks;
 use octet_script::number_of;
 
 /// Tasks on a script.
@@ -27,8 +28,11 @@ pub(crate) enum PairTask {
 
 /// Ways to run a script and write its log.
 #[derive(Clone, Copy, Debug)]
-pub(crate) enum RunTask {
+pub(crate) enum RunTask<'a> {
+    /// As its threads come.
     Run,
+    /// A turn for each hexadecimal digit, and then by rounds.
+    Turns { picks: &'a str },
 }
 
 /// What words ask for that starts no thread and waits for nobody, with the names of its files.
@@ -55,7 +59,7 @@ pub(crate) enum Reading<'a> {
 #[derive(Clone, Copy, Debug)]
 pub(crate) enum Running<'a> {
     OfScript {
-        task: RunTask,
+        task: RunTask<'a>,
         script: &'a str,
         log: &'a str,
     },
@@ -101,11 +105,21 @@ fn pair_task(word: &str) -> Option<PairTask>
     }
 }
 
-fn run_task(word: &str) -> Option<RunTask>
-    ensures { result ≡ run_task word.now }
+fn run_task(word: &str) -> Option<RunTask<'static>>
+    ensures { option_map shown_task result ≡ way_of word.now }
 {
     if word == "run" {
         Some(RunTask::Run)
+    } else {
+        None
+    }
+}
+
+fn turns_task<'a>(word: &str, picks: &'a str) -> Option<RunTask<'a>>
+    ensures { option_map shown_task result ≡ way_by_picks word.now picks.now }
+{
+    if word == "turns" && are_picks(picks) {
+        Some(RunTask::Turns { picks })
     } else {
         None
     }
@@ -179,11 +193,11 @@ pub(crate) fn running_of(words: &[String]) -> Option<Running<'_>>
 {
     match words {
         [word, script, log] => running_of_three(word.as_str(), script.as_str(), log.as_str()),
-        [word, number, script, log] => running_of_four(
+        [word, first, second, third] => running_of_four(
             word.as_str(),
-            number.as_str(),
-            script.as_str(),
-            log.as_str(),
+            first.as_str(),
+            second.as_str(),
+            third.as_str(),
         ),
         _ => None,
     }
@@ -200,20 +214,28 @@ fn running_of_three<'a>(word: &str, script: &'a str, log: &'a str) -> Option<Run
 
 fn running_of_four<'a>(
     word: &str,
-    number: &str,
-    script: &'a str,
-    log: &'a str,
+    first: &'a str,
+    second: &'a str,
+    third: &'a str,
 ) -> Option<Running<'a>>
-    ensures { option_map shown_running result ≡ running_of_four word.now number.now script.now log.now }
+    ensures { option_map shown_running result ≡ running_of_four word.now first.now second.now third.now }
 {
     if word == "gen" {
-        if let Some(number) = number_of(number.as_bytes()) {
+        if let Some(number) = number_of(first.as_bytes()) {
             return Some(Running::Gen {
                 number,
-                script,
-                log,
+                script: second,
+                log: third,
             });
         }
+        return None;
+    }
+    if let Some(task) = turns_task(word, third) {
+        return Some(Running::OfScript {
+            task,
+            script: first,
+            log: second,
+        });
     }
     None
 }

@@ -1,7 +1,8 @@
-//! Requests that run a script: `run SCRIPT LOG` and `gen NUMBER SCRIPT LOG`.
+//! Requests that run a script: `run SCRIPT LOG`, `turns SCRIPT LOG PICKS` and
+//! `gen NUMBER SCRIPT LOG`.
 ghost use Rattle.std.specs.Prelude.{◌≡◌, IfOk, Some};
 ghost use Rattle.octet_top.specs.Answer.{answer_of, file_of};
-ghost use Rattle.octet_top.specs.Request.{shown_running, Run};
+ghost use Rattle.octet_top.specs.Request.{shown_running, shown_task, Run};
 ghost use Rattle.octet_top.specs.Commands.{RunAnswers, IsGeneration};
 ghost use Rattle.octet_top.specs.Replies.{Replies};
 
@@ -49,11 +50,11 @@ fn run_script<R: Threads + Wait + Sync, D: Desk, G: Gate>(
     alloc: Global,
     desk: &mut D,
     gate: &G,
-    task: RunTask,
+    task: RunTask<'_>,
     script: &str,
     log: &str,
 ) -> Result<Reply, OutOfMemory>
-    ensures { Replies (Some (Run task script.now log.now)) (D.state desk.old) result (D.state desk.new) }
+    ensures { Replies (Some (Run (shown_task task.entry) script.now log.now)) (D.state desk.old) result (D.state desk.new) }
 {
     match read_script(alloc, desk, script) {
         Ok(source) => run_source(rt, alloc, gate, task, &source, log),
@@ -66,11 +67,11 @@ fn run_source<R: Threads + Wait + Sync, G: Gate>(
     rt: &R,
     alloc: Global,
     gate: &G,
-    task: RunTask,
+    task: RunTask<'_>,
     source: &Source,
     log_name: &str,
 ) -> Result<Reply, OutOfMemory>
-    ensures { IfOk result (λ reply. RunAnswers task log_name.now source.now (answer_of reply)) }
+    ensures { IfOk result (λ reply. RunAnswers (shown_task task.entry) log_name.now source.now (answer_of reply)) }
 {
     let recorded = record(rt, alloc, task, &source.script, gate)?;
     let text = outcome_text(alloc, &source.script, &recorded.outcome)?;

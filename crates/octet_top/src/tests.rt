@@ -52,6 +52,9 @@ fn commands_answer(rt: HostRuntime) -> Result<(), Failed> {
         ("run S S", Status::Done, SAID, None),
         ("tidy S", Status::Done, canonical, None),
         ("tidy T", Status::Read, b"read: failed\n".as_slice(), None),
+        ("turns S L 0", Status::Done, SAID, Some(LOG)),
+        ("turns S L 0g", Status::Words, no_command, None),
+        ("turns S L", Status::Words, no_command, None),
         ("run S", Status::Words, no_command, None),
         ("tidy S L", Status::Words, no_command, None),
         ("", Status::Words, no_command, None),
@@ -105,6 +108,102 @@ fn failed_calls_leave_prefixes(rt: HostRuntime) -> Result<(), Failed> {
         assert_eq!(rt; desk.file("L"), log);
         assert_eq!(rt; desk.said(), said);
         assert_eq!(rt; desk.faults(), faults);
+    }
+    Ok(())
+}
+
+// The bytes that hexadecimal digits spell; what stands between them is skipped.
+fn bytes_of(alloc: Global, hex: &str) -> Result<Vec<u8>, AllocError> {
+    let mut bytes = Vec::new(alloc);
+    let mut half = None;
+    for digit in hex.bytes() {
+        let value = match digit {
+            b'0'..=b'9' => digit - b'0',
+            b'a'..=b'f' => digit - b'a' + 10,
+            _ => continue,
+        };
+        match half {
+            None => half = Some(value),
+            Some(high) => {
+                bytes.push((high & 15) * 16 + value)?;
+                half = None;
+            }
+        }
+    }
+    Ok(bytes)
+}
+
+/// Of each run the log by hand, which a replay repeats and a check finds ordered.
+#[test]
+fn runs_by_turns(rt: HostRuntime) -> Result<(), Failed> {
+    let alloc = rt.alloc();
+    let reading = b"object x 5\nthread\nset r0 7\nwrite x r0\nthread\nread r0 x\n".as_slice();
+    let sharing = b"object x 9\nthread\nthread\nread r0 x\nread r1 x\nthread\nread r0 x\n".as_slice();
+    let crossing = b"object x 0\nobject y 0\nthread\nset r0 1\nwrite y r0\nthread\nset r0 2\nwrite y r0\nwrite x r0\n".as_slice();
+    let pausing = b"object x 0\nthread\nset r0 1\nwrite x r0\npause\nwrite x r0\nthread\nset r0 2\nwrite x r0\n".as_slice();
+    let racing = b"object x 0\nthread\nthread\nset r0 1\nwrite x r0\nthread\nset r0 2\nwrite x r0\n".as_slice();
+    let raising =
+        b"object y 3\nthread\nthread\nread r0 y\nwrite y r0\nread r0 y\n".as_slice();
+    let asking = b"object x 1\nthread\nset r0 9\nwrite x r0\nthread\nread r0 x\nthread\nread r0 x\nthread\nread r0 x\nthread\nread r0 x\nthread\nread r0 x\nthread\nread r0 x\nthread\nread r0 x\nthread\nread r0 x\nthread\nread r0 x\nthread\nread r0 x\nthread\nread r0 x\nthread\nread r0 x\nthread\nread r0 x\nthread\nread r0 x\nthread\nread r0 x\n".as_slice();
+    for (script, words, said, log) in [
+        (
+            reading,
+            "turns S L 0000",
+            "thread 0 done\nthread 1 done 7\nobject x 7\n",
+            "4f43544c 01 02 00000001 00000000 00000001 00000001 01 00000000 00 0000000000000001",
+        ),
+        (
+            reading,
+            "turns S L 1111111",
+            "thread 0 done\nthread 1 done 5\nobject x 7\n",
+            "4f43544c 01 02 00000001 00000001 01 00000000 01 0000000000000002 00000001 00000001 01 00000000 00 0000000000000000",
+        ),
+        (
+            sharing,
+            "turns S L 1111112222222",
+            "thread 0 done\nthread 1 done 9 9\nthread 2 done 9\nobject x 9\n",
+            "4f43544c 01 03 00000000 00000000 00000002 00000002 01 00000000 00 0000000000000000 03 00000001 00 0000000000000001 00000001 00000002 01 00000000 01 0000000000000001 02 00000000 00 0000000000000001",
+        ),
+        (
+            crossing,
+            "turns S L 1111110010101001101",
+            "thread 0 done\nthread 1 done\nobject x 2\nobject y 1\n",
+            "4f43544c 01 02 00000001 00000001 01 00000000 01 0000000000000002 00000002 00000002 01 00000000 00 0000000000000000 01 00000001 00 0000000000000000",
+        ),
+        (
+            asking,
+            "turns S L 1111111222222233333444445555566666777778888899999aaaaaBBBBBcccccdddddeeeeefffff",
+            "thread 0 done\nthread 1 done 1\nthread 2 done 1\nthread 3 done 1\nthread 4 done 1\nthread 5 done 1\nthread 6 done 1\nthread 7 done 1\nthread 8 done 1\nthread 9 done 1\nthread 10 done 1\nthread 11 done 1\nthread 12 done 1\nthread 13 done 1\nthread 14 done 1\nthread 15 done 1\nobject x 9\n",
+            "4f43544c 01 10 00000001 0000000f 01 00000000 01 0000000000000002 01 00000000 02 0000000000000003 01 00000000 03 0000000000000002 01 00000000 04 0000000000000002 01 00000000 05 0000000000000002 01 00000000 06 0000000000000002 01 00000000 07 0000000000000002 01 00000000 08 0000000000000002 01 00000000 09 0000000000000002 01 00000000 0a 0000000000000002 01 00000000 0b 0000000000000002 01 00000000 0c 0000000000000002 01 00000000 0d 0000000000000002 01 00000000 0e 0000000000000002 01 00000000 0f 0000000000000002 00000001 00000001 01 00000000 00 0000000000000000 00000001 00000002 01 00000000 01 0000000000000001 02 00000000 00 0000000000000001 00000001 00000001 03 00000000 00 0000000000000001 00000001 00000001 03 00000000 00 0000000000000001 00000001 00000001 03 00000000 00 0000000000000001 00000001 00000001 03 00000000 00 0000000000000001 00000001 00000001 03 00000000 00 0000000000000001 00000001 00000001 03 00000000 00 0000000000000001 00000001 00000001 03 00000000 00 0000000000000001 00000001 00000001 03 00000000 00 0000000000000001 00000001 00000001 03 00000000 00 0000000000000001 00000001 00000001 03 00000000 00 0000000000000001 00000001 00000001 03 00000000 00 0000000000000001 00000001 00000001 03 00000000 00 0000000000000001 00000001 00000001 03 00000000 00 0000000000000001",
+        ),
+        (
+            pausing,
+            "turns S L 00001111110000100",
+            "thread 0 done\nthread 1 done\nobject x 1\n",
+            "4f43544c 01 02 00000002 00000001 01 00000001 01 0000000000000002 00000001 00000001 01 00000000 00 0000000000000001",
+        ),
+        (
+            racing,
+            "turns S L 1212121111",
+            "thread 0 done\nthread 1 done\nthread 2 done\nobject x 2\n",
+            "4f43544c 01 03 00000000 00000000 00000001 00000001 01 00000000 00 0000000000000000 00000001 00000001 01 00000000 01 0000000000000002",
+        ),
+        (
+            raising,
+            "run S L",
+            "thread 0 done\nthread 1 done 3 3\nobject y 3\n",
+            "4f43544c 01 02 00000000 00000000 00000003 00000001 01 00000000 00 0000000000000000",
+        ),
+    ] {
+        let mut desk = desk_with(alloc, script, &[])?;
+        for line in [words, "replay S L", "verify S L"] {
+            let answer = serve(&rt, alloc, &words_of(alloc, line)?, &mut desk, &OpenGate);
+            assert_eq!(rt; answer, 0, "{line}");
+        }
+        let all_said = format!(in alloc; "{said}{said}ordered\n")?;
+        let log = bytes_of(alloc, log)?;
+        assert_eq!(rt; desk.said(), all_said.as_bytes(), "{words}");
+        assert_eq!(rt; desk.file("L"), Some(log.as_slice()), "{words}");
     }
     Ok(())
 }

@@ -2,6 +2,7 @@ use Rattle.std.proofs.Common.{◌≡◌, ◌∙◌, ap, sym, length}
 use Rattle.std.proofs.lemmas.Result.{IfOk-weaker}
 use Rattle.octet_model.specs.declared.outcome.Outcome.{Outcome}
 use Rattle.octet_top.specs.Answer.{answer_of, writes_file}
+use Rattle.octet_top.specs.Request.{shown_task}
 use Rattle.octet_top.specs.Commands.{RunAnswers}
 use Rattle.octet_top.proofs.Recorded.{recorded_lengths}
 use Rattle.octet_top.proofs.running.run_source.Goals as goal
@@ -19,7 +20,7 @@ pub returns : goal.returns
 returns g c =
     let name = c.args.log_name.now in
     let source = c.args.source.now in
-    IfOk-weaker c.writing.result (λ reply. answer_of reply ≡ writes_file name c.in_ok-bytes.bytes.items c.in_ok-text.text.items) (λ reply. RunAnswers c.args.task name source (answer_of reply))
+    IfOk-weaker c.writing.result (λ reply. answer_of reply ≡ writes_file name c.in_ok-bytes.bytes.items c.in_ok-text.text.items) (λ reply. RunAnswers (shown_task c.args.task) name source (answer_of reply))
     (λ reply is. (
       c.in_ok-recorded.recorded.log,
       c.in_ok-recorded.recorded.outcome,

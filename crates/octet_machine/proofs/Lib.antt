@@ -1,0 +1,14 @@
+pub mod Held
+pub mod Stepping
+pub mod Journals
+pub mod Phases
+pub mod Going
+pub mod Keeping
+pub mod Taking
+pub mod Ending
+pub mod Beginning
+pub mod Recorded
+pub mod Equal
+pub mod Wanting
+pub mod Counting
+pub mod Playing

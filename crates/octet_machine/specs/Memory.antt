@@ -1,0 +1,102 @@
+-- The state of the protocol that the memory holds.
+use Rattle.std.specs.Prelude.{◌≡◌, ℕ, ◌<◌, ◌≤◌, ◌==◌, Bool, if◌then◌else◌, List, [], length, map, get_or, slice_set, vec_capacity, Option}
+use Rattle.octet_model.specs.declared.event.Event.{Event}
+use Rattle.octet_model.specs.Machine.{appended}
+use Rattle.octet_state.specs.declared.act.Mode.{Mode}
+use Rattle.octet_state.specs.declared.phase.Phase.{Phase}
+use Rattle.octet_state.specs.declared.phase.Phase.TheVariants.{Off, Claimed, Blocked}
+use Rattle.octet_state.specs.declared.phase.Due.{Due}
+use Rattle.octet_state.specs.declared.phase.Due.TheVariants.{Nothing, Answer}
+use Rattle.octet_state.specs.declared.status_word.StatusWord.{StatusWord}
+use Rattle.octet_state.specs.declared.why.Why.{Why}
+use Rattle.octet_state.specs.State.{Thread, ProtocolState, thread_of, now}
+use Rattle.octet_state.specs.Steps.{Kind, step, told}
+use Rattle.octet_state.specs.NextStep.{waits}
+use Rattle.octet_machine.specs.declared.memory.ProtocolThread.{ProtocolThread}
+use Rattle.octet_machine.specs.declared.memory.Memory.{Memory}
+
+abbrev pub thread_in : ProtocolThread → Thread
+thread_in x = record { phase = x.phase; due = x.due; count = x.count }
+
+-- the state that the memory holds, of a run that started with these values
+abbrev pub held : List ℕ → Memory → ProtocolState
+held starts m = record {
+  counter = m.counter;
+  statuses = m.statuses.items;
+  states = m.states.items;
+  cells = m.cells.items;
+  threads = map thread_in m.threads.items;
+  journals = map (λ journal. journal.events.items) m.journals.items;
+  starts = starts;
+}
+
+-- how much there is of each, and for how many events each journal has room
+pub record Shape : Type 0 where
+  pub threads : ℕ
+  pub statuses : ℕ
+  pub states : ℕ
+  pub cells : ℕ
+  pub rooms : List ℕ
+
+abbrev pub shape : Memory → Shape
+shape m = record {
+  threads = length m.threads.items;
+  statuses = length m.statuses.items;
+  states = length m.states.items;
+  cells = length m.cells.items;
+  rooms = map (λ journal. vec_capacity journal.events) m.journals.items;
+}
+
+-- the thread is there, with a status and a journal
+pub record IsThread (s : Shape) (me : ℕ) : Type 0 where
+  pub there : me < s.threads
+  pub few : s.threads ≤ 16
+  pub statuses : s.statuses ≡ s.threads
+  pub journals : length s.rooms ≡ s.threads
+
+-- the object is there, with a state and a cell
+pub record IsObject (s : Shape) (object : ℕ) : Type 0 where
+  pub there : object < s.cells
+  pub states : s.states ≡ s.cells
+
+-- with a thread in another place
+abbrev pub with_thread : ProtocolState → ℕ → Thread → ProtocolState
+with_thread s me x = record s { threads = slice_set s.threads me x }
+
+-- with one more event of a thread
+abbrev pub with_event : ProtocolState → ℕ → Event → ProtocolState
+with_event s me event = record s { journals = appended s.journals me event }
+
+-- the thread's journal has room for one more event
+abbrev pub HasRoom : Memory → ℕ → Type 0
+HasRoom m me = now (held [] m) me < get_or (shape m).rooms me 0
+
+-- fewer are done than there may be threads
+abbrev pub HasFewDone : Phase → Type 0
+HasFewDone (Claimed object mode prior done asked) = done < 16
+HasFewDone _ = Unit {0}
+
+-- what is due after a glance that finds this status
+abbrev pub due_by : StatusWord → Due
+due_by status = if status.asked == 0 then Nothing else Answer
+
+-- the phase of a thread that is marked blocked, at its end or for a while
+abbrev pub blocked_in : Bool → Phase
+blocked_in ends = if ends then Off else Blocked
+
+-- a claim of this object for such an access
+abbrev pub IsClaimOf : ℕ → Mode → Phase → Type 0
+IsClaimOf object mode (Claimed claimed how prior done asked) = (claimed ≡ object) × (how ≡ mode)
+IsClaimOf object mode _ = ⊥
+
+-- where the thread stands that the memory holds
+abbrev pub thread_here : Memory → ℕ → Thread
+thread_here m me = thread_of (held [] m) me
+
+-- the memory took the thread's step of this kind
+abbrev pub TakesStep : Kind → ℕ → Memory → Memory → Type 0
+TakesStep k me before after = (starts : List ℕ) → held starts after ≡ step k me (held starts before)
+
+-- why the thread waits after it, if it waits
+abbrev pub waits_here : Kind → ℕ → Memory → Option Why
+waits_here k me m = waits k me (told k me (held [] m)) (thread_here m me)

@@ -1,0 +1,21 @@
+//! The machine of the protocol in plain memory: the threads of a script, of which one at a time
+//! takes one step on the words that all share.
+#![tactic(auto)]
+
+mod journal;
+pub mod laws;
+mod machine;
+mod memory;
+mod opening;
+mod results;
+mod rounds;
+mod run;
+mod same;
+mod steps;
+#[cfg(test)]
+mod tests;
+mod turned;
+
+pub use machine::Machine;
+pub use rounds::{play, take_rounds};
+pub use turned::Turned;

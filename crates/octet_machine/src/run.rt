@@ -1,0 +1,238 @@
+//! The threads of a script on the memory that they share, and whose step is next.
+ghost use Rattle.std.specs.Prelude.{◌≡◌, ◌<◌, length, Some, None};
+ghost use Rattle.octet_state.specs.declared.phase.Phase.TheVariants.{Idle, Want, Pass, Claimed, Sharing};
+ghost use Rattle.octet_machine.specs.Machine.{is_access, is_at_rest, next_waits, wanted};
+ghost use Rattle.octet_machine.specs.Memory.{thread_in};
+ghost use Rattle.octet_machine.specs.Run.{machine_in, IsHeld, IsNext, StandsIn, Steps};
+
+use crate::memory::{Memory, ProtocolThread};
+use octet_interp::{Config, Demand};
+use octet_model::{End, Script};
+use octet_state::{Act, Due, Mode, Phase, StateWord, Why, decide};
+
+/// A thread as its script runs.
+#[derive(Debug, Drop)]
+pub(crate) struct Runner {
+    pub(crate) config: Config,
+    /// What it is to write, while it wants to write.
+    pub(crate) value: u64,
+    /// How it ended, if it has.
+    pub(crate) end: Option<End>,
+}
+
+/// A script, its threads, and the memory that they share.
+#[derive(Debug, Drop)]
+pub(crate) struct Run {
+    pub(crate) script: Script,
+    pub(crate) memory: Memory,
+    pub(crate) runners: Vec<Runner>,
+}
+
+fn is_access(demand: Demand) -> bool
+    ensures { result ≡ is_access demand }
+{
+    match demand {
+        Demand::Read { .. } | Demand::Write { .. } => true,
+        _ => false,
+    }
+}
+
+// Whether the thread is idle, and owes nothing.
+fn is_at_rest(thread: ProtocolThread) -> bool
+    ensures { result ≡ is_at_rest (thread_in thread) }
+{
+    match (thread.phase, thread.due) {
+        (Phase::Idle, Due::Nothing) => true,
+        _ => false,
+    }
+}
+
+impl Run {
+    /// How many accesses a thread has made that is idle, owes nothing, and is to make an access
+    /// next.
+    pub(crate) fn wants(&self, me: u8) -> Option<u32>
+        requires held { IsHeld self.now }
+        requires there { me < length self.now.runners.items }
+        ensures { result ≡ wanted (machine_in self.now) me }
+    {
+        if !is_at_rest(self.memory.thread(me))
+            || !is_access(self.runners[me as usize].config.peek())
+        {
+            return None;
+        }
+        Some(self.memory.journals[me as usize].accesses as u32)
+    }
+
+    /// The next step of a thread that has not ended.
+    pub(crate) fn step(&mut self, me: u8) -> Option<Why>
+        requires { IsNext self.old me }
+        ensures steps { Steps me self.old self.new }
+        ensures waits { result ≡ next_waits (machine_in self.old) me }
+    {
+        let thread = self.memory.thread(me);
+        match thread.due {
+            Due::Glance => {
+                self.memory.glance(me);
+                None
+            }
+            Due::Answer => {
+                self.memory.answer(me);
+                None
+            }
+            Due::Nothing => self.go_on(me, thread.phase),
+        }
+    }
+
+    // The next step of a thread that owes nothing.
+    fn go_on(&mut self, me: u8, phase: Phase) -> Option<Why>
+        requires { StandsIn self.old me phase }
+        ensures steps { Steps me self.old self.new }
+        ensures waits { result ≡ next_waits (machine_in self.old) me }
+    {
+        match phase {
+            Phase::Off | Phase::Blocked => {
+                self.memory.unblock(me);
+                None
+            }
+            Phase::Idle => self.take_up(me),
+            Phase::Want { object, mode, seen } => self.go_on_wanting(me, object, mode, seen),
+            Phase::Pass { object, mode } => {
+                self.access(me, object, mode);
+                None
+            }
+            Phase::FenceDue { object, .. } => {
+                self.memory.fence(me, object);
+                None
+            }
+            Phase::Claimed {
+                object,
+                mode,
+                prior,
+                done,
+                asked,
+            } => self.pursue(me, object, mode, prior, done, asked),
+            Phase::Sharing { object, drawn } => {
+                self.go_on_sharing(me, object, drawn);
+                None
+            }
+        }
+    }
+
+    // A load, or the exchange of the state that was loaded.
+    fn go_on_wanting(
+        &mut self,
+        me: u8,
+        object: u16,
+        mode: Mode,
+        seen: Option<StateWord>,
+    ) -> Option<Why>
+        requires { StandsIn self.old me (Want object mode seen) }
+        ensures steps { Steps me self.old self.new }
+        ensures waits { result ≡ next_waits (machine_in self.old) me }
+    {
+        match seen {
+            None => self.memory.load(me, object, mode),
+            Some(seen) => self.exchange(me, object, mode, seen),
+        }
+    }
+
+    // A draw, or the settling after it.
+    fn go_on_sharing(&mut self, me: u8, object: u16, drawn: Option<u64>)
+        requires { StandsIn self.old me (Sharing object drawn) }
+        ensures steps { Steps me self.old self.new }
+        ensures waits { next_waits (machine_in self.old) me ≡ None }
+    {
+        match drawn {
+            None => self.memory.draw(me, object),
+            Some(number) => self.memory.settle_share(me, object, number),
+        }
+    }
+
+    // The first step of what the thread's script demands next.
+    fn take_up(&mut self, me: u8) -> Option<Why>
+        requires { StandsIn self.old me Idle }
+        ensures steps { Steps me self.old self.new }
+        ensures waits { result ≡ next_waits (machine_in self.old) me }
+    {
+        let runner = &mut self.runners[me as usize];
+        match runner.config.next() {
+            Demand::Read { object } => self.memory.load(me, object, Mode::Read),
+            Demand::Write { object, value } => {
+                runner.value = value;
+                self.memory.load(me, object, Mode::Write)
+            }
+            Demand::Safe => {
+                self.memory.glance(me);
+                None
+            }
+            Demand::Pause => {
+                self.memory.block(me, false);
+                None
+            }
+            Demand::Ended { end } => {
+                runner.end = Some(end);
+                self.memory.block(me, true);
+                None
+            }
+        }
+    }
+
+    // The exchange of a state that the thread has loaded, as the table says.
+    fn exchange(&mut self, me: u8, object: u16, mode: Mode, seen: StateWord) -> Option<Why>
+        requires { StandsIn self.old me (Want object mode (Some seen)) }
+        ensures steps { Steps me self.old self.new }
+        ensures waits { result ≡ next_waits (machine_in self.old) me }
+    {
+        let count = self.memory.thread(me).count;
+        match decide(&seen, me, &mode, count) {
+            Act::Raise => self.memory.raise(me, object, mode, seen),
+            Act::Share { from, upto } => self.memory.share(me, object, mode, from, upto),
+            _ => self.memory.claim(me, object, mode, seen),
+        }
+    }
+
+    // The access that the object's state allows.
+    fn access(&mut self, me: u8, object: u16, mode: Mode)
+        requires { StandsIn self.old me (Pass object mode) }
+        ensures steps { Steps me self.old self.new }
+        ensures waits { next_waits (machine_in self.old) me ≡ None }
+    {
+        match mode {
+            Mode::Read => {
+                let value = self.memory.read(me, object);
+                self.runners[me as usize].config.give(value);
+            }
+            Mode::Write => {
+                let value = self.runners[me as usize].value;
+                self.memory.write(me, object, value);
+            }
+        }
+    }
+
+    // The next step of a claim: to ask the next thread, or to look at it, or to settle.
+    fn pursue(
+        &mut self,
+        me: u8,
+        object: u16,
+        mode: Mode,
+        prior: StateWord,
+        done: u8,
+        asked: bool,
+    ) -> Option<Why>
+        requires { StandsIn self.old me (Claimed object mode prior done asked) }
+        ensures steps { Steps me self.old self.new }
+        ensures waits { result ≡ next_waits (machine_in self.old) me }
+    {
+        let whom = prior.whom_to_ask();
+        if done == whom.count(self.memory.thread_count()) {
+            self.memory.settle_claim(me, object, mode);
+            return None;
+        }
+        let next = whom.next(me, done);
+        if asked {
+            self.memory.look(me, next)
+        } else {
+            self.memory.ask(me, next)
+        }
+    }
+}

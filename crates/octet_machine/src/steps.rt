@@ -1,0 +1,504 @@
+//! The steps of the protocol on plain memory. Each reads or changes one word, and moves the
+//! thread that takes it. Where the thread has to wait, the step answers why.
+ghost use Rattle.std.specs.Prelude.{◌≡◌, ◌<◌, ◌^◌, ◌==◌, ℕ, List, [], IsFalse, Some, None};
+ghost use Rattle.octet_model.specs.declared.event.Mark.TheVariants.{Join};
+ghost use Rattle.octet_model.specs.declared.event.Event.TheVariants.{Marked};
+ghost use Rattle.octet_state.specs.declared.phase.Phase.TheVariants.{Want, Pass, FenceDue, Sharing};
+ghost use Rattle.octet_state.specs.declared.phase.Due.TheVariants.{Glance};
+ghost use Rattle.octet_state.specs.declared.state_word.StateWord.TheVariants.{RdEx};
+ghost use Rattle.octet_state.specs.declared.why.Why.TheVariants.{Changed};
+ghost use Rattle.octet_state.specs.State.{Thread, thread_of, status_of, state_of, now};
+ghost use Rattle.octet_state.specs.Table.{is_changed_by};
+ghost use Rattle.octet_state.specs.Words.{packed_state, FitsStateWord, FitsStatusWord};
+ghost use Rattle.octet_state.specs.Steps.{ToGlance, ToAnswer, ToBlock, ToUnblock, ToAsk, ToLook, ToLoad, ToRead, ToWrite, ToClaim, ToSettle, ToDraw, ToFence, ToRaise, ToShare, claiming, owning, loaded, moved, number_of, one_done, one_asked, shown, with_status, told};
+ghost use Rattle.octet_state.specs.NextStep.{held_by};
+ghost use Rattle.octet_machine.specs.Memory.{blocked_in, due_by, held, shape, thread_here, waits_here, with_thread, with_event, IsClaimOf, IsThread, IsObject, HasRoom, HasFewDone, TakesStep};
+
+use crate::memory::{Memory, ProtocolThread};
+use octet_model::{Event, Mark};
+use octet_state::{Act, Due, Mode, Phase, StateWord, StatusWord, Why, decide};
+
+// The bit by which a thread asks.
+fn bit_of(me: u8) -> u16
+    requires { me < 16 }
+    ensures { result ≡ 2 ^ me }
+{
+    1u16 << me
+}
+
+// What is due after a glance that finds this status.
+fn due_by(status: StatusWord) -> Due
+    ensures { result ≡ due_by status }
+{
+    if status.asked == 0 {
+        Due::Nothing
+    } else {
+        Due::Answer
+    }
+}
+
+// The phase of a thread that is marked blocked, at its end or for a while.
+fn blocked_in(ends: bool) -> Phase
+    ensures { result ≡ blocked_in ends }
+{
+    if ends { Phase::Off } else { Phase::Blocked }
+}
+
+// The state while a thread takes an object.
+fn claiming(me: u8, mode: Mode) -> StateWord
+    ensures { result ≡ claiming me mode }
+{
+    match mode {
+        Mode::Read => StateWord::RdInt { by: me },
+        Mode::Write => StateWord::WrInt { by: me },
+    }
+}
+
+// The state of an object that a thread has taken after so many events.
+fn owning(me: u8, events: u64, mode: Mode) -> StateWord
+    ensures { result ≡ owning me events mode }
+{
+    match mode {
+        Mode::Read => StateWord::RdEx {
+            owner: me,
+            upto: events,
+        },
+        Mode::Write => StateWord::WrEx { owner: me },
+    }
+}
+
+// A phase with one more thread done.
+fn one_done(phase: Phase) -> Phase
+    requires { HasFewDone phase }
+    ensures { result ≡ one_done phase }
+{
+    match phase {
+        Phase::Claimed {
+            object,
+            mode,
+            prior,
+            done,
+            ..
+        } => Phase::Claimed {
+            object,
+            mode,
+            prior,
+            done: done + 1,
+            asked: false,
+        },
+        _ => phase,
+    }
+}
+
+// A phase with the next thread asked.
+fn one_asked(phase: Phase) -> Phase
+    ensures { result ≡ one_asked phase }
+{
+    match phase {
+        Phase::Claimed {
+            object,
+            mode,
+            prior,
+            done,
+            ..
+        } => Phase::Claimed {
+            object,
+            mode,
+            prior,
+            done,
+            asked: true,
+        },
+        _ => phase,
+    }
+}
+
+// The number of a read-shared state.
+fn number_of(state: StateWord) -> u64
+    ensures { result ≡ number_of state }
+{
+    match state {
+        StateWord::RdSh { number } => number,
+        _ => 0,
+    }
+}
+
+// Where a thread stands after it has loaded a state, by what it does about it.
+fn loaded(act: Act, object: u16, mode: Mode, state: StateWord) -> (Phase, Due)
+    ensures { (x : Thread) → moved result.0 result.1 x ≡ loaded act object mode state x }
+{
+    match act {
+        Act::Pass => (Phase::Pass { object, mode }, Due::Nothing),
+        Act::Fence => {
+            let number = number_of(state);
+            (Phase::FenceDue { object, number }, Due::Nothing)
+        }
+        Act::Held { .. } => {
+            let seen = None;
+            (Phase::Want { object, mode, seen }, Due::Glance)
+        }
+        _ => {
+            let seen = Some(state);
+            (Phase::Want { object, mode, seen }, Due::Nothing)
+        }
+    }
+}
+
+// Another thread is changing the state that was loaded.
+fn held_by(act: Act, word: u64) -> Option<Why>
+    ensures { result ≡ held_by act word }
+{
+    match act {
+        Act::Held { by } => Some(Why::Held { by, word }),
+        _ => None,
+    }
+}
+
+impl Memory {
+    // Swaps the thread's own status.
+    fn show(&mut self, me: u8, blocked: bool)
+        requires { IsThread (shape self.old) me }
+        ensures state { (starts : List ℕ) → held starts self.new ≡ with_status (held starts self.old) me (shown blocked (now (held starts self.old) me)) }
+        ensures shape { shape self.new ≡ shape self.old }
+    {
+        let upto = self.now(me);
+        let asked = 0;
+        self.set_status(
+            me,
+            StatusWord {
+                blocked,
+                upto,
+                asked,
+            },
+        );
+    }
+
+    /// A safe point: the thread looks whether it was asked.
+    pub(crate) fn glance(&mut self, me: u8)
+        requires thread { IsThread (shape self.old) me }
+        requires fits { FitsStatusWord (status_of (held [] self.old) me) }
+        ensures step { TakesStep ToGlance me self.old self.new }
+        ensures shape { shape self.new ≡ shape self.old }
+    {
+        let due = due_by(self.status(me));
+        let phase = self.thread(me).phase;
+        self.move_to(me, phase, due);
+    }
+
+    /// Answers all that have asked.
+    pub(crate) fn answer(&mut self, me: u8)
+        requires { IsThread (shape self.old) me }
+        ensures step { TakesStep ToAnswer me self.old self.new }
+        ensures shape { shape self.new ≡ shape self.old }
+    {
+        self.show(me, false);
+        let phase = self.thread(me).phase;
+        self.move_to(me, phase, Due::Nothing);
+    }
+
+    /// Marks the thread blocked, at its end or for a while.
+    pub(crate) fn block(&mut self, me: u8, ends: bool)
+        requires { IsThread (shape self.old) me }
+        ensures step { TakesStep (ToBlock ends) me self.old self.new }
+        ensures shape { shape self.new ≡ shape self.old }
+    {
+        self.show(me, true);
+        self.move_to(me, blocked_in(ends), Due::Nothing);
+    }
+
+    /// Marks the thread running.
+    pub(crate) fn unblock(&mut self, me: u8)
+        requires { IsThread (shape self.old) me }
+        ensures step { TakesStep ToUnblock me self.old self.new }
+        ensures shape { shape self.new ≡ shape self.old }
+    {
+        self.show(me, false);
+        self.move_to(me, Phase::Idle, Due::Nothing);
+    }
+
+    // Puts a Join into the thread's journal.
+    fn join(&mut self, me: u8, from: u8, upto: u64)
+        requires thread { IsThread (shape self.old) me }
+        requires room { HasRoom self.old me }
+        ensures state { (starts : List ℕ) → held starts self.new ≡ with_event (held starts self.old) me (Marked (Join from upto)) }
+        ensures shape { shape self.new ≡ shape self.old }
+    {
+        let mark = Mark::Join { from, upto };
+        self.append(me, Event::Marked { mark });
+    }
+
+    /// Asks a thread; where that is blocked, it has answered.
+    pub(crate) fn ask(&mut self, me: u8, whom: u8) -> Option<Why>
+        requires thread { IsThread (shape self.old) me }
+        requires whom { IsThread (shape self.old) whom }
+        requires room { HasRoom self.old me }
+        requires fits { FitsStatusWord (status_of (held [] self.old) whom) }
+        requires few { HasFewDone (thread_here self.old me).phase }
+        ensures step { TakesStep (ToAsk whom) me self.old self.new }
+        ensures shape { shape self.new ≡ shape self.old }
+        ensures waits { result ≡ waits_here (ToAsk whom) me self.old }
+    {
+        let status = self.status(whom);
+        let phase = self.thread(me).phase;
+        let asked = StatusWord {
+            asked: status.asked | bit_of(me),
+            ..status
+        };
+        if status.blocked {
+            self.join(me, whom, status.upto);
+            self.set_status(whom, asked);
+            self.move_to(me, one_done(phase), Due::Nothing);
+            return None;
+        }
+        self.set_status(whom, asked);
+        self.move_to(me, one_asked(phase), Due::Glance);
+        Some(Why::Unanswered {
+            by: whom,
+            word: asked.pack(),
+        })
+    }
+
+    /// Looks whether a thread that was asked has answered.
+    pub(crate) fn look(&mut self, me: u8, whom: u8) -> Option<Why>
+        requires thread { IsThread (shape self.old) me }
+        requires whom { IsThread (shape self.old) whom }
+        requires room { HasRoom self.old me }
+        requires fits { FitsStatusWord (status_of (held [] self.old) whom) }
+        requires few { HasFewDone (thread_here self.old me).phase }
+        ensures step { TakesStep (ToLook whom) me self.old self.new }
+        ensures shape { shape self.new ≡ shape self.old }
+        ensures waits { result ≡ waits_here (ToLook whom) me self.old }
+    {
+        let status = self.status(whom);
+        let phase = self.thread(me).phase;
+        if status.answers(me) {
+            self.join(me, whom, status.upto);
+            self.move_to(me, one_done(phase), Due::Nothing);
+            return None;
+        }
+        self.move_to(me, phase, Due::Glance);
+        Some(Why::Unanswered {
+            by: whom,
+            word: status.pack(),
+        })
+    }
+
+    /// Loads the state of an object that the thread wants.
+    pub(crate) fn load(&mut self, me: u8, object: u16, mode: Mode) -> Option<Why>
+        requires thread { IsThread (shape self.old) me }
+        requires object { IsObject (shape self.old) object }
+        requires fits { FitsStateWord (state_of (held [] self.old) object) }
+        requires by_others { IsFalse (is_changed_by (state_of (held [] self.old) object) me) }
+        ensures step { TakesStep (ToLoad object mode) me self.old self.new }
+        ensures shape { shape self.new ≡ shape self.old }
+        ensures waits { result ≡ waits_here (ToLoad object mode) me self.old }
+    {
+        let state = self.state(object);
+        let word = state.pack();
+        let count = self.thread(me).count;
+        let act = decide(&state, me, &mode, count);
+        let (phase, due) = loaded(act, object, mode, state);
+        self.move_to(me, phase, due);
+        held_by(act, word)
+    }
+
+    /// Reads the cell that the thread may read.
+    pub(crate) fn read(&mut self, me: u8, object: u16) -> u64
+        requires thread { IsThread (shape self.old) me }
+        requires object { IsObject (shape self.old) object }
+        requires room { HasRoom self.old me }
+        requires phase { (thread_here self.old me).phase ≡ Pass object Mode.Read }
+        ensures step { TakesStep ToRead me self.old self.new }
+        ensures shape { shape self.new ≡ shape self.old }
+        ensures told { result ≡ told ToRead me (held [] self.old) }
+    {
+        let value = self.cells[object as usize];
+        self.append(me, Event::Read { object, value });
+        self.move_to(me, Phase::Idle, Due::Nothing);
+        value
+    }
+
+    /// Writes the cell that the thread may write.
+    pub(crate) fn write(&mut self, me: u8, object: u16, value: u64)
+        requires thread { IsThread (shape self.old) me }
+        requires object { IsObject (shape self.old) object }
+        requires room { HasRoom self.old me }
+        requires phase { (thread_here self.old me).phase ≡ Pass object Mode.Write }
+        ensures step { TakesStep (ToWrite value) me self.old self.new }
+        ensures shape { shape self.new ≡ shape self.old }
+    {
+        self.append(me, Event::Write { object, value });
+        self.cells[object as usize] = value;
+        self.move_to(me, Phase::Idle, Due::Nothing);
+    }
+
+    // The word of an object's state, and whether it is still that of the state that was loaded.
+    fn finds(&self, object: u16, seen: StateWord) -> (u64, bool)
+        requires object { IsObject (shape self.now) object }
+        requires fits { FitsStateWord (state_of (held [] self.now) object) }
+        requires seen { FitsStateWord seen }
+        ensures word { result.0 ≡ packed_state (state_of (held [] self.now) object) }
+        ensures same { result.1 ≡ (packed_state (state_of (held [] self.now) object) == packed_state seen) }
+    {
+        let found = self.state(object).pack();
+        (found, found == seen.pack())
+    }
+
+    // An exchange has found another word: the thread has to load anew.
+    fn lose(&mut self, me: u8, object: u16, mode: Mode, seen: StateWord, found: u64) -> Option<Why>
+        requires thread { IsThread (shape self.old) me }
+        requires fits { FitsStateWord seen }
+        ensures state { (starts : List ℕ) → held starts self.new ≡ with_thread (held starts self.old) me (moved (Want object mode None) Glance (thread_of (held starts self.old) me)) }
+        ensures shape { shape self.new ≡ shape self.old }
+        ensures why { result ≡ Some (Changed (packed_state seen) found) }
+    {
+        let word = seen.pack();
+        let seen = None;
+        self.move_to(me, Phase::Want { object, mode, seen }, Due::Glance);
+        Some(Why::Changed { seen: word, found })
+    }
+
+    /// Takes the object in the state that was loaded.
+    pub(crate) fn claim(&mut self, me: u8, object: u16, mode: Mode, seen: StateWord) -> Option<Why>
+        requires thread { IsThread (shape self.old) me }
+        requires object { IsObject (shape self.old) object }
+        requires fits { FitsStateWord (state_of (held [] self.old) object) }
+        requires seen { FitsStateWord seen }
+        requires phase { (thread_here self.old me).phase ≡ Want object mode (Some seen) }
+        ensures step { TakesStep ToClaim me self.old self.new }
+        ensures shape { shape self.new ≡ shape self.old }
+        ensures waits { result ≡ waits_here ToClaim me self.old }
+    {
+        let (found, is_same) = self.finds(object, seen);
+        if !is_same {
+            return self.lose(me, object, mode, seen, found);
+        }
+        self.set_state(object, claiming(me, mode));
+        let phase = Phase::Claimed {
+            object,
+            mode,
+            prior: seen,
+            done: 0,
+            asked: false,
+        };
+        self.move_to(me, phase, Due::Nothing);
+        None
+    }
+
+    /// Makes the thread's read-exclusive object write-exclusive.
+    pub(crate) fn raise(&mut self, me: u8, object: u16, mode: Mode, seen: StateWord) -> Option<Why>
+        requires thread { IsThread (shape self.old) me }
+        requires object { IsObject (shape self.old) object }
+        requires fits { FitsStateWord (state_of (held [] self.old) object) }
+        requires seen { FitsStateWord seen }
+        requires phase { (thread_here self.old me).phase ≡ Want object mode (Some seen) }
+        ensures step { TakesStep ToRaise me self.old self.new }
+        ensures shape { shape self.new ≡ shape self.old }
+        ensures waits { result ≡ waits_here ToRaise me self.old }
+    {
+        let (found, is_same) = self.finds(object, seen);
+        if !is_same {
+            return self.lose(me, object, mode, seen, found);
+        }
+        self.set_state(object, StateWord::WrEx { owner: me });
+        self.move_to(me, Phase::Pass { object, mode }, Due::Nothing);
+        None
+    }
+
+    /// Begins to make read-shared an object that was read-exclusive of a thread, since its first
+    /// so many events.
+    pub(crate) fn share(
+        &mut self,
+        me: u8,
+        object: u16,
+        mode: Mode,
+        owner: u8,
+        upto: u64,
+    ) -> Option<Why>
+        requires thread { IsThread (shape self.old) me }
+        requires object { IsObject (shape self.old) object }
+        requires room { HasRoom self.old me }
+        requires fits { FitsStateWord (state_of (held [] self.old) object) }
+        requires seen { FitsStateWord (RdEx owner upto) }
+        requires phase { (thread_here self.old me).phase ≡ Want object mode (Some (RdEx owner upto)) }
+        ensures step { TakesStep ToShare me self.old self.new }
+        ensures shape { shape self.new ≡ shape self.old }
+        ensures waits { result ≡ waits_here ToShare me self.old }
+    {
+        let seen = StateWord::RdEx { owner, upto };
+        let (found, is_same) = self.finds(object, seen);
+        if !is_same {
+            return self.lose(me, object, mode, seen, found);
+        }
+        self.join(me, owner, upto);
+        self.set_state(object, StateWord::ShInt { by: me });
+        let drawn = None;
+        self.move_to(me, Phase::Sharing { object, drawn }, Due::Nothing);
+        None
+    }
+
+    /// Settles an object of which all whom the thread has asked are done.
+    pub(crate) fn settle_claim(&mut self, me: u8, object: u16, mode: Mode)
+        requires thread { IsThread (shape self.old) me }
+        requires object { IsObject (shape self.old) object }
+        requires phase { IsClaimOf object mode (thread_here self.old me).phase }
+        ensures step { TakesStep ToSettle me self.old self.new }
+        ensures shape { shape self.new ≡ shape self.old }
+    {
+        let events = self.now(me);
+        self.set_state(object, owning(me, events, mode));
+        self.move_to(me, Phase::Pass { object, mode }, Due::Nothing);
+    }
+
+    /// Settles an object for which the thread has drawn this number.
+    pub(crate) fn settle_share(&mut self, me: u8, object: u16, number: u64)
+        requires thread { IsThread (shape self.old) me }
+        requires object { IsObject (shape self.old) object }
+        requires phase { (thread_here self.old me).phase ≡ Sharing object (Some number) }
+        ensures step { TakesStep ToSettle me self.old self.new }
+        ensures shape { shape self.new ≡ shape self.old }
+    {
+        self.set_state(object, StateWord::RdSh { number });
+        let mode = Mode::Read;
+        self.move_to(me, Phase::Pass { object, mode }, Due::Nothing);
+    }
+
+    /// Draws the next number for the object.
+    pub(crate) fn draw(&mut self, me: u8, object: u16)
+        requires thread { IsThread (shape self.old) me }
+        requires room { HasRoom self.old me }
+        requires phase { (thread_here self.old me).phase ≡ Sharing object None }
+        requires small { self.old.counter < u64.MAX }
+        ensures step { TakesStep ToDraw me self.old self.new }
+        ensures shape { shape self.new ≡ shape self.old }
+    {
+        let number = self.counter + 1;
+        let mark = Mark::Draw { number };
+        self.append(me, Event::Marked { mark });
+        self.counter = number;
+        let phase = Phase::Sharing {
+            object,
+            drawn: Some(number),
+        };
+        let due = Due::Nothing;
+        let count = number;
+        self.set_thread(me, ProtocolThread { phase, due, count });
+    }
+
+    /// Loads the counter before a read of an object whose draw the thread does not know of.
+    pub(crate) fn fence(&mut self, me: u8, object: u16)
+        requires thread { IsThread (shape self.old) me }
+        requires room { HasRoom self.old me }
+        requires phase { (n : ℕ) × ((thread_here self.old me).phase ≡ FenceDue object n) }
+        ensures step { TakesStep ToFence me self.old self.new }
+        ensures shape { shape self.new ≡ shape self.old }
+    {
+        let number = self.counter;
+        let mark = Mark::Fence { number };
+        self.append(me, Event::Marked { mark });
+        let mode = Mode::Read;
+        let phase = Phase::Pass { object, mode };
+        let due = Due::Nothing;
+        let count = number;
+        self.set_thread(me, ProtocolThread { phase, due, count });
+    }
+}

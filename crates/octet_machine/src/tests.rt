@@ -1,0 +1,317 @@
+//! Worked runs, each by its picks and then by rounds until all threads have ended.
+ghost use Rattle.std.specs.Prelude.{◌≡◌, ◌≤◌, ◌∷◌, [], length, map, replicate, codes, IfOk, IsTrue};
+ghost use Rattle.std.specs.List.{list_all};
+ghost use Rattle.octet_model.specs.Script.{is_thread};
+
+use crate::{Machine, Turned, play};
+use octet_model::{Command, Gapped, List, Mark, Name, Object, OutOfMemory, Script, outcome_text};
+use octet_state::Why;
+use std::alloc::Global;
+use std::sync::Wait;
+use std::test::Fail;
+
+fn one_object(alloc: Global, x: u64) -> Result<List<Object>, OutOfMemory>
+    ensures names { IfOk result (λ objects. map (λ o. o.name) objects ≡ codes "x" ∷ []) }
+    ensures length { IfOk result (λ objects. length objects ≡ 1) }
+{
+    let mut objects = List::new(alloc);
+    let name = Name::new(alloc, b"x")?;
+    objects.push(Object { name, start: x })?;
+    Ok(objects)
+}
+
+fn two_objects(alloc: Global, x: u64, y: u64) -> Result<List<Object>, OutOfMemory>
+    ensures names { IfOk result (λ objects. map (λ o. o.name) objects ≡ codes "x" ∷ codes "y" ∷ []) }
+    ensures length { IfOk result (λ objects. length objects ≡ 2) }
+{
+    let mut objects = List::new(alloc);
+    let name = Name::new(alloc, b"x")?;
+    objects.push(Object { name, start: x })?;
+    let name = Name::new(alloc, b"y")?;
+    objects.push(Object { name, start: y })?;
+    Ok(objects)
+}
+
+// A thread of these commands, and then so many threads that are alike.
+fn one_and_others(
+    alloc: Global,
+    first: &[Command],
+    others: u8,
+    other: &[Command],
+) -> Result<List<List<Command>>, OutOfMemory>
+    ensures { IfOk result (λ threads. threads ≡ first.now ∷ replicate others other.now) }
+{
+    let mut threads = List::new(alloc);
+    threads.push(List::from_vec(Vec::from_slice(alloc, first)?))?;
+    for _made in 0..others {
+        threads.push(List::from_vec(Vec::from_slice(alloc, other)?))?;
+    }
+    Ok(threads)
+}
+
+fn three_threads(
+    alloc: Global,
+    first: &[Command],
+    second: &[Command],
+    third: &[Command],
+) -> Result<List<List<Command>>, OutOfMemory>
+    ensures { IfOk result (λ threads. threads ≡ first.now ∷ second.now ∷ third.now ∷ []) }
+{
+    let mut threads = List::new(alloc);
+    threads.push(List::from_vec(Vec::from_slice(alloc, first)?))?;
+    threads.push(List::from_vec(Vec::from_slice(alloc, second)?))?;
+    threads.push(List::from_vec(Vec::from_slice(alloc, third)?))?;
+    Ok(threads)
+}
+
+fn script_with_x(objects: List<Object>, threads: List<List<Command>>) -> Script
+    requires names { map (λ o. o.name) objects ≡ codes "x" ∷ [] }
+    requires one { length objects ≡ 1 }
+    requires some_thread { 1 ≤ length threads }
+    requires few_threads { length threads ≤ 16 }
+    requires valid { IsTrue (list_all (is_thread 1) threads) }
+{
+    Script {
+        fuel: 16384,
+        objects,
+        threads,
+    }
+}
+
+fn script_with_x_and_y(objects: List<Object>, threads: List<List<Command>>) -> Script
+    requires names { map (λ o. o.name) objects ≡ codes "x" ∷ codes "y" ∷ [] }
+    requires two { length objects ≡ 2 }
+    requires some_thread { 1 ≤ length threads }
+    requires few_threads { length threads ≤ 16 }
+    requires valid { IsTrue (list_all (is_thread 2) threads) }
+{
+    Script {
+        fuel: 16384,
+        objects,
+        threads,
+    }
+}
+
+// Thread 0 writes x, and thread 1 reads it.
+fn writes_and_reads(alloc: Global) -> Result<Script, OutOfMemory> {
+    let write_x = [
+        Command::Set { to: 0, number: 7 },
+        Command::Write { object: 0, from: 0 },
+    ];
+    let read_x = [Command::Read { to: 0, object: 0 }];
+    let threads = one_and_others(alloc, &write_x, 1, &read_x)?;
+    Ok(script_with_x(one_object(alloc, 5)?, threads))
+}
+
+// Thread 1 reads x twice, and thread 2 once.
+fn shares(alloc: Global) -> Result<Script, OutOfMemory> {
+    let twice = [
+        Command::Read { to: 0, object: 0 },
+        Command::Read { to: 1, object: 0 },
+    ];
+    let once = [Command::Read { to: 0, object: 0 }];
+    let threads = three_threads(alloc, &[], &twice, &once)?;
+    Ok(script_with_x(one_object(alloc, 9)?, threads))
+}
+
+// Thread 0 wants y while thread 1 wants x.
+fn crosses(alloc: Global) -> Result<Script, OutOfMemory> {
+    let write_y = [
+        Command::Set { to: 0, number: 1 },
+        Command::Write { object: 1, from: 0 },
+    ];
+    let write_both = [
+        Command::Set { to: 0, number: 2 },
+        Command::Write { object: 1, from: 0 },
+        Command::Write { object: 0, from: 0 },
+    ];
+    let threads = one_and_others(alloc, &write_y, 1, &write_both)?;
+    Ok(script_with_x_and_y(two_objects(alloc, 0, 0)?, threads))
+}
+
+// Thread 0 writes x, and fifteen others read it.
+fn asks_fifteen(alloc: Global) -> Result<Script, OutOfMemory> {
+    let write_x = [
+        Command::Set { to: 0, number: 9 },
+        Command::Write { object: 0, from: 0 },
+    ];
+    let read_x = [Command::Read { to: 0, object: 0 }];
+    let threads = one_and_others(alloc, &write_x, 15, &read_x)?;
+    Ok(script_with_x(one_object(alloc, 1)?, threads))
+}
+
+// Thread 1 takes x while thread 0 pauses.
+fn pauses(alloc: Global) -> Result<Script, OutOfMemory> {
+    let write_twice = [
+        Command::Set { to: 0, number: 1 },
+        Command::Write { object: 0, from: 0 },
+        Command::Pause,
+        Command::Write { object: 0, from: 0 },
+    ];
+    let write_once = [
+        Command::Set { to: 0, number: 2 },
+        Command::Write { object: 0, from: 0 },
+    ];
+    let threads = one_and_others(alloc, &write_twice, 1, &write_once)?;
+    Ok(script_with_x(one_object(alloc, 0)?, threads))
+}
+
+// Threads 1 and 2 both claim x.
+fn races(alloc: Global) -> Result<Script, OutOfMemory> {
+    let write_one = [
+        Command::Set { to: 0, number: 1 },
+        Command::Write { object: 0, from: 0 },
+    ];
+    let write_two = [
+        Command::Set { to: 0, number: 2 },
+        Command::Write { object: 0, from: 0 },
+    ];
+    let threads = three_threads(alloc, &[], &write_one, &write_two)?;
+    Ok(script_with_x(one_object(alloc, 0)?, threads))
+}
+
+// Seven picks each of threads 1 and 2, and then five of each other reader.
+fn picks_of_readers(alloc: Global) -> Result<Vec<u8>, OutOfMemory> {
+    let mut picks = Vec::from_slice(alloc, &[1, 1, 1, 1, 1, 1, 1, 2, 2, 2, 2, 2, 2, 2])?;
+    for reader in 3u8..16 {
+        picks.extend_from_slice(&[reader, reader, reader, reader, reader])?;
+    }
+    Ok(picks)
+}
+
+// The marks of a thread, each with its gap.
+fn push_marks(alloc: Global, text: &mut Vec<u8>, marks: &[Gapped]) -> Result<(), OutOfMemory> {
+    for gapped in marks {
+        let gap = gapped.gap;
+        let mark = match gapped.mark {
+            Mark::Join { from, upto } => format!(in alloc; " [{gap} join {from} {upto}]")?,
+            Mark::Draw { number } => format!(in alloc; " [{gap} draw {number}]")?,
+            Mark::Fence { number } => format!(in alloc; " [{gap} fence {number}]")?,
+        };
+        text.extend_from_slice(mark.as_bytes())?;
+    }
+    Ok(())
+}
+
+// A line for each thread with its accesses and its marks, and then the outcome.
+fn played_text<R: Wait>(
+    rt: &R,
+    alloc: Global,
+    script: &Script,
+    picks: &[u8],
+) -> Result<Vec<u8>, OutOfMemory> {
+    let recorded = play(rt, alloc, script, picks)?;
+    let mut text = Vec::new(alloc);
+    for thread in recorded.log.threads.as_slice() {
+        let accesses = format!(in alloc; "{}", thread.accesses)?;
+        text.extend_from_slice(accesses.as_bytes())?;
+        push_marks(alloc, &mut text, thread.marks.as_slice())?;
+        text.extend_from_slice(b"\n")?;
+    }
+    let outcome = outcome_text(alloc, script, &recorded.outcome)?;
+    text.extend_from_slice(outcome.as_slice())?;
+    Ok(text)
+}
+
+#[test]
+fn runs_by_picks_and_then_by_rounds(rt: HostRuntime) -> Result<(), Fail> {
+    let alloc = rt.alloc();
+    let by_readers = picks_of_readers(alloc)?;
+    for (script, picks, expected) in [
+        (
+            writes_and_reads(alloc)?,
+            [0, 0, 0, 0].as_slice(),
+            "1\n1 [0 join 0 1]\nthread 0 done\nthread 1 done 7\nobject x 7\n",
+        ),
+        (
+            writes_and_reads(alloc)?,
+            [1, 1, 1, 1, 1, 1, 1].as_slice(),
+            "1 [0 join 1 2]\n1 [0 join 0 0]\nthread 0 done\nthread 1 done 5\nobject x 7\n",
+        ),
+        (
+            shares(alloc)?,
+            [1, 1, 1, 1, 1, 1, 2, 2, 2, 2, 2, 2, 2].as_slice(),
+            "0\n2 [0 join 0 0] [1 fence 1]\n1 [0 join 1 1] [0 draw 1]\nthread 0 done\nthread 1 done 9 9\nthread 2 done 9\nobject x 9\n",
+        ),
+        (
+            crosses(alloc)?,
+            [1, 1, 1, 1, 1, 1, 0, 0, 1, 0, 1, 0, 1, 0, 0, 1, 1, 0, 1].as_slice(),
+            "1 [0 join 1 2]\n2 [0 join 0 0] [1 join 0 0]\nthread 0 done\nthread 1 done\nobject x 2\nobject y 1\n",
+        ),
+        (
+            asks_fifteen(alloc)?,
+            by_readers.as_slice(),
+            "1 [0 join 1 2] [0 join 2 3] [0 join 3 2] [0 join 4 2] [0 join 5 2] [0 join 6 2] [0 join 7 2] [0 join 8 2] [0 join 9 2] [0 join 10 2] [0 join 11 2] [0 join 12 2] [0 join 13 2] [0 join 14 2] [0 join 15 2]\n1 [0 join 0 0]\n1 [0 join 1 1] [0 draw 1]\n1 [0 fence 1]\n1 [0 fence 1]\n1 [0 fence 1]\n1 [0 fence 1]\n1 [0 fence 1]\n1 [0 fence 1]\n1 [0 fence 1]\n1 [0 fence 1]\n1 [0 fence 1]\n1 [0 fence 1]\n1 [0 fence 1]\n1 [0 fence 1]\n1 [0 fence 1]\nthread 0 done\nthread 1 done 1\nthread 2 done 1\nthread 3 done 1\nthread 4 done 1\nthread 5 done 1\nthread 6 done 1\nthread 7 done 1\nthread 8 done 1\nthread 9 done 1\nthread 10 done 1\nthread 11 done 1\nthread 12 done 1\nthread 13 done 1\nthread 14 done 1\nthread 15 done 1\nobject x 9\n",
+        ),
+        (
+            pauses(alloc)?,
+            [0, 0, 0, 0, 1, 1, 1, 1, 1, 1, 0, 0, 0, 0, 1, 0, 0].as_slice(),
+            "2 [1 join 1 2]\n1 [0 join 0 1]\nthread 0 done\nthread 1 done\nobject x 1\n",
+        ),
+        (
+            races(alloc)?,
+            [1, 2, 1, 2, 1, 2, 1, 1, 1, 1].as_slice(),
+            "0\n1 [0 join 0 0]\n1 [0 join 1 2]\nthread 0 done\nthread 1 done\nthread 2 done\nobject x 2\n",
+        ),
+    ] {
+        let text = played_text(&rt, alloc, &script, picks)?;
+        assert_eq!(rt; text.as_slice(), expected.as_bytes());
+    }
+    Ok(())
+}
+
+// What the last of these turns comes to.
+fn last_of_turns(alloc: Global, script: &Script, picks: &[u8]) -> Result<Turned, OutOfMemory> {
+    let mut machine = Machine::new(alloc, script)?;
+    let threads = machine.threads();
+    let mut last = Turned::Moved;
+    for pick in picks {
+        last = machine.turn(pick % threads);
+    }
+    Ok(last)
+}
+
+#[test]
+fn words_show_why_a_thread_waits(rt: HostRuntime) -> Result<(), Fail> {
+    let alloc = rt.alloc();
+    let held = Why::Held {
+        by: 1,
+        word: 0x6100_0000_0000_0000,
+    };
+    let changed = Why::Changed {
+        seen: 0,
+        found: 0x6100_0000_0000_0000,
+    };
+    let asked = Why::Unanswered { by: 0, word: 2 };
+    for (script, picks, turned) in [
+        (races(alloc)?, [1, 2, 1, 1, 2].as_slice(), Turned::Waits { why: held }),
+        (races(alloc)?, [1, 2, 1, 2, 1, 2].as_slice(), Turned::Waits { why: changed }),
+        (crosses(alloc)?, [0, 1, 1, 1, 1].as_slice(), Turned::Waits { why: asked }),
+        (crosses(alloc)?, [0, 1, 1, 1, 1, 1, 1].as_slice(), Turned::Waits { why: asked }),
+        (writes_and_reads(alloc)?, [0, 0, 0, 0].as_slice(), Turned::Moved),
+        (writes_and_reads(alloc)?, [0, 0, 0, 0, 0].as_slice(), Turned::Ended),
+    ] {
+        assert_eq!(rt; last_of_turns(alloc, &script, picks)?, turned);
+    }
+    Ok(())
+}
+
+#[test]
+fn tells_what_a_thread_wants(rt: HostRuntime) -> Result<(), Fail> {
+    let alloc = rt.alloc();
+    let script = pauses(alloc)?;
+    let mut machine = Machine::new(alloc, &script)?;
+    assert!(rt; machine.is_of(&script));
+    assert!(rt; !machine.is_of(&races(alloc)?));
+    assert_eq!(rt; machine.wants(0), None);
+    machine.turn(0);
+    assert_eq!(rt; machine.wants(0), Some(0));
+    machine.turn(0);
+    assert_eq!(rt; machine.wants(0), None);
+    machine.turn(0);
+    assert_eq!(rt; machine.wants(0), None);
+    machine.turn(0);
+    machine.turn(0);
+    assert_eq!(rt; machine.wants(0), Some(1));
+    Ok(())
+}

@@ -1,3 +1,0 @@
-pub mod Recording
-pub mod Recorded
-pub mod Running
