@@ -6,3 +6,4 @@ pub mod Marks
 pub mod Threads
 pub mod Whole
 pub mod Cuts
+pub mod Refused

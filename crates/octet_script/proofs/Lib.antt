@@ -1,5 +1,6 @@
 pub mod Keywords
 pub mod Cut
+pub mod Declared
 pub mod Numbers
 pub mod Judged
 pub mod Printed

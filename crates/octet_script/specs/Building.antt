@@ -10,7 +10,7 @@ use Rattle.octet_script.specs.Judgement.{Progress, threads_of, names_of, fuel_of
 abbrev pub progress : Builder → Progress
 progress b = record {
   fuel = b.fuel;
-  objects = map declaration b.objects;
+  objects = b.objects;
   started = b.started;
   threads = b.threads;
   commands = b.commands;

@@ -1,13 +1,14 @@
 //! What the lines so far have said.
 ghost use Rattle.std.specs.Prelude.{◌≤◌, length, unwrap_or};
 
-use octet_model::{Command, List, Object};
+use crate::objects::Objects;
+use octet_model::{Command, List};
 
 /// What the lines so far have said.
 #[derive(Drop)]
-pub(crate) struct Builder {
+pub(crate) struct Builder<'a> {
     pub fuel: Option<u32>,
-    pub objects: List<Object>,
+    pub objects: Objects<'a>,
     // Whether a `thread` came; the threads before the present one, and its commands.
     pub started: bool,
     pub threads: List<List<Command>>,

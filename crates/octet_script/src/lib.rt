@@ -6,6 +6,8 @@ mod cause;
 mod keyword;
 mod laws;
 mod line;
+mod number;
+mod objects;
 mod parser;
 mod printer;
 mod rules;

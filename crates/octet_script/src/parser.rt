@@ -7,7 +7,7 @@ ghost use Rattle.octet_script.specs.Building.{progress};
 
 use crate::builder::Builder;
 use crate::line::Line;
-use crate::words::{cut_line, uncommented};
+use crate::words::{cut_line, split_words};
 use crate::{ScriptCause, ScriptFault};
 use octet_model::Script;
 use std::alloc::Global;
@@ -32,21 +32,38 @@ fn count_line_ends(text: &[u8]) -> usize
 }
 
 // Judges all lines, and gives the number of the last.
-fn judge_lines(alloc: Global, builder: &mut Builder, text: &[u8]) -> Result<u32, ScriptFault>
+fn judge_lines<'a>(
+    alloc: Global,
+    builder: &mut Builder<'a>,
+    text: &'a [u8],
+) -> Result<u32, ScriptFault>
     requires { length text.now ≤ 1048576 }
     ensures said { Gives (λ _. progress builder.new) result (judged_lines (lines text.now) (progress builder.old) 1) }
     ensures last { IfOk result (λ last. last ≡ length (lines text.now)) }
 {
+    let mut words = Vec::new(alloc);
     let mut number = 1;
     let mut rest = text;
     while let Some((line, after)) = cut_line(rest) {
-        let text = uncommented(line);
-        builder.judge(alloc, Line { number, text })?;
+        split_words(line, &mut words)?;
+        builder.judge(
+            alloc,
+            Line {
+                number,
+                words: words.as_slice(),
+            },
+        )?;
         number += 1;
         rest = after;
     }
-    let text = uncommented(rest);
-    builder.judge(alloc, Line { number, text })?;
+    split_words(rest, &mut words)?;
+    builder.judge(
+        alloc,
+        Line {
+            number,
+            words: words.as_slice(),
+        },
+    )?;
     Ok(number)
 }
 

@@ -12,5 +12,5 @@ invariant_of-result c =
     let kept = c.in_ok-keep_thread.ensures.kept in
     let none = closed_ok p.openers c.in_ok-all_closed.ensures in
     record {
-      valid = script_valid p c.fuel-fuel.result after.objects after.threads c.requires (c.fuel-fuel.ensures.value ∙ ap fuel_of kept) (ap (λ (q : Progress). q.objects) kept) (ap (λ (q : Progress). q.threads) kept) c.if-not-self.false none;
+      valid = script_valid p c.fuel-fuel.result c.in_ok-objects.objects after.threads c.requires (c.fuel-fuel.ensures.value ∙ ap fuel_of kept) (c.in_ok-objects.ensures ∙ ap (λ (q : Progress). q.objects) kept) (ap (λ (q : Progress). q.threads) kept) c.if-not-self.false none;
     }
