@@ -7,3 +7,4 @@ pub mod Threads
 pub mod Whole
 pub mod Cuts
 pub mod Refused
+pub mod lemmas

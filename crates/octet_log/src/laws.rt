@@ -2,7 +2,7 @@
 ghost use Rattle.std.specs.Prelude.{◌^◌};
 ghost use Rattle.std.specs.Int.{w32, w64};
 ghost use Rattle.octet_log.specs.Refusals.{LacksMagic, OtherVersionIsBad, ThreadsAreBad, HeadIsCut, AccessesAreCut, CountIsCut, MarkIsCut, MarkIsBad, AccessesAreTooMany};
-ghost use Rattle.octet_log.specs.Laws.{NumberIsReadAgain, NumberHasOneSpelling, JudgesLogs, BytesSpellOneLog, NoLogGoesOn, FrontIsCut, ByteBehindIsTrailing};
+ghost use Rattle.octet_log.specs.Laws.{NumberIsReadAgain, NumberHasOneSpelling, DecodesLogs, BytesSpellOneLog, NoLogIsAPrefix, FrontIsCut, ByteAfterIsTrailing};
 
 /// The bytes of a field are the one spelling of their number, and give it back.
 pub fn field_has_one_spelling()
@@ -13,8 +13,8 @@ pub fn field_has_one_spelling()
 {}
 
 /// Bytes are judged to be a log exactly where they are the spelling of that valid log.
-pub fn judgement_accepts_spellings_alone()
-    ensures { JudgesLogs }
+pub fn decoding_accepts_spellings_alone()
+    ensures { DecodesLogs }
 {}
 
 /// Two logs of one spelling are equal.
@@ -24,7 +24,7 @@ pub fn bytes_spell_one_log()
 
 /// No log's spelling is a proper prefix of another's.
 pub fn no_log_is_a_prefix()
-    ensures { NoLogGoesOn }
+    ensures { NoLogIsAPrefix }
 {}
 
 /// A log's spelling without some of its last bytes is refused as cut, where it ends; below four
@@ -34,8 +34,8 @@ pub fn front_of_log_is_cut()
 {}
 
 /// A log's spelling with more bytes is refused for the first of these, at its place.
-pub fn byte_behind_log_is_trailing()
-    ensures { ByteBehindIsTrailing }
+pub fn byte_after_log_is_trailing()
+    ensures { ByteAfterIsTrailing }
 {}
 
 /// An input is refused for its first four bytes, its version or its number of threads alone,

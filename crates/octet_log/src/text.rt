@@ -4,7 +4,7 @@ ghost use Rattle.std.specs.Fmt.{decimal};
 ghost use Rattle.octet_log.specs.Texts.{mark_words, mark_line, thread_text, log_text, refusal_words, refusal_line};
 
 use crate::LogCause;
-use octet_model::{Gapped, Log, Mark, OutOfMemory, ThreadLog};
+use octet_model::{Gapped, Log, Mark, OutOfMemory, ThreadLog, push_number};
 use std::alloc::Global;
 
 fn push_mark(out: &mut Vec<u8>, mark: Mark) -> Result<(), OutOfMemory>
@@ -85,15 +85,14 @@ fn push_refusal(out: &mut Vec<u8>, cause: LogCause) -> Result<(), OutOfMemory>
     ensures { OnOk result (out.new.items ≡ out.old.items ++ refusal_words cause) }
 {
     match cause {
-        LogCause::NoMagic => out.extend_from_slice(b"1 no magic")?,
-        LogCause::BadVersion => out.extend_from_slice(b"2 bad version")?,
-        LogCause::BadThreads => out.extend_from_slice(b"3 bad threads")?,
-        LogCause::CutShort { at } => push_place(out, b"4 cut short at ", at)?,
-        LogCause::BadMark { at } => push_place(out, b"5 bad mark at ", at)?,
-        LogCause::TooManyAccesses => out.extend_from_slice(b"6 too many accesses")?,
-        LogCause::Trailing { at } => push_place(out, b"7 trailing at ", at)?,
+        LogCause::NoMagic => Ok(out.extend_from_slice(b"1 no magic")?),
+        LogCause::BadVersion => Ok(out.extend_from_slice(b"2 bad version")?),
+        LogCause::BadThreads => Ok(out.extend_from_slice(b"3 bad threads")?),
+        LogCause::CutShort { at } => push_place(out, b"4 cut short at ", at),
+        LogCause::BadMark { at } => push_place(out, b"5 bad mark at ", at),
+        LogCause::TooManyAccesses => Ok(out.extend_from_slice(b"6 too many accesses")?),
+        LogCause::Trailing { at } => push_place(out, b"7 trailing at ", at),
     }
-    Ok(())
 }
 
 /// The line that says why bytes are refused as a log.

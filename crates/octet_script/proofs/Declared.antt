@@ -7,7 +7,7 @@ use Rattle.std.specs.Map.{lookup, keys_of}
 use Rattle.std.proofs.lemmas.List.{map-append}
 use Rattle.std.proofs.lemmas.List.Folds.{list_all-append}
 use Rattle.octet_model.specs.Name.{is_name}
-use Rattle.octet_script.specs.Spelling.{Declaration, declared_names, object_of}
+use Rattle.octet_script.specs.Spelling.{Declaration, declared_names, object_named}
 use Rattle.octet_script.proofs.Cut.{position_of_map, position_none}
 
 -- a name and the value that its object starts with, as they are kept
@@ -17,7 +17,7 @@ Entry = Bor (List ℕ) × ℕ
 abbrev pub shown : Entry → Declaration
 shown e = record { name = e.0.now; start = e.1 }
 
-pub place_is : (name : List ℕ) (entries : List Entry) → position (λ (k : Bor (List ℕ)). bytes_eq name k.now) (keys_of entries) ≡ object_of (declared_names (map shown entries)) name
+pub place_is : (name : List ℕ) (entries : List Entry) → position (λ (k : Bor (List ℕ)). bytes_eq name k.now) (keys_of entries) ≡ object_named (declared_names (map shown entries)) name
 place_is name entries =
     position_of_map (λ (k : Bor (List ℕ)). bytes_eq name k.now) (λ (e : Entry). e.0) entries
     ∙ sym (position_of_map (bytes_eq name) (λ (o : Declaration). o.name) (map shown entries) ∙ position_of_map (λ (o : Declaration). bytes_eq name o.name) shown entries)
@@ -31,6 +31,6 @@ absent name [] far = refl
 absent name (e ∷ entries) far = absent_step name e entries (bytes_eq name e.0.now) refl (absent name entries) far
 
 -- a name that no object has is no key
-pub no_key : (name : List ℕ) (entries : List Entry) → object_of (declared_names (map shown entries)) name ≡ None → lookup (λ (k : Bor (List ℕ)). bytes_eq name k.now) entries ≡ None
+pub no_key : (name : List ℕ) (entries : List Entry) → object_named (declared_names (map shown entries)) name ≡ None → lookup (λ (k : Bor (List ℕ)). bytes_eq name k.now) entries ≡ None
 no_key name entries fresh =
     absent name entries (position_none (λ (o : Entry). bytes_eq name o.0.now) entries (sym (position_of_map (bytes_eq name) (λ (o : Declaration). o.name) (map shown entries) ∙ position_of_map (λ (o : Declaration). bytes_eq name o.name) shown entries) ∙ fresh))

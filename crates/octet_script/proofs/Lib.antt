@@ -10,3 +10,4 @@ pub mod Sound
 pub mod Spelled
 pub mod Complete
 pub mod Canonical
+pub mod lemmas

@@ -34,8 +34,8 @@ abbrev pub words_of_line : List ℕ → List (List ℕ)
 words_of_line line = words (uncommented line)
 
 -- the words of each line that has any
-abbrev pub speaking_lines : List ℕ → List (List (List ℕ))
-speaking_lines text = filter is_filled (map words_of_line (lines text))
+abbrev pub lines_with_words : List ℕ → List (List (List ℕ))
+lines_with_words text = filter is_filled (map words_of_line (lines text))
 
 -- words as slices, seen as their bytes
 abbrev pub texts : List (Bor (List ℕ)) → List (List ℕ)

@@ -2,7 +2,7 @@
 ghost use Rattle.std.specs.Prelude.{◌≤◌, length, unwrap_or};
 
 use crate::objects::Objects;
-use octet_model::{Command, List};
+use octet_model::{Command, DEFAULT_FUEL, List, MAX_FUEL, MAX_OBJECTS, MAX_THREADS};
 
 /// What the lines so far have said.
 #[derive(Drop)]
@@ -15,7 +15,7 @@ pub(crate) struct Builder<'a> {
     pub commands: List<Command>,
     // The lines of its open `while`s and `if`s, the innermost last.
     pub openers: Vec<u32>,
-    pub ghost few_objects: { length objects ≤ 1024 },
-    pub ghost few_threads: { length threads ≤ 16 },
-    pub ghost bounded_fuel: { unwrap_or fuel 16384 ≤ 262144 },
+    pub ghost few_objects: { length objects ≤ MAX_OBJECTS },
+    pub ghost few_threads: { length threads ≤ MAX_THREADS },
+    pub ghost bounded_fuel: { unwrap_or fuel DEFAULT_FUEL ≤ MAX_FUEL },
 }

@@ -1,9 +1,9 @@
 //! Laws about the grammar.
-ghost use Rattle.octet_script.specs.Laws.{CanonicalSpells, OneScript, JudgedIsSpelled};
+ghost use Rattle.octet_script.specs.Laws.{CanonicalSpells, OneScript, ParsedIsSpelled};
 
 /// A text is judged to say what a script says exactly where it spells the script.
-pub fn judgement_is_the_grammar()
-    ensures { JudgedIsSpelled }
+pub fn parsing_is_the_grammar()
+    ensures { ParsedIsSpelled }
 {}
 
 /// A text spells one script at most.

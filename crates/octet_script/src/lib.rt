@@ -6,7 +6,6 @@ mod cause;
 mod keyword;
 mod laws;
 mod line;
-mod number;
 mod objects;
 mod parser;
 mod printer;
@@ -17,7 +16,7 @@ mod words;
 
 pub use cause::{ScriptCause, ScriptFault};
 pub use laws::{
-    a_text_spells_one_script, canonical_text_spells_its_script, judgement_is_the_grammar,
+    a_text_spells_one_script, canonical_text_spells_its_script, parsing_is_the_grammar,
 };
 pub use line::number_of;
 pub use parser::parse;

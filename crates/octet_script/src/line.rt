@@ -4,17 +4,15 @@ ghost use Rattle.std.specs.Char.{is_ascii_digit};
 ghost use Rattle.std.specs.List.{list_all};
 ghost use Rattle.octet_model.specs.Name.{IsName, is_name, is_name_start, is_name_byte};
 ghost use Rattle.octet_script.specs.Words.{texts};
-ghost use Rattle.octet_script.specs.Spelling.{number_of, register_of, object_of, declared_names};
-ghost use Rattle.octet_script.specs.Judgement.{word_at, number_at, register_at, object_at, name_at, command_of, Gives};
+ghost use Rattle.octet_script.specs.Spelling.{number_of, register_of, object_named, declared_names};
+ghost use Rattle.octet_script.specs.Parsing.{word_at, number_at, register_at, object_at, name_at, command_of, Gives};
 
 use crate::keyword::Verb;
 use crate::objects::Objects;
 use crate::{ScriptCause, ScriptFault};
-use octet_model::Command;
+use octet_model::{Command, MAX_NAME, MAX_OBJECTS};
 
 const MAX_DIGITS: usize = 20;
-
-const MAX_NAME: usize = 32;
 
 fn are_digits(word: &[u8]) -> bool
     ensures { result ≡ list_all is_ascii_digit word.now }
@@ -136,7 +134,7 @@ impl<'l, 'a> Line<'l, 'a> {
     }
 
     fn object_at(&self, objects: &Objects<'a>, place: usize) -> Result<u16, ScriptFault>
-        requires { length objects.now ≤ 1024 }
+        requires { length objects.now ≤ MAX_OBJECTS }
         ensures { result ≡ object_at (declared_names objects.now) self.now.number (texts self.now.words.now) place }
     {
         match objects.place_of(self.word_at(place)) {
@@ -148,7 +146,7 @@ impl<'l, 'a> Line<'l, 'a> {
     /// A name that no object has.
     pub(crate) fn name_at(&self, objects: &Objects<'a>, place: usize) -> Result<&'a [u8], ScriptFault>
         ensures form { IfOk result (λ name. IsName name.now) }
-        ensures fresh { IfOk result (λ name. object_of (declared_names objects.now) name.now ≡ None) }
+        ensures fresh { IfOk result (λ name. object_named (declared_names objects.now) name.now ≡ None) }
         ensures value { Gives (λ name. name.now) result (name_at (declared_names objects.now) self.now.number (texts self.now.words.now) place) }
     {
         let word = self.word_at(place);
@@ -163,7 +161,7 @@ impl<'l, 'a> Line<'l, 'a> {
 
     /// The command that the line writes.
     pub(crate) fn command(&self, objects: &Objects<'a>, verb: Verb) -> Result<Command, ScriptFault>
-        requires { length objects.now ≤ 1024 }
+        requires { length objects.now ≤ MAX_OBJECTS }
         ensures { result ≡ command_of (declared_names objects.now) self.now.number (texts self.now.words.now) verb }
     {
         match verb {
@@ -175,7 +173,7 @@ impl<'l, 'a> Line<'l, 'a> {
                 to: self.register_at(1)?,
                 from: self.register_at(2)?,
             }),
-            Verb::Operation(operation) => {
+            Verb::Arithmetic(operation) => {
                 let to = self.register_at(1)?;
                 let left = self.register_at(2)?;
                 let right = self.register_at(3)?;

@@ -1,7 +1,7 @@
 //! The objects that the lines so far declare.
 ghost use Rattle.std.specs.Prelude.{◌≡◌, ◌++◌, ◌∷◌, [], None, IfOk, OnOk, OnErr, length, map};
 ghost use Rattle.octet_model.specs.Name.{IsName};
-ghost use Rattle.octet_script.specs.Spelling.{declaration, declared_names, object_of};
+ghost use Rattle.octet_script.specs.Spelling.{declaration, declared_names, object_named};
 
 use indexmap::IndexMap;
 use octet_model::{List, Name, Object, OutOfMemory};
@@ -45,7 +45,7 @@ impl<'a> Objects<'a> {
 
     /// The place of the object with this name.
     pub(crate) fn place_of(&self, name: &[u8]) -> Option<usize>
-        ensures { result ≡ object_of (declared_names self.now) name.now }
+        ensures { result ≡ object_named (declared_names self.now) name.now }
     {
         self.starts.get_index_of(name)
     }
@@ -53,7 +53,7 @@ impl<'a> Objects<'a> {
     /// Adds an object of a new name.
     pub(crate) fn push(&mut self, name: &'a [u8], start: u64) -> Result<(), OutOfMemory>
         requires form { IsName name.now }
-        requires fresh { object_of (declared_names self.old) name.now ≡ None }
+        requires fresh { object_named (declared_names self.old) name.now ≡ None }
         ensures ok { OnOk result (self.new ≡ self.old ++ record { name = name.now; start = start } ∷ []) }
         ensures err { OnErr result (self.new ≡ self.old) }
     {

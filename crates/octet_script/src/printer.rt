@@ -4,8 +4,7 @@ ghost use Rattle.std.specs.List.{flat_map};
 ghost use Rattle.octet_script.specs.Spelling.{declaration, object_names, object_word, register_word, canonical_words, canonical_line, canonical_text, command_form, head_form, thread_forms, ObjectHead, Spells};
 ghost use Rattle.octet_model.specs.Name.{IsName};
 
-use crate::number::push_number;
-use octet_model::{Command, Object, OutOfMemory, Script};
+use octet_model::{Command, Object, OutOfMemory, Script, push_number};
 use std::alloc::Global;
 
 // A word, and registers after it.

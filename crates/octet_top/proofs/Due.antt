@@ -10,11 +10,11 @@ use Rattle.octet_model.specs.Texts.{log_bytes, outcome_text}
 use Rattle.octet_model.specs.Orders.{execution, journals_after, lowest_order}
 use Rattle.octet_script.specs.declared.cause.ScriptCause.{ScriptCause}
 use Rattle.octet_script.specs.Spelling.{canonical_text}
-use Rattle.octet_script.proofs.Spelled.{spells_judged, one_script}
+use Rattle.octet_script.proofs.lemmas.Grammar.{spells_parsed, one_script}
 use Rattle.octet_log.specs.declared.cause.LogCause.{LogCause}
-use Rattle.octet_log.specs.Judgement.{judgement}
+use Rattle.octet_log.specs.Decoding.{decoded}
 use Rattle.octet_log.specs.Texts.{log_text}
-use Rattle.octet_log.proofs.Whole.{judgement_is, one_log}
+use Rattle.octet_log.proofs.lemmas.Spellings.{spelling_decoded, one_log}
 use Rattle.octet_replay.specs.Judged.{IsLawful}
 use Rattle.octet_replay.proofs.Answered.{faithful, not_refused}
 use Rattle.octet_clock.specs.declared.verdict.Verdict.{Verdict}
@@ -102,14 +102,14 @@ module _ (files : Option Files) (faults faults' : ℕ) (answer : Answer) (none :
   bad_script_is_refused name text line cause Onward there refused taking =
       elim (there_goes_on name text script_limit (Parsing Onward) there taking) [
         | inl (line', cause', refused', is) ↦ is ∙ script_differs line line' cause cause' text refused refused'
-        | inr (script, spells, on) ↦ absurd (let judged = sym refused ∙ spells_judged text script spells in cc)
+        | inr (script, spells, on) ↦ absurd (let judged = sym refused ∙ spells_parsed text script spells in cc)
       ]
 
   -- a script that is there is taken
   goes_on_with_script : (name : List ℕ) (Onward : Script → Answer → Type 0) (has : HasScript files name) → TakingScript files faults faults' name Onward answer → Onward has.script answer
   goes_on_with_script name Onward has taking =
       elim (there_goes_on name has.text script_limit (Parsing Onward) has.there taking) [
-        | inl (line, cause, refused, is) ↦ absurd (let judged = sym refused ∙ spells_judged has.text has.script has.spelled in cc)
+        | inl (line, cause, refused, is) ↦ absurd (let judged = sym refused ∙ spells_parsed has.text has.script has.spelled in cc)
         | inr (script, spells, on) ↦ subst (λ (s : Script). Onward s answer) (one_script has.text has.script script has.spelled spells) on
       ]
 
@@ -118,13 +118,13 @@ module _ (files : Option Files) (faults faults' : ℕ) (answer : Answer) (none :
   bad_log_is_refused name bytes cause Onward there refused taking =
       elim (there_goes_on name bytes log_limit (Decoding Onward) there taking) [
         | inl (cause', refused', is) ↦ (let both = sym refused' ∙ refused in cc)
-        | inr (log, spelled, on) ↦ absurd (let judged = sym refused ∙ ap judgement spelled ∙ judgement_is log.threads log.valid in cc)
+        | inr (log, spelled, on) ↦ absurd (let judged = sym refused ∙ ap decoded spelled ∙ spelling_decoded log.threads log.valid in cc)
       ]
 
   goes_on_with_log : (name : List ℕ) (Onward : List ThreadLog → Answer → Type 0) (has : HasLog files name) → TakingLog files faults faults' name (λ log. Onward log.threads) answer → Onward has.log.threads answer
   goes_on_with_log name Onward has taking =
       elim (there_goes_on name has.bytes log_limit (Decoding (λ log. Onward log.threads)) has.there taking) [
-        | inl (cause, refused, is) ↦ absurd (let judged = sym refused ∙ ap judgement has.spelled ∙ judgement_is has.log.threads has.log.valid in cc)
+        | inl (cause, refused, is) ↦ absurd (let judged = sym refused ∙ ap decoded has.spelled ∙ spelling_decoded has.log.threads has.log.valid in cc)
         | inr (log, spelled, on) ↦ subst (λ (l : List ThreadLog). Onward l answer) (one_log log.threads has.log.threads log.valid has.log.valid (sym spelled ∙ has.spelled)) on
       ]
 

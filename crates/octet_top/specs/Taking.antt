@@ -6,11 +6,11 @@ use Rattle.octet_model.specs.declared.script.Script.{Script}
 use Rattle.octet_script.specs.declared.cause.ScriptCause.{ScriptCause}
 use Rattle.octet_script.specs.declared.cause.ScriptFault.TheVariants as faults
 use Rattle.octet_script.specs.Spelling.{Spells}
-use Rattle.octet_script.specs.Judgement as script
+use Rattle.octet_script.specs.Parsing as script
 use Rattle.octet_model.specs.declared.log.Log.{Log}
 use Rattle.octet_model.specs.Texts.{log_bytes}
 use Rattle.octet_log.specs.declared.cause.LogCause.{LogCause}
-use Rattle.octet_log.specs.Judgement as log
+use Rattle.octet_log.specs.Decoding as log
 use Rattle.octet_top.specs.declared.reply.Reply.{Reply}
 use Rattle.octet_top.specs.declared.reply.Status.TheVariants.{Read}
 use Rattle.octet_top.specs.declared.take.Take.{Take}
@@ -39,11 +39,11 @@ IsTooLong files name limit = IfSome files (λ fs. IsSomeAnd (get fs name) (λ by
 
 -- the first refusal of the text
 abbrev pub Refuses : List ℕ → ℕ → ScriptCause → Type 0
-Refuses text line cause = script.judgement text ≡ Err (faults.Refused line cause)
+Refuses text line cause = script.parsed text ≡ Err (faults.Refused line cause)
 
 -- the first refusal of the bytes
 abbrev pub RefusesLog : List ℕ → LogCause → Type 0
-RefusesLog bytes cause = log.judgement bytes ≡ Err cause
+RefusesLog bytes cause = log.decoded bytes ≡ Err cause
 
 -- the answer of a command that takes a file: a take failed or no file is there, the file is too long, or it is taken and the command goes on with its bytes
 abbrev pub Taking : Option Files → ℕ → ℕ → List ℕ → ℕ → (List ℕ → Answer → Type 0) → Answer → Type 0
