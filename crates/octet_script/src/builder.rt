@@ -1,8 +1,9 @@
 //! What the lines so far have said.
 ghost use Rattle.std.specs.Prelude.{◌≤◌, length, unwrap_or};
+ghost use Rattle.octet_model.specs.declared.limits.TheConstants.{DEFAULT_FUEL, MAX_FUEL, MAX_OBJECTS, MAX_THREADS};
 
 use crate::objects::Objects;
-use octet_model::{Command, DEFAULT_FUEL, List, MAX_FUEL, MAX_OBJECTS, MAX_THREADS};
+use octet_model::{Command, List};
 
 /// What the lines so far have said.
 #[derive(Drop)]
