@@ -90,7 +90,7 @@ start_fails threads logs rest cause start fails =
     let state : last next_thread (0, 0) logs ≡ (length logs, accesses_of logs) = last_thread 0 0 logs ∙ λ i. (number i, sum i) in
     let there : read_next total threads (last next_thread (0, 0) logs) rest ≡ Err cause = ap (λ (s : ℕ × ℕ). read_next total threads s rest) state ∙ fails in
     let all : threads_at total threads (flat_map thread_bytes logs ++ rest) ≡ Err cause =
-        each_fails (read_next total threads) next_thread thread_bytes (GoodThread threads) (λ state log r g. thread_again total threads state.0 state.1 log r g) threads (0, 0) logs rest cause start.more good there in
+    each_fails (read_next total threads) next_thread thread_bytes (GoodThread threads) (λ state log r g. thread_again total threads state.0 state.1 log r g) threads (0, 0) logs rest cause start.more good there in
     let allowed : (leb 1 threads && leb threads 16) ≡ true = rw (le-leb 1 threads (omega (arith, start.more)), le-leb threads 16 start.few) refl in
     rw (allowed, all) refl
 
@@ -125,17 +125,17 @@ within_fails threads logs accesses count marks rest cause within fails =
     let after_accesses = to_be_bytes w32 count ++ after_count in
     let tail = to_be_bytes w32 accesses ++ after_accesses in
     let regrouped : within_bytes threads logs accesses count marks ++ rest ≡ start_bytes threads logs ++ tail =
-        append_assoc (start_bytes threads logs) (to_be_bytes w32 accesses ++ to_be_bytes w32 count ++ flat_map mark_bytes marks) rest in
+    append_assoc (start_bytes threads logs) (to_be_bytes w32 accesses ++ to_be_bytes w32 count ++ flat_map mark_bytes marks) rest in
     let total = length (start_bytes threads logs ++ tail) in
     let here : mark_at total threads thread (accesses - gaps_of marks) rest ≡ Err cause = subst (λ (n : ℕ). mark_at n threads thread (accesses - gaps_of marks) rest ≡ Err cause) (ap (λ (x : List ℕ). length x) regrouped) fails in
     let there : mark_at total threads thread (last accesses_left accesses marks) rest ≡ Err cause = ap (λ (left : ℕ). mark_at total threads thread left rest) (last_left accesses marks) ∙ here in
     let good = all_small threads thread accesses marks small (are_marks threads thread accesses marks within.gaps within.good) in
     let all : marks_at total threads thread accesses count after_count ≡ Err cause =
-        each_fails (mark_at total threads thread) accesses_left mark_bytes (GoodMark32 threads thread)
-        (λ left m r g. mark_again_at total threads thread left m.gap m.mark r g.small g.good.gap g.good.mark) count accesses marks rest cause within.more good there in
+    each_fails (mark_at total threads thread) accesses_left mark_bytes (GoodMark32 threads thread)
+    (λ left m r g. mark_again_at total threads thread left m.gap m.mark r g.small g.good.gap g.good.mark) count accesses marks rest cause within.more good there in
     ap decoded regrouped
     ∙ start_fails threads logs tail cause within.start
-      (rw (number_again w32 (2 ^ 32) wide32 total accesses after_accesses small, le-leb (accesses_of logs + accesses) 262144 within.sum, number_again w32 (2 ^ 32) wide32 total count after_count within.fits, all) refl)
+    (rw (number_again w32 (2 ^ 32) wide32 total accesses after_accesses small, le-leb (accesses_of logs + accesses) 262144 within.sum, number_again w32 (2 ^ 32) wide32 total count after_count within.fits, all) refl)
 
 pub mark_is_cut : (threads : ℕ) (logs : List ThreadLog) (accesses count : ℕ) (marks : List Gapped) (mark : List ℕ) → IsWithin threads logs accesses count marks → length mark < 14 → decoded (within_bytes threads logs accesses count marks ++ mark) ≡ Err (CutShort (length (within_bytes threads logs accesses count marks ++ mark)))
 unfolding mark_at

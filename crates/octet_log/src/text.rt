@@ -39,11 +39,7 @@ fn push_mark_line(out: &mut Vec<u8>, gapped: Gapped) -> Result<(), OutOfMemory>
     Ok(())
 }
 
-fn push_thread(
-    out: &mut Vec<u8>,
-    thread: usize,
-    log: &ThreadLog,
-) -> Result<(), OutOfMemory>
+fn push_thread(out: &mut Vec<u8>, thread: usize, log: &ThreadLog) -> Result<(), OutOfMemory>
     ensures { OnOk result (out.new.items ≡ out.old.items ++ thread_text thread log.now) }
 {
     out.extend_from_slice(b"thread ")?;

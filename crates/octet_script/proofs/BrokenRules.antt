@@ -205,7 +205,7 @@ bad_end text before line said first reached words is none =
     refused_at text before line said (Refused n EndWithoutOpen) reached (placed said n line first [] (CommandWord verb.End) words is ∙ end_alone said n none)
 
 thread_open : (said : Draft) (n opener : ℕ) (openers : List ℕ) → said.openers ≡ opener ∷ openers → with_thread said n ≡ Err (Refused opener Unclosed)
-thread_open said n opener openers open = rw open refl
+thread_open said n opener openers left = rw left refl
 
 pub open_thread : (text : List ℕ) (before : List (List ℕ)) (line : List ℕ) (said : Draft) (first : List ℕ) (opener : ℕ) (openers : List ℕ) → IsReached text before line said → words_of_line line ≡ first ∷ [] → IsLineOf said Thread first [] → said.openers ≡ opener ∷ openers → parsed text ≡ Err (Refused opener Unclosed)
 open_thread text before line said first opener openers reached words is left =
@@ -222,3 +222,29 @@ fuel_of_all text before line said first reached words is none few much =
     let n = 1 + length before in
     let here : with_thread said n ≡ Err (Refused n BadFuel) = rw (none, lt-leb 16 (length (threads_of said)) few, lt-ltb 262144 (suc (length (threads_of said)) * fuel_of said) much) refl in
     refused_at text before line said (Refused n BadFuel) reached (placed said n line first [] Thread words is ∙ here)
+
+none≢some : {A : Type 0} (x : A) → Some x ≡ None → ⊥
+none≢some x is = cc
+
+good_step : {A B : Type 0} (o : Option A) (bad : ScriptCause) (fault : ScriptFault) (later : Option ScriptCause) (f : A → Result B ScriptFault) (r : Result B ScriptFault) → or_else (unless_some bad o) later ≡ None → ((x : A) → f x ≡ r) → (ok_or o fault >>= f) ≡ r
+good_step (Some x) bad fault later f r is go = go x
+good_step None bad fault later f r is go = absurd (none≢some bad is)
+
+good_name : {B : Type 0} (n : ℕ) (good twice : Bool) (word : List ℕ) (later : Option ScriptCause) (f : List ℕ → Result B ScriptFault) (r : Result B ScriptFault) → or_else (cond (not good) (Some BadName) (cond twice (Some NameTwice) None)) later ≡ None → (later ≡ None → f word ≡ r) → (cond (not good) (Err (Refused n BadName)) (cond twice (Err (Refused n NameTwice)) (Ok word)) >>= f) ≡ r
+good_name n false twice word later f r is go = absurd (none≢some BadName is)
+good_name n true true word later f r is go = absurd (none≢some NameTwice is)
+good_name n true false word later f r is go = go is
+
+object_over : (said : Draft) (n : ℕ) (name : List ℕ) (value : ℕ) → 1024 ≤ length said.objects → with_object said n name value ≡ Err (Refused n TooMany)
+object_over said n name value many = rw (le-leb 1024 (length said.objects) many) refl
+
+object_arguments : (said : Draft) (n : ℕ) (first : List ℕ) (arguments : List (List ℕ)) → suc (length arguments) ≡ word_count Object → first_fault (names_of said) (kinds Object) arguments ≡ None → 1024 ≤ length said.objects → judged_arguments said n (first ∷ arguments) Object ≡ Err (Refused n TooMany)
+object_arguments said n first arguments count is many =
+    with_two (λ l. first_fault (names_of said) (kinds Object) l ≡ None → judged_arguments said n (first ∷ l) Object ≡ Err (Refused n TooMany))
+    (λ a b e. good_name n (is_name a) (is_some (object_named (names_of said) a)) a (or_else (unless_some BadNumber (number_of b)) None) (λ name. number_at n (first ∷ a ∷ b ∷ []) 2 >>= λ value. with_object said n name value) (Err (Refused n TooMany)) e
+    (λ later. good_step (number_of b) BadNumber (Refused n BadNumber) None (λ value. with_object said n a value) (Err (Refused n TooMany)) later (λ value. object_over said n a value many))) arguments count is
+
+pub many_objects : (text : List ℕ) (before : List (List ℕ)) (line : List ℕ) (said : Draft) (first : List ℕ) (arguments : List (List ℕ)) → IsReached text before line said → words_of_line line ≡ first ∷ arguments → IsLineOf said Object first arguments → first_fault (names_of said) (kinds Object) arguments ≡ None → 1024 ≤ length said.objects → IsRefused text before TooMany
+many_objects text before line said first arguments reached words is good many =
+    let n = 1 + length before in
+    refused_at text before line said (Refused n TooMany) reached (placed said n line first arguments Object words is ∙ object_arguments said n first arguments is.count good many)

@@ -10,4 +10,5 @@ pub mod Sound
 pub mod Spelled
 pub mod Complete
 pub mod Canonical
+pub mod BrokenRules
 pub mod lemmas

@@ -4,3 +4,4 @@ pub mod Spelling
 pub mod Parsing
 pub mod Building
 pub mod Laws
+pub mod BrokenRules

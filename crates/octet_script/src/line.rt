@@ -144,7 +144,11 @@ impl<'l, 'a> Line<'l, 'a> {
     }
 
     /// A name that no object has.
-    pub(crate) fn name_at(&self, objects: &Objects<'a>, place: usize) -> Result<&'a [u8], ScriptFault>
+    pub(crate) fn name_at(
+        &self,
+        objects: &Objects<'a>,
+        place: usize,
+    ) -> Result<&'a [u8], ScriptFault>
         ensures form { IfOk result (λ name. IsName name.now) }
         ensures fresh { IfOk result (λ name. object_named (declared_names objects.now) name.now ≡ None) }
         ensures value { Gives (λ name. name.now) result (name_at (declared_names objects.now) self.now.number (texts self.now.words.now) place) }

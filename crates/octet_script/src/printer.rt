@@ -8,11 +8,7 @@ use octet_model::{Command, Object, OutOfMemory, Script, push_number};
 use std::alloc::Global;
 
 // A word, and registers after it.
-fn push_registers(
-    out: &mut Vec<u8>,
-    word: &[u8],
-    registers: &[u8],
-) -> Result<(), OutOfMemory>
+fn push_registers(out: &mut Vec<u8>, word: &[u8], registers: &[u8]) -> Result<(), OutOfMemory>
     ensures { OnOk result (out.new.items ≡ out.old.items ++ word.now ++ flat_map (λ r. codes " " ++ register_word r) registers.now) }
 {
     out.extend_from_slice(word)?;
@@ -40,11 +36,7 @@ fn push_name(out: &mut Vec<u8>, objects: &[Object], object: u16) -> Result<(), O
     Ok(())
 }
 
-fn push_words(
-    out: &mut Vec<u8>,
-    objects: &[Object],
-    command: Command,
-) -> Result<(), OutOfMemory>
+fn push_words(out: &mut Vec<u8>, objects: &[Object], command: Command) -> Result<(), OutOfMemory>
     ensures { OnOk result (out.new.items ≡ out.old.items ++ canonical_words (object_names objects.now) (command_form command)) }
 {
     match command {
@@ -58,16 +50,8 @@ fn push_words(
         Command::Sub { to, left, right } => push_registers(out, b"sub", &[to, left, right]),
         Command::Mul { to, left, right } => push_registers(out, b"mul", &[to, left, right]),
         Command::Xor { to, left, right } => push_registers(out, b"xor", &[to, left, right]),
-        Command::Less { to, left, right } => push_registers(
-            out,
-            b"less",
-            &[to, left, right],
-        ),
-        Command::Same { to, left, right } => push_registers(
-            out,
-            b"same",
-            &[to, left, right],
-        ),
+        Command::Less { to, left, right } => push_registers(out, b"less", &[to, left, right]),
+        Command::Same { to, left, right } => push_registers(out, b"same", &[to, left, right]),
         Command::Read { to, object } => {
             push_registers(out, b"read", &[to])?;
             push_name(out, objects, object)
@@ -85,11 +69,7 @@ fn push_words(
     }
 }
 
-fn push_command(
-    out: &mut Vec<u8>,
-    objects: &[Object],
-    command: Command,
-) -> Result<(), OutOfMemory>
+fn push_command(out: &mut Vec<u8>, objects: &[Object], command: Command) -> Result<(), OutOfMemory>
     ensures { OnOk result (out.new.items ≡ out.old.items ++ canonical_line (object_names objects.now) (command_form command)) }
 {
     push_words(out, objects, command)?;

@@ -58,7 +58,12 @@ impl<'a> Builder<'a> {
     }
 
     // Judges a line's arguments, and adds what it says.
-    fn accept(&mut self, alloc: Global, line: Line<'_, 'a>, keyword: Keyword) -> Result<(), ScriptFault>
+    fn accept(
+        &mut self,
+        alloc: Global,
+        line: Line<'_, 'a>,
+        keyword: Keyword,
+    ) -> Result<(), ScriptFault>
         ensures { Gives (λ _. draft self.new) result (judged_arguments (draft self.old) line.entry.number (texts line.entry.words.now) keyword) }
     {
         match keyword {
