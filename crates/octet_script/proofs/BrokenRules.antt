@@ -1,8 +1,8 @@
 -- A line whose rules are broken is refused, for the first of its rules that is broken.
-use Rattle.std.proofs.Common.{◌≡◌, ◌≢◌, ◌⊎◌, ℕ, zero, suc, ◌+◌, ◌*◌, ◌<◌, ◌≤◌, ◌==◌, ◌||◌, Bool, true, false, not, cond, eqb, List, [], ◌∷◌, ◌++◌, length, Option, Some, None, Result, Ok, Err, refl, ap, sym, ◌∙◌, arith, inl, inr}
-use Rattle.std.specs.Prelude.{nat_le, nat_lt}
+use Rattle.std.proofs.Common.{◌≡◌, ◌≢◌, ◌⊎◌, ℕ, suc, ◌+◌, ◌*◌, ◌<◌, ◌≤◌, ◌==◌, ◌||◌, Bool, true, false, not, cond, eqb, List, [], ◌∷◌, ◌++◌, length, Option, Some, None, Result, Ok, Err, refl, ap, sym, ◌∙◌, arith, inl, inr}
+use Rattle.std.specs.Prelude.{nat_lt}
 use Rattle.std.specs.Option.{ok_or, is_some}
-use Rattle.std.proofs.lemmas.Bool.{false≢true, eqb-false, ne_eqb, lt-ltb, le-leb, le-ltb, lt-leb}
+use Rattle.std.proofs.lemmas.Bool.{false≢true, eqb-false, ne_eqb, lt-ltb, le-leb, lt-leb}
 use Rattle.octet_model.specs.declared.command.Command.TheVariants as command
 use Rattle.octet_model.specs.Name.{is_name}
 use Rattle.octet_script.specs.declared.cause.ScriptCause.{ScriptCause}
@@ -15,7 +15,7 @@ use Rattle.octet_script.specs.declared.keyword.Verb.{Verb}
 use Rattle.octet_script.specs.declared.keyword.Verb.TheVariants as verb
 use Rattle.octet_script.specs.Words.{lines, words_of_line}
 use Rattle.octet_script.specs.Spelling.{number_of, register_of, object_named}
-use Rattle.octet_script.specs.Parsing.{◌>>=◌, Draft, start, parsed, judged_lines, judged_line, judged_keyword, judged_arguments, judged_name, keyword, word_count, is_misplaced, names_of, fuel_of, threads_of, command_of, arithmetic_command, number_at, with_command, with_object, with_fuel, with_thread}
+use Rattle.octet_script.specs.Parsing.{◌>>=◌, Draft, start, parsed, judged_lines, judged_line, judged_keyword, judged_arguments, keyword, word_count, is_misplaced, names_of, fuel_of, threads_of, command_of, arithmetic_command, number_at, with_command, with_object, with_fuel, with_thread}
 use Rattle.octet_script.specs.BrokenRules.{IsReached, IsRefused, IsLineOf, kinds, unless_some, or_else, first_fault}
 use Rattle.octet_script.proofs.Judged.{valid_bytes}
 use Rattle.octet_script.proofs.Steps.{bind_ok}

@@ -1,11 +1,10 @@
 -- A builder as what the lines so far have said, and what makes it a script.
-use Rattle.std.specs.Prelude.{◌≡◌, ◌*◌, ◌≤◌, true, false, map, reverse, length, List, [], ◌++◌, IfSome}
+use Rattle.std.specs.Prelude.{◌≡◌, ◌*◌, ◌≤◌, true, false, reverse, length, List, [], ◌++◌, IfSome}
 use Rattle.std.specs.List.{list_all}
 use Rattle.octet_model.specs.declared.limits.TheConstants.{MAX_FUEL, MAX_OBJECTS, MAX_THREADS}
 use Rattle.octet_model.specs.declared.command.Command.{Command}
 use Rattle.octet_model.specs.Script.{is_command, is_nested, is_thread, are_distinct}
 use Rattle.octet_script.specs.declared.builder.Builder.{Builder}
-use Rattle.octet_script.specs.Spelling.{declaration}
 use Rattle.octet_script.specs.Parsing.{Draft, threads_of, names_of, fuel_of}
 
 abbrev pub draft : Builder → Draft
