@@ -1,4 +1,5 @@
 -- Where files are told, words have answers of one status alone.
+use Rattle.octet_model.specs.declared.limits.TheConstants.{MAX_LOG_FILE, MAX_SCRIPT_FILE}
 use Rattle.std.proofs.Common.{◌≡◌, ◌∙◌, ◌⊎◌, ◌<◌, ℕ, List, length, Option, None, Some, IsSomeAnd, Result, Ok, Err, inl, inr, ap, sym, refl, subst, arith, IsTrue}
 use Rattle.std.specs.FinMap.{get}
 use std.HLevel.{prop→path_p}
@@ -9,9 +10,9 @@ use Rattle.octet_model.specs.Log.{is_log}
 use Rattle.octet_model.specs.declared.list.OutOfMemory.{OutOfMemory as NoMemory}
 use Rattle.octet_model.specs.declared.script.Script.{Script}
 use Rattle.octet_model.specs.declared.log.Log.{Log}
-use Rattle.octet_script.proofs.Spelled.{spells_judged, one_script}
-use Rattle.octet_log.specs.Judgement as log
-use Rattle.octet_log.proofs.Whole.{judgement_is, one_log}
+use Rattle.octet_script.proofs.lemmas.Grammar.{spells_parsed, one_script}
+use Rattle.octet_log.specs.Decoding as log
+use Rattle.octet_log.proofs.lemmas.Spellings.{spelling_decoded, one_log}
 use Rattle.octet_replay.proofs.Answered.{not_refused}
 use Rattle.octet_top.specs.declared.inputs.Pair.{Pair}
 use Rattle.octet_top.specs.declared.request.PairTask.{PairTask}
@@ -19,7 +20,7 @@ use Rattle.octet_top.specs.declared.reply.Reply.{Reply}
 use Rattle.octet_top.specs.declared.reply.Status.{Status}
 use Rattle.octet_top.specs.declared.reply.Status.TheVariants as exit
 use Rattle.octet_top.specs.Answer.{Answer, answer_of, code_of, not_a_command, read_failed, too_long, script_refused, log_refused}
-use Rattle.octet_top.specs.Request.{Request, OfScript, OfLog, OfPair, Run, Gen, request_in, script_limit, log_limit}
+use Rattle.octet_top.specs.Request.{Request, OfScript, OfLog, OfPair, Run, Gen, request_in}
 use Rattle.octet_top.specs.Inputs.{◌>>=◌, IsTaken, IsParsed, IsDecoded, IsChosen, IsScriptRead, IsLogRead, IsScriptChosen, IsPairRead}
 use Rattle.octet_top.specs.Replies.{Replies}
 use Rattle.octet_top.specs.Delivery.{Makes, acts_of, code_after, IsGiven, IsServed}
@@ -82,7 +83,7 @@ taken_single name limit t = record {
 parsed_single : (text : List ℕ) → Single (IsParsed text)
 parsed_single text = record {
   one = λ x y p q. (let same : x.script ≡ y.script = one_script text y.script x.script q.1 p.1 in let t : x.text ≡ y.text = p.0 ∙ sym q.0 in λ i. record { text = t i; script = same i });
-  never = λ x a p q. (let judged = sym q.2 ∙ spells_judged text x.script p.1 in cc);
+  never = λ x a p q. (let judged = sym q.2 ∙ spells_parsed text x.script p.1 in cc);
   same = λ a b p q. both a b (script_refused q.0 q.1) (p.3 ∙ (let judged = sym p.2 ∙ q.2 in cc)) q.3;
 }
 
@@ -92,7 +93,7 @@ same_log a b e = λ i. record { threads = e i; valid = prop→path_p (λ j. IsTr
 decoded_single : (bytes : List ℕ) → Single (IsDecoded bytes)
 decoded_single bytes = record {
   one = λ x y p q. same_log x y (one_log x.threads y.threads x.valid y.valid (sym p ∙ q));
-  never = λ x a p q. (let judged = sym q.1 ∙ ap log.judgement p ∙ judgement_is x.threads x.valid in cc);
+  never = λ x a p q. (let judged = sym q.1 ∙ ap log.decoded p ∙ spelling_decoded x.threads x.valid in cc);
   same = λ a b p q. both a b (log_refused q.0) (p.2 ∙ (let judged = sym p.1 ∙ q.1 in cc)) q.2;
 }
 
@@ -105,10 +106,10 @@ chosen_single s object = record {
 
 module _ (t : Contents) where
   pub script_single : (name : List ℕ) → Single (IsScriptRead name (Some t))
-  script_single name = then_single (IsTaken name script_limit (Some t)) IsParsed (taken_single name script_limit t) parsed_single
+  script_single name = then_single (IsTaken name MAX_SCRIPT_FILE (Some t)) IsParsed (taken_single name MAX_SCRIPT_FILE t) parsed_single
 
   pub log_single : (name : List ℕ) → Single (IsLogRead name (Some t))
-  log_single name = then_single (IsTaken name log_limit (Some t)) IsDecoded (taken_single name log_limit t) decoded_single
+  log_single name = then_single (IsTaken name MAX_LOG_FILE (Some t)) IsDecoded (taken_single name MAX_LOG_FILE t) decoded_single
 
   script_chosen_single : (name : List ℕ) (object : Option (List ℕ)) → Single (IsScriptChosen name object (Some t))
   script_chosen_single name object =

@@ -1,4 +1,5 @@
 -- What the calls of an answer leave, given whole or cut short.
+use Rattle.octet_model.specs.declared.limits.TheConstants.{MAX_LOG_FILE, MAX_SCRIPT_FILE}
 use Rattle.std.proofs.Common.{◌≡◌, ◌≢◌, ◌∙◌, ◌++◌, ◌≤◌, ◌<◌, ◌⊎◌, ℕ, zero, suc, List, [], ◌∷◌, map, take, drop, length, append_assoc, append-nil, Option, None, Some, Result, Ok, Err, Bool, true, false, cond, inl, inr, refl, sym, subst, ap, nat_cmp, arith}
 use Rattle.std.specs.List.{flat_map}
 use Rattle.std.specs.Option.{unwrap_or}
@@ -15,7 +16,7 @@ use Rattle.octet_base.specs.declared.call.Call.{Call}
 use Rattle.octet_base.specs.declared.fault.DeskFault.{DeskFault}
 use Rattle.octet_base.specs.declared.call.Call.TheVariants as call
 use Rattle.octet_top.specs.Answer.{Answer}
-use Rattle.octet_top.specs.Request.{Request, OfScript, OfLog, OfPair, Run, Gen, script_limit, log_limit}
+use Rattle.octet_top.specs.Request.{Request, OfScript, OfLog, OfPair, Run, Gen}
 use Rattle.octet_top.specs.Inputs.{TakesOne}
 use Rattle.octet_top.specs.Replies.{TakesFiles}
 use Rattle.octet_top.specs.Delivery.{Act, Add, Finish, Say, Makes, IsRefused, pieces_within, file_acts, acts_of}
@@ -86,12 +87,12 @@ one_held name limit Short files said before after holds (taken, takes, well) = h
 
 pub taken_held : (request : Option Request) (Short : Type 0) (files : Files) (said : List ℕ) (before after : DeskState) → Holds files said before → TakesFiles request Short before after → Holds files said after
 taken_held None Short files said before after holds same = rw same holds
-taken_held (Some (OfScript task script)) Short files said before after holds takes = one_held script script_limit Short files said before after holds takes
-taken_held (Some (OfLog task log)) Short files said before after holds takes = one_held log log_limit Short files said before after holds takes
+taken_held (Some (OfScript task script)) Short files said before after holds takes = one_held script MAX_SCRIPT_FILE Short files said before after holds takes
+taken_held (Some (OfLog task log)) Short files said before after holds takes = one_held log MAX_LOG_FILE Short files said before after holds takes
 taken_held (Some (OfPair task script log object)) Short files said before after holds (inl (bytes, mid, takes, passes, next)) =
-    one_held log log_limit Short files said mid after (held_called {T = Vec ℕ} (Ok bytes) _ files said before mid holds takes.contents) next
+    one_held log MAX_LOG_FILE Short files said mid after (held_called {T = Vec ℕ} (Ok bytes) _ files said before mid holds takes.contents) next
 taken_held (Some (OfPair task script log object)) Short files said before after holds (inr (short, (taken, takes))) = held_called taken _ files said before after holds takes.contents
-taken_held (Some (Run task script log)) Short files said before after holds takes = one_held script script_limit Short files said before after holds takes
+taken_held (Some (Run task script log)) Short files said before after holds takes = one_held script MAX_SCRIPT_FILE Short files said before after holds takes
 taken_held (Some (Gen number script log)) Short files said before after holds same = rw same holds
 
 -- the calls were refused in the first part, or that was made whole

@@ -1,4 +1,5 @@
 -- What the answers of each task are like: one fact a row.
+use Rattle.octet_model.specs.declared.limits.TheConstants.{MAX_LOG_FILE, MAX_SCRIPT_FILE}
 use Rattle.std.proofs.Common.{◌≡◌, ◌≢◌, ◌∙◌, ◌⊎◌, ℕ, List, [], ◌∷◌, map, Option, None, Some, Result, Ok, Err, Bool, true, false, inl, inr, ap, sym, refl}
 use Rattle.octet_base.specs.Desk.{Contents}
 use Rattle.octet_model.specs.HappensBefore.{IsOrdered}
@@ -16,7 +17,7 @@ use Rattle.octet_top.specs.declared.reply.Status.{Status}
 use Rattle.octet_top.specs.declared.reply.Status.TheVariants as exit
 use Rattle.octet_model.specs.declared.log.Log.{Log}
 use Rattle.octet_top.specs.Answer.{Answer}
-use Rattle.octet_top.specs.Request.{Way, Request, OfScript, OfLog, OfPair, Run, Gen, outputs_of, outputs_in, script_limit, log_limit}
+use Rattle.octet_top.specs.Request.{Way, Request, OfScript, OfLog, OfPair, Run, Gen, outputs_of, outputs_in}
 use Rattle.octet_top.specs.Inputs.{IsTaken, IsScriptRead, IsLogRead, IsScriptChosen, IsPairRead}
 use Rattle.octet_top.specs.Commands.{Answers, RequestAnswers, ScriptAnswers, LogAnswers, PairSays, PairAnswers, RunAnswers}
 
@@ -52,11 +53,11 @@ taken_refused name limit contents answer (inl (absent, is)) = refuses answer _ i
 taken_refused name limit contents answer (inr (long, is)) = refuses answer _ is refl refl
 
 pub script_refused : (name : List ℕ) (contents : Option Contents) (answer : Answer) → IsScriptRead name contents (Err answer) → Refuses answer
-script_refused name contents answer (inl taken) = taken_refused name script_limit contents answer taken
+script_refused name contents answer (inl taken) = taken_refused name MAX_SCRIPT_FILE contents answer taken
 script_refused name contents answer (inr (text, taken, (line, cause, refused, is))) = refuses answer _ is refl refl
 
 pub log_refused : (name : List ℕ) (contents : Option Contents) (answer : Answer) → IsLogRead name contents (Err answer) → Refuses answer
-log_refused name contents answer (inl taken) = taken_refused name log_limit contents answer taken
+log_refused name contents answer (inl taken) = taken_refused name MAX_LOG_FILE contents answer taken
 log_refused name contents answer (inr (bytes, taken, (cause, refused, is))) = refuses answer _ is refl refl
 
 chosen_refused : (name : List ℕ) (object : Option (List ℕ)) (contents : Option Contents) (answer : Answer) → IsScriptChosen name object contents (Err answer) → Refuses answer

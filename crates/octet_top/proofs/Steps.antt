@@ -1,4 +1,5 @@
 -- Steps of a reading, one after the other.
+use Rattle.octet_model.specs.declared.limits.TheConstants.{MAX_LOG_FILE, MAX_SCRIPT_FILE}
 use Rattle.std.proofs.Common.{◌≡◌, ◌∙◌, ℕ, List, Option, None, Some, Result, Ok, Err, inl, inr}
 use Rattle.std.specs.Global.{Vec}
 use Rattle.octet_base.specs.Desk.{Contents, DeskState, Takes, IsCalled, with_call}
@@ -7,7 +8,6 @@ use Rattle.octet_model.specs.declared.log.Log.{Log}
 use Rattle.octet_top.specs.declared.inputs.Stop.{Stop}
 use Rattle.octet_top.specs.declared.inputs.Stop.TheVariants.{Refused, OutOfMemory}
 use Rattle.octet_top.specs.Answer.{Answer, answer_of}
-use Rattle.octet_top.specs.Request.{script_limit, log_limit}
 use Rattle.octet_top.specs.Inputs.{◌>>=◌, IsLogRead, Comes, Ends, WasRefused, TakesOne, TakesBoth}
 
 module _ {A B : Type 0} (first : Result A Answer → Type 0) (next : A → Result B Answer → Type 0) where
@@ -34,23 +34,23 @@ module _ {A B : Type 0} (first : Result A Answer → Type 0) (next : A → Resul
   ends_next before mid after x (Err OutOfMemory) (is, same) comes = tt
 
 -- taking a file changes no file
-pub log_ends_before : (name script : List ℕ) (bytes : Vec ℕ) (before mid : DeskState) (faults after : ℕ) (result : Result Log Stop) → Takes script script_limit before (Ok bytes) mid
+pub log_ends_before : (name script : List ℕ) (bytes : Vec ℕ) (before mid : DeskState) (faults after : ℕ) (result : Result Log Stop) → Takes script MAX_SCRIPT_FILE before (Ok bytes) mid
     → Ends (IsLogRead name mid.contents) faults result after → Ends (IsLogRead name before.contents) faults result after
 log_ends_before name script bytes before mid faults after result takes = by takes.contents
   where
-    same : (contents : Option Contents) (read : Result Log Answer) → IsLogRead name (with_call (Take script script_limit) contents) read → IsLogRead name contents read
+    same : (contents : Option Contents) (read : Result Log Answer) → IsLogRead name (with_call (Take script MAX_SCRIPT_FILE) contents) read → IsLogRead name contents read
     same None (Ok log) read = read
     same None (Err answer) read = read
     same (Some t) (Ok log) read = read
     same (Some t) (Err answer) read = read
 
-    changed : (result : Result Log Stop) → Ends (IsLogRead name (with_call (Take script script_limit) before.contents)) faults result after → Ends (IsLogRead name before.contents) faults result after
+    changed : (result : Result Log Stop) → Ends (IsLogRead name (with_call (Take script MAX_SCRIPT_FILE) before.contents)) faults result after → Ends (IsLogRead name before.contents) faults result after
     changed (Ok log) (read, is) = (same before.contents (Ok log) read, is)
     changed (Err (Refused reply)) (inl (read, is)) = inl (same before.contents (Err (answer_of reply)) read, is)
     changed (Err (Refused reply)) (inr failed) = inr failed
     changed (Err OutOfMemory) ends = tt
 
-    by : IsCalled (Ok bytes) (Take script script_limit) before.contents mid.contents → Ends (IsLogRead name mid.contents) faults result after → Ends (IsLogRead name before.contents) faults result after
+    by : IsCalled (Ok bytes) (Take script MAX_SCRIPT_FILE) before.contents mid.contents → Ends (IsLogRead name mid.contents) faults result after → Ends (IsLogRead name before.contents) faults result after
     by (inl is) ends = changed result (rw (← is) ends)
     by (inr (never, is)) ends = absurd cc
 
@@ -66,7 +66,7 @@ as_short name limit Short Other before after on (taken, takes, inl short) = (tak
 as_short name limit Short Other before after on (taken, takes, inr well) = (taken, takes, inr well)
 
 pub both_as_short : (script log : List ℕ) (object : Option (List ℕ)) (Short Other : Type 0) (before after : DeskState) → (Short → Other) → TakesBoth script log object Short before after → TakesBoth script log object Other before after
-both_as_short script log object Short Other before after on (inl (bytes, mid, takes, passes, next)) = inl (bytes, mid, takes, passes, as_short log log_limit Short Other mid after on next)
+both_as_short script log object Short Other before after on (inl (bytes, mid, takes, passes, next)) = inl (bytes, mid, takes, passes, as_short log MAX_LOG_FILE Short Other mid after on next)
 both_as_short script log object Short Other before after on (inr (short, alone)) = inr (on short, alone)
 
 -- files that are taken leave what is begun, and the count of failed writes
@@ -74,5 +74,5 @@ pub one_keeps : (name : List ℕ) (limit : ℕ) (Short : Type 0) (before after :
 one_keeps name limit Short before after (taken, takes, well) = (takes.begun, takes.write_faults)
 
 pub both_keep : (script log : List ℕ) (object : Option (List ℕ)) (Short : Type 0) (before after : DeskState) → TakesBoth script log object Short before after → (after.begun ≡ before.begun) × (after.write_faults ≡ before.write_faults)
-both_keep script log object Short before after (inl (bytes, mid, takes, passes, next)) = let later = one_keeps log log_limit Short mid after next in (later.0 ∙ takes.begun, later.1 ∙ takes.write_faults)
+both_keep script log object Short before after (inl (bytes, mid, takes, passes, next)) = let later = one_keeps log MAX_LOG_FILE Short mid after next in (later.0 ∙ takes.begun, later.1 ∙ takes.write_faults)
 both_keep script log object Short before after (inr (short, (taken, takes))) = (takes.begun, takes.write_faults)

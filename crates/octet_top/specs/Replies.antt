@@ -1,4 +1,5 @@
 -- How a reply is found: what it answers, and which calls of the desk that takes.
+use Rattle.octet_model.specs.declared.limits.TheConstants.{MAX_LOG_FILE, MAX_SCRIPT_FILE}
 use Rattle.std.specs.Prelude.{ℕ, ◌≡◌, ◌≢◌, ◌⊎◌, List, [], take, Option, None, Some, Result, Ok, Err}
 use Rattle.octet_base.specs.Desk.{Contents, DeskState, Rose}
 use Rattle.octet_model.specs.declared.list.OutOfMemory.{OutOfMemory}
@@ -7,7 +8,7 @@ use Rattle.octet_top.specs.declared.inputs.Stop.TheVariants as stop
 use Rattle.octet_top.specs.declared.reply.Reply.{Reply}
 use Rattle.octet_top.specs.declared.reply.Status.TheVariants.{Done}
 use Rattle.octet_top.specs.Answer.{Answer, answer_of, read_failed}
-use Rattle.octet_top.specs.Request.{Request, OfScript, OfLog, OfPair, Run, Gen, script_limit, log_limit}
+use Rattle.octet_top.specs.Request.{Request, OfScript, OfLog, OfPair, Run, Gen}
 use Rattle.octet_top.specs.Inputs.{TakesOne, TakesBoth}
 use Rattle.octet_top.specs.Commands.{Answers}
 
@@ -29,10 +30,10 @@ IsNoSuccess (Err none) = Unit {0}
 -- the files of a request are taken, each once, in order, with its own limit; the second only after a first that was taken and passes
 abbrev pub TakesFiles : Option Request → Type 0 → DeskState → DeskState → Type 0
 TakesFiles None Short before after = after ≡ before
-TakesFiles (Some (OfScript task script)) Short before after = TakesOne script script_limit Short before after
-TakesFiles (Some (OfLog task log)) Short before after = TakesOne log log_limit Short before after
+TakesFiles (Some (OfScript task script)) Short before after = TakesOne script MAX_SCRIPT_FILE Short before after
+TakesFiles (Some (OfLog task log)) Short before after = TakesOne log MAX_LOG_FILE Short before after
 TakesFiles (Some (OfPair task script log object)) Short before after = TakesBoth script log object Short before after
-TakesFiles (Some (Run task script log)) Short before after = TakesOne script script_limit Short before after
+TakesFiles (Some (Run task script log)) Short before after = TakesOne script MAX_SCRIPT_FILE Short before after
 TakesFiles (Some (Gen number script log)) Short before after = after ≡ before
 
 -- a reply is found for a request

@@ -198,7 +198,7 @@ fn runs_by_turns(rt: HostRuntime) -> Result<(), Failed> {
         let mut desk = desk_with(alloc, script, &[])?;
         for line in [words, "replay S L", "verify S L"] {
             let answer = serve(&rt, alloc, &words_of(alloc, line)?, &mut desk, &OpenGate);
-            assert_eq!(rt; answer, 0, "{line}");
+            assert_eq!(rt; answer, Status::Done.code(), "{line}");
         }
         let all_said = format!(in alloc; "{said}{said}ordered\n")?;
         let log = bytes_of(alloc, log)?;

@@ -1,7 +1,8 @@
+use Rattle.octet_model.specs.declared.limits.TheConstants.{MAX_SCRIPT_FILE}
 use Rattle.std.proofs.Common.{◌≡◌, ℕ, Option, Ok, Err, Result}
 use Rattle.octet_top.specs.declared.inputs.Source.{Source}
 use Rattle.octet_top.specs.Answer.{Answer}
-use Rattle.octet_top.specs.Request.{script_limit, name_in}
+use Rattle.octet_top.specs.Request.{name_in}
 use Rattle.octet_top.specs.Inputs.{◌>>=◌, IsChosen, IsScriptRead}
 use Rattle.octet_top.proofs.Steps.{comes_stop, ends_then, as_short}
 use Rattle.octet_top.proofs.inputs.read_chosen.Goals as goal
@@ -16,4 +17,4 @@ returns-in-Err-choose-clause-ends g c =
     ends_then (IsScriptRead c.args.script_name.now before.contents) Next _ _ source (Err c.in-Err-choose.stop) c.in-Ok.ensures.ends (comes_stop chosen Last c.in-Err-choose.stop c.in-Err-choose.ensures)
 
 pub returns-in-Err-choose-clause-calls : goal.returns-in-Err-choose-clause-calls
-returns-in-Err-choose-clause-calls g c = as_short c.args.script_name.now script_limit ⊥ (Unit {0}) _ _ (λ never. absurd never) c.in-Ok.ensures.calls
+returns-in-Err-choose-clause-calls g c = as_short c.args.script_name.now MAX_SCRIPT_FILE ⊥ (Unit {0}) _ _ (λ never. absurd never) c.in-Ok.ensures.calls

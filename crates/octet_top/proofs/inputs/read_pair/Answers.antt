@@ -1,9 +1,10 @@
+use Rattle.octet_model.specs.declared.limits.TheConstants.{MAX_SCRIPT_FILE}
 use Rattle.std.proofs.Common.{◌≡◌, ◌∙◌, ℕ, Option, Ok, Err, Result, refl, inl, inr}
 use Rattle.octet_model.specs.declared.log.Log.{Log}
 use Rattle.octet_top.specs.declared.inputs.Source.{Source}
 use Rattle.octet_top.specs.declared.inputs.Pair.{Pair}
 use Rattle.octet_top.specs.Answer.{Answer}
-use Rattle.octet_top.specs.Request.{script_limit, name_in}
+use Rattle.octet_top.specs.Request.{name_in}
 use Rattle.octet_top.specs.Inputs.{◌>>=◌, IsLogRead, IsScriptChosen}
 use Rattle.octet_top.proofs.Steps.{ends_stop, ends_next, log_ends_before, was_taken}
 use Rattle.octet_top.proofs.inputs.read_pair.Goals as goal
@@ -13,7 +14,7 @@ returns-in-Ok-read_log-clause-ends g c =
     let before = g.D.Desk.state c.args.desk.now in
     let mid = g.D.Desk.state c.read_chosen.new.desk in
     let chosen : Source × Option ℕ = (c.in-Ok.source, c.in-Ok.wanted) in
-    let took = was_taken c.args.script_name.now script_limit chosen before mid c.in-Ok.ensures.calls in
+    let took = was_taken c.args.script_name.now MAX_SCRIPT_FILE chosen before mid c.in-Ok.ensures.calls in
     let log = c.in-Ok-read_log.log in (
       (chosen, c.in-Ok.ensures.ends.0, (log, (log_ends_before c.args.log_name.now c.args.script_name.now took.0 before mid _ _ (Ok log) took.1 c.in-Ok-read_log.ensures.ends).0, refl)),
       c.in-Ok-read_log.ensures.ends.1 ∙ c.in-Ok.ensures.ends.1,
@@ -22,7 +23,7 @@ returns-in-Ok-read_log-clause-ends g c =
 pub returns-in-Ok-read_log-clause-calls : goal.returns-in-Ok-read_log-clause-calls
 returns-in-Ok-read_log-clause-calls g c =
     let chosen : Source × Option ℕ = (c.in-Ok.source, c.in-Ok.wanted) in
-    let took = was_taken c.args.script_name.now script_limit chosen _ _ c.in-Ok.ensures.calls in
+    let took = was_taken c.args.script_name.now MAX_SCRIPT_FILE chosen _ _ c.in-Ok.ensures.calls in
     inl (took.0, g.D.Desk.state c.read_chosen.new.desk, took.1, (chosen, c.in-Ok.ensures.ends.0), c.in-Ok-read_log.ensures.calls)
 
 pub returns-in-Err-read_log-clause-ends : goal.returns-in-Err-read_log-clause-ends
@@ -33,7 +34,7 @@ returns-in-Err-read_log-clause-ends g c =
     let stop = c.in-Err-read_log.stop in
     let log_name = c.args.log_name.now in
     let chosen : Source × Option ℕ = (c.in-Ok.source, c.in-Ok.wanted) in
-    let took = was_taken c.args.script_name.now script_limit chosen before mid c.in-Ok.ensures.calls in
+    let took = was_taken c.args.script_name.now MAX_SCRIPT_FILE chosen before mid c.in-Ok.ensures.calls in
     let Next : Source × Option ℕ → Result Pair Answer → Type 0 = λ chosen. IsLogRead log_name before.contents >>= λ log read. read ≡ Ok (record { source = chosen.0; wanted = chosen.1; log = log }) in
     let Last : Log → Result Pair Answer → Type 0 = λ log read. read ≡ Ok (record { source = chosen.0; wanted = chosen.1; log = log }) in
     ends_next (IsScriptChosen c.args.script_name.now (name_in c.args.object_name) before.contents) Next before.take_faults mid.take_faults after.take_faults chosen (Err stop) c.in-Ok.ensures.ends
@@ -43,7 +44,7 @@ returns-in-Err-read_log-clause-ends g c =
 pub returns-in-Err-read_log-clause-calls : goal.returns-in-Err-read_log-clause-calls
 returns-in-Err-read_log-clause-calls g c =
     let chosen : Source × Option ℕ = (c.in-Ok.source, c.in-Ok.wanted) in
-    let took = was_taken c.args.script_name.now script_limit chosen _ _ c.in-Ok.ensures.calls in
+    let took = was_taken c.args.script_name.now MAX_SCRIPT_FILE chosen _ _ c.in-Ok.ensures.calls in
     inl (took.0, g.D.Desk.state c.read_chosen.new.desk, took.1, (chosen, c.in-Ok.ensures.ends.0), c.in-Err-read_log.ensures.calls)
 
 pub returns-in-Err-clause-calls : goal.returns-in-Err-clause-calls

@@ -5,6 +5,7 @@ use Rattle.std.specs.Str.{bytes_eq}
 use Rattle.std.specs.Str.Lossy.{utf8_valid_len}
 use Rattle.octet_model.specs.declared.command.Command.{Command}
 use Rattle.octet_model.specs.declared.command.Command.TheVariants as command
+use Rattle.octet_model.specs.declared.limits.TheConstants.{DEFAULT_FUEL, MAX_FUEL, MAX_OBJECTS, MAX_THREADS}
 use Rattle.octet_model.specs.Name.{is_name}
 use Rattle.octet_script.specs.declared.cause.ScriptCause.TheVariants.{NotUtf8, UnknownWord, WrongCount, BadNumber, BadName, NameTwice, NoSuchObject, BadRegister, Misplaced, Unclosed, EndWithoutOpen, TooMany, NoThread, BadFuel}
 use Rattle.octet_script.specs.declared.cause.ScriptFault.{ScriptFault}
@@ -12,14 +13,14 @@ use Rattle.octet_script.specs.declared.cause.ScriptFault.TheVariants.{Refused, O
 use Rattle.octet_script.specs.declared.keyword.Keyword.{Keyword}
 use Rattle.octet_script.specs.declared.keyword.Keyword.TheVariants.{Fuel, Object, Thread, Command as CommandWord}
 use Rattle.octet_script.specs.declared.keyword.Verb.{Verb}
-use Rattle.octet_script.specs.declared.keyword.Verb.TheVariants.{Set, Copy, Operation, Read, Write, While, If, End, Safe, Pause}
-use Rattle.octet_script.specs.declared.keyword.Operation.{Operation as OperationType}
-use Rattle.octet_script.specs.declared.keyword.Operation.TheVariants.{Add, Sub, Mul, Xor, Less, Same}
+use Rattle.octet_script.specs.declared.keyword.Verb.TheVariants.{Set, Copy, Arithmetic, Read, Write, While, If, End, Safe, Pause}
+use Rattle.octet_script.specs.declared.keyword.Arithmetic.{Arithmetic as ArithmeticType}
+use Rattle.octet_script.specs.declared.keyword.Arithmetic.TheVariants.{Add, Sub, Mul, Xor, Less, Same}
 use Rattle.octet_script.specs.Words.{lines, is_line_end, words_of_line}
-use Rattle.octet_script.specs.Spelling.{number_of, register_of, object_of, Declaration, declared_names, Contents}
+use Rattle.octet_script.specs.Spelling.{number_of, register_of, object_named, Declaration, declared_names, Contents}
 
 -- what the lines so far have said
-pub record Progress : Type 0 where
+pub record Draft : Type 0 where
   -- what a fuel line gave
   pub fuel : Option ℕ
   pub objects : List Declaration
@@ -32,20 +33,20 @@ pub record Progress : Type 0 where
   -- the lines of its open `while`s and `if`s, the innermost first
   pub openers : List ℕ
 
-abbrev pub start : Progress
+abbrev pub start : Draft
 start = record { fuel = None; objects = []; started = false; threads = []; commands = []; openers = [] }
 
-abbrev pub names_of : Progress → List (List ℕ)
+abbrev pub names_of : Draft → List (List ℕ)
 names_of p = declared_names p.objects
 
-abbrev pub fuel_of : Progress → ℕ
-fuel_of p = unwrap_or p.fuel 16384
+abbrev pub fuel_of : Draft → ℕ
+fuel_of p = unwrap_or p.fuel DEFAULT_FUEL
 
 -- the threads so far
-abbrev pub threads_of : Progress → List (List Command)
+abbrev pub threads_of : Draft → List (List Command)
 threads_of p = if p.started then p.threads ++ p.commands ∷ [] else p.threads
 
-abbrev pub contents_of : Progress → Contents
+abbrev pub contents_of : Draft → Contents
 contents_of p = record { fuel = fuel_of p; objects = p.objects; threads = threads_of p }
 
 infixl 10 ◌>>=◌
@@ -61,12 +62,12 @@ keywords =
     ∷ (codes "thread", Thread)
     ∷ (codes "set", CommandWord Set)
     ∷ (codes "copy", CommandWord Copy)
-    ∷ (codes "add", CommandWord (Operation Add))
-    ∷ (codes "sub", CommandWord (Operation Sub))
-    ∷ (codes "mul", CommandWord (Operation Mul))
-    ∷ (codes "xor", CommandWord (Operation Xor))
-    ∷ (codes "less", CommandWord (Operation Less))
-    ∷ (codes "same", CommandWord (Operation Same))
+    ∷ (codes "add", CommandWord (Arithmetic Add))
+    ∷ (codes "sub", CommandWord (Arithmetic Sub))
+    ∷ (codes "mul", CommandWord (Arithmetic Mul))
+    ∷ (codes "xor", CommandWord (Arithmetic Xor))
+    ∷ (codes "less", CommandWord (Arithmetic Less))
+    ∷ (codes "same", CommandWord (Arithmetic Same))
     ∷ (codes "read", CommandWord Read)
     ∷ (codes "write", CommandWord Write)
     ∷ (codes "while", CommandWord While)
@@ -89,7 +90,7 @@ word_count Object = 3
 word_count Thread = 1
 word_count (CommandWord Set) = 3
 word_count (CommandWord Copy) = 3
-word_count (CommandWord (Operation operation)) = 4
+word_count (CommandWord (Arithmetic operation)) = 4
 word_count (CommandWord Read) = 3
 word_count (CommandWord Write) = 3
 word_count (CommandWord While) = 2
@@ -98,7 +99,7 @@ word_count (CommandWord End) = 1
 word_count (CommandWord Safe) = 1
 word_count (CommandWord Pause) = 1
 
--- 3. the fuel and objects stand before the first thread, commands behind it
+-- 3. the fuel and objects stand before the first thread, commands after it
 abbrev pub is_misplaced : Bool → Keyword → Bool
 is_misplaced started Fuel = started
 is_misplaced started Object = started
@@ -116,26 +117,26 @@ abbrev pub register_at : ℕ → List (List ℕ) → ℕ → Result ℕ ScriptFa
 register_at line words place = ok_or (register_of (word_at words place)) (Refused line BadRegister)
 
 abbrev pub object_at : List (List ℕ) → ℕ → List (List ℕ) → ℕ → Result ℕ ScriptFault
-object_at names line words place = ok_or (object_of names (word_at words place)) (Refused line NoSuchObject)
+object_at names line words place = ok_or (object_named names (word_at words place)) (Refused line NoSuchObject)
 
 -- a name that no object has
 abbrev pub judged_name : List (List ℕ) → ℕ → List ℕ → Result (List ℕ) ScriptFault
 judged_name names line word =
     if not (is_name word) then Err (Refused line BadName)
-    else (if is_some (object_of names word) then Err (Refused line NameTwice)
+    else (if is_some (object_named names word) then Err (Refused line NameTwice)
     else Ok word)
 
 abbrev pub name_at : List (List ℕ) → ℕ → List (List ℕ) → ℕ → Result (List ℕ) ScriptFault
 name_at names line words place = judged_name names line (word_at words place)
 
 -- the command of an operation
-abbrev pub operation_command : OperationType → ℕ → ℕ → ℕ → Command
-operation_command Add = command.Add
-operation_command Sub = command.Sub
-operation_command Mul = command.Mul
-operation_command Xor = command.Xor
-operation_command Less = command.Less
-operation_command Same = command.Same
+abbrev pub arithmetic_command : ArithmeticType → ℕ → ℕ → ℕ → Command
+arithmetic_command Add = command.Add
+arithmetic_command Sub = command.Sub
+arithmetic_command Mul = command.Mul
+arithmetic_command Xor = command.Xor
+arithmetic_command Less = command.Less
+arithmetic_command Same = command.Same
 
 abbrev pub command_of : List (List ℕ) → ℕ → List (List ℕ) → Verb → Result Command ScriptFault
 command_of names line words Set = do
@@ -146,11 +147,11 @@ command_of names line words Copy = do
   to ← register_at line words 1
   from ← register_at line words 2
   Ok (command.Copy to from)
-command_of names line words (Operation operation) = do
+command_of names line words (Arithmetic operation) = do
   to ← register_at line words 1
   left ← register_at line words 2
   right ← register_at line words 3
-  Ok (operation_command operation to left right)
+  Ok (arithmetic_command operation to left right)
 command_of names line words Read = do
   to ← register_at line words 1
   object ← object_at names line words 2
@@ -170,36 +171,36 @@ command_of names line words Safe = Ok command.Safe
 command_of names line words Pause = Ok command.Pause
 
 -- 5. an object, of 1,024 at most
-abbrev pub with_object : Progress → ℕ → List ℕ → ℕ → Result Progress ScriptFault
+abbrev pub with_object : Draft → ℕ → List ℕ → ℕ → Result Draft ScriptFault
 with_object p line name start =
-    if nat_le 1024 (length p.objects) then Err (Refused line TooMany)
+    if nat_le MAX_OBJECTS (length p.objects) then Err (Refused line TooMany)
     else Ok (record p { objects = p.objects ++ record { name = name; start = start } ∷ [] })
 
 -- 6. the fuel, once, from 1 to 262,144
-abbrev pub with_fuel : Progress → ℕ → ℕ → Result Progress ScriptFault
+abbrev pub with_fuel : Draft → ℕ → ℕ → Result Draft ScriptFault
 with_fuel p line fuel =
-    if is_some p.fuel || fuel == 0 || nat_lt 262144 fuel then Err (Refused line BadFuel)
+    if is_some p.fuel || fuel == 0 || nat_lt MAX_FUEL fuel then Err (Refused line BadFuel)
     else Ok (record p { fuel = Some fuel })
 
 -- 7. a command; `end` ends the innermost open `while` or `if` of its thread
-abbrev pub added : Progress → Command → List ℕ → Progress
+abbrev pub added : Draft → Command → List ℕ → Draft
 added p c openers = record p { commands = p.commands ++ c ∷ []; openers = openers }
 
-abbrev pub closed : Progress → ℕ → List ℕ → Result Progress ScriptFault
+abbrev pub closed : Draft → ℕ → List ℕ → Result Draft ScriptFault
 closed p line [] = Err (Refused line EndWithoutOpen)
 closed p line (opener ∷ openers) = Ok (added p command.Close openers)
 
-abbrev pub with_command : Progress → ℕ → Command → Result Progress ScriptFault
+abbrev pub with_command : Draft → ℕ → Command → Result Draft ScriptFault
 with_command p line (command.Loop test) = Ok (added p (command.Loop test) (line ∷ p.openers))
 with_command p line (command.Branch test) = Ok (added p (command.Branch test) (line ∷ p.openers))
 with_command p line command.Close = closed p line p.openers
 with_command p line c = Ok (added p c p.openers)
 
 -- 8. a thread, where none before it is left open, of 16 at most, with fuel for all
-abbrev pub begun : Progress → ℕ → Result Progress ScriptFault
+abbrev pub begun : Draft → ℕ → Result Draft ScriptFault
 begun p line =
-    if nat_le 16 (length (threads_of p)) then Err (Refused line TooMany)
-    else (if nat_lt 262144 (suc (length (threads_of p)) * fuel_of p) then Err (Refused line BadFuel)
+    if nat_le MAX_THREADS (length (threads_of p)) then Err (Refused line TooMany)
+    else (if nat_lt MAX_FUEL (suc (length (threads_of p)) * fuel_of p) then Err (Refused line BadFuel)
     else Ok (record p { started = true; threads = threads_of p; commands = [] }))
 
 -- where a `while` or `if` is open, the line of the innermost one is refused
@@ -207,11 +208,11 @@ abbrev pub all_closed : List ℕ → Result (Unit {0}) ScriptFault
 all_closed [] = Ok tt
 all_closed (opener ∷ openers) = Err (Refused opener Unclosed)
 
-abbrev pub with_thread : Progress → ℕ → Result Progress ScriptFault
+abbrev pub with_thread : Draft → ℕ → Result Draft ScriptFault
 with_thread p line = all_closed p.openers >>= λ _. begun p line
 
 -- rules 4 to 8 for a line with this keyword
-abbrev pub judged_arguments : Progress → ℕ → List (List ℕ) → Keyword → Result Progress ScriptFault
+abbrev pub judged_arguments : Draft → ℕ → List (List ℕ) → Keyword → Result Draft ScriptFault
 judged_arguments p line words Fuel = do
   fuel ← number_at line words 1
   with_fuel p line fuel
@@ -225,25 +226,25 @@ judged_arguments p line words (CommandWord verb) = do
   with_command p line c
 
 -- rules 2 to 8
-abbrev pub judged_keyword : Progress → ℕ → List (List ℕ) → Keyword → Result Progress ScriptFault
+abbrev pub judged_keyword : Draft → ℕ → List (List ℕ) → Keyword → Result Draft ScriptFault
 judged_keyword p line words k =
     if not (length words == word_count k) then Err (Refused line WrongCount)
     else (if is_misplaced p.started k then Err (Refused line Misplaced)
     else judged_arguments p line words k)
 
 -- all rules, for the words of a line; a line without words means nothing
-abbrev pub judged_line : Progress → ℕ → List (List ℕ) → Result Progress ScriptFault
+abbrev pub judged_line : Draft → ℕ → List (List ℕ) → Result Draft ScriptFault
 judged_line p line [] = Ok p
 judged_line p line (first ∷ others) =
     elim (keyword first) [ None ↦ Err (Refused line UnknownWord) | Some k ↦ judged_keyword p line (first ∷ others) k ]
 
 -- the lines from this number on, in order
-abbrev pub judged_lines : List (List ℕ) → Progress → ℕ → Result Progress ScriptFault
+abbrev pub judged_lines : List (List ℕ) → Draft → ℕ → Result Draft ScriptFault
 judged_lines [] p number = Ok p
 judged_lines (line ∷ more) p number = judged_line p number (words_of_line line) >>= λ q. judged_lines more q (suc number)
 
 -- at the end of the text, whose last line has this number
-abbrev pub judged_end : Progress → ℕ → Result Contents ScriptFault
+abbrev pub judged_end : Draft → ℕ → Result Contents ScriptFault
 judged_end p last = all_closed p.openers >>= λ _. if p.started then Ok (contents_of p) else Err (Refused last NoThread)
 
 -- the text is UTF-8, or the line in which it stops being valid is refused
@@ -254,18 +255,18 @@ judged_bytes text =
     else Ok tt
 
 -- what a text says, or its first refusal
-abbrev pub judgement : List ℕ → Result Contents ScriptFault
-judgement text = do
+abbrev pub parsed : List ℕ → Result Contents ScriptFault
+parsed text = do
   valid ← judged_bytes text
   p ← judged_lines (lines text) start 1
   judged_end p (length (lines text))
 
--- a fault is the refusal that a judgement gives, or want of memory
+-- a fault is the refusal that is due, or out of memory
 abbrev pub Fails : {Y : Type 0} → ScriptFault → Result Y ScriptFault → Type 0
 Fails OutOfMemory judged = Unit {0}
 Fails (Refused line cause) judged = judged ≡ Err (Refused line cause)
 
--- what a function returned, as seen by view, is what a judgement gives, unless memory ran out
+-- what a function returned, as seen by view, is what is due, unless memory ran out
 abbrev pub Gives : {X Y : Type 0} → (X → Y) → Result X ScriptFault → Result Y ScriptFault → Type 0
 Gives view (Ok x) judged = judged ≡ Ok (view x)
 Gives view (Err e) judged = Fails e judged
