@@ -11,7 +11,7 @@ use Rattle.octet_model.specs.declared.event.Event.{Event}
 use Rattle.octet_model.specs.declared.event.Event.TheVariants.{Read, Write, Marked}
 use Rattle.octet_model.specs.declared.outcome.End.{End}
 use Rattle.octet_model.specs.declared.outcome.End.TheVariants.{Done}
-use Rattle.octet_model.specs.Thread.{Configuration, starting_configuration, Demand, ToRead, ToWrite, ToEnd, is_access, is_opener, end_from, matching_end, is_opened_at, matching_opener, place_past_end, place_after_close, stepped, run_to, settled, demand_at, demanded, past_access, past_demanded, configuration_after, FitsFrom, FitsToEnd}
+use Rattle.octet_model.specs.Thread.{Configuration, starting_configuration, AccessOrEnd, ToRead, ToWrite, ToEnd, is_access, is_opener, end_from, matching_end, is_opened_at, matching_opener, place_past_end, place_after_close, stepped, run_to, settled, demand_at, demanded, past_access, past_demanded, configuration_after, FitsFrom, FitsToEnd}
 use Rattle.octet_model.specs.Journals.{access_count}
 use Rattle.octet_gen.specs.Generated.{loop_round}
 
@@ -61,7 +61,7 @@ module _ (commands : List Command) where
   same_past : (c d : Configuration) (value : ℕ) → settled commands c ≡ settled commands d → past_demanded commands c value ≡ past_demanded commands d value
   same_past c d value same = ap (λ (e : Configuration). past_access (slice_get commands e.place) e value) same
 
-  past_same : (journal : List Event) (c d : Configuration) (value : ℕ) → settled commands c ≡ settled commands d → (demand : Demand)
+  past_same : (journal : List Event) (c d : Configuration) (value : ℕ) → settled commands c ≡ settled commands d → (demand : AccessOrEnd)
       → ((demanded commands c ≡ demand) × FitsFrom commands (past_demanded commands c value) journal) × ((end : End) × (demanded commands (configuration_after commands (past_demanded commands c value) journal) ≡ ToEnd end))
       → ((demanded commands d ≡ demand) × FitsFrom commands (past_demanded commands d value) journal) × ((end : End) × (demanded commands (configuration_after commands (past_demanded commands d value) journal) ≡ ToEnd end))
   past_same journal c d value same demand fits =
@@ -85,7 +85,7 @@ module _ (commands : List Command) where
 
 -- ---- where the loop's end and its opener lead
 
--- the commands behind the accesses
+-- the commands after the accesses
 abbrev tail : List Command
 tail = Safe ∷ Sub 0 0 1 ∷ Close ∷ []
 
@@ -146,9 +146,9 @@ module _ (accesses : List Command) (drawn : All IsDrawn accesses) (many : length
   leads_back : place_after_close commands 21 ≡ 2
   leads_back = ap (λ m. place_past_end (slice_get commands m) m 21) opened_at
 
-  -- ---- one turn of the loop behind its accesses
+  -- ---- one turn of the loop after its accesses
 
-  -- the registers where so many turns are left
+  -- the registers by the turns that are left
   record HasCounter (turns : ℕ) (registers : List ℕ) : Type 0 where
     left : get_or registers 0 0 ≡ turns
     one : get_or registers 1 0 ≡ 1
@@ -207,7 +207,7 @@ module _ (accesses : List Command) (drawn : All IsDrawn accesses) (many : length
 
   -- ---- all accesses
 
-  -- at the i-th access of a turn, with so many more in it and so many turns after it
+  -- at the i-th access of a turn, by the accesses left in it and the turns after it
   abbrev CountsFrom : List Event → Type 0
   CountsFrom journal = (i more turns fuel rest : ℕ) (registers : List ℕ) → i + suc more ≡ 16 → turns < 2 ^ 64 → HasCounter (suc turns) registers → fuel ≡ more + 4 + 20 * turns + rest
       → FitsToEnd commands (at (suc (suc (suc i))) registers (suc fuel)) journal → access_count journal ≡ suc more + 16 * turns

@@ -94,14 +94,14 @@ thread_is_valid : (number thread : ℕ) → thread < 8 → IsValidThread 64 (gen
 thread_is_valid number thread lt =
     let accesses : List Command = accesses_from number (16 * thread) thread 16 in
     let in_range : All (IsCommand 64) accesses = accesses_have (IsCommand 64) number (16 * thread) thread 16
-    (λ draw. access_has (IsCommand 64) thread draw (omega arith, object_there thread draw lt) (omega arith, object_there thread draw lt)) in
+    (λ draw. access_has (IsCommand 64) thread draw (omega arith, tt, object_there thread draw lt) (omega arith, tt, object_there thread draw lt)) in
     let none_closes : All (λ x. is_closer x ≡ false) accesses = accesses_have (λ x. is_closer x ≡ false) number (16 * thread) thread 16 (λ draw. access_has (λ x. is_closer x ≡ false) thread draw refl refl) in
     let none_opens : All (λ x. is_opener x ≡ false) accesses = accesses_have (λ x. is_opener x ≡ false) number (16 * thread) thread 16 (λ draw. access_has (λ x. is_opener x ≡ false) thread draw refl refl) in
     record {
       in_range =
           All-append (IsCommand 64) ((Set 0 1250 ∷ Set 1 1 ∷ Loop 0 ∷ []) ++ accesses) (Safe ∷ Sub 0 0 1 ∷ Close ∷ [])
-          (All-append (IsCommand 64) (Set 0 1250 ∷ Set 1 1 ∷ Loop 0 ∷ []) accesses (all_three (IsCommand 64) (Set 0 1250) (Set 1 1) (Loop 0) (omega arith, omega arith) (omega arith, omega arith) (omega arith)) in_range)
-          (all_three (IsCommand 64) Safe (Sub 0 0 1) Close tt (omega arith, omega arith, omega arith) tt);
+          (All-append (IsCommand 64) (Set 0 1250 ∷ Set 1 1 ∷ Loop 0 ∷ []) accesses (all_three (IsCommand 64) (Set 0 1250) (Set 1 1) (Loop 0) (omega arith, omega arith, tt) (omega arith, omega arith, tt) (omega arith, tt, tt)) in_range)
+          (all_three (IsCommand 64) Safe (Sub 0 0 1) Close (tt, tt, tt) ((omega arith, omega arith, omega arith), tt, tt) (tt, tt, tt));
       nested = loop_is_nested accesses (none_counted is_closer accesses none_closes) (none_counted is_opener accesses none_opens);
     }
 

@@ -10,7 +10,7 @@ use Rattle.octet_model.specs.declared.script.Script.{Script}
 abbrev pub next_number : ℕ → ℕ
 next_number x = (x * 6364136223846793005 + 1442695040888963407) % 2 ^ 64
 
--- a number, after so many draws
+-- a number, after a number of draws
 unfoldable pub number_after : ℕ → ℕ → ℕ
 number_after number zero = number
 number_after number (suc draws) = next_number (number_after number draws)
@@ -27,7 +27,7 @@ object_of_draw thread draw = if nat_lt (draw % 16) 14 then 4 * thread + (draw % 
 abbrev pub access_of_draw : ℕ → ℕ → Command
 access_of_draw thread draw = if (draw / 512) % 4 == 0 then Write (object_of_draw thread draw) 0 else Read 2 (object_of_draw thread draw)
 
--- so many accesses of a thread, by the draws from a place of the sequence on
+-- a thread's accesses, by the draws from a place of the sequence on
 unfoldable pub accesses_from : ℕ → ℕ → ℕ → ℕ → List Command
 accesses_from number start thread count = map (λ place. access_of_draw thread (draw_at number (start + place))) (range_with_len 0 count)
 
@@ -35,11 +35,11 @@ accesses_from number start thread count = map (λ place. access_of_draw thread (
 abbrev pub loop_round : List Command → List Command
 loop_round commands = (Set 0 1250 ∷ Set 1 1 ∷ Loop 0 ∷ []) ++ commands ++ (Safe ∷ Sub 0 0 1 ∷ Close ∷ [])
 
--- a thread: sixteen accesses, drawn behind those of the threads before it, in a loop
+-- a thread: sixteen accesses, drawn after those of the threads before it, in a loop
 abbrev pub generated_thread : ℕ → ℕ → List Command
 generated_thread number thread = loop_round (accesses_from number (16 * thread) thread 16)
 
--- the first so many threads
+-- the first `count` threads
 unfoldable pub generated_threads : ℕ → ℕ → List (List Command)
 generated_threads number count = map (generated_thread number) (range_with_len 0 count)
 
@@ -47,11 +47,11 @@ generated_threads number count = map (generated_thread number) (range_with_len 0
 abbrev pub generated_name : ℕ → List ℕ
 generated_name place = codes "o" ++ decimal place
 
--- the names of the first so many objects
+-- the names of the first `count` objects
 unfoldable pub generated_names : ℕ → List (List ℕ)
 generated_names count = map generated_name (range_with_len 0 count)
 
--- the first so many numbers
+-- the first `count` numbers
 unfoldable pub first_numbers : ℕ → List ℕ
 first_numbers count = range_with_len 0 count
 

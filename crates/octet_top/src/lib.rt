@@ -20,3 +20,4 @@ mod tidy;
 mod verify;
 
 pub use program::{serve, serve_alone};
+pub use reply::Status;

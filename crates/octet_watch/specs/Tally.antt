@@ -8,11 +8,11 @@ use Rattle.octet_model.specs.declared.event.Event.{Event}
 abbrev pub AnswersAt : (Bor Event → ℕ → Type 0) → Event → ℕ → Type 0
 AnswersAt gives event answer = (shown : Bor Event) × gives shown answer × (shown.now ≡ event)
 
--- the events of all journals, one journal behind the other
+-- the events of all journals, one journal after the other
 abbrev pub all_events : List (List Event) → List Event
 all_events journals = flat_map (λ journal. journal) journals
 
--- a count stands still at 2 ^ 64 - 1
+-- a count saturates at 2 ^ 64 - 1
 abbrev pub saturated : ℕ → ℕ
 saturated n = min n (2 ^ 64 - 1)
 
@@ -38,7 +38,7 @@ abbrev pub counted : List ℕ → List ℕ → List ℕ
 counted [] numbers = numbers
 counted (class ∷ classes) numbers = counted classes (slice_set numbers class (saturated (slice_index numbers class + 1)))
 
--- the numbers after so many more events
+-- the numbers after more events
 pub record CountsOn (answers : Event → ℕ → Type 0) (events : List Event) (before after : List ℕ) : Type 0 where
   pub classes : List ℕ
   pub answered : AllZip answers events classes

@@ -57,7 +57,7 @@ impl Classes {
     }
 
     /// How many events of the journals the function puts in each class: the k-th number is that
-    /// of class k. A number stands still at 2^64 - 1, which no journals in memory reach.
+    /// of class k. A number saturates at 2^64 - 1, which no journals in memory reach.
     pub fn tally(
         &self,
         alloc: Global,
