@@ -14,11 +14,11 @@ use Rattle.octet_model.specs.Log.{is_log}
 use Rattle.octet_model.specs.Texts.{mark_bytes, thread_bytes, log_bytes}
 use Rattle.octet_log.specs.declared.cause.LogCause.{LogCause}
 use Rattle.octet_log.specs.declared.cause.LogCause.TheVariants.{BadVersion, BadThreads, CutShort, TooManyAccesses, Trailing}
-use Rattle.octet_log.specs.Judgement.{◌>>=◌, wanted, byte_at, number_at, mark_at, each_at, marks_at, thread_at, threads_at, body_at, judgement}
+use Rattle.octet_log.specs.Decoding.{◌>>=◌, wanted, byte_at, number_at, mark_at, each_at, marks_at, thread_at, threads_at, body_at, decoded}
 use Rattle.octet_log.proofs.Fields.{IsWide, wide32, number_again}
 use Rattle.octet_log.proofs.Each.{AllGood}
 use Rattle.octet_log.proofs.Loops.{read_next, next_thread}
-use Rattle.octet_log.proofs.Marks.{GoodMarks, GoodMark32, left_behind, mark_again_at, all_small, length-bytes_of_mark}
+use Rattle.octet_log.proofs.Marks.{GoodMarks, GoodMark32, accesses_left, mark_again_at, all_small, length-bytes_of_mark}
 use Rattle.octet_log.proofs.Threads.{GoodThread, GoodThreads, parts, thread_again}
 use Rattle.octet_log.proofs.Whole.{body, good_log}
 use Rattle.octet_log.specs.Laws.{cut_cause}
@@ -91,7 +91,7 @@ each_cut total read next spell good again cut (x ∷ xs) state all front n rest 
 
 marks_cut : (total threads thread accesses : ℕ) (marks : List Gapped) → accesses < 2 ^ 32 → GoodMarks threads thread accesses marks → IsCutIn total (marks_at total threads thread accesses (length marks)) (flat_map mark_bytes marks)
 marks_cut total threads thread accesses marks small good =
-    each_cut total (mark_at total threads thread) left_behind mark_bytes (GoodMark32 threads thread)
+    each_cut total (mark_at total threads thread) accesses_left mark_bytes (GoodMark32 threads thread)
     (λ left m r g. mark_again_at total threads thread left m.gap m.mark r g.small g.good.gap g.good.mark)
     (λ left m g. mark_cut total threads thread left (mark_bytes m) (length-bytes_of_mark m.gap m.mark))
     marks accesses (all_small threads thread accesses marks small good)
@@ -136,8 +136,8 @@ no_magic front short =
       | false ↦ λ is. refl
     ] refl
 
-pub cut : (logs : List ThreadLog) (front : List ℕ) (next : ℕ) (rest : List ℕ) → is_log logs ≡ true → log_bytes logs ≡ front ++ next ∷ rest → judgement front ≡ Err (cut_cause front)
-unfolding judgement
+pub cut : (logs : List ThreadLog) (front : List ℕ) (next : ℕ) (rest : List ℕ) → is_log logs ≡ true → log_bytes logs ≡ front ++ next ∷ rest → decoded front ≡ Err (cut_cause front)
+unfolding decoded
 cut logs front next rest valid e =
     elim (split (codes "OCTL") (body logs) front next rest e) [
       | inl p ↦
@@ -146,6 +146,6 @@ cut logs front next rest valid e =
       | inr p ↦
           let long : ltb (length front) 4 ≡ false = le-ltb (length front) 4 (rw p.1 (omega (arith, length-append (codes "OCTL") p.0))) in
           let judged : body_at (length front) p.0 ≡ Err (CutShort (length front)) = body_cut (length front) logs valid p.0 next rest p.2 in
-          let behind : judgement front ≡ body_at (length front) p.0 = rw p.1 refl in
+          let behind : decoded front ≡ body_at (length front) p.0 = rw p.1 refl in
           behind ∙ judged ∙ rw long refl
     ]

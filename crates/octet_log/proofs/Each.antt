@@ -3,7 +3,7 @@ use Rattle.std.proofs.Common.{◌≡◌, ℕ, zero, suc, List, [], ◌∷◌, �
 use Rattle.std.specs.List.{flat_map}
 use Rattle.std.proofs.lemmas.List.Concat.{flat_map-cons}
 use Rattle.octet_log.specs.declared.cause.LogCause.{LogCause}
-use Rattle.octet_log.specs.Judgement.{◌>>=◌, each_at}
+use Rattle.octet_log.specs.Decoding.{◌>>=◌, each_at}
 use Rattle.octet_log.specs.Laws.{IsInput}
 use Rattle.octet_log.proofs.Fields.{bind_ok, ok_is, Takes, Takes-then}
 

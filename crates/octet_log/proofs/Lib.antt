@@ -6,3 +6,5 @@ pub mod Marks
 pub mod Threads
 pub mod Whole
 pub mod Cuts
+pub mod Refused
+pub mod lemmas

@@ -5,7 +5,7 @@ use Rattle.octet_model.specs.declared.log.ThreadLog.{ThreadLog}
 use Rattle.octet_log.specs.declared.cause.LogCause.{LogCause}
 use Rattle.octet_log.specs.declared.cause.LogFault.{LogFault}
 use Rattle.octet_log.specs.declared.cause.LogFault.TheVariants as faults
-use Rattle.octet_log.specs.Judgement.{◌>>=◌, Fails, each_at, thread_at}
+use Rattle.octet_log.specs.Decoding.{◌>>=◌, Fails, each_at, thread_at}
 
 -- what was read before, and what is still read
 abbrev pub with_front : {A : Type 0} → List A → Result (List A × List ℕ) LogCause → Result (List A × List ℕ) LogCause
@@ -18,7 +18,7 @@ read_next total threads (thread, before) bytes = thread_at total threads thread 
 abbrev pub next_thread : ℕ × ℕ → ThreadLog → ℕ × ℕ
 next_thread (thread, before) log = (suc thread, before + log.accesses)
 
--- the logs of so many threads from a number on, behind so many accesses
+-- the logs of count threads from a number on, after that many accesses
 abbrev pub threads_from : ℕ → ℕ → ℕ → ℕ → ℕ → List ℕ → Result (List ThreadLog × List ℕ) LogCause
 threads_from total threads count thread before bytes = each_at count (read_next total threads) next_thread (thread, before) bytes
 

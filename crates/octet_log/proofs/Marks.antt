@@ -13,7 +13,7 @@ use Rattle.octet_model.specs.declared.log.Gapped.{Gapped}
 use Rattle.octet_model.specs.Log.{is_mark}
 use Rattle.octet_model.specs.Texts.{mark_fields, bytes_of_mark, mark_bytes}
 use Rattle.octet_log.specs.declared.cause.LogCause.TheVariants.{CutShort, BadMark}
-use Rattle.octet_log.specs.Judgement.{◌>>=◌, byte_at, number_at, spelled_mark, judged_mark, mark_at, marks_at}
+use Rattle.octet_log.specs.Decoding.{◌>>=◌, byte_at, number_at, spelled_mark, judged_mark, mark_at, marks_at}
 use Rattle.octet_log.specs.Laws.{IsInput}
 use Rattle.octet_log.proofs.Valid.{and_first, and_second}
 use Rattle.octet_log.proofs.Fields.{bind_ok, wanted_ok, ok_is, Takes, Takes-then, byte_takes, wide32, wide64, number_takes, number_again}
@@ -108,12 +108,12 @@ pub length-marks : (marks : List Gapped) → length (flat_map mark_bytes marks) 
 length-marks [] = refl
 length-marks (m ∷ ms) = rw flat_map-cons (omega (arith, length-append (mark_bytes m) (flat_map mark_bytes ms), length-bytes_of_mark m.gap m.mark, length-marks ms))
 
--- what is left of a thread's accesses behind a mark
-abbrev pub left_behind : ℕ → Gapped → ℕ
-left_behind left mark = left - mark.gap
+-- what is left of a thread's accesses after a mark
+abbrev pub accesses_left : ℕ → Gapped → ℕ
+accesses_left left mark = left - mark.gap
 
 abbrev pub GoodMarks : ℕ → ℕ → ℕ → List Gapped → Type 0
-GoodMarks threads thread left marks = AllGood (GoodMark threads thread) left_behind left marks
+GoodMarks threads thread left marks = AllGood (GoodMark threads thread) accesses_left left marks
 
 pub marks_are : (threads thread left : ℕ) (marks : List Gapped) → GoodMarks threads thread left marks → (sum_by (λ m. m.gap) marks ≤ left) × (list_all (λ m. is_mark threads thread m.mark) marks ≡ true)
 marks_are threads thread left [] good = (omega arith, refl)
@@ -129,18 +129,18 @@ are_marks threads thread left (m ∷ ms) sum all =
 
 pub marks_take : (total threads thread accesses count : ℕ) (bytes : List ℕ) (x : List Gapped × List ℕ) → IsInput bytes → marks_at total threads thread accesses count bytes ≡ Ok x → Takes bytes (flat_map mark_bytes x.0) x.1 × (length x.0 ≡ count) × GoodMarks threads thread accesses x.0
 marks_take total threads thread accesses count bytes x is e =
-    each_takes (mark_at total threads thread) left_behind mark_bytes (GoodMark threads thread) (mark_takes total threads thread) count accesses bytes x is e
+    each_takes (mark_at total threads thread) accesses_left mark_bytes (GoodMark threads thread) (mark_takes total threads thread) count accesses bytes x is e
 
 -- a mark at a number of accesses of 32 bits
 pub record GoodMark32 (threads thread left : ℕ) (gapped : Gapped) : Type 0 where
   pub good : GoodMark threads thread left gapped
   pub small : left < 2 ^ 32
 
-pub all_small : (threads thread left : ℕ) (marks : List Gapped) → left < 2 ^ 32 → GoodMarks threads thread left marks → AllGood (GoodMark32 threads thread) left_behind left marks
+pub all_small : (threads thread left : ℕ) (marks : List Gapped) → left < 2 ^ 32 → GoodMarks threads thread left marks → AllGood (GoodMark32 threads thread) accesses_left left marks
 all_small threads thread left [] small good = tt
 all_small threads thread left (m ∷ ms) small good = (record { good = good.0; small = small }, all_small threads thread (left - m.gap) ms (omega (arith, small)) good.1)
 
 pub marks_again : (total threads thread accesses : ℕ) (marks : List Gapped) (rest : List ℕ) → accesses < 2 ^ 32 → GoodMarks threads thread accesses marks → marks_at total threads thread accesses (length marks) (flat_map mark_bytes marks ++ rest) ≡ Ok (marks, rest)
 marks_again total threads thread accesses marks rest small good =
-    each_again (mark_at total threads thread) left_behind mark_bytes (GoodMark32 threads thread)
+    each_again (mark_at total threads thread) accesses_left mark_bytes (GoodMark32 threads thread)
     (λ left m r g. mark_again_at total threads thread left m.gap m.mark r g.small g.good.gap g.good.mark) accesses marks rest (all_small threads thread accesses marks small good)

@@ -11,7 +11,7 @@ use Rattle.octet_model.specs.declared.log.ThreadLog.{ThreadLog}
 use Rattle.octet_model.specs.Log.{is_mark, is_thread_log, are_thread_logs}
 use Rattle.octet_model.specs.Texts.{mark_bytes, thread_bytes}
 use Rattle.octet_log.specs.declared.cause.LogCause.TheVariants.{TooManyAccesses}
-use Rattle.octet_log.specs.Judgement.{◌>>=◌, wanted, number_at, marks_at, thread_at, threads_at}
+use Rattle.octet_log.specs.Decoding.{◌>>=◌, wanted, number_at, marks_at, thread_at, threads_at}
 use Rattle.octet_log.specs.Laws.{IsInput}
 use Rattle.octet_log.proofs.Valid.{and_first, and_second}
 use Rattle.octet_log.proofs.Fields.{bind_ok, wanted_ok, ok_is, Takes, Takes-then, wide32, number_takes, number_again}
@@ -19,7 +19,7 @@ use Rattle.octet_log.proofs.Each.{AllGood, each_takes, each_again}
 use Rattle.octet_log.proofs.Marks.{GoodMarks, length-marks, marks_are, are_marks, marks_take, marks_again}
 use Rattle.octet_log.proofs.Loops.{read_next, next_thread}
 
--- a valid log of a thread, behind threads with so many accesses
+-- a valid log of a thread, after threads with that many accesses
 pub record GoodThread (threads : ℕ) (state : ℕ × ℕ) (log : ThreadLog) : Type 0 where
   pub sum : state.1 + log.accesses ≤ 262144
   pub valid : is_thread_log threads state.0 log ≡ true

@@ -12,7 +12,7 @@ use Rattle.octet_model.specs.Texts.{thread_bytes, log_bytes}
 use Rattle.octet_log.specs.declared.cause.LogCause.{LogCause}
 use Rattle.octet_log.specs.declared.cause.LogCause.TheVariants.{NoMagic, BadVersion, BadThreads, Trailing}
 use Rattle.octet_log.specs.declared.cause.LogFault.{LogFault}
-use Rattle.octet_log.specs.Judgement.{◌>>=◌, wanted, byte_at, threads_at, body_at, judgement, Gives, ReadsSpelling}
+use Rattle.octet_log.specs.Decoding.{◌>>=◌, wanted, byte_at, threads_at, body_at, decoded, Gives, ReadsSpelling}
 use Rattle.octet_log.specs.Laws.{IsInput}
 use Rattle.octet_log.proofs.Valid.{and_first, and_second}
 use Rattle.octet_log.proofs.Fields.{bind_ok, wanted_ok, ok_is, Takes-then, byte_takes, IsInput-drop}
@@ -23,7 +23,7 @@ valid_log threads logs allowed len good =
     let are = threads_are threads 0 0 logs (omega arith) good in
     rw (len, allowed, le-leb (sum_by (λ log. log.accesses) logs) 262144 (omega (arith, are.0)), are.1) refl
 
--- what stands behind the word OCTL
+-- what stands after the word OCTL
 abbrev pub body : List ThreadLog → List ℕ
 body logs = 1 ∷ length logs ∷ flat_map thread_bytes logs
 
@@ -46,9 +46,9 @@ body_takes total bytes logs is e =
     let spelled : bytes ≡ body l.0.0 = whole ∙ ap (λ (w : ℕ). w ∷ n.0.0 ∷ flat_map thread_bytes l.0.0) (eqb-true _ _ k.0) ∙ ap (λ (m : ℕ). 1 ∷ m ∷ flat_map thread_bytes l.0.0) (sym t2.1) in
     subst (λ (y : List ThreadLog). (bytes ≡ body y) × (is_log y ≡ true)) (ok_is l.0.0 logs d.1) (spelled, valid_log n.0.0 l.0.0 a.0 t2.1 t2.2)
 
-pub judgement_takes : (bytes : List ℕ) (logs : List ThreadLog) → IsInput bytes → judgement bytes ≡ Ok logs → (bytes ≡ log_bytes logs) × (is_log logs ≡ true)
-unfolding judgement
-judgement_takes bytes logs is e =
+pub decoded_takes : (bytes : List ℕ) (logs : List ThreadLog) → IsInput bytes → decoded bytes ≡ Ok logs → (bytes ≡ log_bytes logs) × (is_log logs ≡ true)
+unfolding decoded
+decoded_takes bytes logs is e =
     let m = wanted_ok (bytes_eq (take 4 bytes) (codes "OCTL")) NoMagic (λ _. body_at (length bytes) (drop 4 bytes)) logs e in
     let b = body_takes (length bytes) (drop 4 bytes) logs (IsInput-drop 4 bytes is) m.1 in
     let magic : take 4 bytes ≡ codes "OCTL" = (bytes_eq-Decides (take 4 bytes) (codes "OCTL")).0 m.0 in
@@ -71,29 +71,14 @@ body_again total logs rest valid =
     let good = p.1 in
     rw (allowed, threads_again total logs rest good) refl
 
--- behind a log's spelling nothing may stand
-pub judgement_again : (logs : List ThreadLog) (rest : List ℕ) → is_log logs ≡ true → judgement (log_bytes logs ++ rest) ≡ (wanted (eqb (length rest) 0) (Trailing (length (log_bytes logs ++ rest) - length rest)) >>= λ ended. Ok logs)
-unfolding judgement
-judgement_again logs rest valid = body_again (length (log_bytes logs ++ rest)) logs rest valid
+-- after a log's spelling nothing may stand
+pub decoded_again : (logs : List ThreadLog) (rest : List ℕ) → is_log logs ≡ true → decoded (log_bytes logs ++ rest) ≡ (wanted (eqb (length rest) 0) (Trailing (length (log_bytes logs ++ rest) - length rest)) >>= λ ended. Ok logs)
+unfolding decoded
+decoded_again logs rest valid = body_again (length (log_bytes logs ++ rest)) logs rest valid
 
-pub judgement_is : (logs : List ThreadLog) → is_log logs ≡ true → judgement (log_bytes logs) ≡ Ok logs
-judgement_is logs valid = ap judgement (sym (append-nil (log_bytes logs))) ∙ judgement_again logs [] valid
-
-pub one_log : (one other : List ThreadLog) → is_log one ≡ true → is_log other ≡ true → log_bytes one ≡ log_bytes other → one ≡ other
-one_log one other valid other_valid same = ok_is one other (sym (judgement_is one valid) ∙ ap judgement same ∙ judgement_is other other_valid)
-
-pub goes_nowhere : (one other : List ThreadLog) (rest : List ℕ) → is_log one ≡ true → is_log other ≡ true → log_bytes other ≡ log_bytes one ++ rest → rest ≡ []
-goes_nowhere one other rest valid other_valid same =
-    let judged = sym (judgement_again one rest valid) ∙ ap judgement (sym same) ∙ judgement_is other other_valid in
-    nil_from_length rest (eqb-true _ _ (wanted_ok (eqb (length rest) 0) (Trailing (length (log_bytes one ++ rest) - length rest)) (λ _. Ok one) other judged).0)
-
--- a reading that gives what the judgement says gives the log that is spelled
-pub reads_spelling : {X : Type 0} (view : X → List ThreadLog) (bytes : List ℕ) (r : Result X LogFault) → Gives view r (judgement bytes) → ReadsSpelling view bytes r
-reads_spelling view bytes r given logs valid is = subst (λ (judged : Result (List ThreadLog) LogCause). Gives view r judged) (ap judgement is ∙ judgement_is logs valid) given
-
--- a byte behind a log is judged as trailing, at its place
-pub trailing : (logs : List ThreadLog) (next : ℕ) (rest : List ℕ) → is_log logs ≡ true → judgement (log_bytes logs ++ next ∷ rest) ≡ Err (Trailing (length (log_bytes logs)))
+-- a byte after a log is refused as trailing, at its place
+pub trailing : (logs : List ThreadLog) (next : ℕ) (rest : List ℕ) → is_log logs ≡ true → decoded (log_bytes logs ++ next ∷ rest) ≡ Err (Trailing (length (log_bytes logs)))
 trailing logs next rest valid =
     let place : length (log_bytes logs ++ next ∷ rest) - length (next ∷ rest) ≡ length (log_bytes logs) = omega (arith, length-append (log_bytes logs) (next ∷ rest)) in
     let more : eqb (length (next ∷ rest)) 0 ≡ false = ne_eqb (length (next ∷ rest)) 0 (λ e. absurd (omega (arith, e))) in
-    judgement_again logs (next ∷ rest) valid ∙ ap (λ b. wanted b (Trailing (length (log_bytes logs ++ next ∷ rest) - length (next ∷ rest))) >>= λ ended. Ok logs) more ∙ ap (λ n. Err (Trailing n)) place
+    decoded_again logs (next ∷ rest) valid ∙ ap (λ b. wanted b (Trailing (length (log_bytes logs ++ next ∷ rest) - length (next ∷ rest))) >>= λ ended. Ok logs) more ∙ ap (λ n. Err (Trailing n)) place

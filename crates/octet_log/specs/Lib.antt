@@ -1,3 +1,4 @@
-pub mod Judgement
+pub mod Decoding
 pub mod Texts
 pub mod Laws
+pub mod Refusals

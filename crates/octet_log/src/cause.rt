@@ -26,7 +26,7 @@ pub enum LogCause {
     /// The accesses sum to more than 262,144.
     #[error("too many accesses")]
     TooManyAccesses,
-    /// A byte stands behind the last thread, at this place.
+    /// A byte stands after the last thread, at this place.
     #[error("trailing at {at}")]
     Trailing { at: u64 },
 }

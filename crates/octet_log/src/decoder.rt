@@ -2,16 +2,12 @@
 ghost use Rattle.std.specs.Prelude.{◌≡◌, ◌+◌, ◌≤◌, length, IfOk};
 ghost use Rattle.octet_model.specs.Log.{is_mark};
 ghost use Rattle.octet_model.specs.Texts.{log_bytes};
-ghost use Rattle.octet_log.specs.Judgement.{Gives, ReadsSpelling, spelled_mark, judged_mark, mark_at, marks_at, thread_at, threads_at, body_at, judgement};
+ghost use Rattle.octet_log.specs.Decoding.{Gives, ReadsSpelling, spelled_mark, judged_mark, mark_at, marks_at, thread_at, threads_at, body_at, decoded};
 
 use crate::field::{cut_short, read_u8, read_u32, read_u64};
 use crate::{LogCause, LogFault};
-use octet_model::{Gapped, List, Log, Mark, ThreadLog};
+use octet_model::{Gapped, List, Log, MAX_ACCESSES, MAX_LOG_FILE, MAX_THREADS, Mark, ThreadLog};
 use std::alloc::Global;
-
-const MOST_ACCESSES: u64 = 262_144;
-
-const MOST_THREADS: u8 = 16;
 
 const MARK_LEN: usize = 14;
 
@@ -29,7 +25,7 @@ fn mark_of(kind: u8, thread: u8, number: u64) -> Option<Mark>
     }
 }
 
-// Whether the mark is one of that thread, among so many.
+// Whether the mark is one of that thread, among `threads` threads.
 fn is_mark(threads: u8, thread: u8, mark: Mark) -> bool
     ensures { result ≡ is_mark threads thread mark }
 {
@@ -39,7 +35,7 @@ fn is_mark(threads: u8, thread: u8, mark: Mark) -> bool
     }
 }
 
-// The mark with its gap, where the thread has so many accesses left.
+// The mark with its gap, where the thread has `left` accesses left.
 fn gapped(
     place: usize,
     threads: u8,
@@ -57,7 +53,7 @@ fn gapped(
     }
 }
 
-#[tactic(auto, unfolding(crate::specs::Judgement::mark_at))]
+#[tactic(auto, unfolding(crate::specs::Decoding::mark_at))]
 fn read_mark(
     total: usize,
     threads: u8,
@@ -107,7 +103,7 @@ fn read_marks(
     Ok((marks, rest))
 }
 
-#[tactic(auto, unfolding(crate::specs::Judgement::thread_at))]
+#[tactic(auto, unfolding(crate::specs::Decoding::thread_at))]
 fn read_thread(
     alloc: Global,
     total: usize,
@@ -117,13 +113,13 @@ fn read_thread(
     bytes: &[u8],
 ) -> Result<(ThreadLog, &[u8]), LogFault>
     requires within { length bytes.now ≤ total }
-    requires before { before ≤ 262144 }
+    requires before { before ≤ MAX_ACCESSES }
     ensures judged { Gives (λ x. (x.0, x.1.now)) result (thread_at total threads thread before bytes.now) }
     ensures shorter { IfOk result (λ x. length x.1.now ≤ length bytes.now) }
-    ensures sum { IfOk result (λ x. before + x.0.accesses ≤ 262144) }
+    ensures sum { IfOk result (λ x. before + x.0.accesses ≤ MAX_ACCESSES) }
 {
     let (accesses, rest) = read_u32(total, bytes)?;
-    if before + u64::from(accesses) > MOST_ACCESSES {
+    if before + u64::from(accesses) > u64::from(MAX_ACCESSES) {
         return Err(LogCause::TooManyAccesses.into());
     }
     let (count, rest) = read_u32(total, rest)?;
@@ -154,7 +150,7 @@ fn read_threads(
     Ok((logs, rest))
 }
 
-#[tactic(auto, unfolding(crate::specs::Judgement::body_at))]
+#[tactic(auto, unfolding(crate::specs::Decoding::body_at))]
 fn read_body(alloc: Global, total: usize, bytes: &[u8]) -> Result<Vec<ThreadLog>, LogFault>
     requires { length bytes.now ≤ total }
     ensures { Gives (λ logs. logs.items) result (body_at total bytes.now) }
@@ -164,7 +160,7 @@ fn read_body(alloc: Global, total: usize, bytes: &[u8]) -> Result<Vec<ThreadLog>
         return Err(LogCause::BadVersion.into());
     }
     let (threads, rest) = read_u8(total, rest)?;
-    if threads < 1 || threads > MOST_THREADS {
+    if threads < 1 || usize::from(threads) > MAX_THREADS {
         return Err(LogCause::BadThreads.into());
     }
     let (logs, rest) = read_threads(alloc, total, threads, rest)?;
@@ -175,9 +171,9 @@ fn read_body(alloc: Global, total: usize, bytes: &[u8]) -> Result<Vec<ThreadLog>
     Ok(logs)
 }
 
-#[tactic(auto, unfolding(crate::specs::Judgement::judgement))]
+#[tactic(auto, unfolding(crate::specs::Decoding::decoded))]
 fn read_log(alloc: Global, bytes: &[u8]) -> Result<Vec<ThreadLog>, LogFault>
-    ensures { Gives (λ logs. logs.items) result (judgement bytes.now) }
+    ensures { Gives (λ logs. logs.items) result (decoded bytes.now) }
 {
     let Some(rest) = bytes.strip_prefix(b"OCTL") else {
         return Err(LogCause::NoMagic.into());
@@ -189,14 +185,14 @@ fn read_log(alloc: Global, bytes: &[u8]) -> Result<Vec<ThreadLog>, LogFault>
 /// place. The bytes are at most 67,108,864. Room is taken as marks are met, and not by a number
 /// that the bytes merely claim.
 pub fn decode(alloc: Global, bytes: &[u8]) -> Result<Log, LogFault>
-    requires { length bytes.now ≤ 67108864 }
+    requires { length bytes.now ≤ MAX_LOG_FILE }
 
     // What is read is spelled so.
     ensures spelled { IfOk result (λ log. bytes.now ≡ log_bytes log.threads) }
     // What spells a log is read, unless memory runs out.
     ensures read { ReadsSpelling (λ log. log.threads) bytes.now result }
     // Which refusal it is, and where.
-    ensures judged { Gives (λ log. log.threads) result (judgement bytes.now) }
+    ensures judged { Gives (λ log. log.threads) result (decoded bytes.now) }
 {
     let threads = List::from_vec(read_log(alloc, bytes)?);
     Ok(Log { threads })

@@ -4,66 +4,53 @@ ghost use Rattle.std.specs.Fmt.{decimal};
 ghost use Rattle.octet_log.specs.Texts.{mark_words, mark_line, thread_text, log_text, refusal_words, refusal_line};
 
 use crate::LogCause;
-use octet_model::{Gapped, Log, Mark, OutOfMemory, ThreadLog};
+use octet_model::{Gapped, Log, Mark, OutOfMemory, ThreadLog, push_number};
 use std::alloc::Global;
 
-fn push_number(alloc: Global, out: &mut Vec<u8>, number: u64) -> Result<(), OutOfMemory>
-    ensures { OnOk result (out.new.items ≡ out.old.items ++ decimal number) }
-{
-    let digits = format!(in alloc; "{number}")?;
-    out.extend_from_slice(digits.as_bytes())?;
-    Ok(())
-}
-
-fn push_mark(alloc: Global, out: &mut Vec<u8>, mark: Mark) -> Result<(), OutOfMemory>
+fn push_mark(out: &mut Vec<u8>, mark: Mark) -> Result<(), OutOfMemory>
     ensures { OnOk result (out.new.items ≡ out.old.items ++ mark_words mark) }
 {
     match mark {
         Mark::Join { from, upto } => {
             out.extend_from_slice(b"join ")?;
-            push_number(alloc, out, u64::from(from))?;
+            push_number(out, u64::from(from))?;
             out.extend_from_slice(b" ")?;
-            push_number(alloc, out, upto)
+            push_number(out, upto)
         }
         Mark::Draw { number } => {
             out.extend_from_slice(b"draw ")?;
-            push_number(alloc, out, number)
+            push_number(out, number)
         }
         Mark::Fence { number } => {
             out.extend_from_slice(b"fence ")?;
-            push_number(alloc, out, number)
+            push_number(out, number)
         }
     }
 }
 
-fn push_mark_line(alloc: Global, out: &mut Vec<u8>, gapped: Gapped) -> Result<(), OutOfMemory>
+fn push_mark_line(out: &mut Vec<u8>, gapped: Gapped) -> Result<(), OutOfMemory>
     ensures { OnOk result (out.new.items ≡ out.old.items ++ mark_line gapped) }
 {
     out.extend_from_slice(b"gap ")?;
-    push_number(alloc, out, u64::from(gapped.gap))?;
+    push_number(out, u64::from(gapped.gap))?;
     out.extend_from_slice(b" ")?;
-    push_mark(alloc, out, gapped.mark)?;
+    push_mark(out, gapped.mark)?;
     out.extend_from_slice(b"\n")?;
     Ok(())
 }
 
-fn push_thread(
-    alloc: Global,
-    out: &mut Vec<u8>,
-    thread: usize,
-    log: &ThreadLog,
-) -> Result<(), OutOfMemory>
+fn push_thread(out: &mut Vec<u8>, thread: usize, log: &ThreadLog) -> Result<(), OutOfMemory>
     ensures { OnOk result (out.new.items ≡ out.old.items ++ thread_text thread log.now) }
 {
     out.extend_from_slice(b"thread ")?;
-    push_number(alloc, out, thread as u64)?;
+    push_number(out, thread as u64)?;
     out.extend_from_slice(b" accesses ")?;
-    push_number(alloc, out, u64::from(log.accesses))?;
+    push_number(out, u64::from(log.accesses))?;
     out.extend_from_slice(b" marks ")?;
-    push_number(alloc, out, log.marks.len() as u64)?;
+    push_number(out, log.marks.len() as u64)?;
     out.extend_from_slice(b"\n")?;
     for gapped in log.marks.as_slice() {
-        push_mark_line(alloc, out, *gapped)?;
+        push_mark_line(out, *gapped)?;
     }
     Ok(())
 }
@@ -74,35 +61,34 @@ pub fn show(alloc: Global, log: &Log) -> Result<Vec<u8>, OutOfMemory>
 {
     let mut out = Vec::new(alloc);
     out.extend_from_slice(b"threads ")?;
-    push_number(alloc, &mut out, log.threads.len() as u64)?;
+    push_number(&mut out, log.threads.len() as u64)?;
     out.extend_from_slice(b"\n")?;
     for (thread, thread_log) in log.threads.as_slice().iter().enumerate() {
-        push_thread(alloc, &mut out, thread, thread_log)?;
+        push_thread(&mut out, thread, thread_log)?;
     }
     Ok(out)
 }
 
 // The words of a refusal that has a place.
-fn push_place(alloc: Global, out: &mut Vec<u8>, words: &[u8], place: u64) -> Result<(), OutOfMemory>
+fn push_place(out: &mut Vec<u8>, words: &[u8], place: u64) -> Result<(), OutOfMemory>
     ensures { OnOk result (out.new.items ≡ out.old.items ++ words.now ++ decimal place) }
 {
     out.extend_from_slice(words)?;
-    push_number(alloc, out, place)
+    push_number(out, place)
 }
 
-fn push_refusal(alloc: Global, out: &mut Vec<u8>, cause: LogCause) -> Result<(), OutOfMemory>
+fn push_refusal(out: &mut Vec<u8>, cause: LogCause) -> Result<(), OutOfMemory>
     ensures { OnOk result (out.new.items ≡ out.old.items ++ refusal_words cause) }
 {
     match cause {
-        LogCause::NoMagic => out.extend_from_slice(b"1 no magic")?,
-        LogCause::BadVersion => out.extend_from_slice(b"2 bad version")?,
-        LogCause::BadThreads => out.extend_from_slice(b"3 bad threads")?,
-        LogCause::CutShort { at } => push_place(alloc, out, b"4 cut short at ", at)?,
-        LogCause::BadMark { at } => push_place(alloc, out, b"5 bad mark at ", at)?,
-        LogCause::TooManyAccesses => out.extend_from_slice(b"6 too many accesses")?,
-        LogCause::Trailing { at } => push_place(alloc, out, b"7 trailing at ", at)?,
+        LogCause::NoMagic => Ok(out.extend_from_slice(b"1 no magic")?),
+        LogCause::BadVersion => Ok(out.extend_from_slice(b"2 bad version")?),
+        LogCause::BadThreads => Ok(out.extend_from_slice(b"3 bad threads")?),
+        LogCause::CutShort { at } => push_place(out, b"4 cut short at ", at),
+        LogCause::BadMark { at } => push_place(out, b"5 bad mark at ", at),
+        LogCause::TooManyAccesses => Ok(out.extend_from_slice(b"6 too many accesses")?),
+        LogCause::Trailing { at } => push_place(out, b"7 trailing at ", at),
     }
-    Ok(())
 }
 
 /// The line that says why bytes are refused as a log.
@@ -111,7 +97,7 @@ pub fn refusal_line(alloc: Global, cause: LogCause) -> Result<Vec<u8>, OutOfMemo
 {
     let mut out = Vec::new(alloc);
     out.extend_from_slice(b"log: ")?;
-    push_refusal(alloc, &mut out, cause)?;
+    push_refusal(&mut out, cause)?;
     out.extend_from_slice(b"\n")?;
     Ok(out)
 }

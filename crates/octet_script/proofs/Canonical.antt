@@ -17,8 +17,8 @@ use Rattle.octet_model.specs.declared.object.Object.{Object}
 use Rattle.octet_model.specs.declared.script.Script.{Script}
 use Rattle.octet_model.specs.Name.{is_name, is_name_start, is_name_byte}
 use Rattle.octet_model.specs.Script.{is_command, is_thread, are_distinct}
-use Rattle.octet_script.specs.Words.{lines, is_line_end, is_comment_start, is_blank, is_filled, words, words_of_line, speaking_lines}
-use Rattle.octet_script.specs.Spelling.{Part, Word, Number, Register, Known, New, IsPart, FuelHead, ObjectHead, head_form, command_form, thread_forms, fuels, declared, Declaration, declaration, object_names, contents, AreForms, Spells, number_of, register_of, object_of, register_word, object_word, canonical_word, canonical_words, canonical_line, canonical_forms, canonical_text}
+use Rattle.octet_script.specs.Words.{lines, is_line_end, is_comment_start, is_blank, is_filled, words, words_of_line, lines_with_words}
+use Rattle.octet_script.specs.Spelling.{Part, Word, Number, Register, Known, New, IsPart, FuelHead, ObjectHead, head_form, command_form, thread_forms, fuels, declared, Declaration, declaration, object_names, contents, AreForms, Spells, number_of, register_of, object_named, register_word, object_word, canonical_word, canonical_words, canonical_line, canonical_forms, canonical_text}
 use Rattle.octet_script.proofs.Cut.{filled}
 use Rattle.octet_script.proofs.Numbers.{numerals, read}
 use Rattle.octet_script.proofs.Steps.{apart, bytes_same, both_true, either_false}
@@ -143,7 +143,7 @@ place_of_name (n ∷ names) (suc o) here distinct =
     let other = apart n (get_or names o []) (bytes_eq (get_or names o []) n) refl differ in
     rw other (omega (arith, place_of_name names o (omega arith) parts.1))
 
-object_again : (names : List (List ℕ)) (o : ℕ) → o < length names → are_distinct names ≡ true → object_of names (object_word names o) ≡ Some o
+object_again : (names : List (List ℕ)) (o : ℕ) → o < length names → are_distinct names ≡ true → object_named names (object_word names o) ≡ Some o
 object_again names o here distinct =
     let place = place_of_name names o here distinct in
     let found = lt-ltb o (length names) here in
@@ -343,7 +343,7 @@ map_filled : (names : List (List ℕ)) (form : List Part) → is_filled form ≡
 map_filled names [] filled = absurd (false≢true filled)
 map_filled names (part ∷ form) filled = refl
 
-lines_again : (names : List (List ℕ)) (forms : List (List Part)) → AreGoodForms names forms → speaking_lines (flat_map (canonical_line names) forms) ≡ map (map (canonical_word names)) forms
+lines_again : (names : List (List ℕ)) (forms : List (List Part)) → AreGoodForms names forms → lines_with_words (flat_map (canonical_line names) forms) ≡ map (map (canonical_word names)) forms
 lines_again names [] good = refl
 lines_again names (form ∷ forms) good =
     let rest = flat_map (canonical_line names) forms in

@@ -15,15 +15,15 @@ use Rattle.octet_script.specs.declared.cause.ScriptFault.{ScriptFault}
 use Rattle.octet_script.specs.declared.cause.ScriptFault.TheVariants.{Refused}
 use Rattle.octet_script.specs.declared.cause.ScriptCause.TheVariants.{NoThread}
 use Rattle.octet_script.specs.Words.{lines, words_of_line, is_filled}
-use Rattle.octet_script.specs.Spelling.{Word, IsPart, Head, FuelHead, ObjectHead, head_form, command_form, thread_forms, fuels, declared, Declaration, declared_names, IsFuel, Contents, AreForms, SpellsContents, object_of}
-use Rattle.octet_script.specs.Judgement.{◌>>=◌, Progress, start, judgement, judged_end, judged_lines, judged_line, with_fuel, with_command, with_thread, added, all_closed, threads_of, contents_of, fuel_of, names_of}
+use Rattle.octet_script.specs.Spelling.{Word, IsPart, Head, FuelHead, ObjectHead, head_form, command_form, thread_forms, fuels, declared, Declaration, declared_names, IsFuel, Contents, AreForms, SpellsContents, object_named}
+use Rattle.octet_script.specs.Parsing.{◌>>=◌, Draft, start, parsed, judged_end, judged_lines, judged_line, with_fuel, with_command, with_thread, added, all_closed, threads_of, contents_of, fuel_of, names_of}
 use Rattle.octet_script.proofs.Judged.{valid_bytes}
 use Rattle.octet_script.proofs.Steps.{apart, both_true, either_false}
 use Rattle.octet_script.proofs.Sound.{started_threads}
 use Rattle.octet_script.proofs.Valid.{none_yet, is_plain, with_plain, plain_nested, loop_nested, branch_nested}
 
 -- a command's line is judged to be that command
-command_judged : (p : Progress) (line : ℕ) (c : Command) (first : List ℕ) (others : List (List ℕ)) → p.started ≡ true → AllZip (IsPart (names_of p)) (command_form c) (first ∷ others) → judged_line p line (first ∷ others) ≡ with_command p line c
+command_judged : (p : Draft) (line : ℕ) (c : Command) (first : List ℕ) (others : List (List ℕ)) → p.started ≡ true → AllZip (IsPart (names_of p)) (command_form c) (first ∷ others) → judged_line p line (first ∷ others) ≡ with_command p line c
 command_judged p line (command.Set to number) first (a ∷ b ∷ []) started w = rw (w.0, started, w.1.0, w.1.1.0) refl
 command_judged p line (command.Set to number) first ([]) started w = absurd w.1
 command_judged p line (command.Set to number) first (a ∷ []) started w = absurd w.1.1
@@ -84,23 +84,23 @@ command_judged p line command.Pause first [] started w = rw (w.0, started) refl
 command_judged p line command.Pause first (a ∷ more) started w = absurd w.1
 
 -- the command is taken, and the openers that are left are closed by the rest
-pub record TakesCommand (p : Progress) (line : ℕ) (c : Command) (rest : List Command) : Type 0 where
+pub record TakesCommand (p : Draft) (line : ℕ) (c : Command) (rest : List Command) : Type 0 where
   pub openers : List ℕ
   pub taken : with_command p line c ≡ Ok (added p c openers)
   pub nested : is_nested (length openers) rest ≡ true
 
-close_taken : (p : Progress) (line : ℕ) (rest : List Command) (openers : List ℕ) → p.openers ≡ openers → is_nested (length openers) (command.Close ∷ rest) ≡ true → TakesCommand p line command.Close rest
+close_taken : (p : Draft) (line : ℕ) (rest : List Command) (openers : List ℕ) → p.openers ≡ openers → is_nested (length openers) (command.Close ∷ rest) ≡ true → TakesCommand p line command.Close rest
 close_taken p line rest [] left nested = absurd (false≢true nested)
 close_taken p line rest (o ∷ os) left nested = record { openers = os; taken = rw left refl; nested = nested }
 
-plain_taken : (p : Progress) (line : ℕ) (c : Command) (rest : List Command) → is_plain c ≡ true → is_nested (length p.openers) (c ∷ rest) ≡ true → TakesCommand p line c rest
+plain_taken : (p : Draft) (line : ℕ) (c : Command) (rest : List Command) → is_plain c ≡ true → is_nested (length p.openers) (c ∷ rest) ≡ true → TakesCommand p line c rest
 plain_taken p line c rest plain nested = record {
   openers = p.openers;
   taken = with_plain p line c plain;
   nested = sym (plain_nested (length p.openers) c plain rest) ∙ nested;
 }
 
-command_taken : (p : Progress) (line : ℕ) (c : Command) (rest : List Command) → is_nested (length p.openers) (c ∷ rest) ≡ true → TakesCommand p line c rest
+command_taken : (p : Draft) (line : ℕ) (c : Command) (rest : List Command) → is_nested (length p.openers) (c ∷ rest) ≡ true → TakesCommand p line c rest
 command_taken p line (command.Loop test) rest nested = record { openers = line ∷ p.openers; taken = refl; nested = sym (loop_nested (length p.openers) test rest) ∙ nested }
 command_taken p line (command.Branch test) rest nested = record { openers = line ∷ p.openers; taken = refl; nested = sym (branch_nested (length p.openers) test rest) ∙ nested }
 command_taken p line command.Close rest nested = close_taken p line rest p.openers refl nested
@@ -118,15 +118,15 @@ command_taken p line command.Safe rest nested = plain_taken p line command.Safe 
 command_taken p line command.Pause rest nested = plain_taken p line command.Pause rest refl nested
 
 -- all lines are taken, and this is what they say
-pub record Ends (said : Contents) (r : Result Progress ScriptFault) : Type 0 where
-  pub last : Progress
+pub record Ends (said : Contents) (r : Result Draft ScriptFault) : Type 0 where
+  pub last : Draft
   pub taken : r ≡ Ok last
   pub started : last.started ≡ true
   pub none_open : last.openers ≡ []
   pub says : contents_of last ≡ said
 
 -- in a thread, with these of its commands to come, and these threads
-pub record Ready (p : Progress) (commands : List Command) (threads : List (List Command)) (said : List (List (List ℕ))) : Type 0 where
+pub record Ready (p : Draft) (commands : List Command) (threads : List (List Command)) (said : List (List (List ℕ))) : Type 0 where
   pub started : p.started ≡ true
   pub nested : is_nested (length p.openers) commands ≡ true
   pub others : list_all (is_nested 0) threads ≡ true
@@ -134,17 +134,17 @@ pub record Ready (p : Progress) (commands : List Command) (threads : List (List 
   pub enough : (suc (length p.threads) + length threads) * fuel_of p ≤ 262144
   pub lines : AreForms (names_of p) (map command_form commands ++ flat_map thread_forms threads) said
 
-abbrev to_say : Progress → List Command → List (List Command) → Contents
+abbrev to_say : Draft → List Command → List (List Command) → Contents
 to_say p commands threads = record { fuel = fuel_of p; objects = p.objects; threads = p.threads ++ (p.commands ++ commands) ∷ threads }
 
 nested_end : (openers : List ℕ) → is_nested (length openers) [] ≡ true → openers ≡ []
 nested_end [] nested = refl
 nested_end (o ∷ os) nested = absurd (false≢true nested)
 
-started_says : (p : Progress) → p.started ≡ true → contents_of p ≡ record { fuel = fuel_of p; objects = p.objects; threads = p.threads ++ p.commands ∷ [] }
+started_says : (p : Draft) → p.started ≡ true → contents_of p ≡ record { fuel = fuel_of p; objects = p.objects; threads = p.threads ++ p.commands ∷ [] }
 started_says p started = rw started refl
 
-ends_here : (p : Progress) (commands : List Command) (threads : List (List Command)) → Ready p commands threads [] → Ends (to_say p commands threads) (Ok p)
+ends_here : (p : Draft) (commands : List Command) (threads : List (List Command)) → Ready p commands threads [] → Ends (to_say p commands threads) (Ok p)
 ends_here p [] [] ready = record {
   last = p;
   taken = refl;
@@ -156,10 +156,10 @@ ends_here p [] (t ∷ ts) ready = absurd ready.lines
 ends_here p (c ∷ cs) threads ready = absurd ready.lines
 
 abbrev GoesOn : List (List ℕ) → Type 0
-GoesOn ls = (commands : List Command) (threads : List (List Command)) (p : Progress) (number : ℕ) → Ready p commands threads (filter is_filled (map words_of_line ls)) → Ends (to_say p commands threads) (judged_lines ls p number)
+GoesOn ls = (commands : List Command) (threads : List (List Command)) (p : Draft) (number : ℕ) → Ready p commands threads (filter is_filled (map words_of_line ls)) → Ends (to_say p commands threads) (judged_lines ls p number)
 
 -- a line of a command
-command_step : (ls : List (List ℕ)) (first : List ℕ) (others : List (List ℕ)) (c : Command) (commands : List Command) (threads : List (List Command)) (p : Progress) (number : ℕ) → GoesOn ls → Ready p (c ∷ commands) threads ((first ∷ others) ∷ filter is_filled (map words_of_line ls)) → Ends (to_say p (c ∷ commands) threads) (judged_line p number (first ∷ others) >>= λ q. judged_lines ls q (suc number))
+command_step : (ls : List (List ℕ)) (first : List ℕ) (others : List (List ℕ)) (c : Command) (commands : List Command) (threads : List (List Command)) (p : Draft) (number : ℕ) → GoesOn ls → Ready p (c ∷ commands) threads ((first ∷ others) ∷ filter is_filled (map words_of_line ls)) → Ends (to_say p (c ∷ commands) threads) (judged_line p number (first ∷ others) >>= λ q. judged_lines ls q (suc number))
 command_step ls first others c commands threads p number go ready =
     let takes = command_taken p number c commands ready.nested in
     let q = added p c takes.openers in
@@ -176,17 +176,17 @@ command_step ls first others c commands threads p number go ready =
     let same = ap (λ cs. record { fuel = fuel_of p; objects = p.objects; threads = p.threads ++ cs ∷ threads }) (append_assoc p.commands (c ∷ []) commands) in
     rw good (subst (λ said. Ends said (judged_lines ls q (suc number))) same ends)
 
-thread_judged : (p : Progress) (line : ℕ) (first : List ℕ) (others : List (List ℕ)) → AllZip (IsPart (names_of p)) (Word (codes "thread") ∷ []) (first ∷ others) → judged_line p line (first ∷ others) ≡ with_thread p line
+thread_judged : (p : Draft) (line : ℕ) (first : List ℕ) (others : List (List ℕ)) → AllZip (IsPart (names_of p)) (Word (codes "thread") ∷ []) (first ∷ others) → judged_line p line (first ∷ others) ≡ with_thread p line
 thread_judged p line first [] w = rw w.0 refl
 thread_judged p line first (a ∷ more) w = absurd w.1
 
-thread_taken : (p : Progress) (line : ℕ) → p.openers ≡ [] → length (threads_of p) < 16 → suc (length (threads_of p)) * fuel_of p ≤ 262144 → with_thread p line ≡ Ok (record p { started = true; threads = threads_of p; commands = [] })
+thread_taken : (p : Draft) (line : ℕ) → p.openers ≡ [] → length (threads_of p) < 16 → suc (length (threads_of p)) * fuel_of p ≤ 262144 → with_thread p line ≡ Ok (record p { started = true; threads = threads_of p; commands = [] })
 thread_taken p line none few enough =
     let count = lt-leb 16 (length (threads_of p)) few in
     let fuel = le-ltb 262144 (suc (length (threads_of p)) * fuel_of p) enough in
     rw (none, count, fuel) refl
 
-started_count : (p : Progress) → p.started ≡ true → length (threads_of p) ≡ suc (length p.threads)
+started_count : (p : Draft) → p.started ≡ true → length (threads_of p) ≡ suc (length p.threads)
 started_count p started = ap length (started_threads p started) ∙ length-append p.threads (p.commands ∷ []) ∙ omega arith
 
 -- so much work for some of the threads, where it is for all
@@ -194,7 +194,7 @@ less_work : (some all fuel : ℕ) → some ≤ all → all * fuel ≤ 262144 →
 less_work some all fuel fewer work = omega (arith, mul-le-mul_right fuel fewer, work)
 
 -- a line of a thread
-thread_step : (ls : List (List ℕ)) (first : List ℕ) (others : List (List ℕ)) (t : List Command) (ts : List (List Command)) (p : Progress) (number : ℕ) → GoesOn ls → Ready p [] (t ∷ ts) ((first ∷ others) ∷ filter is_filled (map words_of_line ls)) → Ends (to_say p [] (t ∷ ts)) (judged_line p number (first ∷ others) >>= λ q. judged_lines ls q (suc number))
+thread_step : (ls : List (List ℕ)) (first : List ℕ) (others : List (List ℕ)) (t : List Command) (ts : List (List Command)) (p : Draft) (number : ℕ) → GoesOn ls → Ready p [] (t ∷ ts) ((first ∷ others) ∷ filter is_filled (map words_of_line ls)) → Ends (to_say p [] (t ∷ ts)) (judged_line p number (first ∷ others) >>= λ q. judged_lines ls q (suc number))
 thread_step ls first others t ts p number go ready =
     let none = nested_end p.openers ready.nested in
     let size = started_count p ready.started in
@@ -218,7 +218,7 @@ thread_step ls first others t ts p number go ready =
     let same = ap (λ every. record { fuel = fuel_of p; objects = p.objects; threads = every }) all in
     rw good (subst (λ said. Ends said (judged_lines ls q (suc number))) same ends)
 
-line_step : (words : List (List ℕ)) (ls : List (List ℕ)) (commands : List Command) (threads : List (List Command)) (p : Progress) (number : ℕ) → GoesOn ls → Ready p commands threads (cond (is_filled words) (words ∷ filter is_filled (map words_of_line ls)) (filter is_filled (map words_of_line ls))) → Ends (to_say p commands threads) (judged_line p number words >>= λ q. judged_lines ls q (suc number))
+line_step : (words : List (List ℕ)) (ls : List (List ℕ)) (commands : List Command) (threads : List (List Command)) (p : Draft) (number : ℕ) → GoesOn ls → Ready p commands threads (cond (is_filled words) (words ∷ filter is_filled (map words_of_line ls)) (filter is_filled (map words_of_line ls))) → Ends (to_say p commands threads) (judged_line p number words >>= λ q. judged_lines ls q (suc number))
 line_step [] ls commands threads p number go ready = go commands threads p (suc number) ready
 line_step (first ∷ others) ls (c ∷ commands) threads p number go ready = command_step ls first others c commands threads p number go ready
 line_step (first ∷ others) ls [] (t ∷ ts) p number go ready = thread_step ls first others t ts p number go ready
@@ -229,7 +229,7 @@ goes_on [] commands threads p number ready = ends_here p commands threads ready
 goes_on (line ∷ ls) commands threads p number ready = line_step (words_of_line line) ls commands threads p number (goes_on ls) ready
 
 -- before the first thread, with these heads to come, and these threads
-pub record Starting (p : Progress) (heads : List Head) (first : List Command) (threads : List (List Command)) (fuel : ℕ) (objects : List Declaration) (said : List (List (List ℕ))) : Type 0 where
+pub record Starting (p : Draft) (heads : List Head) (first : List Command) (threads : List (List Command)) (fuel : ℕ) (objects : List Declaration) (said : List (List (List ℕ))) : Type 0 where
   pub started : p.started ≡ false
   pub no_threads : p.threads ≡ []
   pub none_open : p.openers ≡ []
@@ -244,18 +244,18 @@ pub record Starting (p : Progress) (heads : List Head) (first : List Command) (t
   pub enough : suc (length threads) * fuel ≤ 262144
   pub lines : AreForms (declared_names objects) (map head_form heads ++ flat_map thread_forms (first ∷ threads)) said
 
-fuel_judged : (names : List (List ℕ)) (p : Progress) (line fuel : ℕ) (first : List ℕ) (others : List (List ℕ)) → p.started ≡ false → AllZip (IsPart names) (head_form (FuelHead fuel)) (first ∷ others) → judged_line p line (first ∷ others) ≡ with_fuel p line fuel
+fuel_judged : (names : List (List ℕ)) (p : Draft) (line fuel : ℕ) (first : List ℕ) (others : List (List ℕ)) → p.started ≡ false → AllZip (IsPart names) (head_form (FuelHead fuel)) (first ∷ others) → judged_line p line (first ∷ others) ≡ with_fuel p line fuel
 fuel_judged names p line fuel first (a ∷ []) started w = rw (w.0, started, w.1.0) refl
 fuel_judged names p line fuel first [] started w = absurd w.1
 fuel_judged names p line fuel first (a ∷ b ∷ more) started w = absurd w.1.1
 
-fuel_taken : (p : Progress) (line fuel : ℕ) → p.fuel ≡ None → 1 ≤ fuel → fuel ≤ 262144 → with_fuel p line fuel ≡ Ok (record p { fuel = Some fuel })
+fuel_taken : (p : Draft) (line fuel : ℕ) → p.fuel ≡ None → 1 ≤ fuel → fuel ≤ 262144 → with_fuel p line fuel ≡ Ok (record p { fuel = Some fuel })
 fuel_taken p line fuel none low high =
     let not_zero : (fuel == 0) ≡ false = ne_eqb fuel 0 (λ is. omega (arith, is, low)) in
     let not_over = le-ltb 262144 fuel high in
     rw (none, not_zero, not_over) refl
 
-object_judged : (names : List (List ℕ)) (p : Progress) (line : ℕ) (object : Declaration) (first : List ℕ) (others : List (List ℕ)) → p.started ≡ false → AllZip (IsPart names) (head_form (ObjectHead object)) (first ∷ others) → object_of (names_of p) object.name ≡ None → length p.objects < 1024 → judged_line p line (first ∷ others) ≡ Ok (record p { objects = p.objects ++ object ∷ [] })
+object_judged : (names : List (List ℕ)) (p : Draft) (line : ℕ) (object : Declaration) (first : List ℕ) (others : List (List ℕ)) → p.started ≡ false → AllZip (IsPart names) (head_form (ObjectHead object)) (first ∷ others) → object_named (names_of p) object.name ≡ None → length p.objects < 1024 → judged_line p line (first ∷ others) ≡ Ok (record p { objects = p.objects ++ object ∷ [] })
 object_judged names p line object first (a ∷ b ∷ []) started w fresh few =
     let room = lt-leb 1024 (length p.objects) few in
     rw (w.0, started, w.1.0.0, w.1.0.1, fresh, w.1.1.0, room) refl
@@ -279,7 +279,7 @@ not_before (n ∷ names) name more distinct =
     let none = not-true (list_any (bytes_eq n) (names ++ name ∷ more)) parts.0 in
     fresh_here name n names (bytes_eq name n) refl (any_in_middle (bytes_eq n) names name more none) (not_before names name more parts.1)
 
-name_fresh : (objects : List Declaration) (object : Declaration) (more : List Declaration) → are_distinct (declared_names (objects ++ object ∷ more)) ≡ true → object_of (declared_names objects) object.name ≡ None
+name_fresh : (objects : List Declaration) (object : Declaration) (more : List Declaration) → are_distinct (declared_names (objects ++ object ∷ more)) ≡ true → object_named (declared_names objects) object.name ≡ None
 name_fresh objects object more distinct =
     let names = declared_names objects in
     let split = map-append (λ (o : Declaration). o.name) objects (object ∷ more) in
@@ -297,9 +297,9 @@ fuel_last None fuel is = is
 fuel_last (Some x) fuel is = is
 
 abbrev StartsOn : List Command → List (List Command) → ℕ → List Declaration → List (List ℕ) → Type 0
-StartsOn first threads fuel objects ls = (heads : List Head) (p : Progress) (number : ℕ) → Starting p heads first threads fuel objects (filter is_filled (map words_of_line ls)) → Ends (record { fuel = fuel; objects = objects; threads = first ∷ threads }) (judged_lines ls p number)
+StartsOn first threads fuel objects ls = (heads : List Head) (p : Draft) (number : ℕ) → Starting p heads first threads fuel objects (filter is_filled (map words_of_line ls)) → Ends (record { fuel = fuel; objects = objects; threads = first ∷ threads }) (judged_lines ls p number)
 
-fuel_step : (ls : List (List ℕ)) (word : List ℕ) (others : List (List ℕ)) (f : ℕ) (heads : List Head) (t : List Command) (ts : List (List Command)) (fuel : ℕ) (objects : List Declaration) (p : Progress) (number : ℕ) → StartsOn t ts fuel objects ls → Starting p (FuelHead f ∷ heads) t ts fuel objects ((word ∷ others) ∷ filter is_filled (map words_of_line ls)) → Ends (record { fuel = fuel; objects = objects; threads = t ∷ ts }) (judged_line p number (word ∷ others) >>= λ q. judged_lines ls q (suc number))
+fuel_step : (ls : List (List ℕ)) (word : List ℕ) (others : List (List ℕ)) (f : ℕ) (heads : List Head) (t : List Command) (ts : List (List Command)) (fuel : ℕ) (objects : List Declaration) (p : Draft) (number : ℕ) → StartsOn t ts fuel objects ls → Starting p (FuelHead f ∷ heads) t ts fuel objects ((word ∷ others) ∷ filter is_filled (map words_of_line ls)) → Ends (record { fuel = fuel; objects = objects; threads = t ∷ ts }) (judged_line p number (word ∷ others) >>= λ q. judged_lines ls q (suc number))
 fuel_step ls word others f heads t ts fuel objects p number go starting =
     let given = fuel_first p.fuel f (fuels heads) fuel starting.given in
     let q = record p { fuel = Some f } in
@@ -321,7 +321,7 @@ fuel_step ls word others f heads t ts fuel objects p number go starting =
     } in
     rw good (go heads q (suc number) next)
 
-object_step : (ls : List (List ℕ)) (word : List ℕ) (others : List (List ℕ)) (object : Declaration) (heads : List Head) (t : List Command) (ts : List (List Command)) (fuel : ℕ) (objects : List Declaration) (p : Progress) (number : ℕ) → StartsOn t ts fuel objects ls → Starting p (ObjectHead object ∷ heads) t ts fuel objects ((word ∷ others) ∷ filter is_filled (map words_of_line ls)) → Ends (record { fuel = fuel; objects = objects; threads = t ∷ ts }) (judged_line p number (word ∷ others) >>= λ q. judged_lines ls q (suc number))
+object_step : (ls : List (List ℕ)) (word : List ℕ) (others : List (List ℕ)) (object : Declaration) (heads : List Head) (t : List Command) (ts : List (List Command)) (fuel : ℕ) (objects : List Declaration) (p : Draft) (number : ℕ) → StartsOn t ts fuel objects ls → Starting p (ObjectHead object ∷ heads) t ts fuel objects ((word ∷ others) ∷ filter is_filled (map words_of_line ls)) → Ends (record { fuel = fuel; objects = objects; threads = t ∷ ts }) (judged_line p number (word ∷ others) >>= λ q. judged_lines ls q (suc number))
 object_step ls word others object heads t ts fuel objects p number go starting =
     let q = record p { objects = p.objects ++ object ∷ [] } in
     let size = ap length starting.all_objects in
@@ -346,7 +346,7 @@ object_step ls word others object heads t ts fuel objects p number go starting =
     rw good (go heads q (suc number) next)
 
 -- the first thread
-first_step : (ls : List (List ℕ)) (word : List ℕ) (others : List (List ℕ)) (t : List Command) (ts : List (List Command)) (fuel : ℕ) (objects : List Declaration) (p : Progress) (number : ℕ) → Starting p [] t ts fuel objects ((word ∷ others) ∷ filter is_filled (map words_of_line ls)) → Ends (record { fuel = fuel; objects = objects; threads = t ∷ ts }) (judged_line p number (word ∷ others) >>= λ q. judged_lines ls q (suc number))
+first_step : (ls : List (List ℕ)) (word : List ℕ) (others : List (List ℕ)) (t : List Command) (ts : List (List Command)) (fuel : ℕ) (objects : List Declaration) (p : Draft) (number : ℕ) → Starting p [] t ts fuel objects ((word ∷ others) ∷ filter is_filled (map words_of_line ls)) → Ends (record { fuel = fuel; objects = objects; threads = t ∷ ts }) (judged_line p number (word ∷ others) >>= λ q. judged_lines ls q (suc number))
 first_step ls word others t ts fuel objects p number starting =
     let same_objects : p.objects ≡ objects = sym (append-nil p.objects) ∙ starting.all_objects in
     let same_fuel = fuel_last p.fuel fuel starting.given in
@@ -372,7 +372,7 @@ first_step ls word others t ts fuel objects p number starting =
     let same : to_say q t ts ≡ record { fuel = fuel; objects = objects; threads = t ∷ ts } = λ i. record { fuel = sym same_fuel i; objects = same_objects i; threads = all i } in
     rw good (subst (λ said. Ends said (judged_lines ls q (suc number))) same ends)
 
-head_step : (words : List (List ℕ)) (ls : List (List ℕ)) (heads : List Head) (t : List Command) (ts : List (List Command)) (fuel : ℕ) (objects : List Declaration) (p : Progress) (number : ℕ) → StartsOn t ts fuel objects ls → Starting p heads t ts fuel objects (cond (is_filled words) (words ∷ filter is_filled (map words_of_line ls)) (filter is_filled (map words_of_line ls))) → Ends (record { fuel = fuel; objects = objects; threads = t ∷ ts }) (judged_line p number words >>= λ q. judged_lines ls q (suc number))
+head_step : (words : List (List ℕ)) (ls : List (List ℕ)) (heads : List Head) (t : List Command) (ts : List (List Command)) (fuel : ℕ) (objects : List Declaration) (p : Draft) (number : ℕ) → StartsOn t ts fuel objects ls → Starting p heads t ts fuel objects (cond (is_filled words) (words ∷ filter is_filled (map words_of_line ls)) (filter is_filled (map words_of_line ls))) → Ends (record { fuel = fuel; objects = objects; threads = t ∷ ts }) (judged_line p number words >>= λ q. judged_lines ls q (suc number))
 head_step [] ls heads t ts fuel objects p number go starting = go heads p (suc number) starting
 head_step (word ∷ others) ls [] t ts fuel objects p number go starting = first_step ls word others t ts fuel objects p number starting
 head_step (word ∷ others) ls (FuelHead f ∷ heads) t ts fuel objects p number go starting = fuel_step ls word others f heads t ts fuel objects p number go starting
@@ -397,7 +397,7 @@ pub record IsValidContents (said : Contents) : Type 0 where
 pick_ok : {A : Type 0} (b : Bool) (x : A) (e : ScriptFault) → b ≡ true → cond b (Ok x) (Err e) ≡ Ok x
 pick_ok b x e is = rw is refl
 
-end_good : (p : Progress) (last : ℕ) (said : Contents) → p.openers ≡ [] → p.started ≡ true → contents_of p ≡ said → judged_end p last ≡ Ok said
+end_good : (p : Draft) (last : ℕ) (said : Contents) → p.openers ≡ [] → p.started ≡ true → contents_of p ≡ said → judged_end p last ≡ Ok said
 end_good p last said none started says =
     ap (λ openers. all_closed openers >>= λ _. cond p.started (Ok (contents_of p)) (Err (Refused last NoThread))) none
     ∙ pick_ok p.started (contents_of p) (Refused last NoThread) started
@@ -422,7 +422,7 @@ lines_good text fuel objects (t ∷ ts) valid spells = starts_on (lines text) t 
 })
 
 -- a text that spells what a valid script says is judged good
-pub spelled_judged : (text : List ℕ) (said : Contents) → IsValidContents said → SpellsContents text said → judgement text ≡ Ok said
+pub spelled_judged : (text : List ℕ) (said : Contents) → IsValidContents said → SpellsContents text said → parsed text ≡ Ok said
 spelled_judged text said valid spells =
     let ends = lines_good text said.fuel said.objects said.threads valid spells in
     let bytes = valid_bytes text spells.utf8 in

@@ -7,20 +7,14 @@ use Rattle.std.proofs.lemmas.List.Splits.{slice_split_first}
 use Rattle.std.proofs.lemmas.List.Sums.{passes_at_first}
 use Rattle.std.proofs.lemmas.Bool.{false≢true}
 use Rattle.std.proofs.lemmas.Bool.Decides.{nat_tests}
-use Rattle.std.specs.Str.{bytes_eq}
-use Rattle.octet_model.specs.declared.object.Object.{Object}
-use Rattle.octet_script.specs.Spelling.{declaration, object_names, object_of}
 use Rattle.octet_script.specs.Words.{words, is_blank, is_filled}
 
 prefix-map : {X Y : Type 0} (p : Y → Bool) (f : X → Y) (xs : List X) → prefix_len p (map f xs) ≡ prefix_len (λ x. p (f x)) xs
 prefix-map p f [] = refl
 prefix-map p f (x ∷ xs) = ap (λ n. cond (p (f x)) (1 + n) 0) (prefix-map p f xs)
 
-position_of_map : {X Y : Type 0} (p : Y → Bool) (f : X → Y) (xs : List X) → position p (map f xs) ≡ position (λ x. p (f x)) xs
+pub position_of_map : {X Y : Type 0} (p : Y → Bool) (f : X → Y) (xs : List X) → position p (map f xs) ≡ position (λ x. p (f x)) xs
 position_of_map p f xs = rw (prefix-map (λ y. not (p y)) f xs, length-map xs f) refl
-
-pub position_of_names : (objects : List Object) (name : List ℕ) → object_of (object_names objects) name ≡ position (λ o. bytes_eq name o.name) objects
-position_of_names objects name = position_of_map (bytes_eq name) (λ o. o.name) (map declaration objects) ∙ position_of_map (λ o. bytes_eq name o.name) declaration objects
 
 chosen_some : (b : Bool) (n i : ℕ) → cond b (Some n) None ≡ Some i → (b ≡ true) × (n ≡ i)
 chosen_some true n i e = (refl, cc)

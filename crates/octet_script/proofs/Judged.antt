@@ -1,4 +1,4 @@
--- How the judgement of lines goes on, and how it stops.
+-- How lines are judged on, and where that stops.
 use Rattle.std.proofs.Common.{◌≡◌, ℕ, suc, ◌+◌, ◌<◌, true, false, List, [], ◌∷◌, length, take, drop, Some, None, Result, Ok, Err, refl, ap, sym, ◌∙◌, arith, length-drop}
 use Rattle.std.specs.Prelude.{nat_lt}
 use Rattle.std.specs.List.{position}
@@ -10,12 +10,12 @@ use Rattle.std.proofs.lemmas.List.{drop-drop}
 use Rattle.std.proofs.lemmas.List.Splits.{slice_split_first}
 use Rattle.std.specs.Option.{is_some}
 use Rattle.octet_model.specs.Name.{is_name}
-use Rattle.octet_script.specs.Spelling.{object_of}
+use Rattle.octet_script.specs.Spelling.{object_named}
 use Rattle.octet_script.specs.declared.cause.ScriptCause.TheVariants.{NameTwice}
 use Rattle.octet_script.specs.declared.cause.ScriptFault.{ScriptFault}
 use Rattle.octet_script.specs.declared.cause.ScriptFault.TheVariants.{Refused, OutOfMemory}
 use Rattle.octet_script.specs.Words.{lines, is_line_end, words_of_line}
-use Rattle.octet_script.specs.Judgement.{Progress, judged_line, judged_lines, judged_bytes, judged_name, Fails}
+use Rattle.octet_script.specs.Parsing.{Draft, judged_line, judged_lines, judged_bytes, judged_name, Fails}
 use Rattle.octet_script.proofs.Cut.{position_some, position_none, split_none}
 
 pub valid_bytes : (text : List ℕ) → IsUtf8 text → judged_bytes text ≡ Ok tt
@@ -35,14 +35,14 @@ line_cut text line rest after end found line_is rest_is after_is =
 pub line_last : (text : List ℕ) → position is_line_end text ≡ None → lines text ≡ text ∷ []
 line_last text none = split_none is_line_end text (position_none is_line_end text none)
 
-pub name_twice : (names : List (List ℕ)) (line : ℕ) (word : List ℕ) → is_name word ≡ true → is_some (object_of names word) ≡ true → judged_name names line word ≡ Err (Refused line NameTwice)
+pub name_twice : (names : List (List ℕ)) (line : ℕ) (word : List ℕ) → is_name word ≡ true → is_some (object_named names word) ≡ true → judged_name names line word ≡ Err (Refused line NameTwice)
 name_twice names line word good twice = rw (good, twice) refl
 
 -- where a line is refused, all is
-pub refused_here : (e : ScriptFault) (line : List ℕ) (more : List (List ℕ)) (p : Progress) (number : ℕ) (total : Result Progress ScriptFault) → judged_lines (line ∷ more) p number ≡ total → Fails e (judged_line p number (words_of_line line)) → Fails e total
+pub refused_here : (e : ScriptFault) (line : List ℕ) (more : List (List ℕ)) (p : Draft) (number : ℕ) (total : Result Draft ScriptFault) → judged_lines (line ∷ more) p number ≡ total → Fails e (judged_line p number (words_of_line line)) → Fails e total
 refused_here OutOfMemory line more p number total is refused = tt
 refused_here (Refused at cause) line more p number total is refused = sym is ∙ rw refused refl
 
 -- where it isn't, the next is judged
-pub judged_on : (line : List ℕ) (more : List (List ℕ)) (p q : Progress) (number : ℕ) (total : Result Progress ScriptFault) → judged_lines (line ∷ more) p number ≡ total → judged_line p number (words_of_line line) ≡ Ok q → judged_lines more q (suc number) ≡ total
+pub judged_on : (line : List ℕ) (more : List (List ℕ)) (p q : Draft) (number : ℕ) (total : Result Draft ScriptFault) → judged_lines (line ∷ more) p number ≡ total → judged_line p number (words_of_line line) ≡ Ok q → judged_lines more q (suc number) ≡ total
 judged_on line more p q number total is good = rw good at is

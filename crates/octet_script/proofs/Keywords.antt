@@ -1,7 +1,7 @@
 -- Words of six letters.
 use Rattle.std.proofs.Common.{◌≡◌, ℕ, List, [], ◌∷◌, length, get_or, Some, refl, ap, arith}
 use Rattle.octet_script.specs.declared.keyword.Keyword.TheVariants.{Object, Thread}
-use Rattle.octet_script.specs.Judgement.{keyword}
+use Rattle.octet_script.specs.Parsing.{keyword}
 
 six_bytes : (w : List ℕ) → length w ≡ 6 → w ≡ get_or w 0 0 ∷ get_or w 1 0 ∷ get_or w 2 0 ∷ get_or w 3 0 ∷ get_or w 4 0 ∷ get_or w 5 0 ∷ []
 six_bytes (a ∷ b ∷ c ∷ d ∷ e ∷ f ∷ []) h = refl

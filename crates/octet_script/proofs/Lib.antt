@@ -1,5 +1,6 @@
 pub mod Keywords
 pub mod Cut
+pub mod Declared
 pub mod Numbers
 pub mod Judged
 pub mod Printed
@@ -9,3 +10,5 @@ pub mod Sound
 pub mod Spelled
 pub mod Complete
 pub mod Canonical
+pub mod BrokenRules
+pub mod lemmas

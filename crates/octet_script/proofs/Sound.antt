@@ -19,23 +19,23 @@ use Rattle.octet_script.specs.declared.keyword.Keyword.{Keyword}
 use Rattle.octet_script.specs.declared.keyword.Keyword.TheVariants.{Fuel, Object as ObjectWord, Thread, Command as CommandWord}
 use Rattle.octet_script.specs.declared.keyword.Verb.{Verb}
 use Rattle.octet_script.specs.declared.keyword.Verb.TheVariants as verb
-use Rattle.octet_script.specs.declared.keyword.Operation.{Operation}
-use Rattle.octet_script.specs.declared.keyword.Operation.TheVariants as operation
+use Rattle.octet_script.specs.declared.keyword.Arithmetic.{Arithmetic}
+use Rattle.octet_script.specs.declared.keyword.Arithmetic.TheVariants as operation
 use Rattle.octet_script.specs.Words.{lines, words_of_line, is_filled}
-use Rattle.octet_script.specs.Spelling.{Word, Register, IsPart, Head, FuelHead, ObjectHead, head_form, command_form, thread_forms, script_forms, fuels, declared, Declaration, declared_names, IsFuel, Contents, AreForms, SpellsContents, number_of, register_of, object_of}
-use Rattle.octet_script.specs.Judgement.{◌>>=◌, Progress, start, keywords, named_in, keyword, word_count, is_misplaced, judgement, judged_bytes, judged_end, judged_lines, judged_line, judged_arguments, number_at, register_at, object_at, name_at, word_at, with_fuel, with_object, with_command, begun, added, closed, all_closed, command_of, operation_command, threads_of, contents_of, fuel_of, names_of}
+use Rattle.octet_script.specs.Spelling.{Word, Register, IsPart, Head, FuelHead, ObjectHead, head_form, command_form, thread_forms, script_forms, fuels, declared, Declaration, declared_names, IsFuel, Contents, AreForms, SpellsContents, number_of, register_of, object_named}
+use Rattle.octet_script.specs.Parsing.{◌>>=◌, Draft, start, keywords, named_in, keyword, word_count, is_misplaced, parsed, judged_bytes, judged_end, judged_lines, judged_line, judged_arguments, number_at, register_at, object_at, name_at, word_at, with_fuel, with_object, with_command, begun, added, closed, all_closed, command_of, arithmetic_command, threads_of, contents_of, fuel_of, names_of}
 use Rattle.octet_script.specs.Building.{IsValidSoFar}
 use Rattle.octet_script.proofs.Steps.{bind_ok, guard_ok, ok_or_ok, not_false, none_of, either_false, same_bytes, name_new, keyword_ok}
 use Rattle.octet_script.proofs.Valid.{start_valid, line_valid, none_yet, is_plain, with_plain}
 
 -- the word of a keyword
-abbrev pub operation_word : Operation → List ℕ
-operation_word operation.Add = codes "add"
-operation_word operation.Sub = codes "sub"
-operation_word operation.Mul = codes "mul"
-operation_word operation.Xor = codes "xor"
-operation_word operation.Less = codes "less"
-operation_word operation.Same = codes "same"
+abbrev pub arithmetic_word : Arithmetic → List ℕ
+arithmetic_word operation.Add = codes "add"
+arithmetic_word operation.Sub = codes "sub"
+arithmetic_word operation.Mul = codes "mul"
+arithmetic_word operation.Xor = codes "xor"
+arithmetic_word operation.Less = codes "less"
+arithmetic_word operation.Same = codes "same"
 
 abbrev pub keyword_word : Keyword → List ℕ
 keyword_word Fuel = codes "fuel"
@@ -50,7 +50,7 @@ keyword_word (CommandWord verb.If) = codes "if"
 keyword_word (CommandWord verb.End) = codes "end"
 keyword_word (CommandWord verb.Safe) = codes "safe"
 keyword_word (CommandWord verb.Pause) = codes "pause"
-keyword_word (CommandWord (verb.Operation op)) = operation_word op
+keyword_word (CommandWord (verb.Arithmetic op)) = arithmetic_word op
 
 -- each keyword of the list stands beside its word
 abbrev AreWords : List (List ℕ × Keyword) → Type 0
@@ -70,7 +70,7 @@ named_word ((own, k) ∷ more) word found are e = named_step own word k found (n
 pub word_of_keyword : (word : List ℕ) (k : Keyword) → keyword word ≡ Some k → word ≡ keyword_word k
 word_of_keyword word k e = named_word keywords word k ((refl, (refl, (refl, (refl, (refl, (refl, (refl, (refl, (refl, (refl, (refl, (refl, (refl, (refl, (refl, (refl, (refl, (refl, tt))))))))))))))))))) e
 
-operation_form : (op : Operation) (to left right : ℕ) → command_form (operation_command op to left right) ≡ Word (operation_word op) ∷ Register to ∷ Register left ∷ Register right ∷ []
+operation_form : (op : Arithmetic) (to left right : ℕ) → command_form (arithmetic_command op to left right) ≡ Word (arithmetic_word op) ∷ Register to ∷ Register left ∷ Register right ∷ []
 operation_form operation.Add to left right = refl
 operation_form operation.Sub to left right = refl
 operation_form operation.Mul to left right = refl
@@ -84,8 +84,8 @@ register_part line words place r is = ok_or_ok (register_of (word_at words place
 number_part : (line : ℕ) (words : List (List ℕ)) (place n : ℕ) → number_at line words place ≡ Ok n → number_of (word_at words place) ≡ Some n
 number_part line words place n is = ok_or_ok (number_of (word_at words place)) (Refused line BadNumber) n is
 
-object_part : (names : List (List ℕ)) (line : ℕ) (words : List (List ℕ)) (place o : ℕ) → object_at names line words place ≡ Ok o → object_of names (word_at words place) ≡ Some o
-object_part names line words place o is = ok_or_ok (object_of names (word_at words place)) (Refused line NoSuchObject) o is
+object_part : (names : List (List ℕ)) (line : ℕ) (words : List (List ℕ)) (place o : ℕ) → object_at names line words place ≡ Ok o → object_named names (word_at words place) ≡ Some o
+object_part names line words place o is = ok_or_ok (object_named names (word_at words place)) (Refused line NoSuchObject) o is
 
 -- the words of a command that was read
 command_written : (names : List (List ℕ)) (line : ℕ) (first : List ℕ) (others : List (List ℕ)) (v : Verb) (c : Command) → first ≡ keyword_word (CommandWord v) → length (first ∷ others) ≡ word_count (CommandWord v) → command_of names line (first ∷ others) v ≡ Ok c → AllZip (IsPart names) (command_form c) (first ∷ others)
@@ -107,18 +107,18 @@ command_written names line first (a ∷ b ∷ []) verb.Copy c word count is =
 command_written names line first ([]) verb.Copy c word count is = absurd (omega arith)
 command_written names line first (a ∷ []) verb.Copy c word count is = absurd (omega arith)
 command_written names line first (a ∷ b ∷ e ∷ more) verb.Copy c word count is = absurd (omega arith)
-command_written names line first (a ∷ b ∷ e ∷ []) (verb.Operation op) c word count is =
+command_written names line first (a ∷ b ∷ e ∷ []) (verb.Arithmetic op) c word count is =
     let words = first ∷ a ∷ b ∷ e ∷ [] in
-    let to = bind_ok (register_at line words 1) (λ to. register_at line words 2 >>= λ left. register_at line words 3 >>= λ right. Ok (operation_command op to left right)) c is in
-    let left = bind_ok (register_at line words 2) (λ left. register_at line words 3 >>= λ right. Ok (operation_command op to.0 left right)) c to.2 in
-    let right = bind_ok (register_at line words 3) (λ right. Ok (operation_command op to.0 left.0 right)) c left.2 in
-    let same : operation_command op to.0 left.0 right.0 ≡ c = cc in
+    let to = bind_ok (register_at line words 1) (λ to. register_at line words 2 >>= λ left. register_at line words 3 >>= λ right. Ok (arithmetic_command op to left right)) c is in
+    let left = bind_ok (register_at line words 2) (λ left. register_at line words 3 >>= λ right. Ok (arithmetic_command op to.0 left right)) c to.2 in
+    let right = bind_ok (register_at line words 3) (λ right. Ok (arithmetic_command op to.0 left.0 right)) c left.2 in
+    let same : arithmetic_command op to.0 left.0 right.0 ≡ c = cc in
     let form = sym (operation_form op to.0 left.0 right.0) ∙ ap command_form same in
     subst (λ parts. AllZip (IsPart names) parts words) form (word, (register_part line words 1 to.0 to.1, (register_part line words 2 left.0 left.1, (register_part line words 3 right.0 right.1, tt))))
-command_written names line first ([]) (verb.Operation op) c word count is = absurd (omega arith)
-command_written names line first (a ∷ []) (verb.Operation op) c word count is = absurd (omega arith)
-command_written names line first (a ∷ b ∷ []) (verb.Operation op) c word count is = absurd (omega arith)
-command_written names line first (a ∷ b ∷ e ∷ f ∷ more) (verb.Operation op) c word count is = absurd (omega arith)
+command_written names line first ([]) (verb.Arithmetic op) c word count is = absurd (omega arith)
+command_written names line first (a ∷ []) (verb.Arithmetic op) c word count is = absurd (omega arith)
+command_written names line first (a ∷ b ∷ []) (verb.Arithmetic op) c word count is = absurd (omega arith)
+command_written names line first (a ∷ b ∷ e ∷ f ∷ more) (verb.Arithmetic op) c word count is = absurd (omega arith)
 command_written names line first (a ∷ b ∷ []) verb.Read c word count is =
     let words = first ∷ a ∷ b ∷ [] in
     let to = bind_ok (register_at line words 1) (λ to. object_at names line words 2 >>= λ object. Ok (command.Read to object)) c is in
@@ -165,7 +165,7 @@ command_written names line first [] verb.Pause c word count is =
 command_written names line first (a ∷ more) verb.Pause c word count is = absurd (omega arith)
 
 -- the lines so far are written for what they have said
-pub record Told (p : Progress) (said : List (List (List ℕ))) : Type 0 where
+pub record Told (p : Draft) (said : List (List (List ℕ))) : Type 0 where
   pub heads : List Head
   pub fuel : fuels heads ≡ option_to_list p.fuel
   pub objects : declared heads ≡ p.objects
@@ -249,10 +249,10 @@ thread_written : (names : List (List ℕ)) (first : List ℕ) (others : List (Li
 thread_written names first [] word count = (word, tt)
 thread_written names first (a ∷ more) word count = absurd (omega arith)
 
-lines_of_heads : (p : Progress) (said : List (List (List ℕ))) (told : Told p said) → threads_of p ≡ [] → AreForms (names_of p) (map head_form told.heads) said
+lines_of_heads : (p : Draft) (said : List (List (List ℕ))) (told : Told p said) → threads_of p ≡ [] → AreForms (names_of p) (map head_form told.heads) said
 lines_of_heads p said told none = subst (λ forms. AreForms (names_of p) forms said) (heads_only told.heads (threads_of p) none) told.lines
 
-fuel_told : (p : Progress) (fuel : ℕ) (words : List (List ℕ)) (said : List (List (List ℕ))) → threads_of p ≡ [] → p.fuel ≡ None → AllZip (IsPart (names_of p)) (head_form (FuelHead fuel)) words → Told p said → Told (record p { fuel = Some fuel }) (said ++ words ∷ [])
+fuel_told : (p : Draft) (fuel : ℕ) (words : List (List ℕ)) (said : List (List (List ℕ))) → threads_of p ≡ [] → p.fuel ≡ None → AllZip (IsPart (names_of p)) (head_form (FuelHead fuel)) words → Told p said → Told (record p { fuel = Some fuel }) (said ++ words ∷ [])
 fuel_told p fuel words said nothing none written told = record {
   heads = told.heads ++ FuelHead fuel ∷ [];
   fuel = fuels_push told.heads fuel ∙ rw (told.fuel, none) refl;
@@ -260,7 +260,7 @@ fuel_told p fuel words said nothing none written told = record {
   lines = subst (λ forms. AreForms (names_of p) forms (said ++ words ∷ [])) (head_push told.heads (FuelHead fuel) (threads_of p) nothing) (all_push (AllZip (IsPart (names_of p))) (map head_form told.heads) said (head_form (FuelHead fuel)) words (lines_of_heads p said told nothing) written);
 }
 
-object_told : (p : Progress) (object : Declaration) (words : List (List ℕ)) (said : List (List (List ℕ))) → threads_of p ≡ [] → AllZip (IsPart (declared_names (p.objects ++ object ∷ []))) (head_form (ObjectHead object)) words → Told p said → Told (record p { objects = p.objects ++ object ∷ [] }) (said ++ words ∷ [])
+object_told : (p : Draft) (object : Declaration) (words : List (List ℕ)) (said : List (List (List ℕ))) → threads_of p ≡ [] → AllZip (IsPart (declared_names (p.objects ++ object ∷ []))) (head_form (ObjectHead object)) words → Told p said → Told (record p { objects = p.objects ++ object ∷ [] }) (said ++ words ∷ [])
 object_told p object words said nothing written told =
     let names = declared_names (p.objects ++ object ∷ []) in
     record {
@@ -270,7 +270,7 @@ object_told p object words said nothing written told =
       lines = subst (λ forms. AreForms names forms (said ++ words ∷ [])) (head_push told.heads (ObjectHead object) (threads_of p) nothing) (all_push (AllZip (IsPart names)) (map head_form told.heads) said (head_form (ObjectHead object)) words (heads_any (names_of p) names told.heads said (lines_of_heads p said told nothing)) written);
     }
 
-thread_told : (p : Progress) (words : List (List ℕ)) (said : List (List (List ℕ))) → AllZip (IsPart (names_of p)) (Word (codes "thread") ∷ []) words → Told p said → Told (record p { started = true; threads = threads_of p; commands = [] }) (said ++ words ∷ [])
+thread_told : (p : Draft) (words : List (List ℕ)) (said : List (List (List ℕ))) → AllZip (IsPart (names_of p)) (Word (codes "thread") ∷ []) words → Told p said → Told (record p { started = true; threads = threads_of p; commands = [] }) (said ++ words ∷ [])
 thread_told p words said written told = record {
   heads = told.heads;
   fuel = told.fuel;
@@ -278,10 +278,10 @@ thread_told p words said written told = record {
   lines = subst (λ forms. AreForms (names_of p) forms (said ++ words ∷ [])) (thread_push told.heads (threads_of p)) (all_push (AllZip (IsPart (names_of p))) (script_forms told.heads (threads_of p)) said (Word (codes "thread") ∷ []) words told.lines written);
 }
 
-pub started_threads : (p : Progress) → p.started ≡ true → threads_of p ≡ p.threads ++ p.commands ∷ []
+pub started_threads : (p : Draft) → p.started ≡ true → threads_of p ≡ p.threads ++ p.commands ∷ []
 started_threads p started = rw started refl
 
-command_told : (p : Progress) (c : Command) (openers : List ℕ) (words : List (List ℕ)) (said : List (List (List ℕ))) → p.started ≡ true → AllZip (IsPart (names_of p)) (command_form c) words → Told p said → Told (added p c openers) (said ++ words ∷ [])
+command_told : (p : Draft) (c : Command) (openers : List ℕ) (words : List (List ℕ)) (said : List (List (List ℕ))) → p.started ≡ true → AllZip (IsPart (names_of p)) (command_form c) words → Told p said → Told (added p c openers) (said ++ words ∷ [])
 command_told p c openers words said started written told =
     let before = ap (script_forms told.heads) (started_threads p started) in
     let after = ap (script_forms told.heads) (started_threads (added p c openers) started) in
@@ -293,16 +293,16 @@ command_told p c openers words said started written told =
       lines = subst (λ fs. AreForms (names_of p) fs (said ++ words ∷ [])) forms (all_push (AllZip (IsPart (names_of p))) (script_forms told.heads (threads_of p)) said (command_form c) words told.lines written);
     }
 
-closed_adds : (p q : Progress) (line : ℕ) (openers : List ℕ) → closed p line openers ≡ Ok q → (left : List ℕ) × (added p command.Close left ≡ q)
+closed_adds : (p q : Draft) (line : ℕ) (openers : List ℕ) → closed p line openers ≡ Ok q → (left : List ℕ) × (added p command.Close left ≡ q)
 closed_adds p q line [] is = cc
 closed_adds p q line (o ∷ os) is = (os, cc)
 
-plain_adds : (p q : Progress) (line : ℕ) (c : Command) → is_plain c ≡ true → with_command p line c ≡ Ok q → (left : List ℕ) × (added p c left ≡ q)
+plain_adds : (p q : Draft) (line : ℕ) (c : Command) → is_plain c ≡ true → with_command p line c ≡ Ok q → (left : List ℕ) × (added p c left ≡ q)
 plain_adds p q line c plain is =
     let here = with_plain p line c plain in
     (p.openers, cc)
 
-command_adds : (p q : Progress) (line : ℕ) (c : Command) → with_command p line c ≡ Ok q → (left : List ℕ) × (added p c left ≡ q)
+command_adds : (p q : Draft) (line : ℕ) (c : Command) → with_command p line c ≡ Ok q → (left : List ℕ) × (added p c left ≡ q)
 command_adds p q line (command.Loop test) is = (line ∷ p.openers, cc)
 command_adds p q line (command.Branch test) is = (line ∷ p.openers, cc)
 command_adds p q line command.Close is = closed_adds p q line p.openers is
@@ -319,7 +319,7 @@ command_adds p q line (command.Write a b) is = plain_adds p q line (command.Writ
 command_adds p q line command.Safe is = plain_adds p q line command.Safe refl is
 command_adds p q line command.Pause is = plain_adds p q line command.Pause refl is
 
-arguments_told : (p q : Progress) (line : ℕ) (first : List ℕ) (others : List (List ℕ)) (said : List (List (List ℕ))) (k : Keyword) → first ≡ keyword_word k → length (first ∷ others) ≡ word_count k → is_misplaced p.started k ≡ false → judged_arguments p line (first ∷ others) k ≡ Ok q → IsValidSoFar p → Told p said → Told q (said ++ (first ∷ others) ∷ [])
+arguments_told : (p q : Draft) (line : ℕ) (first : List ℕ) (others : List (List ℕ)) (said : List (List (List ℕ))) (k : Keyword) → first ≡ keyword_word k → length (first ∷ others) ≡ word_count k → is_misplaced p.started k ≡ false → judged_arguments p line (first ∷ others) k ≡ Ok q → IsValidSoFar p → Told p said → Told q (said ++ (first ∷ others) ∷ [])
 arguments_told p q line first others said Fuel word count placed is valid told =
     let words = first ∷ others in
     let step = bind_ok (number_at line words 1) (with_fuel p line) q is in
@@ -356,19 +356,19 @@ arguments_told p q line first others said (CommandWord v) word count placed is v
     let adds = command_adds p q line c.0 c.2 in
     subst (λ r. Told r (said ++ words ∷ [])) adds.1 (command_told p c.0 adds.0 words said (not_false p.started placed) (command_written (names_of p) line first others v c.0 word count c.1) told)
 
-line_told : (p q : Progress) (line : ℕ) (first : List ℕ) (others : List (List ℕ)) (said : List (List (List ℕ))) → judged_line p line (first ∷ others) ≡ Ok q → IsValidSoFar p → Told p said → Told q (said ++ (first ∷ others) ∷ [])
+line_told : (p q : Draft) (line : ℕ) (first : List ℕ) (others : List (List ℕ)) (said : List (List (List ℕ))) → judged_line p line (first ∷ others) ≡ Ok q → IsValidSoFar p → Told p said → Told q (said ++ (first ∷ others) ∷ [])
 line_told p q line first others said is valid told =
     let k = keyword_ok p q line first others is in
     arguments_told p q line first others said k.word (word_of_keyword first k.word k.is_word) k.count k.placed k.arguments valid told
 
-step_told : (p q r : Progress) (line : ℕ) (words : List (List ℕ)) (said rest : List (List (List ℕ))) → judged_line p line words ≡ Ok q → IsValidSoFar p → Told p said → ((told : List (List (List ℕ))) → Told q told → Told r (told ++ rest)) → Told r (said ++ cond (is_filled words) (words ∷ rest) rest)
+step_told : (p q r : Draft) (line : ℕ) (words : List (List ℕ)) (said rest : List (List (List ℕ))) → judged_line p line words ≡ Ok q → IsValidSoFar p → Told p said → ((told : List (List (List ℕ))) → Told q told → Told r (told ++ rest)) → Told r (said ++ cond (is_filled words) (words ∷ rest) rest)
 step_told p q r line [] said rest is valid told go =
     let same : p ≡ q = cc in
     go said (subst (λ s. Told s said) same told)
 step_told p q r line (first ∷ others) said rest is valid told go =
     subst (Told r) (append_assoc said ((first ∷ others) ∷ []) rest) (go (said ++ (first ∷ others) ∷ []) (line_told p q line first others said is valid told))
 
-lines_told : (raw : List (List ℕ)) (p q : Progress) (number : ℕ) (said : List (List (List ℕ))) → judged_lines raw p number ≡ Ok q → IsValidSoFar p → Told p said → Told q (said ++ filter is_filled (map words_of_line raw))
+lines_told : (raw : List (List ℕ)) (p q : Draft) (number : ℕ) (said : List (List (List ℕ))) → judged_lines raw p number ≡ Ok q → IsValidSoFar p → Told p said → Told q (said ++ filter is_filled (map words_of_line raw))
 lines_told [] p q number said is valid told =
     let same : p ≡ q = cc in
     subst (Told q) (sym (append-nil said)) (subst (λ s. Told s said) same told)
@@ -401,7 +401,7 @@ fuel_said None = refl
 fuel_said (Some fuel) = refl
 
 -- a text that is judged good spells what it says
-pub judged_spells : (text : List ℕ) (said : Contents) → judgement text ≡ Ok said → SpellsContents text said
+pub judged_spells : (text : List ℕ) (said : Contents) → parsed text ≡ Ok said → SpellsContents text said
 judged_spells text said is =
     let last = length (lines text) in
     let valid = bind_ok (judged_bytes text) (λ _. judged_lines (lines text) start 1 >>= λ p. judged_end p last) said is in

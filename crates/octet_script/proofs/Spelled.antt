@@ -11,15 +11,14 @@ use Rattle.octet_model.specs.declared.object.Object.{Object}
 use Rattle.octet_model.specs.declared.script.Script.{Script}
 use Rattle.octet_model.specs.Script.{is_script, is_thread, is_command, is_nested, are_distinct}
 use Rattle.octet_script.specs.declared.cause.ScriptFault.{ScriptFault}
-use Rattle.octet_script.specs.declared.cause.ScriptFault.TheVariants.{Refused, OutOfMemory}
 use Rattle.octet_script.specs.Spelling.{Spells, Contents, Declaration, declaration, contents}
-use Rattle.octet_script.specs.Judgement.{judgement, Gives}
+use Rattle.octet_script.specs.Parsing.{parsed, Gives}
 use Rattle.octet_script.proofs.Steps.{both_true}
 use Rattle.octet_script.proofs.Valid.{same_names}
 use Rattle.octet_script.proofs.Sound.{judged_spells}
-use Rattle.octet_script.proofs.Complete.{IsValidContents, spelled_judged}
+use Rattle.octet_script.proofs.Complete.{IsValidContents}
 
-pub read_spells : (text : List ℕ) (r : Result Script ScriptFault) → Gives contents r (judgement text) → IfOk r (λ script. Spells text script)
+pub read_spells : (text : List ℕ) (r : Result Script ScriptFault) → Gives contents r (parsed text) → IfOk r (λ script. Spells text script)
 read_spells text (Ok script) given = judged_spells text (contents script) given
 read_spells text (Err e) given = tt
 
@@ -85,24 +84,3 @@ script_says s =
       enough = leb-true (length s.threads * s.fuel) 262144 p6.1;
       nested = nested_threads (length s.objects) s.threads p7.1;
     }
-
-pub spells_judged : (text : List ℕ) (s : Script) → Spells text s → judgement text ≡ Ok (contents s)
-spells_judged text s spells = spelled_judged text (contents s) (script_says s) spells
-
-pub spelled_read : (text : List ℕ) (r : Result Script ScriptFault) (s : Script) → Gives contents r (judgement text) → Spells text s → Gives (λ t. t) r (Ok s)
-spelled_read text (Ok t) s given spells =
-    let good = spells_judged text s spells in
-    let says : contents s ≡ contents t = cc in
-    ap (λ u. Ok u) (same_script s t says)
-spelled_read text (Err OutOfMemory) s given spells = tt
-spelled_read text (Err (Refused line cause)) s given spells =
-    let good = spells_judged text s spells in
-    cc
-
--- a text spells one script at most
-pub one_script : (text : List ℕ) (s t : Script) → Spells text s → Spells text t → t ≡ s
-one_script text s t first second =
-    let a = spells_judged text s first in
-    let b = spells_judged text t second in
-    let says : contents t ≡ contents s = cc in
-    same_script t s says

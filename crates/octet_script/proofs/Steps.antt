@@ -1,4 +1,4 @@
--- What follows where a judgement goes on.
+-- What follows where lines are judged on.
 use Rattle.std.proofs.Common.{◌∙◌, ◌≡◌, ℕ, ◌^◌, ◌<◌, ◌==◌, Bool, true, false, not, cond, ◌&&◌, ◌||◌, List, [], ◌∷◌, length, Option, Some, None, Result, Ok, Err, refl, sym, arith}
 use Rattle.std.specs.Prelude.{nat_lt, nat_le}
 use Rattle.std.specs.Option.{ok_or, is_some}
@@ -10,8 +10,8 @@ use Rattle.octet_model.specs.Name.{is_name}
 use Rattle.octet_script.specs.declared.cause.ScriptFault.{ScriptFault}
 use Rattle.octet_script.specs.declared.cause.ScriptFault.TheVariants.{Refused}
 use Rattle.octet_script.specs.declared.cause.ScriptCause.TheVariants.{BadName, NameTwice, UnknownWord, WrongCount, Misplaced}
-use Rattle.octet_script.specs.Spelling.{number_of, is_number, register_of, register_words, object_of}
-use Rattle.octet_script.specs.Judgement.{◌>>=◌, Progress, keyword, word_count, is_misplaced, judged_line, judged_keyword, judged_arguments, judged_name, all_closed}
+use Rattle.octet_script.specs.Spelling.{number_of, is_number, register_of, register_words, object_named}
+use Rattle.octet_script.specs.Parsing.{◌>>=◌, Draft, keyword, word_count, is_misplaced, judged_line, judged_keyword, judged_arguments, judged_name, all_closed}
 use Rattle.octet_script.specs.declared.keyword.Keyword.{Keyword}
 use Rattle.octet_script.proofs.Cut.{position_some}
 
@@ -52,7 +52,7 @@ apart a b true e differ = absurd (false≢true (sym differ ∙ bytes_same a b (s
 pub register_small : (word : List ℕ) (r : ℕ) → register_of word ≡ Some r → r < 16
 register_small word r is = (position_some (bytes_eq word) register_words r is).1
 
-pub object_there : (names : List (List ℕ)) (word : List ℕ) (o : ℕ) → object_of names word ≡ Some o → o < length names
+pub object_there : (names : List (List ℕ)) (word : List ℕ) (o : ℕ) → object_named names word ≡ Some o → o < length names
 object_there names word o is = (position_some (bytes_eq word) names o is).1
 
 chosen_value : (b : Bool) (v n : ℕ) → cond b (Some v) None ≡ Some n → (b ≡ true) × (v ≡ n)
@@ -77,25 +77,25 @@ pub none_of : {A : Type 0} (o : Option A) → is_some o ≡ false → o ≡ None
 none_of None is = refl
 none_of (Some x) is = absurd (false≢true (sym is))
 
-pub name_new : (names : List (List ℕ)) (line : ℕ) (word name : List ℕ) → judged_name names line word ≡ Ok name → (is_name word ≡ true) × (object_of names word ≡ None) × (word ≡ name)
+pub name_new : (names : List (List ℕ)) (line : ℕ) (word name : List ℕ) → judged_name names line word ≡ Ok name → (is_name word ≡ true) × (object_named names word ≡ None) × (word ≡ name)
 name_new names line word name is =
     let good = guard_ok (not (is_name word)) (Refused line BadName) _ name is in
-    let fresh = guard_ok (is_some (object_of names word)) (Refused line NameTwice) (Ok word) name good.1 in
-    (not_false (is_name word) good.0, none_of (object_of names word) fresh.0, cc)
+    let fresh = guard_ok (is_some (object_named names word)) (Refused line NameTwice) (Ok word) name good.1 in
+    (not_false (is_name word) good.0, none_of (object_named names word) fresh.0, cc)
 
 -- a line that is taken has a keyword, as many words as it says, and stands where it may
-pub record TakesKeyword (p q : Progress) (line : ℕ) (words : List (List ℕ)) (first : List ℕ) : Type 0 where
+pub record TakesKeyword (p q : Draft) (line : ℕ) (words : List (List ℕ)) (first : List ℕ) : Type 0 where
   pub word : Keyword
   pub is_word : keyword first ≡ Some word
   pub count : length words ≡ word_count word
   pub placed : is_misplaced p.started word ≡ false
   pub arguments : judged_arguments p line words word ≡ Ok q
 
-in_keyword : (o : Option Keyword) (e : ScriptFault) (f : Keyword → Result Progress ScriptFault) (q : Progress) → ◌≡◌ {A = Result Progress ScriptFault} (elim o [ None ↦ Err e | Some k ↦ f k ]) (Ok q) → (k : Keyword) × (o ≡ Some k) × (f k ≡ Ok q)
+in_keyword : (o : Option Keyword) (e : ScriptFault) (f : Keyword → Result Draft ScriptFault) (q : Draft) → ◌≡◌ {A = Result Draft ScriptFault} (elim o [ None ↦ Err e | Some k ↦ f k ]) (Ok q) → (k : Keyword) × (o ≡ Some k) × (f k ≡ Ok q)
 in_keyword None e f q is = cc
 in_keyword (Some k) e f q is = (k, refl, is)
 
-pub keyword_ok : (p q : Progress) (line : ℕ) (first : List ℕ) (others : List (List ℕ)) → judged_line p line (first ∷ others) ≡ Ok q → TakesKeyword p q line (first ∷ others) first
+pub keyword_ok : (p q : Draft) (line : ℕ) (first : List ℕ) (others : List (List ℕ)) → judged_line p line (first ∷ others) ≡ Ok q → TakesKeyword p q line (first ∷ others) first
 keyword_ok p q line first others is =
     let words = first ∷ others in
     let found = in_keyword (keyword first) (Refused line UnknownWord) (judged_keyword p line words) q is in

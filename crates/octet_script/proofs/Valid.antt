@@ -18,11 +18,11 @@ use Rattle.octet_script.specs.declared.keyword.Keyword.{Keyword}
 use Rattle.octet_script.specs.declared.keyword.Keyword.TheVariants.{Fuel, Object as ObjectWord, Thread, Command as CommandWord}
 use Rattle.octet_script.specs.declared.keyword.Verb.{Verb}
 use Rattle.octet_script.specs.declared.keyword.Verb.TheVariants as verb
-use Rattle.octet_script.specs.declared.keyword.Operation.{Operation}
-use Rattle.octet_script.specs.declared.keyword.Operation.TheVariants as operation
+use Rattle.octet_script.specs.declared.keyword.Arithmetic.{Arithmetic}
+use Rattle.octet_script.specs.declared.keyword.Arithmetic.TheVariants as operation
 use Rattle.octet_script.specs.Words.{words_of_line}
-use Rattle.octet_script.specs.Spelling.{Declaration, declaration, declared_names, object_of, number_of, register_of}
-use Rattle.octet_script.specs.Judgement.{◌>>=◌, Progress, start, is_misplaced, judged_lines, judged_line, judged_arguments, number_at, register_at, object_at, name_at, word_at, with_fuel, with_object, with_command, with_thread, begun, added, closed, all_closed, command_of, operation_command, threads_of, fuel_of, names_of}
+use Rattle.octet_script.specs.Spelling.{Declaration, declaration, declared_names, object_named, number_of, register_of}
+use Rattle.octet_script.specs.Parsing.{◌>>=◌, Draft, start, is_misplaced, judged_lines, judged_line, judged_arguments, number_at, register_at, object_at, name_at, word_at, with_fuel, with_object, with_command, with_thread, begun, added, closed, all_closed, command_of, arithmetic_command, threads_of, fuel_of, names_of}
 use Rattle.octet_script.specs.Building.{IsValidSoFar}
 use Rattle.octet_script.proofs.Cut.{position_none}
 use Rattle.octet_script.proofs.Steps.{apart, bind_ok, guard_ok, ok_or_ok, closed_ok, not_false, either_false, name_new, number_small, register_small, object_there, keyword_ok}
@@ -40,13 +40,13 @@ start_valid = record {
   nothing = λ none. (refl, refl, refl);
 }
 
-pub none_yet : (p : Progress) → p.started ≡ false → p.threads ≡ [] → threads_of p ≡ []
+pub none_yet : (p : Draft) → p.started ≡ false → p.threads ≡ [] → threads_of p ≡ []
 none_yet p started none = rw (started, none) refl
 
 no_work : (threads : List (List Command)) (fuel : ℕ) → threads ≡ [] → length threads * fuel ≤ 262144
 no_work threads fuel none = rw none (omega arith)
 
-fuel_given : (p : Progress) (fuel : ℕ) → p.started ≡ false → 1 ≤ fuel → fuel ≤ 262144 → IsValidSoFar p → IsValidSoFar (record p { fuel = Some fuel })
+fuel_given : (p : Draft) (fuel : ℕ) → p.started ≡ false → 1 ≤ fuel → fuel ≤ 262144 → IsValidSoFar p → IsValidSoFar (record p { fuel = Some fuel })
 fuel_given p fuel started low high valid = record {
   fuel = (low, high);
   objects = valid.objects;
@@ -59,7 +59,7 @@ fuel_given p fuel started low high valid = record {
   nothing = valid.nothing;
 }
 
-fuel_valid : (p q : Progress) (line : ℕ) (words : List (List ℕ)) → p.started ≡ false → judged_arguments p line words Fuel ≡ Ok q → IsValidSoFar p → IsValidSoFar q
+fuel_valid : (p q : Draft) (line : ℕ) (words : List (List ℕ)) → p.started ≡ false → judged_arguments p line words Fuel ≡ Ok q → IsValidSoFar p → IsValidSoFar q
 fuel_valid p q line words started is valid =
     let step = bind_ok (number_at line words 1) (with_fuel p line) q is in
     let fuel = step.0 in
@@ -80,7 +80,7 @@ fresh : (names : List (List ℕ)) (name : List ℕ) → length names ≤ positio
 fresh [] name h d = refl
 fresh (n ∷ names) name h d = fresh_step n names name (bytes_eq name n) (list_any (bytes_eq n) names) refl refl (fresh names name) h d
 
-object_declared : (p : Progress) (name : List ℕ) (first : ℕ) → p.started ≡ false → length p.objects < 1024 → object_of (names_of p) name ≡ None → IsValidSoFar p → IsValidSoFar (record p { objects = p.objects ++ record { name = name; start = first } ∷ [] })
+object_declared : (p : Draft) (name : List ℕ) (first : ℕ) → p.started ≡ false → length p.objects < 1024 → object_named (names_of p) name ≡ None → IsValidSoFar p → IsValidSoFar (record p { objects = p.objects ++ record { name = name; start = first } ∷ [] })
 object_declared p name first started few new valid =
     let none = valid.nothing started in
     let object : Declaration = record { name = name; start = first } in
@@ -96,13 +96,13 @@ object_declared p name first started few new valid =
       nothing = valid.nothing;
     }
 
-object_valid : (p q : Progress) (line : ℕ) (words : List (List ℕ)) → p.started ≡ false → judged_arguments p line words ObjectWord ≡ Ok q → IsValidSoFar p → IsValidSoFar q
+object_valid : (p q : Draft) (line : ℕ) (words : List (List ℕ)) → p.started ≡ false → judged_arguments p line words ObjectWord ≡ Ok q → IsValidSoFar p → IsValidSoFar q
 object_valid p q line words started is valid =
     let named = bind_ok (name_at (names_of p) line words 1) (λ name. number_at line words 2 >>= λ first. with_object p line name first) q is in
     let name = named.0 in
     let numbered = bind_ok (number_at line words 2) (λ first. with_object p line name first) q named.2 in
     let new = name_new (names_of p) line (word_at words 1) name named.1 in
-    let none : object_of (names_of p) name ≡ None = ap (object_of (names_of p)) (sym new.2) ∙ new.1 in
+    let none : object_named (names_of p) name ≡ None = ap (object_named (names_of p)) (sym new.2) ∙ new.1 in
     let first = numbered.0 in
     let after = record p { objects = p.objects ++ record { name = name; start = first } ∷ [] } in
     let good = guard_ok (nat_le 1024 (length p.objects)) (Refused line TooMany) (Ok after) q numbered.2 in
@@ -110,17 +110,17 @@ object_valid p q line words started is valid =
     subst IsValidSoFar same (object_declared p name first started (leb-false 1024 (length p.objects) good.0) none valid)
 
 -- where none is open, the present thread is whole
-present_whole : (p : Progress) → p.openers ≡ [] → IsValidSoFar p → is_thread (length p.objects) p.commands ≡ true
+present_whole : (p : Draft) → p.openers ≡ [] → IsValidSoFar p → is_thread (length p.objects) p.commands ≡ true
 present_whole p none valid =
     let nested : is_nested 0 p.commands ≡ true = ap (is_nested 0) (sym (append-nil p.commands)) ∙ valid.nested [] ∙ ap (λ openers. is_nested (length openers) []) none in
     rw (valid.commands, nested) refl
 
-all_whole : (p : Progress) (s : Bool) → p.started ≡ s → p.openers ≡ [] → IsValidSoFar p → list_all (is_thread (length p.objects)) (threads_of p) ≡ true
+all_whole : (p : Draft) (s : Bool) → p.started ≡ s → p.openers ≡ [] → IsValidSoFar p → list_all (is_thread (length p.objects)) (threads_of p) ≡ true
 all_whole p true started none valid =
     rw started (list_all-append (is_thread (length p.objects)) p.threads (p.commands ∷ []) ∙ rw (valid.threads, present_whole p none valid) refl)
 all_whole p false started none valid = rw started valid.threads
 
-thread_begun : (p : Progress) → p.openers ≡ [] → length (threads_of p) < 16 → suc (length (threads_of p)) * fuel_of p ≤ 262144 → IsValidSoFar p → IsValidSoFar (record p { started = true; threads = threads_of p; commands = [] })
+thread_begun : (p : Draft) → p.openers ≡ [] → length (threads_of p) < 16 → suc (length (threads_of p)) * fuel_of p ≤ 262144 → IsValidSoFar p → IsValidSoFar (record p { started = true; threads = threads_of p; commands = [] })
 thread_begun p none few enough valid =
     let more : suc (length (threads_of p)) ≡ length (threads_of p ++ [] ∷ []) = omega (arith, length-append (threads_of p) ([] ∷ [])) in
     record {
@@ -135,7 +135,7 @@ thread_begun p none few enough valid =
       nothing = λ never. absurd (false≢true (sym never));
     }
 
-thread_valid : (p q : Progress) (line : ℕ) → with_thread p line ≡ Ok q → IsValidSoFar p → IsValidSoFar q
+thread_valid : (p q : Draft) (line : ℕ) → with_thread p line ≡ Ok q → IsValidSoFar p → IsValidSoFar q
 thread_valid p q line is valid =
     let closed = bind_ok (all_closed p.openers) (λ _. begun p line) q is in
     let none = closed_ok p.openers closed.1 in
@@ -192,7 +192,7 @@ pub branch_nested : (depth test : ℕ) (rest : List Command) → is_nested depth
 branch_nested zero test rest = refl
 branch_nested (suc depth) test rest = refl
 
-pub with_plain : (p : Progress) (line : ℕ) (c : Command) → is_plain c ≡ true → with_command p line c ≡ Ok (added p c p.openers)
+pub with_plain : (p : Draft) (line : ℕ) (c : Command) → is_plain c ≡ true → with_command p line c ≡ Ok (added p c p.openers)
 with_plain p line (command.Set a b) is = refl
 with_plain p line (command.Copy a b) is = refl
 with_plain p line (command.Add a b e) is = refl
@@ -209,10 +209,10 @@ with_plain p line (command.Loop a) is = absurd (false≢true is)
 with_plain p line (command.Branch a) is = absurd (false≢true is)
 with_plain p line command.Close is = absurd (false≢true is)
 
-same_count : (p : Progress) (c : Command) (openers : List ℕ) → p.started ≡ true → length (threads_of (added p c openers)) ≡ length (threads_of p)
+same_count : (p : Draft) (c : Command) (openers : List ℕ) → p.started ≡ true → length (threads_of (added p c openers)) ≡ length (threads_of p)
 same_count p c openers started = rw started (length-append p.threads ((p.commands ++ c ∷ []) ∷ []) ∙ sym (length-append p.threads (p.commands ∷ [])))
 
-added_valid : (p : Progress) (c : Command) (openers : List ℕ) → p.started ≡ true → is_command (length p.objects) c ≡ true → ((rest : List Command) → is_nested (length p.openers) (c ∷ rest) ≡ is_nested (length openers) rest) → IsValidSoFar p → IsValidSoFar (added p c openers)
+added_valid : (p : Draft) (c : Command) (openers : List ℕ) → p.started ≡ true → is_command (length p.objects) c ≡ true → ((rest : List Command) → is_nested (length p.openers) (c ∷ rest) ≡ is_nested (length openers) rest) → IsValidSoFar p → IsValidSoFar (added p c openers)
 added_valid p c openers started good nests valid =
     let same = same_count p c openers started in
     record {
@@ -227,19 +227,19 @@ added_valid p c openers started good nests valid =
       nothing = λ never. absurd (false≢true (sym never ∙ started));
     }
 
-plain_valid : (p q : Progress) (line : ℕ) (c : Command) → is_plain c ≡ true → with_command p line c ≡ Ok q → p.started ≡ true → is_command (length p.objects) c ≡ true → IsValidSoFar p → IsValidSoFar q
+plain_valid : (p q : Draft) (line : ℕ) (c : Command) → is_plain c ≡ true → with_command p line c ≡ Ok q → p.started ≡ true → is_command (length p.objects) c ≡ true → IsValidSoFar p → IsValidSoFar q
 plain_valid p q line c plain is started good valid =
     let here = with_plain p line c plain in
     let same : added p c p.openers ≡ q = cc in
     subst IsValidSoFar same (added_valid p c p.openers started good (plain_nested (length p.openers) c plain) valid)
 
-closed_valid : (p q : Progress) (line : ℕ) (openers : List ℕ) → p.openers ≡ openers → closed p line openers ≡ Ok q → p.started ≡ true → IsValidSoFar p → IsValidSoFar q
+closed_valid : (p q : Draft) (line : ℕ) (openers : List ℕ) → p.openers ≡ openers → closed p line openers ≡ Ok q → p.started ≡ true → IsValidSoFar p → IsValidSoFar q
 closed_valid p q line [] lines is started valid = cc
 closed_valid p q line (o ∷ os) lines is started valid =
     let same : added p command.Close os ≡ q = cc in
     subst IsValidSoFar same (added_valid p command.Close os started refl (λ rest. ap (λ openers. is_nested (length openers) (command.Close ∷ rest)) lines) valid)
 
-command_valid : (p q : Progress) (line : ℕ) (c : Command) → with_command p line c ≡ Ok q → p.started ≡ true → is_command (length p.objects) c ≡ true → IsValidSoFar p → IsValidSoFar q
+command_valid : (p q : Draft) (line : ℕ) (c : Command) → with_command p line c ≡ Ok q → p.started ≡ true → is_command (length p.objects) c ≡ true → IsValidSoFar p → IsValidSoFar q
 command_valid p q line (command.Loop test) is started good valid =
     let same : added p (command.Loop test) (line ∷ p.openers) ≡ q = cc in
     subst IsValidSoFar same (added_valid p (command.Loop test) (line ∷ p.openers) started good (loop_nested (length p.openers) test) valid)
@@ -267,9 +267,9 @@ number_read : (line : ℕ) (words : List (List ℕ)) (place n : ℕ) → number_
 number_read line words place n is = lt-ltb n (2 ^ 64) (number_small (word_at words place) n (ok_or_ok (number_of (word_at words place)) (Refused line BadNumber) n is))
 
 object_read : (names : List (List ℕ)) (line : ℕ) (words : List (List ℕ)) (place o : ℕ) → object_at names line words place ≡ Ok o → nat_lt o (length names) ≡ true
-object_read names line words place o is = lt-ltb o (length names) (object_there names (word_at words place) o (ok_or_ok (object_of names (word_at words place)) (Refused line NoSuchObject) o is))
+object_read names line words place o is = lt-ltb o (length names) (object_there names (word_at words place) o (ok_or_ok (object_named names (word_at words place)) (Refused line NoSuchObject) o is))
 
-operation_good : (k : ℕ) (op : Operation) (to left right : ℕ) → nat_lt to 16 ≡ true → nat_lt left 16 ≡ true → nat_lt right 16 ≡ true → is_command k (operation_command op to left right) ≡ true
+operation_good : (k : ℕ) (op : Arithmetic) (to left right : ℕ) → nat_lt to 16 ≡ true → nat_lt left 16 ≡ true → nat_lt right 16 ≡ true → is_command k (arithmetic_command op to left right) ≡ true
 operation_good k operation.Add to left right a b c = rw (a, b, c) refl
 operation_good k operation.Sub to left right a b c = rw (a, b, c) refl
 operation_good k operation.Mul to left right a b c = rw (a, b, c) refl
@@ -288,11 +288,11 @@ command_good names line words verb.Copy c is =
     let from = bind_ok (register_at line words 2) (λ from. Ok (command.Copy to.0 from)) c to.2 in
     let same : command.Copy to.0 from.0 ≡ c = cc in
     ap (is_command (length names)) (sym same) ∙ rw (register_read line words 1 to.0 to.1, register_read line words 2 from.0 from.1) refl
-command_good names line words (verb.Operation op) c is =
-    let to = bind_ok (register_at line words 1) (λ to. register_at line words 2 >>= λ left. register_at line words 3 >>= λ right. Ok (operation_command op to left right)) c is in
-    let left = bind_ok (register_at line words 2) (λ left. register_at line words 3 >>= λ right. Ok (operation_command op to.0 left right)) c to.2 in
-    let right = bind_ok (register_at line words 3) (λ right. Ok (operation_command op to.0 left.0 right)) c left.2 in
-    let same : operation_command op to.0 left.0 right.0 ≡ c = cc in
+command_good names line words (verb.Arithmetic op) c is =
+    let to = bind_ok (register_at line words 1) (λ to. register_at line words 2 >>= λ left. register_at line words 3 >>= λ right. Ok (arithmetic_command op to left right)) c is in
+    let left = bind_ok (register_at line words 2) (λ left. register_at line words 3 >>= λ right. Ok (arithmetic_command op to.0 left right)) c to.2 in
+    let right = bind_ok (register_at line words 3) (λ right. Ok (arithmetic_command op to.0 left.0 right)) c left.2 in
+    let same : arithmetic_command op to.0 left.0 right.0 ≡ c = cc in
     ap (is_command (length names)) (sym same) ∙ operation_good (length names) op to.0 left.0 right.0 (register_read line words 1 to.0 to.1) (register_read line words 2 left.0 left.1) (register_read line words 3 right.0 right.1)
 command_good names line words verb.Read c is =
     let to = bind_ok (register_at line words 1) (λ to. object_at names line words 2 >>= λ object. Ok (command.Read to object)) c is in
@@ -316,7 +316,7 @@ command_good names line words verb.End c is = ap (is_command (length names)) (le
 command_good names line words verb.Safe c is = ap (is_command (length names)) (let same : c ≡ command.Safe = cc in same)
 command_good names line words verb.Pause c is = ap (is_command (length names)) (let same : c ≡ command.Pause = cc in same)
 
-arguments_valid : (p q : Progress) (line : ℕ) (words : List (List ℕ)) (k : Keyword) → is_misplaced p.started k ≡ false → judged_arguments p line words k ≡ Ok q → IsValidSoFar p → IsValidSoFar q
+arguments_valid : (p q : Draft) (line : ℕ) (words : List (List ℕ)) (k : Keyword) → is_misplaced p.started k ≡ false → judged_arguments p line words k ≡ Ok q → IsValidSoFar p → IsValidSoFar q
 arguments_valid p q line words Fuel placed is valid = fuel_valid p q line words placed is valid
 arguments_valid p q line words ObjectWord placed is valid = object_valid p q line words placed is valid
 arguments_valid p q line words Thread placed is valid = thread_valid p q line is valid
@@ -325,7 +325,7 @@ arguments_valid p q line words (CommandWord v) placed is valid =
     let good = ap (λ k. is_command k c.0) (sym (length-map p.objects (λ (o : Declaration). o.name))) ∙ command_good (names_of p) line words v c.0 c.1 in
     command_valid p q line c.0 c.2 (not_false p.started placed) good valid
 
-pub line_valid : (p q : Progress) (line : ℕ) (words : List (List ℕ)) → judged_line p line words ≡ Ok q → IsValidSoFar p → IsValidSoFar q
+pub line_valid : (p q : Draft) (line : ℕ) (words : List (List ℕ)) → judged_line p line words ≡ Ok q → IsValidSoFar p → IsValidSoFar q
 line_valid p q line [] is valid =
     let same : p ≡ q = cc in
     subst IsValidSoFar same valid
@@ -333,7 +333,7 @@ line_valid p q line (first ∷ others) is valid =
     let k = keyword_ok p q line first others is in
     arguments_valid p q line (first ∷ others) k.word k.placed k.arguments valid
 
-pub lines_valid : (ls : List (List ℕ)) (p q : Progress) (number : ℕ) → judged_lines ls p number ≡ Ok q → IsValidSoFar p → IsValidSoFar q
+pub lines_valid : (ls : List (List ℕ)) (p q : Draft) (number : ℕ) → judged_lines ls p number ≡ Ok q → IsValidSoFar p → IsValidSoFar q
 lines_valid [] p q number is valid =
     let same : p ≡ q = cc in
     subst IsValidSoFar same valid
@@ -348,13 +348,13 @@ fuel_bounds : (fuel : Option ℕ) → IfSome fuel (λ f. (1 ≤ f) × (f ≤ 262
 fuel_bounds None h = (omega arith, omega arith)
 fuel_bounds (Some f) h = h
 
-some_thread : (p : Progress) → p.started ≡ true → 1 ≤ length (threads_of p)
+some_thread : (p : Draft) → p.started ≡ true → 1 ≤ length (threads_of p)
 some_thread p started = rw started (omega (arith, length-append p.threads (p.commands ∷ [])))
 
 pub same_names : (objects : List Object) → map (λ (o : Object). o.name) objects ≡ declared_names (map declaration objects)
 same_names objects = sym (map-map (λ (o : Declaration). o.name) declaration objects)
 
-pub script_valid : (p : Progress) (fuel : ℕ) (objects : List Object) (threads : List (List Command)) → IsValidSoFar p → fuel ≡ fuel_of p → map declaration objects ≡ p.objects → threads ≡ threads_of p → p.started ≡ true → p.openers ≡ [] → IsTrue (is_script fuel objects threads)
+pub script_valid : (p : Draft) (fuel : ℕ) (objects : List Object) (threads : List (List Command)) → IsValidSoFar p → fuel ≡ fuel_of p → map declaration objects ≡ p.objects → threads ≡ threads_of p → p.started ≡ true → p.openers ≡ [] → IsTrue (is_script fuel objects threads)
 script_valid p fuel objects threads valid fuel_is objects_are threads_are started none =
     let bounds = fuel_bounds p.fuel valid.fuel in
     let count : length objects ≡ length p.objects = sym (length-map objects declaration) ∙ ap length objects_are in

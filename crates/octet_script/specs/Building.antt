@@ -1,16 +1,16 @@
 -- A builder as what the lines so far have said, and what makes it a script.
-use Rattle.std.specs.Prelude.{◌≡◌, ◌*◌, ◌≤◌, true, false, map, reverse, length, List, [], ◌++◌, IfSome}
+use Rattle.std.specs.Prelude.{◌≡◌, ◌*◌, ◌≤◌, true, false, reverse, length, List, [], ◌++◌, IfSome}
 use Rattle.std.specs.List.{list_all}
+use Rattle.octet_model.specs.declared.limits.TheConstants.{MAX_FUEL, MAX_OBJECTS, MAX_THREADS}
 use Rattle.octet_model.specs.declared.command.Command.{Command}
 use Rattle.octet_model.specs.Script.{is_command, is_nested, is_thread, are_distinct}
 use Rattle.octet_script.specs.declared.builder.Builder.{Builder}
-use Rattle.octet_script.specs.Spelling.{declaration}
-use Rattle.octet_script.specs.Judgement.{Progress, threads_of, names_of, fuel_of}
+use Rattle.octet_script.specs.Parsing.{Draft, threads_of, names_of, fuel_of}
 
-abbrev pub progress : Builder → Progress
-progress b = record {
+abbrev pub draft : Builder → Draft
+draft b = record {
   fuel = b.fuel;
-  objects = map declaration b.objects;
+  objects = b.objects;
   started = b.started;
   threads = b.threads;
   commands = b.commands;
@@ -18,16 +18,16 @@ progress b = record {
 }
 
 -- with the present thread among those before
-abbrev pub kept : Progress → Progress
+abbrev pub kept : Draft → Draft
 kept p = record p { threads = threads_of p; commands = [] }
 
 -- with the openers that are still open: each is ended once all is valid
-pub record IsValidSoFar (p : Progress) : Type 0 where
-  pub fuel : IfSome p.fuel (λ fuel. (1 ≤ fuel) × (fuel ≤ 262144))
-  pub objects : length p.objects ≤ 1024
+pub record IsValidSoFar (p : Draft) : Type 0 where
+  pub fuel : IfSome p.fuel (λ fuel. (1 ≤ fuel) × (fuel ≤ MAX_FUEL))
+  pub objects : length p.objects ≤ MAX_OBJECTS
   pub names : are_distinct (names_of p) ≡ true
-  pub count : length (threads_of p) ≤ 16
-  pub enough : length (threads_of p) * fuel_of p ≤ 262144
+  pub count : length (threads_of p) ≤ MAX_THREADS
+  pub enough : length (threads_of p) * fuel_of p ≤ MAX_FUEL
   pub threads : list_all (is_thread (length p.objects)) p.threads ≡ true
   pub commands : list_all (is_command (length p.objects)) p.commands ≡ true
   pub nested : (rest : List Command) → is_nested 0 (p.commands ++ rest) ≡ is_nested (length p.openers) rest

@@ -4,11 +4,11 @@ use Rattle.std.specs.List.{list_all}
 use Rattle.octet_model.specs.declared.script.Script.{Script}
 use Rattle.octet_model.specs.Name.{is_name}
 use Rattle.octet_script.specs.Spelling.{Spells, contents, object_names, canonical_text}
-use Rattle.octet_script.specs.Judgement.{judgement}
+use Rattle.octet_script.specs.Parsing.{parsed}
 
 -- a text is judged to say what a script says exactly where it spells the script
-abbrev pub JudgedIsSpelled : Type 0
-JudgedIsSpelled = (text : List ℕ) (script : Script) → (judgement text ≡ Ok (contents script)) ↔ Spells text script
+abbrev pub ParsedIsSpelled : Type 0
+ParsedIsSpelled = (text : List ℕ) (script : Script) → (parsed text ≡ Ok (contents script)) ↔ Spells text script
 
 -- a text spells one script at most
 abbrev pub OneScript : Type 0

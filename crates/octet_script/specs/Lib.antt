@@ -1,6 +1,7 @@
 pub mod Causes
 pub mod Words
 pub mod Spelling
-pub mod Judgement
+pub mod Parsing
 pub mod Building
 pub mod Laws
+pub mod BrokenRules

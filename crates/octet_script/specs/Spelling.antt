@@ -8,8 +8,9 @@ use Rattle.octet_model.specs.declared.command.Command.{Command}
 use Rattle.octet_model.specs.declared.command.Command.TheVariants.{Set, Copy, Add, Sub, Mul, Xor, Less, Same, Read, Write, Loop, Branch, Close, Safe, Pause}
 use Rattle.octet_model.specs.declared.object.Object.{Object}
 use Rattle.octet_model.specs.declared.script.Script.{Script}
+use Rattle.octet_model.specs.declared.limits.TheConstants.{DEFAULT_FUEL}
 use Rattle.octet_model.specs.Name.{IsName}
-use Rattle.octet_script.specs.Words.{speaking_lines}
+use Rattle.octet_script.specs.Words.{lines_with_words}
 
 -- 1 to 20 digits, with a value below 2 ^ 64
 abbrev pub is_number : List ℕ → Bool
@@ -30,8 +31,8 @@ abbrev pub register_of : List ℕ → Option ℕ
 register_of word = position (bytes_eq word) register_words
 
 -- the object that has the word as its name
-abbrev pub object_of : List (List ℕ) → List ℕ → Option ℕ
-object_of names word = position (bytes_eq word) names
+abbrev pub object_named : List (List ℕ) → List ℕ → Option ℕ
+object_named names word = position (bytes_eq word) names
 
 -- what stands at a place of a line: a word of the language, a number, a register, an object or the name of a new one
 pub data Part : Type 0 where
@@ -46,7 +47,7 @@ abbrev pub IsPart : List (List ℕ) → Part → List ℕ → Type 0
 IsPart names (Word own) word = word ≡ own
 IsPart names (Number number) word = number_of word ≡ Some number
 IsPart names (Register register) word = register_of word ≡ Some register
-IsPart names (Known object) word = object_of names word ≡ Some object
+IsPart names (Known object) word = object_named names word ≡ Some object
 IsPart names (New name) word = (word ≡ name) × IsName name
 
 -- the parts of a command's line
@@ -113,7 +114,7 @@ object_names objects = declared_names (map declaration objects)
 
 -- one fuel line gives the fuel; without one it is 16,384
 abbrev pub IsFuel : List ℕ → ℕ → Type 0
-IsFuel [] fuel = fuel ≡ 16384
+IsFuel [] fuel = fuel ≡ DEFAULT_FUEL
 IsFuel (given ∷ []) fuel = fuel ≡ given
 IsFuel (given ∷ again ∷ more) fuel = ⊥
 
@@ -136,7 +137,7 @@ pub record SpellsContents (text : List ℕ) (said : Contents) : Type 0 where
   pub utf8 : IsUtf8 text
   pub fuel : IsFuel (fuels heads) said.fuel
   pub objects : declared heads ≡ said.objects
-  pub lines : AreForms (declared_names said.objects) (script_forms heads said.threads) (speaking_lines text)
+  pub lines : AreForms (declared_names said.objects) (script_forms heads said.threads) (lines_with_words text)
 
 -- the text spells the script
 abbrev pub Spells : List ℕ → Script → Type 0

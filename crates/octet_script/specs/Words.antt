@@ -1,8 +1,9 @@
 -- The lines of a text, and the words of a line.
+use denote.Ref.{Bor}
 use Rattle.std.specs.Prelude.{ℕ, ◌||◌, ◌==◌, List, [], ◌∷◌, Bool, true, false, map}
 use Rattle.std.specs.List.{slice_split, before_first, filter}
 
--- LF ends a line; what stands behind the last LF is a line too
+-- LF ends a line; what stands after the last LF is a line too
 abbrev pub is_line_end : ℕ → Bool
 is_line_end b = b == 10
 
@@ -33,5 +34,9 @@ abbrev pub words_of_line : List ℕ → List (List ℕ)
 words_of_line line = words (uncommented line)
 
 -- the words of each line that has any
-abbrev pub speaking_lines : List ℕ → List (List (List ℕ))
-speaking_lines text = filter is_filled (map words_of_line (lines text))
+abbrev pub lines_with_words : List ℕ → List (List (List ℕ))
+lines_with_words text = filter is_filled (map words_of_line (lines text))
+
+-- words as slices, seen as their bytes
+abbrev pub texts : List (Bor (List ℕ)) → List (List ℕ)
+texts words = map (λ word. word.now) words

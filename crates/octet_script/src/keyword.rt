@@ -1,12 +1,12 @@
 //! The first words of lines.
 ghost use Rattle.std.specs.Prelude.{◌≡◌};
-ghost use Rattle.octet_script.specs.Judgement.{keyword, word_count, operation_command};
+ghost use Rattle.octet_script.specs.Parsing.{keyword, word_count, arithmetic_command};
 
 use octet_model::Command;
 
 /// The first word of a command that computes one register of two.
 #[derive(Clone, Copy, Debug, PartialEq, Eq)]
-pub(crate) enum Operation {
+pub(crate) enum Arithmetic {
     Add,
     Sub,
     Mul,
@@ -20,7 +20,7 @@ pub(crate) enum Operation {
 pub(crate) enum Verb {
     Set,
     Copy,
-    Operation(Operation),
+    Arithmetic(Arithmetic),
     Read,
     Write,
     While,
@@ -50,12 +50,12 @@ impl Keyword {
             b"thread" => Some(Keyword::Thread),
             b"set" => Some(Keyword::Command(Verb::Set)),
             b"copy" => Some(Keyword::Command(Verb::Copy)),
-            b"add" => Some(Keyword::Command(Verb::Operation(Operation::Add))),
-            b"sub" => Some(Keyword::Command(Verb::Operation(Operation::Sub))),
-            b"mul" => Some(Keyword::Command(Verb::Operation(Operation::Mul))),
-            b"xor" => Some(Keyword::Command(Verb::Operation(Operation::Xor))),
-            b"less" => Some(Keyword::Command(Verb::Operation(Operation::Less))),
-            b"same" => Some(Keyword::Command(Verb::Operation(Operation::Same))),
+            b"add" => Some(Keyword::Command(Verb::Arithmetic(Arithmetic::Add))),
+            b"sub" => Some(Keyword::Command(Verb::Arithmetic(Arithmetic::Sub))),
+            b"mul" => Some(Keyword::Command(Verb::Arithmetic(Arithmetic::Mul))),
+            b"xor" => Some(Keyword::Command(Verb::Arithmetic(Arithmetic::Xor))),
+            b"less" => Some(Keyword::Command(Verb::Arithmetic(Arithmetic::Less))),
+            b"same" => Some(Keyword::Command(Verb::Arithmetic(Arithmetic::Same))),
             b"read" => Some(Keyword::Command(Verb::Read)),
             b"write" => Some(Keyword::Command(Verb::Write)),
             b"while" => Some(Keyword::Command(Verb::While)),
@@ -86,24 +86,24 @@ impl Verb {
     {
         match self {
             Verb::Set | Verb::Copy | Verb::Read | Verb::Write => 3,
-            Verb::Operation(_) => 4,
+            Verb::Arithmetic(_) => 4,
             Verb::While | Verb::If => 2,
             Verb::End | Verb::Safe | Verb::Pause => 1,
         }
     }
 }
 
-impl Operation {
+impl Arithmetic {
     pub(crate) fn command(self, to: u8, left: u8, right: u8) -> Command
-        ensures { result ≡ operation_command self to left right }
+        ensures { result ≡ arithmetic_command self to left right }
     {
         match self {
-            Operation::Add => Command::Add { to, left, right },
-            Operation::Sub => Command::Sub { to, left, right },
-            Operation::Mul => Command::Mul { to, left, right },
-            Operation::Xor => Command::Xor { to, left, right },
-            Operation::Less => Command::Less { to, left, right },
-            Operation::Same => Command::Same { to, left, right },
+            Arithmetic::Add => Command::Add { to, left, right },
+            Arithmetic::Sub => Command::Sub { to, left, right },
+            Arithmetic::Mul => Command::Mul { to, left, right },
+            Arithmetic::Xor => Command::Xor { to, left, right },
+            Arithmetic::Less => Command::Less { to, left, right },
+            Arithmetic::Same => Command::Same { to, left, right },
         }
     }
 }

@@ -1,9 +1,10 @@
 //! Laws about the grammar.
-ghost use Rattle.octet_script.specs.Laws.{CanonicalSpells, OneScript, JudgedIsSpelled};
+ghost use Rattle.octet_script.specs.BrokenRules.{UnknownWordIsRefused, WrongCountIsRefused, MisplacedIsRefused, BadArgumentIsRefused, FuelIsRefused, ObjectIsRefused, EndIsRefused, OpenThreadIsRefused, ThreadIsRefused, FuelOfAllIsRefused};
+ghost use Rattle.octet_script.specs.Laws.{CanonicalSpells, OneScript, ParsedIsSpelled};
 
 /// A text is judged to say what a script says exactly where it spells the script.
-pub fn judgement_is_the_grammar()
-    ensures { JudgedIsSpelled }
+pub fn parsing_is_the_grammar()
+    ensures { ParsedIsSpelled }
 {}
 
 /// A text spells one script at most.
@@ -14,4 +15,20 @@ pub fn a_text_spells_one_script()
 /// The canonical text of a script spells it.
 pub fn canonical_text_spells_its_script()
     ensures { CanonicalSpells }
+{}
+
+/// Given that the lines before it are accepted, a line whose rules are broken is refused for the
+/// first of these: its first word, the number of its words, its place, its arguments from left to
+/// right, and then what the lines before have said.
+pub fn broken_rule_is_refused()
+    ensures word { UnknownWordIsRefused }
+    ensures count { WrongCountIsRefused }
+    ensures place { MisplacedIsRefused }
+    ensures argument { BadArgumentIsRefused }
+    ensures fuel { FuelIsRefused }
+    ensures object { ObjectIsRefused }
+    ensures end { EndIsRefused }
+    ensures open_thread { OpenThreadIsRefused }
+    ensures thread { ThreadIsRefused }
+    ensures fuel_of_all { FuelOfAllIsRefused }
 {}

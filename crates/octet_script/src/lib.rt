@@ -6,6 +6,7 @@ mod cause;
 mod keyword;
 mod laws;
 mod line;
+mod objects;
 mod parser;
 mod printer;
 mod rules;
@@ -15,7 +16,8 @@ mod words;
 
 pub use cause::{ScriptCause, ScriptFault};
 pub use laws::{
-    a_text_spells_one_script, canonical_text_spells_its_script, judgement_is_the_grammar,
+    a_text_spells_one_script, broken_rule_is_refused, canonical_text_spells_its_script,
+    parsing_is_the_grammar,
 };
 pub use line::number_of;
 pub use parser::parse;

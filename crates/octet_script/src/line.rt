@@ -1,21 +1,18 @@
 //! The arguments of a line.
-ghost use Rattle.std.specs.Prelude.{◌≡◌, ◌≤◌, ◌&&◌, length, map, IfOk, IfSome, List, ℕ};
-ghost use Rattle.std.specs.Str.{bytes_eq};
+ghost use Rattle.std.specs.Prelude.{◌≡◌, ◌≤◌, length, IfOk, None};
 ghost use Rattle.std.specs.Char.{is_ascii_digit};
-ghost use Rattle.std.specs.List.{list_all, position};
+ghost use Rattle.std.specs.List.{list_all};
 ghost use Rattle.octet_model.specs.Name.{IsName, is_name, is_name_start, is_name_byte};
-ghost use Rattle.octet_script.specs.Words.{words};
-ghost use Rattle.octet_script.specs.Spelling.{number_of, register_of, object_of, object_names};
-ghost use Rattle.octet_script.specs.Judgement.{number_at, register_at, object_at, name_at, command_of, Gives};
+ghost use Rattle.octet_script.specs.Words.{texts};
+ghost use Rattle.octet_script.specs.Spelling.{number_of, register_of, object_named, declared_names};
+ghost use Rattle.octet_script.specs.Parsing.{word_at, number_at, register_at, object_at, name_at, command_of, Gives};
 
 use crate::keyword::Verb;
-use crate::words::word_at;
+use crate::objects::Objects;
 use crate::{ScriptCause, ScriptFault};
-use octet_model::{Command, Object};
+use octet_model::{Command, MAX_NAME, MAX_OBJECTS};
 
 const MAX_DIGITS: usize = 20;
-
-const MAX_NAME: usize = 32;
 
 fn are_digits(word: &[u8]) -> bool
     ensures { result ≡ list_all is_ascii_digit word.now }
@@ -63,26 +60,6 @@ fn register_of(word: &[u8]) -> Option<u8>
     }
 }
 
-fn place_of(objects: &[Object], name: &[u8]) -> Option<usize>
-    ensures { result ≡ position (λ o. bytes_eq name.now o.name) objects.now }
-{
-    objects
-        .iter()
-        .position(|object| name == object.name.as_bytes())
-}
-
-/// The place of the object with this name.
-#[tactic(auto, using(crate::proofs::Cut::position_of_names))]
-fn object_of(objects: &[Object], name: &[u8]) -> Option<u16>
-    requires { length objects.now ≤ 1024 }
-    ensures { result ≡ object_of (object_names objects.now) name.now }
-{
-    match place_of(objects, name) {
-        Some(place) => Some(place as u16),
-        None => None,
-    }
-}
-
 fn starts_name(byte: u8) -> bool
     ensures { result ≡ is_name_start byte }
 {
@@ -117,14 +94,14 @@ fn is_name(word: &[u8]) -> bool
     continue_name(others)
 }
 
-/// A line with its number, counted from 1, and its text without a comment.
+/// A line: its number, counted from 1, and its words.
 #[derive(Clone, Copy)]
-pub(crate) struct Line<'a> {
+pub(crate) struct Line<'l, 'a> {
     pub number: u32,
-    pub text: &'a [u8],
+    pub words: &'l [&'a [u8]],
 }
 
-impl<'a> Line<'a> {
+impl<'l, 'a> Line<'l, 'a> {
     pub(crate) fn refused(&self, cause: ScriptCause) -> ScriptFault
         ensures { result ≡ ScriptFault.Refused self.now.number cause }
     {
@@ -134,46 +111,62 @@ impl<'a> Line<'a> {
         }
     }
 
-    pub(crate) fn number_at(&self, place: usize) -> Result<u64, ScriptFault>
-        ensures { result ≡ number_at self.now.number (words self.now.text.now) place }
+    /// The word at a place, or no bytes where there are too few.
+    pub(crate) fn word_at(&self, place: usize) -> &'a [u8]
+        ensures { result.now ≡ word_at (texts self.now.words.now) place }
     {
-        number_of(word_at(self.text, place)).ok_or(self.refused(ScriptCause::BadNumber))
+        match self.words.get(place) {
+            Some(word) => word,
+            None => b"",
+        }
+    }
+
+    pub(crate) fn number_at(&self, place: usize) -> Result<u64, ScriptFault>
+        ensures { result ≡ number_at self.now.number (texts self.now.words.now) place }
+    {
+        number_of(self.word_at(place)).ok_or(self.refused(ScriptCause::BadNumber))
     }
 
     fn register_at(&self, place: usize) -> Result<u8, ScriptFault>
-        ensures { result ≡ register_at self.now.number (words self.now.text.now) place }
+        ensures { result ≡ register_at self.now.number (texts self.now.words.now) place }
     {
-        register_of(word_at(self.text, place)).ok_or(self.refused(ScriptCause::BadRegister))
+        register_of(self.word_at(place)).ok_or(self.refused(ScriptCause::BadRegister))
     }
 
-    fn object_at(&self, objects: &[Object], place: usize) -> Result<u16, ScriptFault>
-        requires { length objects.now ≤ 1024 }
-        ensures { result ≡ object_at (object_names objects.now) self.now.number (words self.now.text.now) place }
+    fn object_at(&self, objects: &Objects<'a>, place: usize) -> Result<u16, ScriptFault>
+        requires { length objects.now ≤ MAX_OBJECTS }
+        ensures { result ≡ object_at (declared_names objects.now) self.now.number (texts self.now.words.now) place }
     {
-        object_of(objects, word_at(self.text, place)).ok_or(self.refused(ScriptCause::NoSuchObject))
+        match objects.place_of(self.word_at(place)) {
+            Some(object) => Ok(object as u16),
+            None => Err(self.refused(ScriptCause::NoSuchObject)),
+        }
     }
 
     /// A name that no object has.
-    #[tactic(auto, using(crate::proofs::Cut::position_of_names))]
-    pub(crate) fn name_at(&self, objects: &[Object], place: usize) -> Result<&'a [u8], ScriptFault>
-        requires { length objects.now ≤ 1024 }
+    pub(crate) fn name_at(
+        &self,
+        objects: &Objects<'a>,
+        place: usize,
+    ) -> Result<&'a [u8], ScriptFault>
         ensures form { IfOk result (λ name. IsName name.now) }
-        ensures value { Gives (λ name. name.now) result (name_at (object_names objects.now) self.now.number (words self.now.text.now) place) }
+        ensures fresh { IfOk result (λ name. object_named (declared_names objects.now) name.now ≡ None) }
+        ensures value { Gives (λ name. name.now) result (name_at (declared_names objects.now) self.now.number (texts self.now.words.now) place) }
     {
-        let word = word_at(self.text, place);
+        let word = self.word_at(place);
         if !is_name(word) {
             return Err(self.refused(ScriptCause::BadName));
         }
-        if place_of(objects, word).is_some() {
+        if objects.place_of(word).is_some() {
             return Err(self.refused(ScriptCause::NameTwice));
         }
         Ok(word)
     }
 
     /// The command that the line writes.
-    pub(crate) fn command(&self, objects: &[Object], verb: Verb) -> Result<Command, ScriptFault>
-        requires { length objects.now ≤ 1024 }
-        ensures { result ≡ command_of (object_names objects.now) self.now.number (words self.now.text.now) verb }
+    pub(crate) fn command(&self, objects: &Objects<'a>, verb: Verb) -> Result<Command, ScriptFault>
+        requires { length objects.now ≤ MAX_OBJECTS }
+        ensures { result ≡ command_of (declared_names objects.now) self.now.number (texts self.now.words.now) verb }
     {
         match verb {
             Verb::Set => Ok(Command::Set {
@@ -184,7 +177,7 @@ impl<'a> Line<'a> {
                 to: self.register_at(1)?,
                 from: self.register_at(2)?,
             }),
-            Verb::Operation(operation) => {
+            Verb::Arithmetic(operation) => {
                 let to = self.register_at(1)?;
                 let left = self.register_at(2)?;
                 let right = self.register_at(3)?;

@@ -1,34 +1,20 @@
 //! The canonical text of a script.
 ghost use Rattle.std.specs.Prelude.{◌≡◌, ◌++◌, [], IfOk, OnOk, codes};
 ghost use Rattle.std.specs.List.{flat_map};
-ghost use Rattle.std.specs.Fmt.{decimal};
 ghost use Rattle.octet_script.specs.Spelling.{declaration, object_names, object_word, register_word, canonical_words, canonical_line, canonical_text, command_form, head_form, thread_forms, ObjectHead, Spells};
 ghost use Rattle.octet_model.specs.Name.{IsName};
 
-use octet_model::{Command, Object, OutOfMemory, Script};
+use octet_model::{Command, Object, OutOfMemory, Script, push_number};
 use std::alloc::Global;
 
-fn push_number(alloc: Global, out: &mut Vec<u8>, number: u64) -> Result<(), OutOfMemory>
-    ensures { OnOk result (out.new.items ≡ out.old.items ++ decimal number) }
-{
-    let digits = format!(in alloc; "{number}")?;
-    out.extend_from_slice(digits.as_bytes())?;
-    Ok(())
-}
-
-// A word, and registers behind it.
-fn push_registers(
-    alloc: Global,
-    out: &mut Vec<u8>,
-    word: &[u8],
-    registers: &[u8],
-) -> Result<(), OutOfMemory>
+// A word, and registers after it.
+fn push_registers(out: &mut Vec<u8>, word: &[u8], registers: &[u8]) -> Result<(), OutOfMemory>
     ensures { OnOk result (out.new.items ≡ out.old.items ++ word.now ++ flat_map (λ r. codes " " ++ register_word r) registers.now) }
 {
     out.extend_from_slice(word)?;
     for register in registers {
         out.extend_from_slice(b" r")?;
-        push_number(alloc, out, *register as u64)?;
+        push_number(out, *register as u64)?;
     }
     Ok(())
 }
@@ -50,68 +36,48 @@ fn push_name(out: &mut Vec<u8>, objects: &[Object], object: u16) -> Result<(), O
     Ok(())
 }
 
-fn push_words(
-    alloc: Global,
-    out: &mut Vec<u8>,
-    objects: &[Object],
-    command: Command,
-) -> Result<(), OutOfMemory>
+fn push_words(out: &mut Vec<u8>, objects: &[Object], command: Command) -> Result<(), OutOfMemory>
     ensures { OnOk result (out.new.items ≡ out.old.items ++ canonical_words (object_names objects.now) (command_form command)) }
 {
     match command {
         Command::Set { to, number } => {
-            push_registers(alloc, out, b"set", &[to])?;
+            push_registers(out, b"set", &[to])?;
             out.extend_from_slice(b" ")?;
-            push_number(alloc, out, number)
+            push_number(out, number)
         }
-        Command::Copy { to, from } => push_registers(alloc, out, b"copy", &[to, from]),
-        Command::Add { to, left, right } => push_registers(alloc, out, b"add", &[to, left, right]),
-        Command::Sub { to, left, right } => push_registers(alloc, out, b"sub", &[to, left, right]),
-        Command::Mul { to, left, right } => push_registers(alloc, out, b"mul", &[to, left, right]),
-        Command::Xor { to, left, right } => push_registers(alloc, out, b"xor", &[to, left, right]),
-        Command::Less { to, left, right } => push_registers(
-            alloc,
-            out,
-            b"less",
-            &[to, left, right],
-        ),
-        Command::Same { to, left, right } => push_registers(
-            alloc,
-            out,
-            b"same",
-            &[to, left, right],
-        ),
+        Command::Copy { to, from } => push_registers(out, b"copy", &[to, from]),
+        Command::Add { to, left, right } => push_registers(out, b"add", &[to, left, right]),
+        Command::Sub { to, left, right } => push_registers(out, b"sub", &[to, left, right]),
+        Command::Mul { to, left, right } => push_registers(out, b"mul", &[to, left, right]),
+        Command::Xor { to, left, right } => push_registers(out, b"xor", &[to, left, right]),
+        Command::Less { to, left, right } => push_registers(out, b"less", &[to, left, right]),
+        Command::Same { to, left, right } => push_registers(out, b"same", &[to, left, right]),
         Command::Read { to, object } => {
-            push_registers(alloc, out, b"read", &[to])?;
+            push_registers(out, b"read", &[to])?;
             push_name(out, objects, object)
         }
         Command::Write { object, from } => {
             out.extend_from_slice(b"write")?;
             push_name(out, objects, object)?;
-            push_registers(alloc, out, b"", &[from])
+            push_registers(out, b"", &[from])
         }
-        Command::Loop { test } => push_registers(alloc, out, b"while", &[test]),
-        Command::Branch { test } => push_registers(alloc, out, b"if", &[test]),
-        Command::Close => push_registers(alloc, out, b"end", &[]),
-        Command::Safe => push_registers(alloc, out, b"safe", &[]),
-        Command::Pause => push_registers(alloc, out, b"pause", &[]),
+        Command::Loop { test } => push_registers(out, b"while", &[test]),
+        Command::Branch { test } => push_registers(out, b"if", &[test]),
+        Command::Close => push_registers(out, b"end", &[]),
+        Command::Safe => push_registers(out, b"safe", &[]),
+        Command::Pause => push_registers(out, b"pause", &[]),
     }
 }
 
-fn push_command(
-    alloc: Global,
-    out: &mut Vec<u8>,
-    objects: &[Object],
-    command: Command,
-) -> Result<(), OutOfMemory>
+fn push_command(out: &mut Vec<u8>, objects: &[Object], command: Command) -> Result<(), OutOfMemory>
     ensures { OnOk result (out.new.items ≡ out.old.items ++ canonical_line (object_names objects.now) (command_form command)) }
 {
-    push_words(alloc, out, objects, command)?;
+    push_words(out, objects, command)?;
     out.extend_from_slice(b"\n")?;
     Ok(())
 }
 
-fn push_object(alloc: Global, out: &mut Vec<u8>, object: &Object) -> Result<(), OutOfMemory>
+fn push_object(out: &mut Vec<u8>, object: &Object) -> Result<(), OutOfMemory>
     ensures text { OnOk result (out.new.items ≡ out.old.items ++ canonical_line [] (head_form (ObjectHead (declaration object.now)))) }
     ensures name { IsName object.now.name }
 {
@@ -119,13 +85,12 @@ fn push_object(alloc: Global, out: &mut Vec<u8>, object: &Object) -> Result<(), 
     out.extend_from_slice(b"object ")?;
     out.extend_from_slice(name)?;
     out.extend_from_slice(b" ")?;
-    push_number(alloc, out, object.start)?;
+    push_number(out, object.start)?;
     out.extend_from_slice(b"\n")?;
     Ok(())
 }
 
 fn push_thread(
-    alloc: Global,
     out: &mut Vec<u8>,
     objects: &[Object],
     commands: &[Command],
@@ -134,7 +99,7 @@ fn push_thread(
 {
     out.extend_from_slice(b"thread\n")?;
     for command in commands {
-        push_command(alloc, out, objects, *command)?;
+        push_command(out, objects, *command)?;
     }
     Ok(())
 }
@@ -147,14 +112,14 @@ pub fn print(alloc: Global, script: &Script) -> Result<Vec<u8>, OutOfMemory>
 {
     let mut out = Vec::new(alloc);
     out.extend_from_slice(b"fuel ")?;
-    push_number(alloc, &mut out, script.fuel as u64)?;
+    push_number(&mut out, script.fuel as u64)?;
     out.extend_from_slice(b"\n")?;
     let objects = script.objects.as_slice();
     for object in objects {
-        push_object(alloc, &mut out, object)?;
+        push_object(&mut out, object)?;
     }
     for commands in script.threads.as_slice() {
-        push_thread(alloc, &mut out, objects, commands.as_slice())?;
+        push_thread(&mut out, objects, commands.as_slice())?;
     }
     Ok(out)
 }

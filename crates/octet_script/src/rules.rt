@@ -1,34 +1,26 @@
 //! The rules by which lines are judged and added to what was said before.
-ghost use Rattle.std.specs.Prelude.{◌≡◌, ◌≤◌, ◌∷◌, IfErr, OnOk, Ok, length};
+ghost use Rattle.std.specs.Prelude.{◌≡◌, ◌≤◌, ◌∷◌, None, IfErr, OnOk, Ok, length};
 ghost use Rattle.octet_model.specs.Name.{IsName};
-ghost use Rattle.octet_script.specs.Words.{words};
-ghost use Rattle.octet_script.specs.Spelling.{contents};
-ghost use Rattle.octet_script.specs.Judgement.{start, Gives, is_misplaced, with_fuel, with_object, with_command, all_closed, closed, added, threads_of, fuel_of, with_thread, judged_arguments, judged_line, judged_end};
-ghost use Rattle.octet_script.specs.Building.{progress, kept, IsValidSoFar};
+ghost use Rattle.octet_script.specs.Words.{texts};
+ghost use Rattle.octet_script.specs.Spelling.{contents, object_named};
+ghost use Rattle.octet_script.specs.Parsing.{start, Gives, is_misplaced, with_fuel, with_object, with_command, all_closed, closed, added, threads_of, names_of, fuel_of, with_thread, judged_arguments, judged_line, judged_end};
+ghost use Rattle.octet_script.specs.Building.{draft, kept, IsValidSoFar};
 
 use crate::builder::Builder;
 use crate::keyword::Keyword;
 use crate::line::Line;
-use crate::words::{count_words, word_at};
+use crate::objects::Objects;
 use crate::{ScriptCause, ScriptFault};
-use octet_model::{Command, List, Name, Object, Script};
+use octet_model::{Command, DEFAULT_FUEL, List, MAX_FUEL, MAX_OBJECTS, MAX_THREADS, Script};
 use std::alloc::Global;
 
-const MAX_FUEL: u64 = 262_144;
-
-const DEFAULT_FUEL: u32 = 16_384;
-
-const MAX_OBJECTS: usize = 1024;
-
-const MAX_THREADS: usize = 16;
-
-impl Builder {
-    pub(crate) fn new(alloc: Global) -> Builder
-        ensures { progress result ≡ start }
+impl<'a> Builder<'a> {
+    pub(crate) fn new(alloc: Global) -> Builder<'a>
+        ensures { draft result ≡ start }
     {
         Builder {
             fuel: None,
-            objects: List::new(alloc),
+            objects: Objects::new(alloc),
             started: false,
             threads: List::new(alloc),
             commands: List::new(alloc),
@@ -37,17 +29,16 @@ impl Builder {
     }
 
     /// Judges a line, and adds what it says.
-    pub(crate) fn judge(&mut self, alloc: Global, line: Line<'_>) -> Result<(), ScriptFault>
-        ensures { Gives (λ _. progress self.new) result (judged_line (progress self.old) line.entry.number (words line.entry.text.now)) }
+    pub(crate) fn judge(&mut self, alloc: Global, line: Line<'_, 'a>) -> Result<(), ScriptFault>
+        ensures { Gives (λ _. draft self.new) result (judged_line (draft self.old) line.entry.number (texts line.entry.words.now)) }
     {
-        let count = count_words(line.text);
-        if count == 0 {
+        let Some((first, _)) = line.words.split_first() else {
             return Ok(());
-        }
-        let Some(keyword) = Keyword::of(word_at(line.text, 0)) else {
+        };
+        let Some(keyword) = Keyword::of(first) else {
             return Err(line.refused(ScriptCause::UnknownWord));
         };
-        if count != keyword.word_count() {
+        if line.words.len() != keyword.word_count() {
             return Err(line.refused(ScriptCause::WrongCount));
         }
         if self.misplaces(keyword) {
@@ -67,8 +58,13 @@ impl Builder {
     }
 
     // Judges a line's arguments, and adds what it says.
-    fn accept(&mut self, alloc: Global, line: Line<'_>, keyword: Keyword) -> Result<(), ScriptFault>
-        ensures { Gives (λ _. progress self.new) result (judged_arguments (progress self.old) line.entry.number (words line.entry.text.now) keyword) }
+    fn accept(
+        &mut self,
+        alloc: Global,
+        line: Line<'_, 'a>,
+        keyword: Keyword,
+    ) -> Result<(), ScriptFault>
+        ensures { Gives (λ _. draft self.new) result (judged_arguments (draft self.old) line.entry.number (texts line.entry.words.now) keyword) }
     {
         match keyword {
             Keyword::Fuel => {
@@ -76,48 +72,42 @@ impl Builder {
                 self.give_fuel(line, fuel)
             }
             Keyword::Object => {
-                let name = line.name_at(self.objects.as_slice(), 1)?;
+                let name = line.name_at(&self.objects, 1)?;
                 let start = line.number_at(2)?;
-                self.declare(alloc, line, name, start)
+                self.declare(line, name, start)
             }
             Keyword::Thread => self.begin_thread(alloc, line),
             Keyword::Command(verb) => {
-                let command = line.command(self.objects.as_slice(), verb)?;
+                let command = line.command(&self.objects, verb)?;
                 self.add(line, command)
             }
         }
     }
 
-    fn give_fuel(&mut self, line: Line<'_>, fuel: u64) -> Result<(), ScriptFault>
-        ensures { Gives (λ _. progress self.new) result (with_fuel (progress self.old) line.entry.number fuel) }
+    fn give_fuel(&mut self, line: Line<'_, 'a>, fuel: u64) -> Result<(), ScriptFault>
+        ensures { Gives (λ _. draft self.new) result (with_fuel (draft self.old) line.entry.number fuel) }
     {
-        if self.fuel.is_some() || fuel == 0 || fuel > MAX_FUEL {
+        if self.fuel.is_some() || fuel == 0 || fuel > u64::from(MAX_FUEL) {
             return Err(line.refused(ScriptCause::BadFuel));
         }
         self.fuel = Some(fuel as u32);
         Ok(())
     }
 
-    fn declare(
-        &mut self,
-        alloc: Global,
-        line: Line<'_>,
-        name: &[u8],
-        start: u64,
-    ) -> Result<(), ScriptFault>
-        requires { IsName name.now }
-        ensures { Gives (λ _. progress self.new) result (with_object (progress self.old) line.entry.number name.now start) }
+    fn declare(&mut self, line: Line<'_, 'a>, name: &'a [u8], start: u64) -> Result<(), ScriptFault>
+        requires form { IsName name.now }
+        requires fresh { object_named (names_of (draft self.old)) name.now ≡ None }
+        ensures { Gives (λ _. draft self.new) result (with_object (draft self.old) line.entry.number name.now start) }
     {
         if self.objects.len() >= MAX_OBJECTS {
             return Err(line.refused(ScriptCause::TooMany));
         }
-        let name = Name::new(alloc, name)?;
-        self.objects.push(Object { name, start })?;
+        self.objects.push(name, start)?;
         Ok(())
     }
 
-    fn add(&mut self, line: Line<'_>, command: Command) -> Result<(), ScriptFault>
-        ensures { Gives (λ _. progress self.new) result (with_command (progress self.old) line.entry.number command) }
+    fn add(&mut self, line: Line<'_, 'a>, command: Command) -> Result<(), ScriptFault>
+        ensures { Gives (λ _. draft self.new) result (with_command (draft self.old) line.entry.number command) }
     {
         match command {
             Command::Loop { .. } | Command::Branch { .. } => self.open(line, command),
@@ -127,22 +117,22 @@ impl Builder {
     }
 
     fn push(&mut self, command: Command) -> Result<(), ScriptFault>
-        ensures { Gives (λ _. progress self.new) result (Ok (added (progress self.old) command (progress self.old).openers)) }
+        ensures { Gives (λ _. draft self.new) result (Ok (added (draft self.old) command (draft self.old).openers)) }
     {
         self.commands.push(command)?;
         Ok(())
     }
 
-    fn open(&mut self, line: Line<'_>, command: Command) -> Result<(), ScriptFault>
-        ensures { Gives (λ _. progress self.new) result (Ok (added (progress self.old) command (line.entry.number ∷ (progress self.old).openers))) }
+    fn open(&mut self, line: Line<'_, 'a>, command: Command) -> Result<(), ScriptFault>
+        ensures { Gives (λ _. draft self.new) result (Ok (added (draft self.old) command (line.entry.number ∷ (draft self.old).openers))) }
     {
         self.openers.push(line.number)?;
         self.commands.push(command)?;
         Ok(())
     }
 
-    fn close(&mut self, line: Line<'_>) -> Result<(), ScriptFault>
-        ensures { Gives (λ _. progress self.new) result (closed (progress self.old) line.entry.number (progress self.old).openers) }
+    fn close(&mut self, line: Line<'_, 'a>) -> Result<(), ScriptFault>
+        ensures { Gives (λ _. draft self.new) result (closed (draft self.old) line.entry.number (draft self.old).openers) }
     {
         if self.openers.pop().is_none() {
             return Err(line.refused(ScriptCause::EndWithoutOpen));
@@ -151,7 +141,7 @@ impl Builder {
     }
 
     fn thread_count(&self) -> usize
-        ensures { result ≡ length (threads_of (progress self.now)) }
+        ensures { result ≡ length (threads_of (draft self.now)) }
     {
         if self.started {
             self.threads.len() + 1
@@ -161,15 +151,15 @@ impl Builder {
     }
 
     fn fuel(&self) -> u32
-        ensures value { result ≡ fuel_of (progress self.now) }
-        ensures bound { result ≤ 262144 }
+        ensures value { result ≡ fuel_of (draft self.now) }
+        ensures bound { result ≤ MAX_FUEL }
     {
         self.fuel.unwrap_or(DEFAULT_FUEL)
     }
 
     // Where a `while` or `if` is open, the line of the innermost one is refused.
     fn all_closed(&self) -> Result<(), ScriptFault>
-        ensures { Gives (λ _. tt) result (all_closed (progress self.now).openers) }
+        ensures { Gives (λ _. tt) result (all_closed (draft self.now).openers) }
     {
         match self.openers.as_slice().last() {
             Some(opener) => Err(ScriptFault::Refused {
@@ -180,15 +170,15 @@ impl Builder {
         }
     }
 
-    fn begin_thread(&mut self, alloc: Global, line: Line<'_>) -> Result<(), ScriptFault>
-        ensures { Gives (λ _. progress self.new) result (with_thread (progress self.old) line.entry.number) }
+    fn begin_thread(&mut self, alloc: Global, line: Line<'_, 'a>) -> Result<(), ScriptFault>
+        ensures { Gives (λ _. draft self.new) result (with_thread (draft self.old) line.entry.number) }
     {
         self.all_closed()?;
         let count = self.thread_count();
         if count >= MAX_THREADS {
             return Err(line.refused(ScriptCause::TooMany));
         }
-        if (count as u64 + 1) * self.fuel() as u64 > MAX_FUEL {
+        if (count as u64 + 1) * self.fuel() as u64 > u64::from(MAX_FUEL) {
             return Err(line.refused(ScriptCause::BadFuel));
         }
         self.keep_thread(alloc)?;
@@ -198,8 +188,8 @@ impl Builder {
 
     // Keeps the present thread, and makes room for the next.
     fn keep_thread(&mut self, alloc: Global) -> Result<(), ScriptFault>
-        requires { length (threads_of (progress self.old)) ≤ 16 }
-        ensures kept { OnOk result (progress self.new ≡ kept (progress self.old)) }
+        requires { length (threads_of (draft self.old)) ≤ MAX_THREADS }
+        ensures kept { OnOk result (draft self.new ≡ kept (draft self.old)) }
         ensures memory { IfErr result (λ e. e ≡ ScriptFault.OutOfMemory) }
     {
         let commands = std::mem::replace(&mut self.commands, List::new(alloc));
@@ -211,8 +201,8 @@ impl Builder {
 
     /// The script, at the end of a text whose last line has this number.
     pub(crate) fn finish(mut self, alloc: Global, last: u32) -> Result<Script, ScriptFault>
-        requires { IsValidSoFar (progress self) }
-        ensures { Gives contents result (judged_end (progress self) last) }
+        requires { IsValidSoFar (draft self) }
+        ensures { Gives contents result (judged_end (draft self.entry) last) }
     {
         self.all_closed()?;
         if !self.started {
@@ -223,9 +213,10 @@ impl Builder {
         }
         self.keep_thread(alloc)?;
         let fuel = self.fuel();
+        let objects = self.objects.to_list(alloc)?;
         Ok(Script {
             fuel,
-            objects: self.objects,
+            objects,
             threads: self.threads,
         })
     }

@@ -80,7 +80,7 @@ const REFUSALS: [(&[u8], u32, u8); 66] = [
     (b"thread\nnonsense\nend", 2, 2),
 ];
 
-// A text, a line that comes so many times, a last line; and the line and number of the refusal, or 0 for none.
+// A text, a line and how often it comes, a last line; and the line and number of the refusal, or 0 for none.
 const REPEATED: [(&[u8], &[u8], u32, &[u8], u32, u8); 6] = [
     (b"", b"thread\n", 16, b"", 0, 0),
     (b"", b"thread\n", 16, b"thread", 17, 12),
@@ -129,7 +129,7 @@ fn judged(rt: HostRuntime, text: &[u8]) -> (u32, u8) {
     }
 }
 
-// Lines of so many objects, and then these.
+// Lines of `count` objects, and then these.
 fn with_objects(alloc: Global, count: u32, last: &[u8]) -> Result<Vec<u8>, AllocError> {
     let mut text = Vec::new(alloc);
     for number in 0..count {

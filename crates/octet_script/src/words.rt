@@ -1,8 +1,9 @@
 //! The words of a line.
-ghost use Rattle.std.specs.Prelude.{◌≡◌, ◌<◌, ◌∷◌, ◌==◌, [], length, not, MatchOption, IfSome};
+ghost use Rattle.std.specs.Prelude.{◌≡◌, ◌<◌, ◌∷◌, ◌==◌, [], length, not, MatchOption, IfSome, OnOk};
 ghost use Rattle.std.specs.List.{position};
-ghost use Rattle.octet_script.specs.Words.{is_blank, lines, uncommented, words};
-ghost use Rattle.octet_script.specs.Judgement.{word_at};
+ghost use Rattle.octet_script.specs.Words.{is_blank, lines, uncommented, words, words_of_line, texts};
+
+use octet_model::OutOfMemory;
 
 fn is_blank(byte: u8) -> bool
     ensures { result ≡ is_blank byte }
@@ -29,7 +30,7 @@ fn find_filled(text: &[u8]) -> Option<usize>
     text.iter().position(|byte| !is_blank(*byte))
 }
 
-/// The first line, and what stands behind its end; none where no line ends.
+/// The first line, and what stands after its end; none where no line ends.
 pub(crate) fn cut_line(text: &[u8]) -> Option<(&[u8], &[u8])>
     ensures line { MatchOption result (lines text.now ≡ text.now ∷ []) (λ r. lines text.now ≡ r.0.now ∷ lines r.1.now) }
     ensures shorter { IfSome result (λ r. length r.1.now < length text.now) }
@@ -44,8 +45,8 @@ pub(crate) fn cut_line(text: &[u8]) -> Option<(&[u8], &[u8])>
     }
 }
 
-/// What is read of a line: all that stands before its first `#`.
-pub(crate) fn uncommented(line: &[u8]) -> &[u8]
+// What is read of a line: all that stands before its first `#`.
+fn uncommented(line: &[u8]) -> &[u8]
     ensures { result.now ≡ uncommented line.now }
 {
     match find_byte(line, b'#') {
@@ -54,7 +55,7 @@ pub(crate) fn uncommented(line: &[u8]) -> &[u8]
     }
 }
 
-// The first word, and what stands behind it.
+// The first word, and what stands after it.
 fn first_word(text: &[u8]) -> Option<(&[u8], &[u8])>
     ensures word { MatchOption result (words text.now ≡ []) (λ r. words text.now ≡ r.0.now ∷ words r.1.now) }
     ensures shorter { IfSome result (λ r. length r.1.now < length text.now) }
@@ -69,32 +70,15 @@ fn first_word(text: &[u8]) -> Option<(&[u8], &[u8])>
     }
 }
 
-/// How many words there are.
-pub(crate) fn count_words(text: &[u8]) -> usize
-    ensures { result ≡ length (words text.now) }
+/// Puts the words of a line into `words`, in place of what was there.
+pub(crate) fn split_words<'a>(line: &'a [u8], words: &mut Vec<&'a [u8]>) -> Result<(), OutOfMemory>
+    ensures { OnOk result (texts words.new.items ≡ words_of_line line.now) }
 {
-    let mut count = 0;
-    let mut rest = text;
-    while let Some((_, after)) = first_word(rest) {
-        count += 1;
+    words.clear();
+    let mut rest = uncommented(line);
+    while let Some((word, after)) = first_word(rest) {
+        words.push(word)?;
         rest = after;
     }
-    count
-}
-
-/// The word at a place, or no bytes where there are too few.
-pub(crate) fn word_at(text: &[u8], place: usize) -> &[u8]
-    ensures { result.now ≡ word_at (words text.now) place }
-{
-    let mut rest = text;
-    for _ in 0..place {
-        match first_word(rest) {
-            Some((_, after)) => rest = after,
-            None => return b"",
-        }
-    }
-    match first_word(rest) {
-        Some((word, _)) => word,
-        None => b"",
-    }
+    Ok(())
 }

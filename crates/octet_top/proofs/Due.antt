@@ -1,40 +1,33 @@
 -- Where files are told, words have answers of one status alone.
+use Rattle.octet_model.specs.declared.limits.TheConstants.{MAX_LOG_FILE, MAX_SCRIPT_FILE}
 use Rattle.std.proofs.Common.{◌≡◌, ◌∙◌, ◌⊎◌, ◌<◌, ℕ, List, length, Option, None, Some, IsSomeAnd, Result, Ok, Err, inl, inr, ap, sym, refl, subst, arith, IsTrue}
 use Rattle.std.specs.FinMap.{get}
 use std.HLevel.{prop→path_p}
 use Rattle.std.proofs.Props.{props}
 use Rattle.octet_base.specs.Desk.{Contents, DeskState}
 use Rattle.octet_base.specs.declared.fault.DeskFault.{DeskFault}
-use Rattle.octet_base.specs.declared.fault.DeskFault.TheVariants as fault
 use Rattle.octet_model.specs.Log.{is_log}
 use Rattle.octet_model.specs.declared.list.OutOfMemory.{OutOfMemory as NoMemory}
 use Rattle.octet_model.specs.declared.script.Script.{Script}
 use Rattle.octet_model.specs.declared.log.Log.{Log}
-use Rattle.octet_script.specs.Spelling.{canonical_text}
-use Rattle.octet_script.proofs.Spelled.{spells_judged, one_script}
-use Rattle.octet_log.specs.Judgement as log
-use Rattle.octet_log.specs.Texts.{log_text}
-use Rattle.octet_log.proofs.Whole.{judgement_is, one_log}
+use Rattle.octet_script.proofs.lemmas.Grammar.{spells_parsed, one_script}
+use Rattle.octet_log.specs.Decoding as log
+use Rattle.octet_log.proofs.lemmas.Spellings.{spelling_decoded, one_log}
 use Rattle.octet_replay.proofs.Answered.{not_refused}
-use Rattle.octet_clock.specs.declared.verdict.Verdict.{Verdict}
-use Rattle.octet_clock.specs.declared.verdict.Verdict.TheVariants as verdict
-use Rattle.octet_clock.specs.Verified.{IsVerified}
 use Rattle.octet_top.specs.declared.inputs.Pair.{Pair}
-use Rattle.octet_top.specs.declared.request.ScriptTask.TheVariants.{Tidy}
-use Rattle.octet_top.specs.declared.request.LogTask.TheVariants.{Show}
 use Rattle.octet_top.specs.declared.request.PairTask.{PairTask}
-use Rattle.octet_top.specs.declared.request.PairTask.TheVariants.{Replay, Verify, Profile}
 use Rattle.octet_top.specs.declared.reply.Reply.{Reply}
 use Rattle.octet_top.specs.declared.reply.Status.{Status}
 use Rattle.octet_top.specs.declared.reply.Status.TheVariants as exit
-use Rattle.octet_top.specs.Answer.{Answer, answer_of, code_of, says, not_a_command, read_failed, too_long, script_refused, log_refused, verdict_said}
-use Rattle.octet_top.specs.Request.{Request, OfScript, OfLog, OfPair, Run, Gen, request_in, script_limit, log_limit}
+use Rattle.octet_top.specs.Answer.{Answer, answer_of, code_of, not_a_command, read_failed, too_long, script_refused, log_refused}
+use Rattle.octet_top.specs.Request.{Request, OfScript, OfLog, OfPair, Run, Gen, request_in}
 use Rattle.octet_top.specs.Inputs.{◌>>=◌, IsTaken, IsParsed, IsDecoded, IsChosen, IsScriptRead, IsLogRead, IsScriptChosen, IsPairRead}
 use Rattle.octet_top.specs.Replies.{Replies}
 use Rattle.octet_top.specs.Delivery.{Makes, acts_of, code_after, IsGiven, IsServed}
 use Rattle.octet_top.specs.Causes.{IsDue, NoneFailed}
-use Rattle.octet_top.proofs.Causes.{makes_keep, makes_fail}
-use Rattle.octet_top.specs.Commands.{Answering, Answers, RequestAnswers, IsAnswer, ScriptAnswers, LogAnswers, PairAnswers, PairSays, RunAnswers}
+use Rattle.octet_top.proofs.Causes.{makes_keep, makes_fail, after_refused}
+use Rattle.octet_top.proofs.Rows.{PairRow, script_row, log_row, pair_row, run_row}
+use Rattle.octet_top.specs.Commands.{Answering, Answers, RequestAnswers, IsAnswer, ScriptAnswers, LogAnswers, PairAnswers, RunAnswers}
 
 -- a step ends in one way
 pub record Single {A : Type 0} (Step : Result A Answer → Type 0) : Type 0 where
@@ -90,7 +83,7 @@ taken_single name limit t = record {
 parsed_single : (text : List ℕ) → Single (IsParsed text)
 parsed_single text = record {
   one = λ x y p q. (let same : x.script ≡ y.script = one_script text y.script x.script q.1 p.1 in let t : x.text ≡ y.text = p.0 ∙ sym q.0 in λ i. record { text = t i; script = same i });
-  never = λ x a p q. (let judged = sym q.2 ∙ spells_judged text x.script p.1 in cc);
+  never = λ x a p q. (let judged = sym q.2 ∙ spells_parsed text x.script p.1 in cc);
   same = λ a b p q. both a b (script_refused q.0 q.1) (p.3 ∙ (let judged = sym p.2 ∙ q.2 in cc)) q.3;
 }
 
@@ -100,7 +93,7 @@ same_log a b e = λ i. record { threads = e i; valid = prop→path_p (λ j. IsTr
 decoded_single : (bytes : List ℕ) → Single (IsDecoded bytes)
 decoded_single bytes = record {
   one = λ x y p q. same_log x y (one_log x.threads y.threads x.valid y.valid (sym p ∙ q));
-  never = λ x a p q. (let judged = sym q.1 ∙ ap log.judgement p ∙ judgement_is x.threads x.valid in cc);
+  never = λ x a p q. (let judged = sym q.1 ∙ ap log.decoded p ∙ spelling_decoded x.threads x.valid in cc);
   same = λ a b p q. both a b (log_refused q.0) (p.2 ∙ (let judged = sym p.1 ∙ q.1 in cc)) q.2;
 }
 
@@ -112,11 +105,11 @@ chosen_single s object = record {
 }
 
 module _ (t : Contents) where
-  script_single : (name : List ℕ) → Single (IsScriptRead name (Some t))
-  script_single name = then_single (IsTaken name script_limit (Some t)) IsParsed (taken_single name script_limit t) parsed_single
+  pub script_single : (name : List ℕ) → Single (IsScriptRead name (Some t))
+  script_single name = then_single (IsTaken name MAX_SCRIPT_FILE (Some t)) IsParsed (taken_single name MAX_SCRIPT_FILE t) parsed_single
 
-  log_single : (name : List ℕ) → Single (IsLogRead name (Some t))
-  log_single name = then_single (IsTaken name log_limit (Some t)) IsDecoded (taken_single name log_limit t) decoded_single
+  pub log_single : (name : List ℕ) → Single (IsLogRead name (Some t))
+  log_single name = then_single (IsTaken name MAX_LOG_FILE (Some t)) IsDecoded (taken_single name MAX_LOG_FILE t) decoded_single
 
   script_chosen_single : (name : List ℕ) (object : Option (List ℕ)) → Single (IsScriptChosen name object (Some t))
   script_chosen_single name object =
@@ -138,28 +131,27 @@ one_status Reading Answers' single same a b (inr (x, is, p)) (inr (y, is', q)) =
 as_said : (a b x y : Answer) → a ≡ x → b ≡ y → x.status ≡ y.status → a.status ≡ b.status
 as_said a b x y is is' same = ap (λ (z : Answer). z.status) is ∙ same ∙ ap (λ (z : Answer). z.status) (sym is')
 
-verdict_status : (pair : Pair) (a b : Answer) (v w : Verdict) → IsVerified pair.source.script pair.log.threads v → IsVerified pair.source.script pair.log.threads w → a ≡ verdict_said v → b ≡ verdict_said w → a.status ≡ b.status
-verdict_status pair a b verdict.Ordered verdict.Ordered p q is is' = as_said a b _ _ is is' refl
-verdict_status pair a b verdict.Ordered (verdict.Unordered first second) p q is is' = absurd (let ordered = q.told.ordered.1 (p.told.ordered.0 refl) in cc)
-verdict_status pair a b (verdict.Unordered first second) verdict.Ordered p q is is' = absurd (let ordered = p.told.ordered.1 (q.told.ordered.0 refl) in cc)
-verdict_status pair a b (verdict.Unordered first second) (verdict.Unordered first' second') p q is is' = as_said a b _ _ is is' refl
+-- two answers of a task on a log that fits have one status
+pair_same : (task : PairTask) (pair : Pair) (a b : Answer) → PairRow task pair a → PairRow task pair b → a.status ≡ b.status
+pair_same task pair a b (inl p) (inl q) = p.0.status ∙ sym q.0.status
+pair_same task pair a b (inl p) (inr q) = absurd (q.3 (p.1 q.2))
+pair_same task pair a b (inr p) (inl q) = absurd (p.3 (q.1 p.2))
+pair_same task pair a b (inr p) (inr q) = p.1 ∙ sym q.1
 
-tells_status : (command : PairTask) (pair : Pair) (a b : Answer) → PairSays command pair a → PairSays command pair b → a.status ≡ b.status
-tells_status Replay pair a b is is' = as_said a b _ _ is is' refl
-tells_status Verify pair a b (v, p, is) (w, q, is') = verdict_status pair a b v w p q is is'
-tells_status Profile pair a b is is' = as_said a b _ _ is is' refl
-
-pair_status : (command : PairTask) (pair : Pair) (a b : Answer) → PairAnswers command pair a → PairAnswers command pair b → a.status ≡ b.status
-pair_status command pair a b (inl p) (inl q) = as_said a b _ _ p.3 q.3 refl
-pair_status command pair a b (inl p) (inr (lawful, tells)) = absurd (not_refused pair.source.script pair.log.threads p.0 lawful p.1 p.2)
-pair_status command pair a b (inr (lawful, tells)) (inl q) = absurd (not_refused pair.source.script pair.log.threads q.0 lawful q.1 q.2)
-pair_status command pair a b (inr (lawful, tells)) (inr (lawful', tells')) = tells_status command pair a b tells tells'
+pair_status : (task : PairTask) (pair : Pair) (a b : Answer) → PairAnswers task pair a → PairAnswers task pair b → a.status ≡ b.status
+pair_status task pair a b (inl p) (inl q) = as_said a b _ _ p.3 q.3 refl
+pair_status task pair a b (inl p) (inr (lawful, says)) = absurd (not_refused pair.source.script pair.log.threads p.0 lawful p.1 p.2)
+pair_status task pair a b (inr (lawful, says)) (inl q) = absurd (not_refused pair.source.script pair.log.threads q.0 lawful q.1 q.2)
+pair_status task pair a b (inr (lawful, says)) (inr (lawful', says')) = pair_same task pair a b (pair_row task pair a says) (pair_row task pair b says')
 
 request_status : (t : Contents) (request : Request) (a b : Answer) → RequestAnswers request (Some t) a → RequestAnswers request (Some t) b → a.status ≡ b.status
-request_status t (OfScript Tidy script) a b = one_status (IsScriptRead script (Some t)) (ScriptAnswers Tidy) (script_single t script) (λ source x y is is'. as_said x y (says exit.Done (canonical_text source.script)) (says exit.Done (canonical_text source.script)) is is' refl) a b
-request_status t (OfLog Show log) a b = one_status (IsLogRead log (Some t)) (LogAnswers Show) (log_single t log) (λ read x y is is'. as_said x y (says exit.Done (log_text read.threads)) (says exit.Done (log_text read.threads)) is is' refl) a b
-request_status t (OfPair command script log object) a b = one_status (IsPairRead script log object (Some t)) (PairAnswers command) (pair_single t script log object) (pair_status command) a b
-request_status t (Run way script log) a b = one_status (IsScriptRead script (Some t)) (RunAnswers way log) (script_single t script) (λ source x y p q. as_said x y _ _ p.3 q.3 refl) a b
+request_status t (OfScript task script) a b =
+    one_status (IsScriptRead script (Some t)) (ScriptAnswers task) (script_single t script) (λ source x y p q. (script_row task source x p).status ∙ sym (script_row task source y q).status) a b
+request_status t (OfLog task log) a b =
+    one_status (IsLogRead log (Some t)) (LogAnswers task) (log_single t log) (λ read x y p q. (log_row task read x p).status ∙ sym (log_row task read y q).status) a b
+request_status t (OfPair task script log object) a b = one_status (IsPairRead script log object (Some t)) (PairAnswers task) (pair_single t script log object) (pair_status task) a b
+request_status t (Run task script log) a b =
+    one_status (IsScriptRead script (Some t)) (RunAnswers task log) (script_single t script) (λ source x y p q. (run_row task log source x p).status ∙ sym (run_row task log source y q).status) a b
 request_status t (Gen number script log) a b = λ p q. as_said a b _ _ p.5 q.5 refl
 
 answers_status : (t : Contents) (request : Option Request) (a b : Answer) → Answers request (Some t) a → Answers request (Some t) b → a.status ≡ b.status
@@ -180,10 +172,10 @@ comes_as_due words before after code served t tells status due none = by served.
       | inl (answers, same) ↦ inl (is ∙ ap code_of (one_due words t reply.status status (answer_of reply, subst (λ contents. IsAnswer words contents (answer_of reply)) tells answers, refl) (subst (λ contents. IsDue words contents status) tells due)))
       | inr (said, rose) ↦ absurd (none.takes (rw (makes_keep (acts_of (answer_of reply)) served.mid (Ok tt) after makes) rose))
     ]
-    given reply (Err fault.OutOfMemory) found makes is = inr is
-    given reply (Err fault.Failed) found makes is = absurd (none.writes (rw (← found.write_faults) (makes_fail (acts_of (answer_of reply)) served.mid fault.Failed after makes (λ e. cc))))
-    given reply (Err fault.Absent) found makes is = absurd (none.writes (rw (← found.write_faults) (makes_fail (acts_of (answer_of reply)) served.mid fault.Absent after makes (λ e. cc))))
-    given reply (Err fault.TooLong) found makes is = absurd (none.writes (rw (← found.write_faults) (makes_fail (acts_of (answer_of reply)) served.mid fault.TooLong after makes (λ e. cc))))
+    given reply (Err failed) found makes is = elim (after_refused (answer_of reply) failed) [
+      | inl (memory, comes) ↦ inr (is ∙ comes)
+      | inr (not, comes) ↦ absurd (none.writes (rw (← found.write_faults) (makes_fail (acts_of (answer_of reply)) served.mid failed after makes not)))
+    ]
 
     by : (reply : Result Reply NoMemory) → Replies (request_in words) before reply served.mid → IsGiven reply served.mid after code → (code ≡ code_of status) ⊎ (code ≡ 7)
     by (Ok reply) found (made, makes, is) = given reply made found makes is

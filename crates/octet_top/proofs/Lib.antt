@@ -1,9 +1,11 @@
 pub mod Recorded
 pub mod Steps
 pub mod Counted
+pub mod Rows
 pub mod Found
 pub mod Made
 pub mod Causes
 pub mod Due
-pub mod Whole
+pub mod Left
+pub mod Effects
 pub mod Promises

@@ -1,24 +1,20 @@
 -- From what is served to the promises of each command.
-use Rattle.std.proofs.Common.{◌≡◌, ◌∙◌, ◌++◌, ℕ, List, Some, Result, Ok, Err, inl, inr, ap, sym, subst, arith}
+use Rattle.std.proofs.Common.{◌≡◌, ◌∙◌, ◌++◌, ℕ, List, Some, Ok, inl, inr, ap, sym, subst, arith}
 use Rattle.std.specs.FinMap.{get}
 use Rattle.octet_base.specs.Desk.{Files, Contents, DeskState}
-use Rattle.octet_base.specs.declared.fault.DeskFault.{DeskFault}
-use Rattle.octet_base.specs.declared.fault.DeskFault.TheVariants as fault
-use Rattle.octet_model.specs.declared.list.OutOfMemory.{OutOfMemory as NoMemory}
 use Rattle.octet_model.specs.Texts.{log_bytes, outcome_text}
 use Rattle.octet_model.proofs.lemmas.LogLength.{faithful_log_is_short}
-use Rattle.octet_top.specs.declared.reply.Reply.{Reply}
-use Rattle.octet_top.specs.declared.reply.Status.TheVariants.{Done}
-use Rattle.octet_top.specs.Answer.{Answer, answer_of, writes_file}
+use Rattle.octet_top.specs.declared.reply.Status.TheVariants.{Done, Read}
+use Rattle.octet_top.specs.Answer.{Answer, code_of, writes_file}
 use Rattle.octet_top.specs.Request.{Way, Run, request_in}
-use Rattle.octet_top.specs.Inputs.{with_calls}
 use Rattle.octet_top.specs.Commands.{Answers, RequestAnswers}
-use Rattle.octet_top.specs.Replies.{Replies, Finds}
-use Rattle.octet_top.specs.Delivery.{Makes, acts_of, code_after, IsGiven, IsServed}
-use Rattle.octet_top.specs.Written.{IsWhole}
+use Rattle.octet_top.specs.Delivery.{IsServed}
+use Rattle.octet_top.specs.Outputs.{IsWhole}
 use Rattle.octet_top.specs.Promises.{IsFaithfulRun, RunsFaithfully, IsOrderedPair, VerifiesOrdered, RepeatsRecordings}
 use Rattle.octet_top.proofs.Recorded.{recorded_faithfully}
-use Rattle.octet_top.proofs.Causes.{same_status}
+use Rattle.octet_top.proofs.Causes.{same_status, has_cause}
+use Rattle.octet_top.proofs.Effects.{leaves}
+use Rattle.octet_top.specs.Effects.{Leaves}
 use Rattle.octet_model.specs.declared.outcome.Outcome.{Outcome}
 use Rattle.octet_model.specs.Orders.{execution, lowest_order, IsFaithful}
 use Rattle.octet_replay.proofs.Answered.{faithful}
@@ -26,8 +22,8 @@ use Rattle.octet_clock.specs.declared.verdict.Verdict.TheVariants as verdict
 use Rattle.octet_top.specs.declared.inputs.Pair.{Pair}
 use Rattle.octet_top.specs.declared.request.PairTask.TheVariants.{Replay, Verify}
 use Rattle.octet_top.proofs.Due.{pair_single}
-use Rattle.octet_top.proofs.Found.{script_short, pair_short}
-use Rattle.octet_top.proofs.Whole.{whole, get-inserted}
+use Rattle.octet_top.proofs.Rows.{not_done, script_refused, pair_refused}
+use Rattle.octet_top.proofs.Left.{get-inserted, get-other}
 use Rattle.std.proofs.Common.{Option, None, refl, ◌≢◌, length, Bool, true, false, cond}
 use Rattle.octet_top.specs.Request.{OfPair, Gen}
 use Rattle.octet_top.specs.Inputs.{IsPairRead}
@@ -35,10 +31,7 @@ use Rattle.octet_top.specs.Promises.{IsGeneratedRun, GeneratesFaithfully}
 use Rattle.octet_script.specs.Spelling.{canonical_text}
 use Rattle.octet_top.specs.Answer.{writes_both, summary}
 use Rattle.std.specs.List.{sum_by}
-use Rattle.std.specs.FinMap.{insert, get-insert}
-use Rattle.std.specs.Cmp.Lexicographic.{nat_list_cmp_total, texts_ties}
-use Rattle.std.specs.Str.{bytes_eq}
-use Rattle.std.proofs.lemmas.Slice.Eq.{bytes_eq-Decides}
+use Rattle.std.specs.FinMap.{insert}
 use Rattle.std.proofs.lemmas.List.{length-map}
 use Rattle.octet_model.specs.declared.script.Script.{Script}
 use Rattle.octet_model.specs.declared.log.ThreadLog.{ThreadLog}
@@ -48,69 +41,25 @@ use Rattle.octet_model.proofs.lemmas.LawfulOrders.{lawful_order_has_its_log, law
 use Rattle.octet_gen.specs.Generated.{IsGenerated}
 use Rattle.octet_gen.proofs.Accesses.{script_makes_its_accesses}
 
--- with status 0 an answer of that status was given whole, and no take failed
+-- where all is done, an answer of that status was given whole
 pub record Succeeds (words : List (List ℕ)) (contents contents' : Contents) : Type 0 where
   pub answer : Answer
   pub answers : Answers (request_in words) (Some contents) answer
   pub done : answer.status ≡ Done
   pub given : IsWhole answer contents contents'
 
--- and, where nothing is told, was the reply
-pub record Replied (words : List (List ℕ)) (contents : Option Contents) : Type 0 where
-  pub answer : Answer
-  pub answers : Answers (request_in words) contents answer
-  pub done : answer.status ≡ Done
-
-replied : (words : List (List ℕ)) (before mid : DeskState) (reply : Reply) → reply.status ≡ Done → Finds (Answers (request_in words) before.contents) before.take_faults (Ok reply) mid.take_faults → Replied words before.contents
-replied words before mid reply done (inr (said, rose)) = absurd (let both : Done ≡ _ = sym done ∙ ap (λ (a : Answer). a.status) said in cc)
-replied words before mid reply done (inl (answers, same)) = record { answer = answer_of reply; answers = answers; done = done }
-
--- with status 0 an answer was given whole
-was_whole : (answer : Answer) (made : Result (Unit {0}) DeskFault) → 0 ≡ code_after answer made → made ≡ Ok tt
-was_whole answer (Ok done) is = refl
-was_whole answer (Err fault.OutOfMemory) is = absurd (omega (arith, is))
-was_whole answer (Err fault.Failed) is = absurd (omega (arith, is))
-was_whole answer (Err fault.Absent) is = absurd (omega (arith, is))
-was_whole answer (Err fault.TooLong) is = absurd (omega (arith, is))
-
-pub replied_at_success : (words : List (List ℕ)) (before after : DeskState) (code : ℕ) → IsServed (request_in words) before after code → code ≡ 0 → Replied words before.contents
-replied_at_success words before after code served zero = by served.reply served.found served.given
-  where
-    by : (reply : Result Reply NoMemory) → Replies (request_in words) before reply served.mid → IsGiven reply served.mid after code → Replied words before.contents
-    by (Ok reply) found (made, makes, is) = replied words before served.mid reply (same_status reply.status Done (sym (sym zero ∙ is ∙ ap (code_after (answer_of reply)) (was_whole (answer_of reply) made (sym zero ∙ is))))) found.found
-    by (Err none) found (same, is) = absurd (omega (arith, zero, is))
-
-module _ (words : List (List ℕ)) (before mid after : DeskState) (contents contents' : Contents) (tells : before.contents ≡ Some contents) (tells' : after.contents ≡ Some contents') where
-  at_found : (reply : Reply) → Replies (request_in words) before (Ok reply) mid → reply.status ≡ Done → Makes (acts_of (answer_of reply)) mid (Ok tt) after
-      → Finds (Answers (request_in words) before.contents) before.take_faults (Ok reply) mid.take_faults → Succeeds words contents contents'
-  at_found reply found done makes (inr (said, rose)) = absurd (let both : Done ≡ _ = sym done ∙ ap (λ (a : Answer). a.status) said in cc)
-  at_found reply found done makes (inl (answers, same)) =
-      let mid_tells : mid.contents ≡ Some (record { files = contents.files; said = contents.said; calls = _ }) = found.asked.1 ∙ ap (with_calls found.asked.0) tells in
-      let given = whole (answer_of reply) mid after _ contents' mid_tells tells' makes in
-      record {
-        answer = answer_of reply;
-        answers = subst (λ t. Answers (request_in words) t (answer_of reply)) tells answers;
-        done = done;
-        given = record { files = given.files; said = given.said };
-      }
-
-  succeeds : (reply : Reply) (made : Result (Unit {0}) DeskFault) → Replies (request_in words) before (Ok reply) mid → Makes (acts_of (answer_of reply)) mid made after → 0 ≡ code_after (answer_of reply) made → Succeeds words contents contents'
-  succeeds reply (Ok tt) found makes is = at_found reply found (same_status reply.status Done (sym is)) makes found.found
-  succeeds reply (Err fault.OutOfMemory) found makes is = absurd (omega (arith, is))
-  succeeds reply (Err fault.Failed) found makes is = absurd (omega (arith, is))
-  succeeds reply (Err fault.Absent) found makes is = absurd (omega (arith, is))
-  succeeds reply (Err fault.TooLong) found makes is = absurd (omega (arith, is))
-
-pub at_success : (words : List (List ℕ)) (before after : DeskState) (code : ℕ) (contents contents' : Contents) → IsServed (request_in words) before after code → code ≡ 0 → before.contents ≡ Some contents → after.contents ≡ Some contents' → Succeeds words contents contents'
-at_success words before after code contents contents' served zero tells tells' = by served.reply served.found served.given
-  where
-    by : (reply : Result Reply NoMemory) → Replies (request_in words) before reply served.mid → IsGiven reply served.mid after code → Succeeds words contents contents'
-    by (Ok reply) found (made, makes, is) = succeeds words before served.mid after contents contents' tells tells' reply made found makes (sym zero ∙ is)
-    by (Err none) found (same, is) = absurd (omega (arith, zero, is))
+at_success : (words : List (List ℕ)) (before after : DeskState) (code : ℕ) (contents contents' : Contents) → Leaves words before after code → code ≡ code_of Done → before.contents ≡ Some contents → after.contents ≡ Some contents' → Succeeds words contents contents'
+at_success words before after code contents contents' left done tells tells' = elim (left contents contents' tells tells') [
+  | inl untouched ↦ absurd (omega (arith, done, untouched.status))
+  | inr (answer, given, inr (short, inl is)) ↦ absurd (omega (arith, done, is))
+  | inr (answer, given, inr (short, inr is)) ↦ absurd (omega (arith, done, is))
+  | inr (answer, inr (said, rose), inl (whole, is)) ↦ absurd (let read : code ≡ code_of Read = is ∙ ap (λ (a : Answer). code_of a.status) said in omega (arith, done, read))
+  | inr (answer, inl answers, inl (whole, is)) ↦ record { answer = answer; answers = answers; done = same_status answer.status Done (sym is ∙ done); given = whole }
+]
 
 -- a run
 recorded : (way : Way) (script log : List ℕ) (contents contents' : Contents) (answer : Answer) → RequestAnswers (Run way script log) (Some contents) answer → answer.status ≡ Done → IsWhole answer contents contents' → IsFaithfulRun way script log contents contents'
-recorded way script log contents contents' answer (inl refused) done given = absurd (script_short script (Some contents) answer refused done)
+recorded way script log contents contents' answer (inl refused) done given = absurd (not_done answer (script_refused script (Some contents) answer refused) done)
 recorded way script log contents contents' answer (inr (source, (text, taken, parsed), (logged, outcome, records, is))) done given =
     let faithful = recorded_faithfully way source.script logged outcome records in
     let said : IsWhole (writes_file log (log_bytes logged.threads) (outcome_text source.script outcome)) contents contents' = subst (λ (a : Answer). IsWhole a contents contents') is given in
@@ -130,12 +79,12 @@ recorded way script log contents contents' answer (inr (source, (text, taken, pa
 
 pub headline : (words : List (List ℕ)) (before after : DeskState) (code : ℕ) → IsServed (request_in words) before after code → RunsFaithfully words before after code
 headline words before after code served way script log contents contents' asked zero tells tells' =
-    let success = at_success words before after code contents contents' served zero tells tells' in
+    let success = at_success words before after code contents contents' (leaves words before after code served) zero tells tells' in
     recorded way script log contents contents' success.answer (subst (λ request. Answers request (Some contents) success.answer) asked success.answers) success.done success.given
 
 -- a check
 verified : (script log : List ℕ) (contents : Option Contents) (answer : Answer) → RequestAnswers (OfPair Verify script log None) contents answer → answer.status ≡ Done → IsOrderedPair script log contents
-verified script log contents answer (inl refused) done = absurd (pair_short script log None contents answer refused done)
+verified script log contents answer (inl refused) done = absurd (not_done answer (pair_refused script log None contents answer refused) done)
 verified script log contents answer (inr (pair, read, inl (fault, memory, cause, is))) done = absurd (let both : Done ≡ _ = sym done ∙ ap (λ (a : Answer). a.status) is in cc)
 verified script log contents answer (inr (pair, read, inr (lawful, (verdict.Ordered, checked, is)))) done =
     record { pair = pair; read = read; lawful = lawful; ordered = checked.told.ordered.0 refl; one_outcome = checked.one_outcome refl }
@@ -143,13 +92,13 @@ verified script log contents answer (inr (pair, read, inr (lawful, (verdict.Unor
 
 pub ordered : (words : List (List ℕ)) (before after : DeskState) (code : ℕ) → IsServed (request_in words) before after code → VerifiesOrdered words before code
 ordered words before after code served script log asked zero =
-    let success = replied_at_success words before after code served zero in
-    verified script log before.contents success.answer (subst (λ request. Answers request before.contents success.answer) asked success.answers) success.done
+    let (answer, answers, done) = has_cause words before after code served Done zero in
+    verified script log before.contents answer (subst (λ request. Answers request before.contents answer) asked answers) done
 
 -- a replay
 replayed : (script log : List ℕ) (contents contents' : Contents) (pair : Pair) (outcome : Outcome) (answer : Answer) → RequestAnswers (OfPair Replay script log None) (Some contents) answer → answer.status ≡ Done → IsWhole answer contents contents'
     → IsPairRead script log None (Some contents) (Ok pair) → IsFaithful pair.source.script pair.log.threads outcome → contents'.said ≡ contents.said ++ outcome_text pair.source.script outcome
-replayed script log contents contents' pair outcome answer (inl refused) done given there recording = absurd (pair_short script log None (Some contents) answer refused done)
+replayed script log contents contents' pair outcome answer (inl refused) done given there recording = absurd (not_done answer (pair_refused script log None (Some contents) answer refused) done)
 replayed script log contents contents' pair outcome answer (inr (other, read, inl (fault, memory, cause, is))) done given there recording = absurd (let both : Done ≡ _ = sym done ∙ ap (λ (a : Answer). a.status) is in cc)
 replayed script log contents contents' pair outcome answer (inr (other, read, inr (lawful, is))) done given there recording =
     let same : other ≡ pair = (pair_single contents script log None).one other pair read there in
@@ -159,16 +108,8 @@ replayed script log contents contents' pair outcome answer (inr (other, read, in
 
 pub repeats : (words : List (List ℕ)) (before after : DeskState) (code : ℕ) → IsServed (request_in words) before after code → RepeatsRecordings words before after code
 repeats words before after code served script log contents contents' pair outcome asked zero tells tells' there recording =
-    let success = at_success words before after code contents contents' served zero tells tells' in
+    let success = at_success words before after code contents contents' (leaves words before after code served) zero tells tells' in
     replayed script log contents contents' pair outcome success.answer (subst (λ request. Answers request (Some contents) success.answer) asked success.answers) success.done success.given there recording
-
-get-other : (files : Files) (name bytes other : List ℕ) → other ≢ name → get (insert files name bytes) other ≡ get files other
-get-other files name bytes other differ =
-    get-insert nat_list_cmp_total files name bytes other ∙ ap (λ b. cond b (Some bytes) (get files other)) (sym (texts_ties other name) ∙ differs (bytes_eq other name) refl)
-  where
-    differs : (b : Bool) → bytes_eq other name ≡ b → bytes_eq other name ≡ false
-    differs true is = absurd (differ ((bytes_eq-Decides other name).0 is))
-    differs false is = is
 
 -- the journals of a lawful order have the log, and those of a generated script as many accesses as it is made for
 accesses_of : (number : ℕ) (script : Script) (log : List ThreadLog) (outcome : Outcome) → IsGenerated number script → IsFaithful script log outcome → sum_by (λ thread. thread.accesses) log ≡ 160000
@@ -198,5 +139,5 @@ made_of number script_name log_name contents contents' answer (script, log, outc
 
 pub generated : (words : List (List ℕ)) (before after : DeskState) (code : ℕ) → IsServed (request_in words) before after code → GeneratesFaithfully words before after code
 generated words before after code served number script log contents contents' asked zero tells tells' =
-    let success = at_success words before after code contents contents' served zero tells tells' in
+    let success = at_success words before after code contents contents' (leaves words before after code served) zero tells tells' in
     made_of number script log contents contents' success.answer (subst (λ request. Answers request (Some contents) success.answer) asked success.answers) success.given

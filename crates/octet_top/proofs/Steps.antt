@@ -1,12 +1,14 @@
 -- Steps of a reading, one after the other.
-use Rattle.std.proofs.Common.{◌≡◌, ◌∙◌, ℕ, List, [], ◌∷◌, Option, None, Some, Result, Ok, Err, inl, inr, ap, refl, append_assoc}
-use Rattle.octet_base.specs.Desk.{Contents}
-use Rattle.octet_base.specs.declared.call.Call.{Call}
+use Rattle.octet_model.specs.declared.limits.TheConstants.{MAX_LOG_FILE, MAX_SCRIPT_FILE}
+use Rattle.std.proofs.Common.{◌≡◌, ◌∙◌, ℕ, List, Option, None, Some, Result, Ok, Err, inl, inr}
+use Rattle.std.specs.Global.{Vec}
+use Rattle.octet_base.specs.Desk.{Contents, DeskState, Takes, IsCalled, with_call}
+use Rattle.octet_base.specs.declared.call.Call.TheVariants.{Take}
 use Rattle.octet_model.specs.declared.log.Log.{Log}
 use Rattle.octet_top.specs.declared.inputs.Stop.{Stop}
 use Rattle.octet_top.specs.declared.inputs.Stop.TheVariants.{Refused, OutOfMemory}
 use Rattle.octet_top.specs.Answer.{Answer, answer_of}
-use Rattle.octet_top.specs.Inputs.{◌>>=◌, IsLogRead, Comes, Ends, with_calls, TakesOne, TakesTwo}
+use Rattle.octet_top.specs.Inputs.{◌>>=◌, IsLogRead, Comes, Ends, WasRefused, TakesOne, TakesBoth}
 
 module _ {A B : Type 0} (first : Result A Answer → Type 0) (next : A → Result B Answer → Type 0) where
   -- a refusal is that of the whole
@@ -31,33 +33,46 @@ module _ {A B : Type 0} (first : Result A Answer → Type 0) (next : A → Resul
   ends_next before mid after x (Err (Refused reply)) (is, same) (inr (said, rose)) = inr (said, rw (← same) rose)
   ends_next before mid after x (Err OutOfMemory) (is, same) comes = tt
 
--- a call changes no file
-log_before : (name : List ℕ) (calls : List Call) (contents : Option Contents) (result : Result Log Answer) → IsLogRead name (with_calls calls contents) result → IsLogRead name contents result
-log_before name calls None (Ok log) read = read
-log_before name calls None (Err answer) read = read
-log_before name calls (Some t) (Ok log) read = read
-log_before name calls (Some t) (Err answer) read = read
+-- taking a file changes no file
+pub log_ends_before : (name script : List ℕ) (bytes : Vec ℕ) (before mid : DeskState) (faults after : ℕ) (result : Result Log Stop) → Takes script MAX_SCRIPT_FILE before (Ok bytes) mid
+    → Ends (IsLogRead name mid.contents) faults result after → Ends (IsLogRead name before.contents) faults result after
+log_ends_before name script bytes before mid faults after result takes = by takes.contents
+  where
+    same : (contents : Option Contents) (read : Result Log Answer) → IsLogRead name (with_call (Take script MAX_SCRIPT_FILE) contents) read → IsLogRead name contents read
+    same None (Ok log) read = read
+    same None (Err answer) read = read
+    same (Some t) (Ok log) read = read
+    same (Some t) (Err answer) read = read
 
-pub log_ends_before : (name : List ℕ) (calls : List Call) (contents mid : Option Contents) (before after : ℕ) (result : Result Log Stop) → mid ≡ with_calls calls contents → Ends (IsLogRead name mid) before result after → Ends (IsLogRead name contents) before result after
-log_ends_before name calls contents mid before after (Ok log) is (read, same) = (log_before name calls contents (Ok log) (rw (← is) read), same)
-log_ends_before name calls contents mid before after (Err (Refused reply)) is (inl (read, same)) = inl (log_before name calls contents (Err (answer_of reply)) (rw (← is) read), same)
-log_ends_before name calls contents mid before after (Err (Refused reply)) is (inr failed) = inr failed
-log_ends_before name calls contents mid before after (Err OutOfMemory) is ends = tt
+    changed : (result : Result Log Stop) → Ends (IsLogRead name (with_call (Take script MAX_SCRIPT_FILE) before.contents)) faults result after → Ends (IsLogRead name before.contents) faults result after
+    changed (Ok log) (read, is) = (same before.contents (Ok log) read, is)
+    changed (Err (Refused reply)) (inl (read, is)) = inl (same before.contents (Err (answer_of reply)) read, is)
+    changed (Err (Refused reply)) (inr failed) = inr failed
+    changed (Err OutOfMemory) ends = tt
 
--- the call was made
-pub was_made : {T : Type 0} (call : Call) (before after : Option Contents) (value : T) → TakesOne call before (Ok value) after → after ≡ with_calls (call ∷ []) before
-was_made call before after value (inl is) = is
-was_made call before after value (inr never) = absurd never.0
+    by : IsCalled (Ok bytes) (Take script MAX_SCRIPT_FILE) before.contents mid.contents → Ends (IsLogRead name mid.contents) faults result after → Ends (IsLogRead name before.contents) faults result after
+    by (inl is) ends = changed result (rw (← is) ends)
+    by (inr (never, is)) ends = absurd cc
 
-both : (first second : Call) (contents : Option Contents) → with_calls (second ∷ []) (with_calls (first ∷ []) contents) ≡ with_calls (first ∷ second ∷ []) contents
-both first second None = refl
-both first second (Some t) = ap (λ (calls : List Call). Some (record { files = t.files; said = t.said; calls = calls })) (append_assoc t.calls (first ∷ []) (second ∷ []))
+-- a file that was taken in a reading that went well
+pub was_taken : {T : Type 0} (name : List ℕ) (limit : ℕ) (value : T) (before after : DeskState) → TakesOne name limit (WasRefused {T = T} {E = Stop} (Ok value)) before after → (bytes : Vec ℕ) × Takes name limit before (Ok bytes) after
+was_taken name limit value before after (taken, takes, inl never) = absurd never
+was_taken name limit value before after (Ok bytes, takes, inr well) = (bytes, takes)
+was_taken name limit value before after (Err fault, takes, inr well) = absurd (well tt)
 
-module _ (first second : Call) (Passes : Option Contents → Type 0) (before mid after : Option Contents) (made : mid ≡ with_calls (first ∷ []) before) where
-  pub both_made : {S T : Type 0} (x : S) (y : T) → Passes before → TakesOne second mid (Ok x) after → TakesTwo first Passes second before (Ok y) after
-  both_made x y passes (inl is) = inl (passes, is ∙ ap (with_calls (second ∷ [])) made ∙ both first second before)
-  both_made x y passes (inr never) = absurd never.0
+-- a reading that follows may be short
+pub as_short : (name : List ℕ) (limit : ℕ) (Short Other : Type 0) (before after : DeskState) → (Short → Other) → TakesOne name limit Short before after → TakesOne name limit Other before after
+as_short name limit Short Other before after on (taken, takes, inl short) = (taken, takes, inl (on short))
+as_short name limit Short Other before after on (taken, takes, inr well) = (taken, takes, inr well)
 
-  pub second_stops : (S T : Type 0) (stop : Stop) → Passes before → TakesOne {T = S} second mid (Err stop) after → TakesTwo {T = T} first Passes second before (Err stop) after
-  second_stops S T stop passes (inl is) = inl (passes, is ∙ ap (with_calls (second ∷ [])) made ∙ both first second before)
-  second_stops S T stop passes (inr (lacks, is)) = inr (inl (tt, is ∙ made))
+pub both_as_short : (script log : List ℕ) (object : Option (List ℕ)) (Short Other : Type 0) (before after : DeskState) → (Short → Other) → TakesBoth script log object Short before after → TakesBoth script log object Other before after
+both_as_short script log object Short Other before after on (inl (bytes, mid, takes, passes, next)) = inl (bytes, mid, takes, passes, as_short log MAX_LOG_FILE Short Other mid after on next)
+both_as_short script log object Short Other before after on (inr (short, alone)) = inr (on short, alone)
+
+-- files that are taken leave what is begun, and the count of failed writes
+pub one_keeps : (name : List ℕ) (limit : ℕ) (Short : Type 0) (before after : DeskState) → TakesOne name limit Short before after → (after.begun ≡ before.begun) × (after.write_faults ≡ before.write_faults)
+one_keeps name limit Short before after (taken, takes, well) = (takes.begun, takes.write_faults)
+
+pub both_keep : (script log : List ℕ) (object : Option (List ℕ)) (Short : Type 0) (before after : DeskState) → TakesBoth script log object Short before after → (after.begun ≡ before.begun) × (after.write_faults ≡ before.write_faults)
+both_keep script log object Short before after (inl (bytes, mid, takes, passes, next)) = let later = one_keeps log MAX_LOG_FILE Short mid after next in (later.0 ∙ takes.begun, later.1 ∙ takes.write_faults)
+both_keep script log object Short before after (inr (short, (taken, takes))) = (takes.begun, takes.write_faults)

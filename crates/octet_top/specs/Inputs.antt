@@ -1,25 +1,26 @@
 -- What reading the files of a request comes to, step by step. A step ends with a value, or with the answer that refuses.
+use Rattle.octet_model.specs.declared.limits.TheConstants.{MAX_LOG_FILE, MAX_SCRIPT_FILE}
 use Rattle.std.specs.Prelude.{ℕ, ◌≡◌, ◌≤◌, ◌<◌, ◌⊎◌, ◌++◌, List, [], ◌∷◌, length, Option, None, Some, Result, Ok, Err, IfSome, IsSomeAnd}
 use Rattle.std.specs.FinMap.{get}
 use Rattle.std.specs.Option.{option_map}
-use Rattle.octet_base.specs.Desk.{Contents, DeskState, Rose}
-use Rattle.octet_base.specs.declared.call.Call.{Call}
+use Rattle.octet_base.specs.Desk.{Contents, DeskState, Takes, Rose}
+use Rattle.octet_base.specs.declared.fault.DeskFault.{DeskFault}
+use Rattle.std.specs.Global.{Vec}
 use Rattle.octet_model.specs.declared.script.Script.{Script}
 use Rattle.octet_script.specs.declared.cause.ScriptCause.{ScriptCause}
 use Rattle.octet_script.specs.declared.cause.ScriptFault.TheVariants as faults
 use Rattle.octet_script.specs.Spelling.{Spells}
-use Rattle.octet_script.specs.Judgement as script
+use Rattle.octet_script.specs.Parsing as script
 use Rattle.octet_model.specs.declared.log.Log.{Log}
 use Rattle.octet_model.specs.Texts.{log_bytes}
 use Rattle.octet_log.specs.declared.cause.LogCause.{LogCause}
-use Rattle.octet_log.specs.Judgement as log
+use Rattle.octet_log.specs.Decoding as log
 use Rattle.octet_top.specs.declared.inputs.Source.{Source}
 use Rattle.octet_top.specs.declared.inputs.Pair.{Pair}
 use Rattle.octet_model.specs.declared.list.OutOfMemory.{OutOfMemory as NoMemory}
 use Rattle.octet_top.specs.declared.reply.Reply.{Reply}
 use Rattle.octet_top.specs.declared.inputs.Stop.{Stop}
 use Rattle.octet_top.specs.declared.inputs.Stop.TheVariants.{Refused, OutOfMemory}
-use Rattle.octet_top.specs.Request.{script_limit, log_limit}
 use Rattle.octet_top.specs.Profile.{wanted_by}
 use Rattle.octet_top.specs.Answer.{Answer, answer_of, read_failed, too_long, no_such_object, script_refused, log_refused}
 
@@ -39,12 +40,12 @@ IsTaken name limit contents (Err answer) =
 -- the text spells a script, or its first refusal is said
 abbrev pub IsParsed : List ℕ → Result Source Answer → Type 0
 IsParsed text (Ok source) = (source.text ≡ text) × Spells text source.script
-IsParsed text (Err answer) = (line : ℕ) × (cause : ScriptCause) × (script.judgement text ≡ Err (faults.Refused line cause)) × (answer ≡ script_refused line cause)
+IsParsed text (Err answer) = (line : ℕ) × (cause : ScriptCause) × (script.parsed text ≡ Err (faults.Refused line cause)) × (answer ≡ script_refused line cause)
 
 -- the bytes are those of a log, or their first refusal is said
 abbrev pub IsDecoded : List ℕ → Result Log Answer → Type 0
 IsDecoded bytes (Ok log) = bytes ≡ log_bytes log.threads
-IsDecoded bytes (Err answer) = (cause : LogCause) × (log.judgement bytes ≡ Err cause) × (answer ≡ log_refused cause)
+IsDecoded bytes (Err answer) = (cause : LogCause) × (log.decoded bytes ≡ Err cause) × (answer ≡ log_refused cause)
 
 -- the script has the object that is named, if one is; or it has not
 abbrev pub IsChosen : Script → Option (List ℕ) → Result (Option ℕ) Answer → Type 0
@@ -53,11 +54,11 @@ IsChosen script name (Err answer) = (wanted_by script name ≡ None) × (answer 
 
 -- what reading a script comes to
 abbrev pub IsScriptRead : List ℕ → Option Contents → Result Source Answer → Type 0
-IsScriptRead name contents = IsTaken name script_limit contents >>= IsParsed
+IsScriptRead name contents = IsTaken name MAX_SCRIPT_FILE contents >>= IsParsed
 
 -- a log
 abbrev pub IsLogRead : List ℕ → Option Contents → Result Log Answer → Type 0
-IsLogRead name contents = IsTaken name log_limit contents >>= IsDecoded
+IsLogRead name contents = IsTaken name MAX_LOG_FILE contents >>= IsDecoded
 
 -- a script that has the object that is named
 abbrev pub IsScriptChosen : List ℕ → Option (List ℕ) → Option Contents → Result (Source × Option ℕ) Answer → Type 0
@@ -77,6 +78,10 @@ abbrev pub stop_of : Result Reply NoMemory → Stop
 stop_of (Ok reply) = Refused reply
 stop_of (Err none) = OutOfMemory
 
+abbrev pub WasRefused : {T E : Type 0} → Result T E → Type 0
+WasRefused (Ok value) = ⊥
+WasRefused (Err fault) = Unit {0}
+
 -- what a step comes to, unless memory was refused
 abbrev pub Comes : {T : Type 0} → (Result T Answer → Type 0) → Result T Stop → Type 0
 Comes Step (Ok value) = Step (Ok value)
@@ -89,32 +94,12 @@ Ends Steps before (Ok value) after = Steps (Ok value) × (after ≡ before)
 Ends Steps before (Err (Refused reply)) after = (Steps (Err (answer_of reply)) × (after ≡ before)) ⊎ ((answer_of reply ≡ read_failed) × Rose before after)
 Ends Steps before (Err OutOfMemory) after = Unit {0}
 
--- these calls were made, and changed nothing else
-abbrev pub with_calls : List Call → Option Contents → Option Contents
-with_calls calls contents = option_map (λ t. record { files = t.files; said = t.said; calls = t.calls ++ calls }) contents
+-- a file is asked for, and taken unless what follows is short
+abbrev pub TakesOne : List ℕ → ℕ → Type 0 → DeskState → DeskState → Type 0
+TakesOne name limit Short before after = (taken : Result (Vec ℕ) DeskFault) × Takes name limit before taken after × (Short ⊎ (¬ WasRefused taken))
 
-abbrev pub WasRefused : {T E : Type 0} → Result T E → Type 0
-WasRefused (Ok value) = ⊥
-WasRefused (Err fault) = Unit {0}
-
-abbrev pub LacksMemory : {T : Type 0} → Result T Stop → Type 0
-LacksMemory (Err OutOfMemory) = Unit {0}
-LacksMemory _ = ⊥
-
--- one file was asked for; or memory was refused before
-abbrev pub TakesOne : {T : Type 0} → Call → Option Contents → Result T Stop → Option Contents → Type 0
-TakesOne call before result after = (after ≡ with_calls (call ∷ []) before) ⊎ (LacksMemory result × (after ≡ before))
-
--- two files were asked for, the second only after a first that passes; or the first alone, and the reading was refused; or memory was refused before
-abbrev pub TakesTwo : {T : Type 0} → Call → (Option Contents → Type 0) → Call → Option Contents → Result T Stop → Option Contents → Type 0
-TakesTwo first Passes second before result after =
-    (Passes before × (after ≡ with_calls (first ∷ second ∷ []) before))
-    ⊎ (WasRefused result × (after ≡ with_calls (first ∷ []) before))
-    ⊎ (LacksMemory result × (after ≡ before))
-
--- what a reading comes to, which calls it makes, and that it changes nothing else
-pub record Reads {T : Type 0} (Steps : Option Contents → Result T Answer → Type 0) (Makes : Option Contents → Result T Stop → Option Contents → Type 0) (before : DeskState) (result : Result T Stop) (after : DeskState) : Type 0 where
-  pub ends : Ends (Steps before.contents) before.take_faults result after.take_faults
-  pub contents : Makes before.contents result after.contents
-  pub begun : after.begun ≡ before.begun
-  pub write_faults : after.write_faults ≡ before.write_faults
+-- a script's file is asked for, and where it is taken and passes, that of the log; or the script's alone, and what follows is short
+abbrev pub TakesBoth : List ℕ → List ℕ → Option (List ℕ) → Type 0 → DeskState → DeskState → Type 0
+TakesBoth script log object Short before after =
+    ((bytes : Vec ℕ) × (mid : DeskState) × Takes script MAX_SCRIPT_FILE before (Ok bytes) mid × PassesScript script object before.contents × TakesOne log MAX_LOG_FILE Short mid after)
+    ⊎ (Short × ((taken : Result (Vec ℕ) DeskFault) × Takes script MAX_SCRIPT_FILE before taken after))

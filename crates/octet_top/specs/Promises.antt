@@ -1,4 +1,5 @@
 -- What the top call promises of each command.
+use Rattle.octet_model.specs.declared.limits.TheConstants.{MAX_LOG_FILE}
 use Rattle.std.specs.Prelude.{ℕ, ◌≡◌, ◌≤◌, ◌++◌, List, length, Some}
 use Rattle.std.specs.FinMap.{get}
 use Rattle.octet_base.specs.Desk.{Contents, DeskState}
@@ -12,7 +13,7 @@ use Rattle.octet_script.specs.Spelling.{Spells, canonical_text}
 use Rattle.octet_replay.specs.Judged.{IsLawful}
 use Rattle.octet_clock.specs.Verified.{HasOneOutcome}
 use Rattle.octet_gen.specs.Generated.{IsGenerated}
-use Rattle.octet_top.specs.Request.{Way, Run, request_in, log_limit}
+use Rattle.octet_top.specs.Request.{Way, Run, request_in}
 use Rattle.octet_top.specs.declared.reply.Status.TheVariants.{Done}
 use Rattle.std.specs.Prelude.{◌≢◌, Option, None, Ok}
 use Rattle.std.specs.List.{sum_by}
@@ -32,7 +33,7 @@ pub record IsFaithfulRun (way : Way) (script_name log_name : List ℕ) (before a
   pub taken : get before.files script_name ≡ Some text
   pub spelled : Spells text script
   pub written : get after.files log_name ≡ Some (log_bytes log.threads)
-  pub within_limit : length (log_bytes log.threads) ≤ log_limit
+  pub within_limit : length (log_bytes log.threads) ≤ MAX_LOG_FILE
   pub contents : after.said ≡ before.said ++ outcome_text script outcome
   pub faithful : IsFaithful script log.threads outcome
   pub recorded : Records way script log outcome
@@ -69,7 +70,7 @@ pub record IsGeneratedRun (number : ℕ) (script_name log_name : List ℕ) (befo
   pub generated : IsGenerated number script
   pub script_written : script_name ≢ log_name → get after.files script_name ≡ Some (canonical_text script)
   pub log_written : get after.files log_name ≡ Some (log_bytes log.threads)
-  pub within_limit : length (log_bytes log.threads) ≤ log_limit
+  pub within_limit : length (log_bytes log.threads) ≤ MAX_LOG_FILE
   pub contents : after.said ≡ before.said ++ summary
   pub accesses : sum_by (λ thread. thread.accesses) log.threads ≡ 160000
   pub faithful : IsFaithful script log.threads outcome

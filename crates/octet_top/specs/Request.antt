@@ -1,4 +1,5 @@
 -- What words ask for, and which files that takes and writes.
+use Rattle.octet_model.specs.declared.limits.TheConstants.{MAX_LOG_FILE, MAX_SCRIPT_FILE}
 use Rattle.std.specs.Prelude.{ℕ, List, [], ◌∷◌, map, codes, if◌then◌else◌, Option, Some, None, String, string_bytes}
 use denote.Ref.{Bor}
 use Rattle.std.specs.Option.{option_map}
@@ -21,14 +22,6 @@ use Rattle.octet_top.specs.declared.request.Reading.{Reading}
 use Rattle.octet_top.specs.declared.request.Reading.TheVariants as reading
 use Rattle.octet_top.specs.declared.request.Running.{Running}
 use Rattle.octet_top.specs.declared.request.Running.TheVariants as running
-
--- the limit of a script's file, in bytes
-abbrev pub script_limit : ℕ
-script_limit = 1048576
-
--- the limit of a log's file, in bytes
-abbrev pub log_limit : ℕ
-log_limit = 67108864
 
 -- the bytes of each word
 abbrev pub texts : List (String Global) → List (List ℕ)
@@ -111,10 +104,10 @@ request_in words = or_else (running_in words) (reading_in words)
 
 -- the calls that take its files, each with its own limit, in order
 abbrev pub takes_of : Request → List Call
-takes_of (OfScript task script) = Take script script_limit ∷ []
-takes_of (OfLog task log) = Take log log_limit ∷ []
-takes_of (OfPair task script log object) = Take script script_limit ∷ Take log log_limit ∷ []
-takes_of (Run way script log) = Take script script_limit ∷ []
+takes_of (OfScript task script) = Take script MAX_SCRIPT_FILE ∷ []
+takes_of (OfLog task log) = Take log MAX_LOG_FILE ∷ []
+takes_of (OfPair task script log object) = Take script MAX_SCRIPT_FILE ∷ Take log MAX_LOG_FILE ∷ []
+takes_of (Run way script log) = Take script MAX_SCRIPT_FILE ∷ []
 takes_of (Gen number script log) = []
 
 -- the files that it writes, in order
@@ -122,6 +115,10 @@ abbrev pub outputs_of : Request → List (List ℕ)
 outputs_of (Run way script log) = log ∷ []
 outputs_of (Gen number script log) = script ∷ log ∷ []
 outputs_of _ = []
+
+abbrev pub outputs_in : Option Request → List (List ℕ)
+outputs_in None = []
+outputs_in (Some request) = outputs_of request
 
 -- a name, where there is one
 abbrev pub name_in : Option (Bor (List ℕ)) → Option (List ℕ)

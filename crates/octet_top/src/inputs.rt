@@ -1,23 +1,16 @@
 //! Takes the files of a request from the desk and reads them, or refuses where that fails.
 ghost use Rattle.std.specs.Prelude.{◌≡◌, ◌≤◌, length};
-ghost use Rattle.octet_base.specs.declared.call.Call.TheVariants.{Take};
-ghost use Rattle.octet_top.specs.Request.{script_limit, log_limit, name_in};
-ghost use Rattle.octet_top.specs.Inputs.{Comes, Reads, IsTaken, IsParsed, IsDecoded, IsScriptRead, IsLogRead, IsChosen, IsScriptChosen, IsPairRead, PassesScript, TakesOne, TakesTwo, stop_of};
+ghost use Rattle.octet_top.specs.Request.{name_in};
+ghost use Rattle.octet_top.specs.Inputs.{Comes, Ends, IsTaken, IsParsed, IsDecoded, IsScriptRead, IsLogRead, IsChosen, IsScriptChosen, IsPairRead, TakesOne, TakesBoth, WasRefused, stop_of};
 ghost use Rattle.octet_top.specs.Profile.{object_named};
 
 use crate::refusal::{log_refused, no_such_object, read_failed, script_refused, too_long};
 use crate::reply::Reply;
 use octet_base::{Desk, DeskFault};
 use octet_log::{LogFault, decode};
-use octet_model::{List, Log, OutOfMemory, Script};
+use octet_model::{List, Log, MAX_LOG_FILE, MAX_SCRIPT_FILE, OutOfMemory, Script};
 use octet_script::{ScriptFault, parse};
 use std::alloc::Global;
-
-/// The limit of a script's file, in bytes.
-const SCRIPT_LIMIT: u32 = 1048576;
-
-/// The limit of a log's file, in bytes.
-const LOG_LIMIT: u32 = 67108864;
 
 /// A script and the text that it was read from.
 #[derive(Drop)]
@@ -53,7 +46,8 @@ fn stop_with(reply: Result<Reply, OutOfMemory>) -> Stop
 
 /// Takes the bytes of a file that has at most `limit`.
 fn take_file<D: Desk>(alloc: Global, desk: &mut D, name: &str, limit: u32) -> Result<List<u8>, Stop>
-    ensures { Reads (IsTaken name.now limit) (TakesOne (Take name.now limit)) (D.state desk.old) result (D.state desk.new) }
+    ensures ends { Ends (IsTaken name.now limit (D.state desk.old).contents) (D.state desk.old).take_faults result (D.state desk.new).take_faults }
+    ensures calls { TakesOne name.now limit (WasRefused result) (D.state desk.old) (D.state desk.new) }
 {
     match desk.take(alloc, name, limit) {
         Ok(bytes) => Ok(List::from_vec(bytes)),
@@ -65,7 +59,7 @@ fn take_file<D: Desk>(alloc: Global, desk: &mut D, name: &str, limit: u32) -> Re
 }
 
 fn parse_text(alloc: Global, text: List<u8>) -> Result<Source, Stop>
-    requires { length text ≤ script_limit }
+    requires { length text ≤ MAX_SCRIPT_FILE }
     ensures { Comes (IsParsed text) result }
 {
     match parse(alloc, text.as_slice()) {
@@ -79,7 +73,7 @@ fn parse_text(alloc: Global, text: List<u8>) -> Result<Source, Stop>
 }
 
 fn decode_bytes(alloc: Global, bytes: &[u8]) -> Result<Log, Stop>
-    requires { length bytes.now ≤ log_limit }
+    requires { length bytes.now ≤ MAX_LOG_FILE }
     ensures { Comes (IsDecoded bytes.now) result }
 {
     match decode(alloc, bytes) {
@@ -91,9 +85,10 @@ fn decode_bytes(alloc: Global, bytes: &[u8]) -> Result<Log, Stop>
 
 /// Takes a file and reads it as a script.
 pub(crate) fn read_script<D: Desk>(alloc: Global, desk: &mut D, name: &str) -> Result<Source, Stop>
-    ensures { Reads (IsScriptRead name.now) (TakesOne (Take name.now script_limit)) (D.state desk.old) result (D.state desk.new) }
+    ensures ends { Ends (IsScriptRead name.now (D.state desk.old).contents) (D.state desk.old).take_faults result (D.state desk.new).take_faults }
+    ensures calls { TakesOne name.now MAX_SCRIPT_FILE (WasRefused result) (D.state desk.old) (D.state desk.new) }
 {
-    match take_file(alloc, desk, name, SCRIPT_LIMIT) {
+    match take_file(alloc, desk, name, MAX_SCRIPT_FILE) {
         Ok(text) => parse_text(alloc, text),
         Err(stop) => Err(stop),
     }
@@ -101,9 +96,10 @@ pub(crate) fn read_script<D: Desk>(alloc: Global, desk: &mut D, name: &str) -> R
 
 /// Takes a file and reads it as a log.
 pub(crate) fn read_log<D: Desk>(alloc: Global, desk: &mut D, name: &str) -> Result<Log, Stop>
-    ensures { Reads (IsLogRead name.now) (TakesOne (Take name.now log_limit)) (D.state desk.old) result (D.state desk.new) }
+    ensures ends { Ends (IsLogRead name.now (D.state desk.old).contents) (D.state desk.old).take_faults result (D.state desk.new).take_faults }
+    ensures calls { TakesOne name.now MAX_LOG_FILE (WasRefused result) (D.state desk.old) (D.state desk.new) }
 {
-    match take_file(alloc, desk, name, LOG_LIMIT) {
+    match take_file(alloc, desk, name, MAX_LOG_FILE) {
         Ok(bytes) => decode_bytes(alloc, bytes.as_slice()),
         Err(stop) => Err(stop),
     }
@@ -139,7 +135,8 @@ fn read_chosen<D: Desk>(
     script_name: &str,
     object_name: Option<&str>,
 ) -> Result<(Source, Option<usize>), Stop>
-    ensures { Reads (IsScriptChosen script_name.now (name_in object_name.entry)) (TakesOne (Take script_name.now script_limit)) (D.state desk.old) result (D.state desk.new) }
+    ensures ends { Ends (IsScriptChosen script_name.now (name_in object_name.entry) (D.state desk.old).contents) (D.state desk.old).take_faults result (D.state desk.new).take_faults }
+    ensures calls { TakesOne script_name.now MAX_SCRIPT_FILE (WasRefused result) (D.state desk.old) (D.state desk.new) }
 {
     match read_script(alloc, desk, script_name) {
         Ok(source) => match choose(alloc, &source.script, object_name) {
@@ -158,7 +155,8 @@ pub(crate) fn read_pair<D: Desk>(
     log_name: &str,
     object_name: Option<&str>,
 ) -> Result<Pair, Stop>
-    ensures { Reads (IsPairRead script_name.now log_name.now (name_in object_name.entry)) (TakesTwo (Take script_name.now script_limit) (λ contents. PassesScript script_name.now (name_in object_name.entry) contents) (Take log_name.now log_limit)) (D.state desk.old) result (D.state desk.new) }
+    ensures ends { Ends (IsPairRead script_name.now log_name.now (name_in object_name.entry) (D.state desk.old).contents) (D.state desk.old).take_faults result (D.state desk.new).take_faults }
+    ensures calls { TakesBoth script_name.now log_name.now (name_in object_name.entry) (WasRefused result) (D.state desk.old) (D.state desk.new) }
 {
     match read_chosen(alloc, desk, script_name, object_name) {
         Ok((source, wanted)) => match read_log(alloc, desk, log_name) {

@@ -22,3 +22,4 @@ mod tidy;
 mod verify;
 
 pub use program::{serve, serve_alone};
+pub use reply::Status;

@@ -2,10 +2,11 @@
 ghost use Rattle.std.specs.Prelude.{◌≡◌, ◌⊎◌, None};
 ghost use Rattle.octet_base.specs.Desk.{Contents};
 ghost use Rattle.octet_top.specs.declared.reply.Status.{Status};
-ghost use Rattle.octet_top.specs.declared.reply.Status.TheVariants.{Memory};
+ghost use Rattle.octet_top.specs.declared.reply.Status.TheVariants.{Done, Memory};
 ghost use Rattle.octet_top.specs.Answer.{code_of};
 ghost use Rattle.octet_top.specs.Request.{texts, request_in, reading_in, shown_running};
 ghost use Rattle.octet_top.specs.Causes.{IsCause, IsDue, NoneFailed};
+ghost use Rattle.octet_top.specs.Effects.{IsStatus, Leaves, KeepsOthers, KeepsFiles, CountsFailures, IsWellMet};
 ghost use Rattle.octet_top.specs.Replies.{Replies};
 ghost use Rattle.octet_top.specs.Delivery.{IsServed};
 ghost use Rattle.octet_top.specs.Promises.{RunsFaithfully, VerifiesOrdered, RepeatsRecordings, GeneratesFaithfully};
@@ -54,6 +55,18 @@ pub fn serve<R: Threads + Wait + Sync, D: Desk, G: Gate>(
         → (result ≡ code_of status) ⊎ (result ≡ code_of Memory) }
     ensures one_due { (contents : Contents) (status other : Status) → IsDue (texts words.now) (Some contents) status → IsDue (texts words.now) (Some contents) other → status ≡ other }
 
+    // And where all that the words take is as it should be, all is done.
+    ensures complete { (contents : Contents) → (D.state desk.old).contents ≡ Some contents → IsWellMet (texts words.now) contents → NoneFailed (D.state desk.old) (D.state desk.new)
+        → (result ≡ code_of Done) ⊎ (result ≡ code_of Memory) }
+
+    // What is left, whatever status comes: the answer given whole, or cut short, or nothing. Files
+    // that the words do not name to be written are as before, and at a refusal all are.
+    ensures status { IsStatus result }
+    ensures left { Leaves (texts words.now) (D.state desk.old) (D.state desk.new) result }
+    ensures others { KeepsOthers (texts words.now) (D.state desk.old) (D.state desk.new) }
+    ensures untouched { KeepsFiles (D.state desk.old) (D.state desk.new) result }
+    ensures counts { CountsFailures (D.state desk.old) (D.state desk.new) result }
+
     // All calls of the desk, in order, and what they leave.
     ensures served { IsServed (request_in (texts words.now)) (D.state desk.old) (D.state desk.new) result }
 {
@@ -86,11 +99,7 @@ pub fn serve_alone<D: Desk>(alloc: Global, words: &[String], desk: &mut D) -> u8
     deliver(alloc, desk, reply)
 }
 
-fn reply_alone<D: Desk>(
-    alloc: Global,
-    words: &[String],
-    desk: &mut D,
-) -> Result<Reply, OutOfMemory>
+fn reply_alone<D: Desk>(alloc: Global, words: &[String], desk: &mut D) -> Result<Reply, OutOfMemory>
     ensures { Replies (reading_in (texts words.now)) (D.state desk.old) result (D.state desk.new) }
 {
     match reading_of(words) {

@@ -2,7 +2,7 @@
 //! call that may want memory succeeds here.
 ghost use Rattle.std.specs.Prelude.{◌≡◌, None, IfOk};
 
-use crate::serve;
+use crate::{Status, serve};
 use octet_base::{Desk, Fail, MemoryDesk, OpenGate};
 use octet_model::{List, OutOfMemory};
 use std::alloc::{AllocError, Global};
@@ -48,23 +48,23 @@ fn commands_answer(rt: HostRuntime) -> Result<(), Failed> {
     let canonical = b"fuel 16384\nobject y 3\nthread\nthread\nread r0 y\n".as_slice();
     let no_command = b"words: not a command\n".as_slice();
     for (line, status, said, log) in [
-        ("run S L", 0, SAID, Some(LOG)),
-        ("run S S", 0, SAID, None),
-        ("locked S L", 0, SAID, Some(LOG)),
-        ("locked S", 1, no_command, None),
-        ("tidy S", 0, canonical, None),
-        ("tidy T", 5, b"read: failed\n".as_slice(), None),
-        ("turns S L 0", 0, SAID, Some(LOG)),
-        ("turns S L 0g", 1, no_command, None),
-        ("turns S L", 1, no_command, None),
-        ("run S", 1, no_command, None),
-        ("tidy S L", 1, no_command, None),
-        ("", 1, no_command, None),
+        ("run S L", Status::Done, SAID, Some(LOG)),
+        ("run S S", Status::Done, SAID, None),
+        ("locked S L", Status::Done, SAID, Some(LOG)),
+        ("locked S", Status::Words, no_command, None),
+        ("tidy S", Status::Done, canonical, None),
+        ("tidy T", Status::Read, b"read: failed\n".as_slice(), None),
+        ("turns S L 0", Status::Done, SAID, Some(LOG)),
+        ("turns S L 0g", Status::Words, no_command, None),
+        ("turns S L", Status::Words, no_command, None),
+        ("run S", Status::Words, no_command, None),
+        ("tidy S L", Status::Words, no_command, None),
+        ("", Status::Words, no_command, None),
     ] {
         let mut desk = desk_with(alloc, SCRIPT, &[])?;
         let words = words_of(alloc, line)?;
         let answer = serve(&rt, alloc, &words, &mut desk, &OpenGate);
-        assert_eq!(rt; answer, status, "{line}");
+        assert_eq!(rt; answer, status.code(), "{line}");
         assert_eq!(rt; desk.said(), said, "{line}");
         assert_eq!(rt; desk.file("L"), log, "{line}");
         assert_eq!(rt; desk.faults(), (0, 0), "{line}");
@@ -81,20 +81,32 @@ fn failed_calls_leave_prefixes(rt: HostRuntime) -> Result<(), Failed> {
     for (fails, status, log, said, faults) in [
         (
             [(1, 9), (3, 0)],
-            5,
+            Status::Read,
             None,
             b"read: failed\n".as_slice(),
             (1, 0),
         ),
-        ([(1, 9), (2, 0)], 6, None, nothing, (1, 1)),
-        ([(2, 9), (3, 0)], 6, None, nothing, (0, 1)),
-        ([(3, 35), (4, 0)], 6, Some(&LOG[..35]), nothing, (0, 1)),
-        ([(4, 9), (5, 0)], 6, Some(LOG), nothing, (0, 1)),
-        ([(5, 3), (6, 0)], 6, Some(LOG), b"thr".as_slice(), (0, 1)),
+        ([(1, 9), (2, 0)], Status::Write, None, nothing, (1, 1)),
+        ([(2, 9), (3, 0)], Status::Write, None, nothing, (0, 1)),
+        (
+            [(3, 35), (4, 0)],
+            Status::Write,
+            Some(&LOG[..35]),
+            nothing,
+            (0, 1),
+        ),
+        ([(4, 9), (5, 0)], Status::Write, Some(LOG), nothing, (0, 1)),
+        (
+            [(5, 3), (6, 0)],
+            Status::Write,
+            Some(LOG),
+            b"thr".as_slice(),
+            (0, 1),
+        ),
     ] {
         let mut desk = desk_with(alloc, SCRIPT, &fails)?;
         let answer = serve(&rt, alloc, &words, &mut desk, &OpenGate);
-        assert_eq!(rt; answer, status);
+        assert_eq!(rt; answer, status.code());
         assert_eq!(rt; desk.file("L"), log);
         assert_eq!(rt; desk.said(), said);
         assert_eq!(rt; desk.faults(), faults);
@@ -188,7 +200,7 @@ fn runs_by_turns(rt: HostRuntime) -> Result<(), Failed> {
         let mut desk = desk_with(alloc, script, &[])?;
         for line in [words, "replay S L", "verify S L"] {
             let answer = serve(&rt, alloc, &words_of(alloc, line)?, &mut desk, &OpenGate);
-            assert_eq!(rt; answer, 0, "{line}");
+            assert_eq!(rt; answer, Status::Done.code(), "{line}");
         }
         let all_said = format!(in alloc; "{said}{said}ordered\n")?;
         let log = bytes_of(alloc, log)?;

@@ -1,6 +1,7 @@
 use Rattle.std.proofs.Common.{◌∙◌, ap, sym, arith, Ok}
 use Rattle.std.proofs.lemmas.Result.{err_from_is_err_and}
-use Rattle.octet_log.proofs.Whole.{judgement_takes, reads_spelling}
+use Rattle.octet_log.proofs.Whole.{decoded_takes}
+use Rattle.octet_log.proofs.lemmas.Spellings.{reads_spelling}
 use Rattle.octet_log.proofs.decoder.decode.Goals as goal
 
 pub returns-in_err-read_log-clause-read : goal.returns-in_err-read_log-clause-read
@@ -11,13 +12,13 @@ returns-in_err-read_log-clause-read c =
 pub invariant_of-result : goal.invariant_of-result
 invariant_of-result c = record {
   valid =
-      (judgement_takes c.args.bytes.now c.from_vec-threads.result (record { fits = λ i. omega (arith, c.type_inv.bytes i); short = c.requires })
+      (decoded_takes c.args.bytes.now c.from_vec-threads.result (record { fits = λ i. omega (arith, c.type_inv.bytes i); short = c.requires })
       (c.in_ok-read_log.ensures ∙ ap Ok (sym c.from_vec-threads.ensures))).1;
 }
 
 pub returns-clause-spelled : goal.returns-clause-spelled
 returns-clause-spelled c =
-    (judgement_takes c.args.bytes.now c.from_vec-threads.result (record { fits = λ i. omega (arith, c.type_inv.bytes i); short = c.requires })
+    (decoded_takes c.args.bytes.now c.from_vec-threads.result (record { fits = λ i. omega (arith, c.type_inv.bytes i); short = c.requires })
     (c.in_ok-read_log.ensures ∙ ap Ok (sym c.from_vec-threads.ensures))).0
 
 pub returns-clause-read : goal.returns-clause-read

@@ -1,6 +1,6 @@
 use Rattle.std.proofs.Common.{◌-◌, arith}
 use Rattle.std.proofs.lemmas.Result.{err_from_is_err_and}
-use Rattle.octet_log.specs.Judgement.{mark_at, marks_at}
+use Rattle.octet_log.specs.Decoding.{mark_at, marks_at}
 use Rattle.octet_log.proofs.Loops.{goes_on, ends, is_done}
 use Rattle.octet_log.proofs.decoder.read_marks.Goals as goal
 

@@ -1,6 +1,6 @@
 use Rattle.std.proofs.Common.{◌+◌, ◌-◌, ◌++◌, ◌∷◌, [], arith}
 use Rattle.std.proofs.lemmas.Result.{err_from_is_err_and}
-use Rattle.octet_log.specs.Judgement.{threads_at}
+use Rattle.octet_log.specs.Decoding.{threads_at}
 use Rattle.octet_log.proofs.Loops.{counted_on, goes_on, ends, is_done, read_next, next_thread}
 use Rattle.octet_log.proofs.decoder.read_threads.Goals as goal
 

@@ -1,5 +1,5 @@
 use Rattle.std.proofs.Common.{◌≡◌, ◌-◌, ◌≤◌, length}
-use Rattle.octet_log.specs.Judgement.{threads_at}
+use Rattle.octet_log.specs.Decoding.{threads_at}
 use Rattle.octet_log.proofs.Loops.{with_front, threads_from}
 use Rattle.octet_log.proofs.decoder.read_threads.Given as goal
 

@@ -1,4 +1,4 @@
-use Rattle.octet_log.proofs.Whole.{one_log}
+use Rattle.octet_log.proofs.lemmas.Spellings.{one_log}
 use Rattle.octet_log.proofs.laws.bytes_spell_one_log.Goals as goal
 
 pub returns : goal.returns

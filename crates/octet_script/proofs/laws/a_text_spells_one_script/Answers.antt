@@ -1,4 +1,4 @@
-use Rattle.octet_script.proofs.Spelled.{one_script}
+use Rattle.octet_script.proofs.lemmas.Grammar.{one_script}
 use Rattle.octet_script.proofs.laws.a_text_spells_one_script.Goals as goal
 
 pub returns : goal.returns

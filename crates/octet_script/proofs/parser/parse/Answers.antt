@@ -1,4 +1,5 @@
-use Rattle.octet_script.proofs.Spelled.{read_spells, spelled_read}
+use Rattle.octet_script.proofs.Spelled.{read_spells}
+use Rattle.octet_script.proofs.lemmas.Grammar.{spelled_read}
 use Rattle.octet_script.proofs.parser.parse.Goals as goal
 
 pub returns-clause-ok : goal.returns-clause-ok

@@ -1,22 +1,20 @@
-use Rattle.std.proofs.Common.{◌≡◌, ℕ, Option, Ok, Err, Result, inl}
+use Rattle.octet_model.specs.declared.limits.TheConstants.{MAX_SCRIPT_FILE}
+use Rattle.std.proofs.Common.{◌≡◌, ℕ, Option, Ok, Err, Result}
 use Rattle.octet_top.specs.declared.inputs.Source.{Source}
 use Rattle.octet_top.specs.Answer.{Answer}
 use Rattle.octet_top.specs.Request.{name_in}
 use Rattle.octet_top.specs.Inputs.{◌>>=◌, IsChosen, IsScriptRead}
-use Rattle.octet_top.proofs.Steps.{comes_stop, ends_then, was_made}
+use Rattle.octet_top.proofs.Steps.{comes_stop, ends_then, as_short}
 use Rattle.octet_top.proofs.inputs.read_chosen.Goals as goal
 
-pub returns-in-Err-choose : goal.returns-in-Err-choose
-returns-in-Err-choose g c =
+pub returns-in-Err-choose-clause-ends : goal.returns-in-Err-choose-clause-ends
+returns-in-Err-choose-clause-ends g c =
     let before = g.D.Desk.state c.args.desk.now in
     let source = c.in-Ok.source in
     let Last : Option ℕ → Result (Source × Option ℕ) Answer → Type 0 = λ wanted read. read ≡ Ok (source, wanted) in
     let Next : Source → Result (Source × Option ℕ) Answer → Type 0 = λ source. IsChosen source.script (name_in c.args.object_name) >>= λ wanted read. read ≡ Ok (source, wanted) in
     let chosen = IsChosen source.script (name_in c.args.object_name) in
-    record {
-      ends = ends_then (IsScriptRead c.args.script_name.now before.contents) Next _ _ source (Err c.in-Err-choose.stop) c.in-Ok.ensures.ends
-          (comes_stop chosen Last c.in-Err-choose.stop c.in-Err-choose.ensures);
-      contents = inl (was_made _ _ _ source c.in-Ok.ensures.contents);
-      begun = c.in-Ok.ensures.begun;
-      write_faults = c.in-Ok.ensures.write_faults;
-    }
+    ends_then (IsScriptRead c.args.script_name.now before.contents) Next _ _ source (Err c.in-Err-choose.stop) c.in-Ok.ensures.ends (comes_stop chosen Last c.in-Err-choose.stop c.in-Err-choose.ensures)
+
+pub returns-in-Err-choose-clause-calls : goal.returns-in-Err-choose-clause-calls
+returns-in-Err-choose-clause-calls g c = as_short c.args.script_name.now MAX_SCRIPT_FILE ⊥ (Unit {0}) _ _ (λ never. absurd never) c.in-Ok.ensures.calls

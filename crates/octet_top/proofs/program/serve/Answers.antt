@@ -2,6 +2,7 @@ use Rattle.octet_top.specs.Request.{texts}
 use Rattle.octet_top.proofs.Causes.{has_cause}
 use Rattle.octet_top.proofs.Promises.{headline, ordered, repeats, generated}
 use Rattle.octet_top.proofs.Due.{one_due, comes_as_due}
+use Rattle.octet_top.proofs.Effects.{status, leaves, others, untouched, counts, complete}
 use Rattle.octet_top.proofs.program.serve.Goals as goal
 
 pub returns-clause-cause : goal.returns-clause-cause
@@ -24,3 +25,21 @@ returns-clause-repeats g c = repeats (texts c.args.words.now) _ _ _ c.serve_word
 
 pub returns-clause-generated : goal.returns-clause-generated
 returns-clause-generated g c = generated (texts c.args.words.now) _ _ _ c.serve_words.ensures
+
+pub returns-clause-complete : goal.returns-clause-complete
+returns-clause-complete g c = complete (texts c.args.words.now) _ _ _ c.serve_words.ensures
+
+pub returns-clause-status : goal.returns-clause-status
+returns-clause-status g c = status (texts c.args.words.now) _ _ _ c.serve_words.ensures
+
+pub returns-clause-left : goal.returns-clause-left
+returns-clause-left g c = leaves (texts c.args.words.now) _ _ _ c.serve_words.ensures
+
+pub returns-clause-others : goal.returns-clause-others
+returns-clause-others g c = others (texts c.args.words.now) _ _ _ c.serve_words.ensures
+
+pub returns-clause-untouched : goal.returns-clause-untouched
+returns-clause-untouched g c = untouched (texts c.args.words.now) _ _ _ c.serve_words.ensures
+
+pub returns-clause-counts : goal.returns-clause-counts
+returns-clause-counts g c = counts (texts c.args.words.now) _ _ _ c.serve_words.ensures

@@ -1,16 +1,16 @@
 use Rattle.std.proofs.Common.{◌∙◌, ap}
-use Rattle.octet_script.specs.Judgement.{Progress, fuel_of}
-use Rattle.octet_script.specs.Building.{progress}
+use Rattle.octet_script.specs.Parsing.{Draft, fuel_of}
+use Rattle.octet_script.specs.Building.{draft}
 use Rattle.octet_script.proofs.Steps.{closed_ok}
 use Rattle.octet_script.proofs.Valid.{script_valid}
 use Rattle.octet_script.proofs.builder.Builder.finish.Goals as goal
 
 pub invariant_of-result : goal.invariant_of-result
 invariant_of-result c =
-    let p = progress c.args.self in
+    let p = draft c.args.self in
     let after = c.keep_thread.new.self in
     let kept = c.in_ok-keep_thread.ensures.kept in
     let none = closed_ok p.openers c.in_ok-all_closed.ensures in
     record {
-      valid = script_valid p c.fuel-fuel.result after.objects after.threads c.requires (c.fuel-fuel.ensures.value ∙ ap fuel_of kept) (ap (λ (q : Progress). q.objects) kept) (ap (λ (q : Progress). q.threads) kept) c.if-not-self.false none;
+      valid = script_valid p c.fuel-fuel.result c.in_ok-objects.objects after.threads c.requires (c.fuel-fuel.ensures.value ∙ ap fuel_of kept) (c.in_ok-objects.ensures ∙ ap (λ (q : Draft). q.objects) kept) (ap (λ (q : Draft). q.threads) kept) c.if-not-self.false none;
     }

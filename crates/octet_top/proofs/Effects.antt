@@ -1,0 +1,162 @@
+-- From what is served to what the top call leaves.
+use Rattle.std.proofs.Common.{◌≡◌, ◌≢◌, ◌∙◌, ◌⊎◌, ℕ, List, [], ◌∷◌, map, take, Option, None, Some, Result, Ok, Err, inl, inr, ap, sym, refl, subst, arith}
+use Rattle.std.specs.FinMap.{get, insert}
+use Rattle.octet_base.specs.Desk.{Files, Contents, DeskState}
+use Rattle.octet_base.specs.declared.fault.DeskFault.{DeskFault}
+use Rattle.octet_model.specs.declared.list.OutOfMemory.{OutOfMemory as NoMemory}
+use Rattle.octet_model.specs.declared.outcome.Outcome.{Outcome}
+use Rattle.octet_model.specs.Orders.{lowest_order, IsFaithful}
+use Rattle.octet_replay.proofs.Answered.{faithful, not_refused}
+use Rattle.octet_top.specs.declared.inputs.Pair.{Pair}
+use Rattle.octet_top.specs.declared.reply.Reply.{Reply}
+use Rattle.octet_top.specs.declared.reply.Status.{Status}
+use Rattle.octet_top.specs.declared.reply.Status.TheVariants as exit
+use Rattle.octet_top.specs.Answer.{Answer, answer_of, code_of}
+use Rattle.octet_top.specs.Request.{Request, OfScript, OfLog, OfPair, Run, Gen, request_in, outputs_in}
+use Rattle.octet_top.specs.Commands.{Answers, RequestAnswers, PairAnswers, IsAnswer}
+use Rattle.octet_top.specs.Replies.{Replies, TakesFiles}
+use Rattle.octet_top.specs.Delivery.{Makes, acts_of, code_after, IsGiven, IsServed}
+use Rattle.octet_top.specs.Outputs.{written, ArePartlyWritten}
+use Rattle.octet_top.specs.Causes.{NoneFailed}
+use Rattle.octet_top.specs.Effects.{IsStatus, CountsFailures, IsUntouched, IsDelivered, IsGivenAnswer, Leaves, IsOneOf, KeepsOthers, KeepsFiles, HasFiles, IsWellMet}
+use Rattle.octet_top.proofs.Causes.{makes_keep, makes_count, makes_fail, after_refused}
+use Rattle.octet_top.proofs.Rows.{IsDone, Refuses, is_refusal, answers_row, request_row, script_row, log_row, pair_row, run_row}
+use Rattle.octet_top.proofs.Due.{script_single, log_single, pair_single}
+use Rattle.octet_top.proofs.Left.{Holds, some_is, taken_held, answer_left, get-other}
+
+module _ (words : List (List ℕ)) (before after : DeskState) (code : ℕ) (served : IsServed (request_in words) before after code) where
+  pub status : IsStatus code
+  status = by served.reply served.given
+    where
+      by : (reply : Result Reply NoMemory) → IsGiven reply served.mid after code → IsStatus code
+      by (Ok reply) (Ok tt, makes, is) = (reply.status, is)
+      by (Ok reply) (Err failed, makes, is) = elim (after_refused (answer_of reply) failed) [ inl (memory, comes) ↦ (exit.Memory, is ∙ comes) | inr (not, comes) ↦ (exit.Write, is ∙ comes) ]
+      by (Err none) (same, is) = (exit.Memory, is)
+
+  pub counts : CountsFailures before after code
+  counts = by served.reply served.found served.given
+    where
+      writes : (reply : Reply) (made : Result (Unit {0}) DeskFault) → Replies (request_in words) before (Ok reply) served.mid → Makes (acts_of (answer_of reply)) served.mid made after → code ≡ code_after (answer_of reply) made → code ≢ code_of exit.Write → after.write_faults ≡ before.write_faults
+      writes reply made found makes is write = makes_count (acts_of (answer_of reply)) served.mid made after makes (λ e. write (is ∙ ap (code_after (answer_of reply)) e)) ∙ found.write_faults
+
+      takes : (reply : Reply) (made : Result (Unit {0}) DeskFault) → Replies (request_in words) before (Ok reply) served.mid → Makes (acts_of (answer_of reply)) served.mid made after → code ≡ code_after (answer_of reply) made
+          → code ≢ code_of exit.Read → code ≢ code_of exit.Write → code ≢ code_of exit.Memory → after.take_faults ≡ before.take_faults
+      takes reply (Err failed) found makes is read write memory = absurd (elim (after_refused (answer_of reply) failed) [ inl (lacking, comes) ↦ memory (is ∙ comes) | inr (not, comes) ↦ write (is ∙ comes) ])
+      takes reply (Ok tt) found makes is read write memory = makes_keep (acts_of (answer_of reply)) served.mid (Ok tt) after makes ∙ elim found.found [
+        | inl (answers, same) ↦ same
+        | inr (said, rose) ↦ absurd (read (is ∙ ap (λ (a : Answer). code_of a.status) said))
+      ]
+
+      by : (reply : Result Reply NoMemory) → Replies (request_in words) before reply served.mid → IsGiven reply served.mid after code → CountsFailures before after code
+      by (Ok reply) found (made, makes, is) = record { writes = writes reply made found makes is; takes = takes reply made found makes is }
+      by (Err none) found (same, is) = record { writes = λ write. ap (λ (s : DeskState). s.write_faults) same ∙ found.write_faults; takes = λ read write memory. absurd (memory is) }
+
+  pub leaves : Leaves words before after code
+  leaves contents contents' tells tells' = by served.reply served.found served.given
+    where
+      given : (reply : Reply) → Replies (request_in words) before (Ok reply) served.mid → after.take_faults ≡ served.mid.take_faults → IsGivenAnswer words contents before.take_faults after.take_faults (answer_of reply)
+      given reply found kept = elim found.found [
+        | inl (answers, same) ↦ inl (subst (λ t. IsAnswer words t (answer_of reply)) tells answers)
+        | inr (said, rose) ↦ inr (said, rw kept rose)
+      ]
+
+      short : (answer : Answer) (failed : DeskFault) → code ≡ code_after answer (Err failed) → (code ≡ code_of exit.Write) ⊎ (code ≡ code_of exit.Memory)
+      short answer failed is = elim (after_refused answer failed) [ inl (lacking, comes) ↦ inr (is ∙ comes) | inr (not, comes) ↦ inl (is ∙ comes) ]
+
+      held : (Short : Type 0) → TakesFiles (request_in words) Short before served.mid → Holds contents.files contents.said served.mid
+      held Short takes = taken_held (request_in words) Short contents.files contents.said before served.mid (record { contents = contents; tells = tells; files_are = refl; said_is = refl }) takes
+
+      by : (reply : Result Reply NoMemory) → Replies (request_in words) before reply served.mid → IsGiven reply served.mid after code
+          → IsUntouched contents contents' code ⊎ ((answer : Answer) × IsGivenAnswer words contents before.take_faults after.take_faults answer × IsDelivered answer contents contents' code)
+      by (Ok reply) found (Ok tt, makes, is) =
+          inr (answer_of reply, given reply found (makes_keep _ _ _ _ makes), inl (answer_left (answer_of reply) served.mid (Ok tt) after contents contents' (held _ found.calls) tells' makes, is))
+      by (Ok reply) found (Err failed, makes, is) =
+          inr (answer_of reply, given reply found (makes_keep _ _ _ _ makes), inr (answer_left (answer_of reply) served.mid (Err failed) after contents contents' (held _ found.calls) tells' makes, short (answer_of reply) failed is))
+      by (Err none) found (same, is) =
+          let mid = held _ found.calls in
+          let now : contents' ≡ mid.contents = some_is (sym tells' ∙ ap (λ (s : DeskState). s.contents) same ∙ mid.tells) in
+          inl (record { status = is; files = ap (λ (c : Contents). c.files) now ∙ mid.files_are; said = ap (λ (c : Contents). c.said) now ∙ mid.said_is })
+
+-- files of other names stay
+other_of_written : (files : List (List ℕ × List ℕ)) (base : Files) (name : List ℕ) → ¬ IsOneOf name (map (λ file. file.0) files) → get (written files base) name ≡ get base name
+other_of_written [] base name other = refl
+other_of_written (file ∷ files) base name other = other_of_written files (insert base file.0 file.1) name (λ one. other (inr one)) ∙ get-other base file.0 file.1 name (λ is. other (inl is))
+
+other_of_part : (files : List (List ℕ × List ℕ)) (base now : Files) (name : List ℕ) → ¬ IsOneOf name (map (λ file. file.0) files) → ArePartlyWritten files base now → get now name ≡ get base name
+other_of_part [] base now name other never = absurd never
+other_of_part (file ∷ files) base now name other (inl (inl is)) = ap (λ (fs : Files). get fs name) is
+other_of_part (file ∷ files) base now name other (inl (inr (n, is))) = ap (λ (fs : Files). get fs name) is ∙ get-other base file.0 (take n file.1) name (λ same. other (inl same))
+other_of_part (file ∷ files) base now name other (inr part) = other_of_part files (insert base file.0 file.1) now name (λ one. other (inr one)) part ∙ get-other base file.0 file.1 name (λ is. other (inl is))
+
+other_of_left : (answer : Answer) (contents contents' : Contents) (code : ℕ) (name : List ℕ) → ¬ IsOneOf name (map (λ file. file.0) answer.files) → IsDelivered answer contents contents' code → get contents'.files name ≡ get contents.files name
+other_of_left answer contents contents' code name other (inl (whole, is)) = ap (λ (fs : Files). get fs name) whole.files ∙ other_of_written answer.files contents.files name other
+other_of_left answer contents contents' code name other (inr (inl (part, said), is)) = other_of_part answer.files contents.files contents'.files name other part
+other_of_left answer contents contents' code name other (inr (inr (files, said), is)) = ap (λ (fs : Files). get fs name) files ∙ other_of_written answer.files contents.files name other
+
+-- a given answer writes the files of the request, or none
+names_given : (words : List (List ℕ)) (contents : Contents) (before after : ℕ) (answer : Answer) → IsGivenAnswer words contents before after answer → IsDone (outputs_in (request_in words)) answer ⊎ Refuses answer
+names_given words contents before after answer (inl answers) = answers_row (request_in words) (Some contents) answer answers
+names_given words contents before after answer (inr (is, rose)) = inr (record { status = ap (λ (a : Answer). is_refusal a.status) is; files = ap (λ (a : Answer). a.files) is })
+
+module _ (words : List (List ℕ)) (before after : DeskState) (code : ℕ) (left : Leaves words before after code) where
+  keeps_others : KeepsOthers words before after
+  keeps_others contents contents' name tells tells' other = elim (left contents contents' tells tells') [
+    | inl untouched ↦ ap (λ (fs : Files). get fs name) untouched.files
+    | inr (answer, given, delivered) ↦ other_of_left answer contents contents' code name (elim (names_given words contents _ _ answer given) [
+      | inl whole ↦ λ one. other (subst (IsOneOf name) whole.files one)
+      | inr refused ↦ λ one. subst (λ (fs : List (List ℕ × List ℕ)). IsOneOf name (map (λ file. file.0) fs)) refused.files one
+    ]) delivered
+  ]
+
+  keeps_files : KeepsFiles before after code
+  keeps_files contents contents' tells tells' done write memory = elim (left contents contents' tells tells') [
+    | inl untouched ↦ untouched.files
+    | inr (answer, given, inr (short, inl is)) ↦ absurd (write is)
+    | inr (answer, given, inr (short, inr is)) ↦ absurd (memory is)
+    | inr (answer, given, inl (whole, is)) ↦ elim (names_given words contents _ _ answer given) [
+      | inl row ↦ absurd (done (is ∙ ap code_of row.status))
+      | inr refused ↦ whole.files ∙ ap (λ (fs : List (List ℕ × List ℕ)). written fs contents.files) refused.files
+    ]
+  ]
+
+pub others : (words : List (List ℕ)) (before after : DeskState) (code : ℕ) → IsServed (request_in words) before after code → KeepsOthers words before after
+others words before after code served = keeps_others words before after code (leaves words before after code served)
+
+pub untouched : (words : List (List ℕ)) (before after : DeskState) (code : ℕ) → IsServed (request_in words) before after code → KeepsFiles before after code
+untouched words before after code served = keeps_files words before after code (leaves words before after code served)
+
+-- where all files are as they should be, each answer is done
+met_done : (request : Request) (contents : Contents) (answer : Answer) → HasFiles request contents → RequestAnswers request (Some contents) answer → answer.status ≡ exit.Done
+met_done (OfScript task script) contents answer (source, read) (inl refused) = absurd ((script_single contents script).never source answer read refused)
+met_done (OfScript task script) contents answer (source, read) (inr (other, is, answers)) = (script_row task other answer answers).status
+met_done (OfLog task log) contents answer (read, there) (inl refused) = absurd ((log_single contents log).never read answer there refused)
+met_done (OfLog task log) contents answer (read, there) (inr (other, is, answers)) = (log_row task other answer answers).status
+met_done (OfPair task script log object) contents answer (pair, outcome, read, recording) (inl refused) = absurd ((pair_single contents script log object).never pair answer read refused)
+met_done (OfPair task script log object) contents answer (pair, outcome, read, recording) (inr (other, is, answers)) =
+    fits answers (subst (λ (p : Pair). IsFaithful p.source.script p.log.threads outcome) (sym ((pair_single contents script log object).one other pair is read)) recording)
+  where
+    fits : PairAnswers task other answer → IsFaithful other.source.script other.log.threads outcome → answer.status ≡ exit.Done
+    fits (inl (fault, memory, cause, is)) recording = absurd (not_refused other.source.script other.log.threads fault (faithful other.source.script other.log.threads outcome recording).0 memory cause)
+    fits (inr (lawful, says)) recording = elim (pair_row task other answer says) [
+      | inl row ↦ row.0.status
+      | inr row ↦ absurd (row.3 (recording.ordered (lowest_order other.source.script other.log.threads) (faithful other.source.script other.log.threads outcome recording).0))
+    ]
+met_done (Run task script log) contents answer (source, read) (inl refused) = absurd ((script_single contents script).never source answer read refused)
+met_done (Run task script log) contents answer (source, read) (inr (other, is, answers)) = (run_row task log other answer answers).status
+met_done (Gen number script log) contents answer met answers = elim (request_row (Gen number script log) (Some contents) answer answers) [ inl row ↦ row.status | inr refused ↦ ap (λ (a : Answer). a.status) answers.5 ]
+
+-- and that status comes, where no call fails, unless memory was refused
+pub complete : (words : List (List ℕ)) (before after : DeskState) (code : ℕ) → IsServed (request_in words) before after code → (contents : Contents) → before.contents ≡ Some contents → IsWellMet words contents → NoneFailed before after
+    → (code ≡ code_of exit.Done) ⊎ (code ≡ code_of exit.Memory)
+complete words before after code served contents tells (request, asked, met) none = by served.reply served.found served.given
+  where
+    by : (reply : Result Reply NoMemory) → Replies (request_in words) before reply served.mid → IsGiven reply served.mid after code → (code ≡ code_of exit.Done) ⊎ (code ≡ code_of exit.Memory)
+    by (Err lacking) found (same, is) = inr is
+    by (Ok reply) found (Ok tt, makes, is) = elim found.found [
+      | inl (answers, same) ↦ inl (is ∙ ap code_of (met_done request contents (answer_of reply) met (subst (λ r. Answers r (Some contents) (answer_of reply)) asked (subst (λ t. Answers (request_in words) t (answer_of reply)) tells answers))))
+      | inr (said, rose) ↦ absurd (none.takes (rw (makes_keep (acts_of (answer_of reply)) served.mid (Ok tt) after makes) rose))
+    ]
+    by (Ok reply) found (Err failed, makes, is) = elim (after_refused (answer_of reply) failed) [
+      | inl (lacking, comes) ↦ inr (is ∙ comes)
+      | inr (not, comes) ↦ absurd (none.writes (rw (← found.write_faults) (makes_fail (acts_of (answer_of reply)) served.mid failed after makes not)))
+    ]

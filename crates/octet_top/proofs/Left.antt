@@ -1,0 +1,230 @@
+-- What the calls of an answer leave, given whole or cut short.
+use Rattle.octet_model.specs.declared.limits.TheConstants.{MAX_LOG_FILE, MAX_SCRIPT_FILE}
+use Rattle.std.proofs.Common.{◌≡◌, ◌≢◌, ◌∙◌, ◌++◌, ◌≤◌, ◌<◌, ◌⊎◌, ℕ, zero, suc, List, [], ◌∷◌, map, take, drop, length, append_assoc, append-nil, Option, None, Some, Result, Ok, Err, Bool, true, false, cond, inl, inr, refl, sym, subst, ap, nat_cmp, arith}
+use Rattle.std.specs.List.{flat_map}
+use Rattle.std.specs.Option.{unwrap_or}
+use Rattle.std.specs.Ordering.{eq_by_cmp}
+use Rattle.std.specs.Cmp.{eq_by_cmp_equiv}
+use Rattle.std.specs.Cmp.Lexicographic.{slice_cmp, nat_list_cmp_total, texts_ties}
+use Rattle.std.specs.Str.{bytes_eq}
+use Rattle.std.proofs.lemmas.Slice.Eq.{bytes_eq-Decides}
+use Rattle.std.specs.FinMap.{get, insert, get-insert, same_map, slice_cmp-IsAntisymmetric, nat_cmp-IsAntisymmetric}
+use Rattle.std.proofs.lemmas.List.{take-append-drop, length-drop}
+use Rattle.std.specs.Global.{Vec}
+use Rattle.octet_base.specs.Desk.{Files, Contents, DeskState, Adds, IsCalled, with_call, with_bytes, with_empty, with_said}
+use Rattle.octet_base.specs.declared.call.Call.{Call}
+use Rattle.octet_base.specs.declared.fault.DeskFault.{DeskFault}
+use Rattle.octet_base.specs.declared.call.Call.TheVariants as call
+use Rattle.octet_top.specs.Answer.{Answer}
+use Rattle.octet_top.specs.Request.{Request, OfScript, OfLog, OfPair, Run, Gen}
+use Rattle.octet_top.specs.Inputs.{TakesOne}
+use Rattle.octet_top.specs.Replies.{TakesFiles}
+use Rattle.octet_top.specs.Delivery.{Act, Add, Finish, Say, Makes, IsRefused, pieces_within, file_acts, acts_of}
+use Rattle.octet_top.specs.Outputs.{written, ArePartlyWritten, IsWhole, IsCutShort, IsLeft}
+
+pub some_is : {x y : Contents} → Some x ≡ Some y → x ≡ y
+some_is {x} {y} is = ap (λ o. unwrap_or o x) is
+
+pub get-inserted : (files : Files) (name bytes : List ℕ) → get (insert files name bytes) name ≡ Some bytes
+get-inserted files name bytes =
+    get-insert nat_list_cmp_total files name bytes name ∙ ap (λ b. cond b (Some bytes) (get files name)) ((eq_by_cmp_equiv nat_list_cmp_total).refl name)
+
+pub get-other : (files : Files) (name bytes other : List ℕ) → other ≢ name → get (insert files name bytes) other ≡ get files other
+get-other files name bytes other differ =
+    get-insert nat_list_cmp_total files name bytes other ∙ ap (λ b. cond b (Some bytes) (get files other)) (sym (texts_ties other name) ∙ differs (bytes_eq other name) refl)
+  where
+    differs : (b : Bool) → bytes_eq other name ≡ b → bytes_eq other name ≡ false
+    differs true is = absurd (differ ((bytes_eq-Decides other name).0 is))
+    differs false is = is
+
+twice : {A : Type 0} (b : Bool) (x y z : A) → cond b x (cond b y z) ≡ cond b x z
+twice true x y z = refl
+twice false x y z = refl
+
+-- the later bytes stay
+insert-insert : (files : Files) (name before bytes : List ℕ) → insert (insert files name before) name bytes ≡ insert files name bytes
+insert-insert files name before bytes =
+    same_map nat_list_cmp_total (slice_cmp-IsAntisymmetric nat_cmp-IsAntisymmetric) _ _ (λ q.
+    get-insert nat_list_cmp_total _ name bytes q
+    ∙ ap (cond (eq_by_cmp (slice_cmp nat_cmp) q name) (Some bytes)) (get-insert nat_list_cmp_total files name before q)
+    ∙ twice (eq_by_cmp (slice_cmp nat_cmp) q name) (Some bytes) (Some before) (get files q)
+    ∙ sym (get-insert nat_list_cmp_total files name bytes q))
+
+-- bytes after those that were added
+more_bytes : (base : Files) (name done piece : List ℕ) → insert (insert base name done) name (unwrap_or (get (insert base name done) name) [] ++ piece) ≡ insert base name (done ++ piece)
+more_bytes base name done piece = insert-insert base name done _ ∙ ap (λ o. insert base name (unwrap_or o [] ++ piece)) (get-inserted base name done)
+
+-- first bytes of first bytes, and first bytes after those
+front_of_front : (k n : ℕ) (bytes : List ℕ) → (m : ℕ) × (take k (take n bytes) ≡ take m bytes)
+front_of_front zero n bytes = (0, refl)
+front_of_front (suc k) zero bytes = (0, refl)
+front_of_front (suc k) (suc n) [] = (0, refl)
+front_of_front (suc k) (suc n) (byte ∷ bytes) = let rest = front_of_front k n bytes in (suc rest.0, ap (λ (bs : List ℕ). byte ∷ bs) rest.1)
+
+front_after : (n k : ℕ) (bytes : List ℕ) → (m : ℕ) × (take n bytes ++ take k (drop n bytes) ≡ take m bytes)
+front_after zero k bytes = (k, refl)
+front_after (suc n) zero [] = (0, refl)
+front_after (suc n) (suc k) [] = (0, refl)
+front_after (suc n) k (byte ∷ bytes) = let rest = front_after n k bytes in (suc rest.0, ap (λ (bs : List ℕ). byte ∷ bs) rest.1)
+
+-- a desk tells these files, and that these bytes were said
+pub record Holds (files : Files) (said : List ℕ) (state : DeskState) : Type 0 where
+  pub contents : Contents
+  pub tells : state.contents ≡ Some contents
+  pub files_are : contents.files ≡ files
+  pub said_is : contents.said ≡ said
+
+-- a call that was refused, and changed nothing
+held_called : {T : Type 0} (result : Result T DeskFault) (made : Call) (files : Files) (said : List ℕ) (before after : DeskState) → Holds files said before → IsCalled result made before.contents after.contents → Holds files said after
+held_called result made files said before after holds (inl is) =
+    record { contents = _; tells = is ∙ ap (with_call made) holds.tells; files_are = holds.files_are; said_is = holds.said_is }
+held_called result made files said before after holds (inr (memory, is)) =
+    record { contents = holds.contents; tells = is ∙ holds.tells; files_are = holds.files_are; said_is = holds.said_is }
+
+-- files that are taken
+one_held : (name : List ℕ) (limit : ℕ) (Short : Type 0) (files : Files) (said : List ℕ) (before after : DeskState) → Holds files said before → TakesOne name limit Short before after → Holds files said after
+one_held name limit Short files said before after holds (taken, takes, well) = held_called taken _ files said before after holds takes.contents
+
+pub taken_held : (request : Option Request) (Short : Type 0) (files : Files) (said : List ℕ) (before after : DeskState) → Holds files said before → TakesFiles request Short before after → Holds files said after
+taken_held None Short files said before after holds same = rw same holds
+taken_held (Some (OfScript task script)) Short files said before after holds takes = one_held script MAX_SCRIPT_FILE Short files said before after holds takes
+taken_held (Some (OfLog task log)) Short files said before after holds takes = one_held log MAX_LOG_FILE Short files said before after holds takes
+taken_held (Some (OfPair task script log object)) Short files said before after holds (inl (bytes, mid, takes, passes, next)) =
+    one_held log MAX_LOG_FILE Short files said mid after (held_called {T = Vec ℕ} (Ok bytes) _ files said before mid holds takes.contents) next
+taken_held (Some (OfPair task script log object)) Short files said before after holds (inr (short, (taken, takes))) = held_called taken _ files said before after holds takes.contents
+taken_held (Some (Run task script log)) Short files said before after holds takes = one_held script MAX_SCRIPT_FILE Short files said before after holds takes
+taken_held (Some (Gen number script log)) Short files said before after holds same = rw same holds
+
+-- the calls were refused in the first part, or that was made whole
+split_made : (acts more : List Act) (before : DeskState) (result : Result (Unit {0}) DeskFault) (after : DeskState) → Makes (acts ++ more) before result after
+    → (IsRefused result × Makes acts before result after) ⊎ ((mid : DeskState) × Makes acts before (Ok tt) mid × Makes more mid result after)
+split_made [] more before result after makes = inr (before, (refl, refl), makes)
+split_made (act ∷ acts) more before result after (inl refused) = inl (refused.0, inl refused)
+split_made (act ∷ acts) more before result after (inr (mid, does, makes)) = elim (split_made acts more mid result after makes) [
+  | inl (refused, rest) ↦ inl (refused, inr (mid, does, rest))
+  | inr (end, rest, next) ↦ inr (end, inr (mid, does, rest), next)
+]
+
+module _ (base : Files) (name : List ℕ) (said : List ℕ) where
+  -- bytes are added after those that were added
+  bytes_held : (done bytes : List ℕ) (made : Call) (before after : DeskState) → before.begun ≡ Some name → Holds (insert base name done) said before
+      → after.contents ≡ with_call made (with_bytes before.begun bytes before.contents) → Holds (insert base name (done ++ bytes)) said after
+  bytes_held done bytes made before after begun holds is = record {
+    contents = _;
+    tells = is ∙ ap (λ b. with_call made (with_bytes b bytes before.contents)) begun ∙ ap (λ t. with_call made (with_bytes (Some name) bytes t)) holds.tells;
+    files_are = ap (λ (fs : Files). insert fs name (unwrap_or (get fs name) [] ++ bytes)) holds.files_are ∙ more_bytes base name done bytes;
+    said_is = holds.said_is;
+  }
+
+  -- the file has all bytes, or some first ones
+  abbrev IsAdded : List ℕ → List ℕ → Result (Unit {0}) DeskFault → DeskState → Type 0
+  IsAdded done bytes (Ok all) after = Holds (insert base name (done ++ bytes)) said after
+  IsAdded done bytes (Err fault) after = (k : ℕ) × Holds (insert base name (done ++ take k bytes)) said after
+
+  nothing_added : (done bytes : List ℕ) (fault : DeskFault) (after : DeskState) → Holds (insert base name done) said after → IsAdded done bytes (Err fault) after
+  nothing_added done bytes fault after holds = (0, rw (append-nil done) holds)
+
+  piece_added : (done piece : List ℕ) (fault : DeskFault) (before after : DeskState) → before.begun ≡ Some name → Holds (insert base name done) said before → Adds piece before (Err fault) after
+      → (k : ℕ) × Holds (insert base name (done ++ take k piece)) said after
+  piece_added done piece fault before after begun holds adds = elim adds.refused [
+    | inl called ↦ (0, rw (append-nil done) (held_called {T = Unit {0}} (Err fault) _ _ _ before after holds called))
+    | inr (n, within, is) ↦ (n, bytes_held done (take n piece) _ before after begun holds is)
+  ]
+
+  rest_added : (size n : ℕ) (bytes done : List ℕ) (before : DeskState) (result : Result (Unit {0}) DeskFault) (after : DeskState) → 0 < size → length bytes ≤ n → before.begun ≡ Some name → Holds (insert base name done) said before
+      → Makes (map Add (pieces_within size n bytes) ++ Finish ∷ []) before result after → IsAdded done bytes result after
+  rest_added size n [] done before (Ok tt) after some room begun holds (inl never) = absurd never.0
+  rest_added size n [] done before (Err fault) after some room begun holds (inl (refused, finishes)) =
+      nothing_added done [] fault after (held_called {T = Unit {0}} (Err fault) call.Finish _ _ before after holds (inl finishes.contents))
+  rest_added size n [] done before result after some room begun holds (inr (mid, finishes, (ok, is))) =
+      subst (λ r. IsAdded done [] r after) (sym ok) (rw (is, append-nil done) (held_called {T = Unit {0}} (Ok tt) call.Finish _ _ before mid holds (inl finishes.contents)))
+  rest_added size zero (byte ∷ bytes) done before result after some room begun holds makes = absurd (omega (arith, room))
+  rest_added size (suc n) (byte ∷ bytes) done before (Ok tt) after some room begun holds (inl never) = absurd never.0
+  rest_added size (suc n) (byte ∷ bytes) done before (Err fault) after some room begun holds (inl (refused, adds)) =
+      let added = piece_added done (take size (byte ∷ bytes)) fault before after begun holds adds in
+      let front = front_of_front added.0 size (byte ∷ bytes) in
+      (front.0, rw (← front.1) added.1)
+  rest_added size (suc n) (byte ∷ bytes) done before result after some room begun holds (inr (mid, adds, makes)) =
+      more result (rest_added size n (drop size (byte ∷ bytes)) (done ++ take size (byte ∷ bytes)) mid result after some (omega (arith, length-drop size (byte ∷ bytes), some, room)) (adds.begun ∙ begun)
+      (bytes_held done (take size (byte ∷ bytes)) _ before mid begun holds adds.done) makes)
+    where
+      more : (result : Result (Unit {0}) DeskFault) → IsAdded (done ++ take size (byte ∷ bytes)) (drop size (byte ∷ bytes)) result after → IsAdded done (byte ∷ bytes) result after
+      more (Ok tt) added =
+          subst (λ bs. Holds (insert base name bs) said after) (append_assoc done (take size (byte ∷ bytes)) (drop size (byte ∷ bytes)) ∙ ap (λ r. done ++ r) (take-append-drop size (byte ∷ bytes))) added
+      more (Err fault) (k, added) =
+          let front = front_after size k (byte ∷ bytes) in
+          (front.0, subst (λ bs. Holds (insert base name bs) said after) (append_assoc done (take size (byte ∷ bytes)) (take k (drop size (byte ∷ bytes))) ∙ ap (λ r. done ++ r) front.1) added)
+
+-- files are written, and nothing is said
+abbrev AreLeft : List (List ℕ × List ℕ) → Files → List ℕ → Result (Unit {0}) DeskFault → DeskState → Type 0
+AreLeft files base said (Ok all) after = Holds (written files base) said after
+AreLeft files base said (Err fault) after = (now : Files) × Holds now said after × ArePartlyWritten files base now
+
+-- a file that is begun
+begun_held : (file : List ℕ × List ℕ) (base : Files) (said : List ℕ) (before after : DeskState) → Holds base said before → after.contents ≡ with_call (call.Begin file.0) (with_empty file.0 before.contents) → Holds (insert base file.0 []) said after
+begun_held file base said before after holds is = record {
+  contents = _;
+  tells = is ∙ ap (λ t. with_call (call.Begin file.0) (with_empty file.0 t)) holds.tells;
+  files_are = ap (λ (fs : Files). insert fs file.0 []) holds.files_are;
+  said_is = holds.said_is;
+}
+
+-- one file
+file_left : (file : List ℕ × List ℕ) (base : Files) (said : List ℕ) (before : DeskState) (result : Result (Unit {0}) DeskFault) (after : DeskState) → Holds base said before → Makes (file_acts file) before result after → AreLeft (file ∷ []) base said result after
+file_left file base said before (Ok tt) after holds (inl never) = absurd never.0
+file_left file base said before (Err fault) after holds (inl (refused, begins)) = elim begins.refused [
+  | inl called ↦ (base, held_called {T = Unit {0}} (Err fault) _ _ _ before after holds called, inl (inl refl))
+  | inr is ↦ (insert base file.0 [], begun_held file base said before after holds is, inl (inr (0, refl)))
+]
+file_left file base said before result after holds (inr (mid, begins, makes)) =
+    by result (rest_added base file.0 said 65536 (length file.1) file.1 [] mid result after (omega arith) (omega arith) begins.begun_done (begun_held file base said before mid holds begins.done) makes)
+  where
+    by : (result : Result (Unit {0}) DeskFault) → IsAdded base file.0 said [] file.1 result after → AreLeft (file ∷ []) base said result after
+    by (Ok tt) added = added
+    by (Err fault) (k, added) = (insert base file.0 (take k file.1), added, inl (inr (k, refl)))
+
+-- and all of them
+files_left : (files : List (List ℕ × List ℕ)) (base : Files) (said : List ℕ) (before : DeskState) (result : Result (Unit {0}) DeskFault) (after : DeskState) → Holds base said before → Makes (flat_map file_acts files) before result after → AreLeft files base said result after
+files_left [] base said before result after holds (ok, is) = subst (λ r. AreLeft [] base said r after) (sym ok) (rw is holds)
+files_left (file ∷ files) base said before result after holds makes =
+    by result (split_made (file_acts file) (flat_map file_acts files) before result after makes) (λ mid held rest. files_left files (insert base file.0 file.1) said mid result after held rest)
+  where
+    by : (result : Result (Unit {0}) DeskFault)
+        → (IsRefused result × Makes (file_acts file) before result after) ⊎ ((mid : DeskState) × Makes (file_acts file) before (Ok tt) mid × Makes (flat_map file_acts files) mid result after)
+        → ((mid : DeskState) → Holds (insert base file.0 file.1) said mid → Makes (flat_map file_acts files) mid result after → AreLeft files (insert base file.0 file.1) said result after)
+        → AreLeft (file ∷ files) base said result after
+    by (Ok tt) (inl never) next = absurd never.0
+    by (Err fault) (inl (refused, makes)) next = let (now, held, part) = file_left file base said before (Err fault) after holds makes in elim part [ inl own ↦ (now, held, inl own) | inr never ↦ absurd never ]
+    by (Ok tt) (inr (mid, whole, rest)) next = next mid (file_left file base said before (Ok tt) mid holds whole) rest
+    by (Err fault) (inr (mid, whole, rest)) next = let (now, held, part) = next mid (file_left file base said before (Ok tt) mid holds whole) rest in (now, held, inr part)
+
+-- the calls of an answer leave it whole, or cut short
+pub answer_left : (answer : Answer) (before : DeskState) (result : Result (Unit {0}) DeskFault) (after : DeskState) (t t' : Contents) → Holds t.files t.said before → after.contents ≡ Some t' → Makes (acts_of answer) before result after → IsLeft answer result t t'
+answer_left answer before result after t t' held tells' makes = by result (split_made (flat_map file_acts answer.files) (Say answer.text ∷ []) before result after makes)
+  where
+    now : (files : Files) (said : List ℕ) → Holds files said after → (t'.files ≡ files) × (t'.said ≡ said)
+    now files said holds = let same : t' ≡ holds.contents = some_is (sym tells' ∙ holds.tells) in (ap (λ (x : Contents). x.files) same ∙ holds.files_are, ap (λ (x : Contents). x.said) same ∙ holds.said_is)
+
+    spoken : (bytes : List ℕ) (made : Call) (files : Files) (mid last : DeskState) → Holds files t.said mid → last.contents ≡ with_call made (with_said bytes mid.contents) → Holds files (t.said ++ bytes) last
+    spoken bytes made files mid last holds is = record {
+      contents = _;
+      tells = is ∙ ap (λ c. with_call made (with_said bytes c)) holds.tells;
+      files_are = holds.files_are;
+      said_is = ap (λ s. s ++ bytes) holds.said_is;
+    }
+
+    said : (result : Result (Unit {0}) DeskFault) (mid : DeskState) → Holds (written answer.files t.files) t.said mid → Makes (Say answer.text ∷ []) mid result after → IsLeft answer result t t'
+    said (Ok tt) mid holds (inl never) = absurd never.0
+    said (Ok tt) mid holds (inr (last, says, (ok, is))) = let both = now _ _ (rw is (spoken answer.text _ _ mid last holds says.done)) in record { files = both.0; said = both.1 }
+    said (Err fault) mid holds (inl (refused, says)) = elim says.refused [
+      | inl called ↦ (let both = now _ _ (held_called {T = Unit {0}} (Err fault) _ _ _ mid after holds called) in inr (both.0, (0, both.1 ∙ sym (append-nil t.said))))
+      | inr (n, within, is) ↦ (let both = now _ _ (spoken (take n answer.text) _ _ mid after holds is) in inr (both.0, (n, both.1)))
+    ]
+    said (Err fault) mid holds (inr (last, says, (never, is))) = absurd cc
+
+    by : (result : Result (Unit {0}) DeskFault)
+        → (IsRefused result × Makes (flat_map file_acts answer.files) before result after) ⊎ ((mid : DeskState) × Makes (flat_map file_acts answer.files) before (Ok tt) mid × Makes (Say answer.text ∷ []) mid result after)
+        → IsLeft answer result t t'
+    by (Ok tt) (inl never) = absurd never.0
+    by (Err fault) (inl (refused, makes)) = let left = files_left answer.files t.files t.said before (Err fault) after held makes in let both = now left.0 t.said left.1 in inl (rw both.0 left.2, both.1)
+    by result (inr (mid, makes, says)) = said result mid (files_left answer.files t.files t.said before (Ok tt) mid held makes) says
