@@ -1,5 +1,5 @@
 //! Runs by threads beside each other, through the top call.
-use crate::serve;
+use crate::{Status, serve};
 use crate::tests::{desk_with, words_of};
 use octet_base::{Gate, OpenGate};
 use octet_model::OutOfMemory;
@@ -72,7 +72,7 @@ fn threads_run_beside_each_other(rt: HostRuntime) -> Result<(), Failed> {
         let gate = TwoFlags::new();
         let mut desk = desk_with(alloc, script, &[])?;
         let answer = serve(&rt, alloc, &words_of(alloc, line)?, &mut desk, &gate);
-        assert_eq!(rt; answer, 0, "{line}");
+        assert_eq!(rt; answer, Status::Done.code(), "{line}");
         assert!(rt; gate.are_up(), "{line}");
         assert!(rt; !gate.gave_up.load(Ordering::SeqCst), "{line}");
     }
@@ -121,14 +121,14 @@ fn contended_runs_repeat(rt: HostRuntime) -> Result<(), Failed> {
     ] {
         let mut desk = desk_with(alloc, script.as_slice(), &[])?;
         let answer = serve(&rt, alloc, &words_of(alloc, line)?, &mut desk, &OpenGate);
-        assert_eq!(rt; answer, 0, "{line}");
+        assert_eq!(rt; answer, Status::Done.code(), "{line}");
         let mut wanted = Vec::from_slice(alloc, desk.said())?;
         let once = Vec::from_slice(alloc, desk.said())?;
         wanted.extend_from_slice(once.as_slice())?;
         wanted.extend_from_slice(b"ordered\n")?;
         for again in ["replay S L", "verify S L"] {
             let answer = serve(&rt, alloc, &words_of(alloc, again)?, &mut desk, &OpenGate);
-            assert_eq!(rt; answer, 0, "{again}");
+            assert_eq!(rt; answer, Status::Done.code(), "{again}");
         }
         assert_eq!(rt; desk.said(), wanted.as_slice(), "{line}");
         if script.len() == flag.len() {
