@@ -18,7 +18,11 @@ const LOG: &[u8] =
 
 /// A desk with the script as `S`. Each of `fails` is the number of a call that fails, and how many
 /// bytes it lets through.
-pub(crate) fn desk_with(alloc: Global, script: &[u8], fails: &[(u64, u32)]) -> Result<MemoryDesk, OutOfMemory>
+pub(crate) fn desk_with(
+    alloc: Global,
+    script: &[u8],
+    fails: &[(u64, u32)],
+) -> Result<MemoryDesk, OutOfMemory>
     ensures { IfOk result (λ desk. (⟦<MemoryDesk as Desk>⟧.state desk).begun ≡ None) }
 {
     let mut contents = List::new(alloc);
