@@ -3,7 +3,7 @@ use Rattle.std.proofs.Common.{Bool, List, [], ◌∷◌, sym, ap, ◌∙◌}
 use Rattle.octet_model.specs.declared.event.Event.{Event}
 use Rattle.octet_model.specs.declared.event.Event.TheVariants.{Read, Write, Marked}
 use Rattle.octet_model.specs.Thread.{Configuration, settled, configuration_after}
-use Rattle.octet_model.proofs.Splits.{configuration_split, fits_join}
+use Rattle.octet_model.proofs.lemmas.Splits.{configuration_split, fits_join}
 use Rattle.octet_interp.specs.declared.demand.Demand.{Demand}
 use Rattle.octet_interp.specs.declared.demand.Demand.TheVariants.{Read, Write, Ended}
 use Rattle.octet_interp.specs.Told.{Standing, told, after_told}

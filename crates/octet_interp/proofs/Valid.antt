@@ -9,7 +9,7 @@ use Rattle.octet_model.specs.declared.object.Object.{Object}
 use Rattle.octet_model.specs.Script.{is_command, is_nested, is_thread, is_script}
 use Rattle.octet_interp.specs.declared.progress.Progress.{Progress}
 use Rattle.octet_interp.specs.Leads.{IsLeadTable}
-use Rattle.octet_interp.specs.Registers.{HasRegisters, HasObject}
+use Rattle.octet_model.specs.Validity.{HasRegisters, HasObject}
 use Rattle.octet_interp.specs.Progress.{IsConsistent}
 
 below_all : (a b c : ℕ) → (nat_lt a 16 && nat_lt b 16 && nat_lt c 16) ≡ true → (a < 16) × (b < 16) × (c < 16)

@@ -4,7 +4,7 @@ use Rattle.octet_model.specs.declared.command.Command.{Command}
 use Rattle.octet_model.specs.declared.command.Command.TheVariants.{Set, Copy, Add, Sub, Mul, Xor, Less, Same, Read, Loop, Branch, Close}
 use Rattle.octet_model.specs.Thread.{Configuration, stepped, with_register}
 use Rattle.octet_interp.specs.Leads.{lead_of, IsLeadTable}
-use Rattle.octet_interp.specs.Registers.{HasRegisters, HasObject}
+use Rattle.octet_model.specs.Validity.{HasRegisters, HasObject}
 use Rattle.octet_interp.specs.declared.demand.Demand.{Demand}
 use Rattle.octet_interp.specs.declared.demand.Demand.TheVariants.{Read, Write, Ended}
 use Rattle.octet_interp.specs.declared.progress.Progress.{Progress}

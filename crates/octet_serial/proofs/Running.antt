@@ -14,8 +14,8 @@ use Rattle.octet_model.specs.Journals.{access_count}
 use Rattle.octet_model.specs.HappensBefore.{object_of}
 use Rattle.octet_model.specs.Orders.{commands_of}
 use Rattle.octet_model.specs.Plays.{operation_of}
-use Rattle.octet_model.proofs.Steps.{same_journal, other_journal, as_many}
-use Rattle.octet_model.proofs.Splits.{configuration_split, fits_join, accesses_split}
+use Rattle.octet_model.proofs.lemmas.Steps.{same_journal, other_journal, as_many}
+use Rattle.octet_model.proofs.lemmas.Splits.{configuration_split, fits_join, accesses_split}
 use Rattle.octet_interp.specs.declared.demand.Demand.{Demand as Told}
 use Rattle.octet_interp.specs.declared.demand.Demand.TheVariants.{Read as TellsRead, Write as TellsWrite, Safe, Pause, Ended}
 use Rattle.octet_interp.specs.Laws.{Agrees}

@@ -10,7 +10,7 @@ use Rattle.octet_interp.specs.Told.{Standing, told, after_told, given}
 use Rattle.octet_serial.specs.Recording.{with_event}
 use Rattle.octet_serial.specs.Recorded.{HasEnded}
 use Rattle.octet_serial.specs.Running.{IsRunning}
-use Rattle.octet_serial.proofs.Faithful.{bounded}
+use Rattle.octet_model.proofs.lemmas.Validity.{valid_script}
 use Rattle.octet_serial.proofs.Running.{on_read, on_write, on_safe_or_pause, on_end}
 
 module _ (script : Script) (js : Journals) (heap owners : List ℕ) (before : Journals) (t : ℕ) (s next : Standing) (demand : Demand) (lt : t < length script.threads) (r : IsRunning script js heap owners before t s) (is_told : demand ≡ told s) (is_next : next ≡ after_told s) where
@@ -18,7 +18,7 @@ module _ (script : Script) (js : Journals) (heap owners : List ℕ) (before : Jo
   there = omega (arith, r.recorded.threads_there)
 
   small : script.fuel ≤ 262144
-  small = (bounded script.fuel script.objects script.threads script.valid).small
+  small = (valid_script script.fuel script.objects script.threads script.valid).most_fuel
 
   within : (o : ℕ) → o < s.objects → o < length owners
   within o lt = omega (arith, r.recorded.owners_there, r.has_objects)

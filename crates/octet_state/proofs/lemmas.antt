@@ -1,0 +1,5 @@
+pub mod Packing
+pub mod Places
+pub mod Accesses
+pub mod Widths
+pub mod Laws
