@@ -15,9 +15,9 @@ use Rattle.octet_model.specs.Frugal.{marks_at_end}
 use Rattle.octet_model.specs.Plays.{IsOneHistory}
 use Rattle.octet_model.specs.Log.{is_mark}
 use Rattle.octet_model.specs.Past.{InPast}
-use Rattle.octet_model.proofs.Steps.{count, new_event, same_journal}
-use Rattle.octet_model.proofs.Growing.{history_grows}
-use Rattle.octet_model.proofs.Pasts.{past_has_joined}
+use Rattle.octet_model.proofs.lemmas.Steps.{count, new_event, same_journal}
+use Rattle.octet_model.proofs.lemmas.Growth.{history_grows}
+use Rattle.octet_model.proofs.lemmas.Pasts.{past_has_joined}
 use Rattle.octet_state.specs.declared.state_word.StateWord.{StateWord}
 use Rattle.octet_state.specs.declared.state_word.StateWord.TheVariants.{WrEx, RdEx, RdSh, WrInt, RdInt, ShInt}
 use Rattle.octet_state.specs.declared.act.Mode.{Mode}

@@ -8,7 +8,7 @@ use Rattle.octet_model.specs.declared.event.Event.TheVariants.{Marked}
 use Rattle.octet_model.specs.declared.event.Place.{Place}
 use Rattle.octet_model.specs.Machine.{journal_of, appended}
 use Rattle.octet_model.specs.Frugal.{marks_at_end, Accesses}
-use Rattle.octet_model.proofs.Steps.{same_journal, other_journal}
+use Rattle.octet_model.proofs.lemmas.Steps.{same_journal, other_journal}
 use Rattle.octet_state.specs.declared.state_word.StateWord.{StateWord}
 use Rattle.octet_state.specs.declared.state_word.StateWord.TheVariants.{WrEx, RdEx, RdSh, WrInt, RdInt, ShInt}
 use Rattle.octet_state.specs.State.{Thread, ProtocolState, thread_of, state_of, unstarted}
