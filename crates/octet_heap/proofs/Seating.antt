@@ -4,10 +4,10 @@ use Rattle.octet_model.specs.Machine.{Journals}
 use Rattle.octet_model.specs.Journals.{log_of}
 use Rattle.octet_model.specs.Orders.{starting_heap, values_read, ends_of, FitsScript, IsFaithful}
 use Rattle.octet_model.specs.Plays.{IsOneHistory}
-use Rattle.octet_model.proofs.Growing.{faithful_from_history}
+use Rattle.octet_model.proofs.lemmas.Growth.{faithful_from_history}
 use Rattle.octet_state.specs.declared.phase.Phase.TheVariants.{Off}
 use Rattle.octet_state.specs.State.{Thread}
-use Rattle.octet_state.proofs.AllOff.{frugal_when_off}
+use Rattle.octet_state.proofs.lemmas.Laws.{off_is_frugal}
 use Rattle.octet_rule.specs.declared.words.Seat.{Seat}
 use Rattle.octet_rule.specs.Seats.{view, threads_of, starts_of, objects_of, Closes, EachFresh}
 use Rattle.octet_rule.specs.Seats as rule

@@ -11,7 +11,7 @@ use Rattle.octet_state.specs.declared.phase.Phase.TheVariants.{Off}
 use Rattle.octet_state.specs.State.{Thread, ProtocolState, thread_of, unstarted, words}
 use Rattle.octet_state.specs.Steps.{rejoined}
 use Rattle.octet_state.specs.Soundness.{IsSound}
-use Rattle.octet_state.proofs.Places.{get_cell}
+use Rattle.octet_state.proofs.lemmas.Places.{get_cell}
 use Rattle.octet_rule.specs.declared.words.Seat.{Seat}
 use Rattle.octet_rule.specs.declared.words.Words.{Words}
 use Rattle.octet_rule.specs.Views.{SeatView}

@@ -21,9 +21,9 @@ use Rattle.octet_state.specs.State.{ProtocolState, state_of}
 use Rattle.octet_state.specs.Intermediate.{change_of, change_by}
 use Rattle.octet_state.specs.Steps.{Kind, made, ended_by, ToAsk, ToLook, ToLoad, ToDraw, ToShare, state_in, settling, moved, loaded, mode_of, wins, joined_by_share, one_done, one_asked, step}
 use Rattle.std.proofs.lemmas.Nat.{pow_below}
-use Rattle.octet_state.proofs.Packing.{state_back}
-use Rattle.octet_state.proofs.Widths.{few_events, state_fits}
-use Rattle.octet_state.proofs.Draws.{few_draws}
+use Rattle.octet_state.proofs.lemmas.Packing.{state_back}
+use Rattle.octet_state.proofs.lemmas.Widths.{few_events, state_fits}
+use Rattle.octet_state.proofs.lemmas.Laws.{counter_is_small}
 use Rattle.octet_rule.specs.Views.{SeatView}
 use Rattle.octet_rule.specs.Rule.{IsSeenBy, Steps}
 use Rattle.octet_rule.specs.Conditions.{HoldsWord, state_seen, decision, is_share}
@@ -39,7 +39,7 @@ few_after k v told w took = few_seen w (step k v.number took.before) took.seen_a
 
 -- and the counter stands at most at so many
 pub few_drawn : (v : SeatView) (told : ℕ) (w : SeatView) → Steps ToDraw v told w → told ≤ 4194304
-few_drawn v told w took = subst (λ (n : ℕ). n ≤ 4194304) (sym took.word) (few_draws took.before took.seen.sound)
+few_drawn v told w took = subst (λ (n : ℕ). n ≤ 4194304) (sym took.word) (counter_is_small took.before took.seen.sound)
 
 -- the word that a load finds is that of a state, which the thread is not changing itself
 pub state_found : (object : ℕ) (mode : Mode) (v : SeatView) (told : ℕ) (w : SeatView) (took : Steps (ToLoad object mode) v told w) → unpacked_state told ≡ Some (state_of took.before object)

@@ -6,8 +6,8 @@ use Rattle.std.proofs.lemmas.List.{length-replicate, length-map}
 use Rattle.atomic_table.specs.Table as table
 use Rattle.octet_state.specs.declared.state_word.StateWord.TheVariants.{WrEx}
 use Rattle.octet_state.specs.State.{Line, laid_out, alone, status_line, object_lines, resting, unstarted, words, opening}
-use Rattle.octet_state.proofs.Opening.{opening_is_sound}
-use Rattle.octet_model.proofs.Fronts.{no_journal}
+use Rattle.octet_state.proofs.lemmas.Laws.{opening_is_sound}
+use Rattle.octet_model.proofs.lemmas.Fronts.{no_journal}
 use Rattle.octet_rule.specs.Views.{SeatView}
 use Rattle.octet_rule.specs.Rule.{IsSeated, IsRuled, first_view}
 

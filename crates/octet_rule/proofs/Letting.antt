@@ -16,7 +16,7 @@ let_pass : (s : ProtocolState) (v : SeatView) (object : ℕ) (mode : Mode) → I
 let_pass s v object mode seen is = record {
   object = object;
   passes = ap (λ (x : Thread). x.phase) (sym seen.stands) ∙ is;
-  lets = subst (λ (p : Phase). IsTrue (passes s v.number p)) is (seen.sound.passing v.number);
+  lets = subst (λ (p : Phase). IsTrue (passes s.statuses s.states s.threads v.number p)) is (seen.sound.passing v.number);
 }
 
 pub read_is_let_pass : ReadIsLetPass

@@ -17,7 +17,7 @@ use Rattle.octet_state.specs.State.{Thread, ProtocolState, thread_of, unstarted}
 use Rattle.octet_state.specs.Steps.{is_safe_point, moved, rejoined}
 use Rattle.octet_state.specs.Soundness.{IsSound}
 use Rattle.octet_state.specs.Laws.{Stands}
-use Rattle.octet_state.proofs.Swapping.{rejoining_is_sound}
+use Rattle.octet_state.proofs.lemmas.Laws.{rejoining_is_sound}
 use Rattle.octet_rule.specs.Views.{SeatView, after_split, split_off, after_join, spent}
 use Rattle.octet_rule.specs.Rule.{IsSeenBy, AreJoined, IsApart, AreApart, IsSeated, IsRuled}
 use Rattle.octet_rule.specs.Conditions.{IsResting}

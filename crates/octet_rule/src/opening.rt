@@ -8,7 +8,7 @@ use crate::plays;
 use crate::view::Key;
 use crate::words::{Seat, Words};
 use atomic_table::Table;
-use octet_model::{List, OutOfMemory};
+use octet_model::{List, MAX_OBJECTS, MAX_THREADS, OutOfMemory};
 use octet_state::{Due, Phase};
 use std::alloc::{AllocError, Global};
 use std::snapshot::Snapshot;
@@ -20,8 +20,8 @@ impl Words {
         threads: u8,
         starts: &List<u64>,
     ) -> Result<(Words, List<Seat>), OutOfMemory>
-        requires threads { (0 < threads) × (threads ≤ 16) }
-        requires objects { length starts.now ≤ 1024 }
+        requires threads { (0 < threads) × (threads ≤ MAX_THREADS) }
+        requires objects { length starts.now ≤ MAX_OBJECTS }
         ensures { IfOk result (λ new. (threads_of new.0 ≡ threads) × (starts_of new.0 ≡ starts.now) × (length new.1 ≡ threads) × EachFresh new.0 new.1) }
     {
         let words = lay_out(alloc, threads, starts.as_slice())?;
