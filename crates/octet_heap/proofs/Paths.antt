@@ -36,7 +36,7 @@ access_owes_nothing : (mode : Mode) (value : ℕ) (v : SeatView) (taken : Taken)
 access_owes_nothing Read value v taken is = ap (λ (k : Kind). (after k v.number taken.word v.thread).due) is
 access_owes_nothing Write value v taken is = ap (λ (k : Kind). (after k v.number taken.word v.thread).due) is
 
-nothing_after : (wish : Wish) (v : SeatView) (at_safe_point : List Taken) → PaysBy wish v at_safe_point → v.thread.due ≡ Nothing → at_safe_point ≡ []
+pub nothing_after : (wish : Wish) (v : SeatView) (at_safe_point : List Taken) → PaysBy wish v at_safe_point → v.thread.due ≡ Nothing → at_safe_point ≡ []
 nothing_after wish v [] pays due = refl
 nothing_after wish v (taken ∷ more) pays due = absurd (pays.0 due)
 
@@ -78,9 +78,9 @@ module _ (wish : Wish) (v : SeatView) (answer : Poll) (word : ℕ) (more : List 
         only answer (Ready (value_by wish.mode wish.value last.word)) (sym answers ∙ access_answers wish.mode wish.value u last kind),
       )
   path (first ∷ second ∷ going) last at_safe_point goes next answers pays is =
-      let kind = access_kind first second (ap (head_or load) is) goes.2.0 in let u = stepped_by first.kind first.word v in
+      let kind = access_kind first second (ap (head_or load) is) goes.2.0.in_order in let u = stepped_by first.kind first.word v in
       absurd (let never : None ≡ Some (Ready (value_by wish.mode wish.value second.word)) = sym goes.2.1 ∙ access_answers wish.mode wish.value u second kind in cc)
 
 pub owners_path : (wish : Wish) (v w : SeatView) (answer : Poll) → IsPoll wish v answer w → TakesOwnersPath wish v answer w
-owners_path wish v w answer p word more is passes = path wish v answer word more passes p.going p.last p.at_safe_point p.goes p.is_next p.answers p.pays
+owners_path wish v w answer p word more is passes = path wish v answer word more passes p.going p.last p.at_safe_point p.goes p.is_next.in_order p.answers p.pays
     (sym (ap (λ (l : List Taken). drop (length v.trail) l) p.trail ∙ dropped v.trail (p.going ++ p.last ∷ p.at_safe_point)) ∙ is)

@@ -14,12 +14,13 @@ use Rattle.octet_heap.specs.declared.poll.Poll.{Poll}
 use Rattle.octet_heap.specs.declared.poll.Poll.TheVariants.{Ready, Pending}
 use Rattle.octet_heap.specs.Polls.{next_step, after_steps, PaysBy, Comes}
 use Rattle.octet_heap.specs.Workers.{IsPoll}
+use Rattle.octet_heap.proofs.Going.{next_by}
 
 trail_after : (steps : List Taken) (v : SeatView) → (after_steps steps v).trail ≡ v.trail ++ steps
 trail_after [] v = sym (append-nil v.trail)
 trail_after (taken ∷ more) v = trail_after more (stepped_by taken.kind taken.word v) ∙ append_assoc v.trail (taken ∷ []) more
 
-after_both : (going more : List Taken) (v : SeatView) → after_steps (going ++ more) v ≡ after_steps more (after_steps going v)
+pub after_both : (going more : List Taken) (v : SeatView) → after_steps (going ++ more) v ≡ after_steps more (after_steps going v)
 after_both [] more v = refl
 after_both (taken ∷ going) more v = after_both going more (stepped_by taken.kind taken.word v)
 
@@ -71,14 +72,14 @@ poll_pending wish v u w why answered c due point = go answered point.by_bits poi
 
     go : (b : Bool) → b ≡ not ((unpacked_status point.found).asked == 0) → AnswersOr b point.between w → IsPoll wish v (Pending why) w
     go false by_bits is = ends wish v u w (Pending why) (glance ∷ []) c
-        (owes u Glance refl due, sym (next_due wish u Glance due), subst (λ (x : SeatView). x.thread.due ≡ Nothing) (sym looks) (left false by_bits))
+        (owes u Glance refl due, next_by wish u point.between ToGlance point.found point.glances (sym (next_due wish u Glance due)), subst (λ (x : SeatView). x.thread.due ≡ Nothing) (sym looks) (left false by_bits))
         (let few = c.few in omega arith) (is ∙ sym looks)
     go true by_bits answer = let replies : Taken = record { kind = ToAnswer; word = answer.0 } in let asked = left true by_bits in
         ends wish v u w (Pending why) (glance ∷ replies ∷ []) c (
           owes u Glance refl due,
-          sym (next_due wish u Glance due),
+          next_by wish u point.between ToGlance point.found point.glances (sym (next_due wish u Glance due)),
           subst (λ (x : SeatView). PaysBy wish x (replies ∷ [])) (sym looks)
-              (owes point.between Answer refl asked, sym (next_due wish point.between Answer asked), refl),
+              (owes point.between Answer refl asked, next_by wish point.between w ToAnswer answer.0 answer.1 (sym (next_due wish point.between Answer asked)), refl),
         )
         (let few = c.few in omega arith) (answer.1.moves ∙ ap (stepped_by ToAnswer answer.0) (sym looks))
 

@@ -5,6 +5,7 @@ use Rattle.octet_state.specs.declared.why.Why.{Why}
 use Rattle.octet_state.specs.Steps.{Kind, ToLoad, ToRead, ToWrite}
 use Rattle.octet_state.specs.NextStep.{next_kind, waits}
 use Rattle.octet_rule.specs.Views.{SeatView, Taken, stepped_by}
+use Rattle.octet_rule.specs.Rule.{Steps}
 use Rattle.octet_heap.specs.declared.wish.Wish.{Wish}
 use Rattle.octet_heap.specs.declared.poll.Poll.{Poll}
 use Rattle.octet_heap.specs.declared.poll.Poll.TheVariants.{Ready, Pending}
@@ -28,15 +29,20 @@ abbrev pub after_steps : List Taken → SeatView → SeatView
 after_steps [] v = v
 after_steps (taken ∷ more) v = after_steps more (stepped_by taken.kind taken.word v)
 
--- each is the next one, and the poll goes on
+-- the thread takes this step: it is the next one, and one of the protocol, from a sound state in which the thread is where its seat knows it to be
+pub record IsNext (wish : Wish) (v : SeatView) (taken : Taken) : Type 0 where
+  pub in_order : taken.kind ≡ next_step wish v
+  pub took : Steps taken.kind v taken.word (stepped_by taken.kind taken.word v)
+
+-- these are the thread's steps in their order, by each of which the poll goes on
 abbrev pub GoesBy : Wish → SeatView → List Taken → Type 0
 GoesBy wish v [] = Unit {0}
-GoesBy wish v (taken ∷ more) = (taken.kind ≡ next_step wish v) × (answer_to v taken ≡ None) × GoesBy wish (stepped_by taken.kind taken.word v) more
+GoesBy wish v (taken ∷ more) = IsNext wish v taken × (answer_to v taken ≡ None) × GoesBy wish (stepped_by taken.kind taken.word v) more
 
 -- a thread that owes a glance or an answer takes the next step, and so on, until it owes nothing
 abbrev pub PaysBy : Wish → SeatView → List Taken → Type 0
 PaysBy wish v [] = v.thread.due ≡ Nothing
-PaysBy wish v (taken ∷ more) = (v.thread.due ≢ Nothing) × (taken.kind ≡ next_step wish v) × PaysBy wish (stepped_by taken.kind taken.word v) more
+PaysBy wish v (taken ∷ more) = (v.thread.due ≢ Nothing) × IsNext wish v taken × PaysBy wish (stepped_by taken.kind taken.word v) more
 
 -- fewer than so many steps by which the poll goes on
 pub record Goes (wish : Wish) (v : SeatView) (steps : ℕ) (w : SeatView) : Type 0 where
@@ -55,7 +61,7 @@ pub record Comes (wish : Wish) (v : SeatView) (answer : Poll) (steps : ℕ) (w :
   pub going : List Taken
   pub last : Taken
   pub goes : GoesBy wish v going
-  pub is_next : last.kind ≡ next_step wish (after_steps going v)
+  pub is_next : IsNext wish (after_steps going v) last
   pub answers : answer_to (after_steps going v) last ≡ Some answer
   pub few : length going + owed answer < steps
   pub after : w ≡ stepped_by last.kind last.word (after_steps going v)

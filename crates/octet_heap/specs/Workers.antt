@@ -9,7 +9,7 @@ use Rattle.octet_heap.specs.declared.poll.Poll.{Poll}
 use Rattle.octet_heap.specs.declared.poll.Poll.TheVariants.{Ready, Pending}
 use Rattle.octet_heap.specs.declared.heap.Heap.{Heap}
 use Rattle.octet_heap.specs.declared.worker.Worker.{Worker}
-use Rattle.octet_heap.specs.Polls.{next_step, answer_to, after_steps, GoesBy, PaysBy}
+use Rattle.octet_heap.specs.Polls.{answer_to, after_steps, IsNext, GoesBy, PaysBy}
 use Rattle.octet_heap.specs.Standing.{IsAbout, HasFuel, IsWithin}
 
 -- a worker is seen as its seat is
@@ -45,7 +45,7 @@ pub record IsPoll (wish : Wish) (v : SeatView) (answer : Poll) (w : SeatView) : 
   pub last : Taken
   pub at_safe_point : List Taken
   pub goes : GoesBy wish v going
-  pub is_next : last.kind ≡ next_step wish (after_steps going v)
+  pub is_next : IsNext wish (after_steps going v) last
   pub answers : answer_to (after_steps going v) last ≡ Some answer
   pub pays : PaysBy wish (stepped_by last.kind last.word (after_steps going v)) at_safe_point
   pub few : length going + 1 + length at_safe_point ≤ 19
