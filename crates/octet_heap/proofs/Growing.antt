@@ -141,7 +141,7 @@ no_access ToFence me told x e = refl
 no_access ToRaise me told x e = refl
 no_access ToShare me told x e = refl
 
-abbrev is_ready : Option Poll → Bool
+abbrev pub is_ready : Option Poll → Bool
 is_ready (Some (Ready value)) = true
 is_ready _ = false
 
@@ -195,10 +195,10 @@ pursuit_no_access false true whom = refl
 pursuit_no_access false false whom = refl
 
 -- the thread, by its parts
-abbrev at : Phase → Due → ℕ → Thread
+abbrev pub at : Phase → Due → ℕ → Thread
 at p due count = record { phase = p; due = due; count = count }
 
-abbrev next : ℕ → ℕ → Wish → Thread → Kind
+abbrev pub next : ℕ → ℕ → Wish → Thread → Kind
 next threads me wish x = next_kind threads me (ToLoad wish.object wish.mode) wish.value x
 
 moved_for : (wish : Wish) (b : Bool) (p q : Phase) (d e : Due) (x : Thread) → IsFor wish p → IsFor wish q → IsFor wish (if b then moved p d x else moved q e x).phase
@@ -370,7 +370,7 @@ pub poll_adds : (wish : Wish) (begun : Option Wish) (v w : SeatView) (answer : P
 poll_adds wish begun v w answer about is p = adds wish v w (begun_for v.threads wish v.thread.phase (subst (λ (o : Option Wish). IsAbout v.threads o v.thread.phase) is about)) answer p
 
 -- the thread of a seat stays its own
-number_stays : (steps : List Taken) (v : SeatView) → (after_steps steps v).number ≡ v.number
+pub number_stays : (steps : List Taken) (v : SeatView) → (after_steps steps v).number ≡ v.number
 number_stays [] v = refl
 number_stays (taken ∷ more) v = number_stays more (stepped_by taken.kind taken.word v)
 

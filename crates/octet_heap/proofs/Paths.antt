@@ -20,7 +20,7 @@ use Rattle.octet_heap.specs.Workers.{IsPoll}
 use Rattle.octet_heap.specs.OwnersPath.{value_by, TakesOwnersPath}
 use Rattle.octet_heap.proofs.Going.{next_in}
 
-dropped : (xs ys : List Taken) → drop (length xs) (xs ++ ys) ≡ ys
+pub dropped : (xs ys : List Taken) → drop (length xs) (xs ++ ys) ≡ ys
 dropped [] ys = refl
 dropped (x ∷ xs) ys = dropped xs ys
 
