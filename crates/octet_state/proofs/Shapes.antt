@@ -1,7 +1,7 @@
 -- The frugal shape of a state, from that of the state before it.
-use Rattle.std.proofs.Common.{◌≡◌, ◌≢◌, ℕ, ◌<◌, ◌≤◌, inl, inr, true, List, length, sym, ap, ◌∙◌, subst, arith}
+use Rattle.std.proofs.Common.{◌≡◌, ◌≢◌, ℕ, ◌<◌, ◌≤◌, inl, inr, true, false, IsTrue, List, length, sym, ap, ◌∙◌, subst, arith}
 use Rattle.std.specs.Prelude.{IsFalse}
-use Rattle.std.proofs.lemmas.Bool.{eq-eqb}
+use Rattle.std.proofs.lemmas.Bool.{cases_eq, eq-eqb}
 use Rattle.std.proofs.lemmas.Option.{slice_get_within}
 use Rattle.octet_model.specs.declared.event.Event.{Event}
 use Rattle.octet_model.specs.declared.event.Place.{Place}
@@ -37,6 +37,27 @@ module _ (before after : Journals) (threads moved : List Thread) where
   shape_on states changed same free private old = record {
     untouched = λ object none. let bare : IsUntouched before threads object = λ u. sym (same object u) ∙ none u in free object bare ∙ old.untouched object bare;
     private = λ object u one. let alone : IsTouchedBy before threads object u = (sym (same object u) ∙ one.0, λ v h. one.1 v (same object v ∙ h)) in private object u alone (old.private object u alone);
+  }
+
+  -- the shape, where one thread touches an object now, and other objects are touched as they were
+  pub shape_with : (states changed : List StateWord) (object t : ℕ) → IsTrue (touches after moved object t)
+      → ((o u : ℕ) → o ≢ object → touches after moved o u ≡ touches before threads o u)
+      → ((o : ℕ) → o ≢ object → state_at changed o ≡ state_at states o)
+      → ((o u : ℕ) → o ≢ object → IsPrivateShape before states threads o u → IsPrivateShape after changed moved o u)
+      → (((other : ℕ) → IsTrue (touches after moved object other) → other ≡ t) → IsPrivateShape after changed moved object t)
+      → FrugalShapeHolds before states threads → FrugalShapeHolds after changed moved
+  shape_with states changed object t touched same free there here old = record {
+    untouched = λ o none. elim (cases_eq o object) [
+      | inl is ↦ absurd (let never : touches after moved object t ≡ false = subst (λ (q : ℕ). touches after moved q t ≡ false) is (none t) in let always = touched in cc)
+      | inr differ ↦ free o differ ∙ old.untouched o (λ u. sym (same o u differ) ∙ none u)
+    ];
+    private = λ o u one. elim (cases_eq o object) [
+      | inr differ ↦ there o u differ (old.private o u (sym (same o u differ) ∙ one.0, λ v h. one.1 v (same o v differ ∙ h)))
+      | inl is ↦
+          let alone : (other : ℕ) → IsTrue (touches after moved object other) → other ≡ u = λ v h. one.1 v (subst (λ (q : ℕ). IsTrue (touches after moved q v)) (sym is) h) in
+          let it_is : t ≡ u = alone t touched in
+          subst (λ (q : ℕ). IsPrivateShape after changed moved q u) (sym is) (subst (λ (v : ℕ). IsPrivateShape after changed moved object v) it_is (here (λ v h. alone v h ∙ sym it_is)))
+    ];
   }
 
 -- with one event more
