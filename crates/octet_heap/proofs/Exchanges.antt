@@ -1,0 +1,91 @@
+-- The stretches after an exchange of a state.
+use Rattle.std.proofs.Common.{◌≡◌, ◌≢◌, ◌∙◌, ℕ, suc, ◌<◌, Bool, true, false, Option, Some, None, sym, ap, eq-eqb}
+use Rattle.std.specs.Prelude.{if◌then◌else◌}
+use Rattle.std.proofs.lemmas.Bool.{ne_eqb}
+use Rattle.octet_state.specs.declared.act.Mode.{Mode}
+use Rattle.octet_state.specs.declared.act.Act.{Act}
+use Rattle.octet_state.specs.declared.act.Act.TheVariants.{Raise, Share, Take}
+use Rattle.octet_state.specs.declared.act.Whom.{Whom}
+use Rattle.octet_state.specs.declared.phase.Phase.{Phase}
+use Rattle.octet_state.specs.declared.phase.Phase.TheVariants.{Want}
+use Rattle.octet_state.specs.declared.phase.Due.TheVariants.{Nothing, Glance}
+use Rattle.octet_state.specs.declared.state_word.StateWord.{StateWord}
+use Rattle.octet_state.specs.declared.why.Why.{Why}
+use Rattle.octet_state.specs.declared.why.Why.TheVariants.{Changed}
+use Rattle.octet_state.specs.Words.{packed_state}
+use Rattle.octet_state.specs.Table.{decided}
+use Rattle.octet_state.specs.State.{Thread}
+use Rattle.octet_state.specs.Steps.{ToClaim, ToRaise, ToShare, moved, wins, lost}
+use Rattle.octet_state.specs.NextStep.{changed, word_seen, exchange_of}
+use Rattle.octet_rule.specs.Views.{SeatView}
+use Rattle.octet_rule.specs.Rule.{Steps}
+use Rattle.octet_heap.specs.declared.wish.Wish.{Wish}
+use Rattle.octet_heap.specs.declared.poll.Poll.{Poll}
+use Rattle.octet_heap.specs.declared.poll.Poll.TheVariants.{Pending}
+use Rattle.octet_heap.specs.Polls.{next_step, answer_by, Comes}
+use Rattle.octet_heap.specs.Waiting.{StandsIn}
+use Rattle.octet_heap.proofs.Going.{next_in, comes_by, comes_next}
+
+-- an exchange of the state that was loaded, which finds this word
+won : (object : ℕ) (mode : Mode) (state : StateWord) (seen : ℕ) (p : Phase) → p ≡ Want object mode (Some state) → packed_state state ≡ seen → wins seen p ≡ true
+won object mode state seen p is word = ap (wins seen) is ∙ eq-eqb seen (packed_state state) (sym word)
+
+not_won : (object : ℕ) (mode : Mode) (state : StateWord) (seen found : ℕ) (p : Phase) → p ≡ Want object mode (Some state) → packed_state state ≡ seen → found ≢ seen → wins found p ≡ false
+not_won object mode state seen found p is word other = ap (wins found) is ∙ ne_eqb found (packed_state state) (λ same. other (same ∙ word))
+
+no_change : (object : ℕ) (mode : Mode) (state : StateWord) (seen : ℕ) (p : Phase) → p ≡ Want object mode (Some state) → packed_state state ≡ seen → changed p seen ≡ None
+no_change object mode state seen p is word = ap (λ (b : Bool). if b then None else Some (Changed (word_seen p) seen)) (won object mode state seen p is word)
+
+is_changed : (object : ℕ) (mode : Mode) (state : StateWord) (seen found : ℕ) (p : Phase) → p ≡ Want object mode (Some state) → packed_state state ≡ seen → found ≢ seen → changed p found ≡ Some (Changed seen found)
+is_changed object mode state seen found p is word other = ap (λ (b : Bool). if b then None else Some (Changed (word_seen p) found)) (not_won object mode state seen found p is word other)
+    ∙ ap (λ (n : ℕ). Some (Changed n found)) (ap word_seen is ∙ word)
+
+-- the thread after one that goes through, and one that does not
+abbrev exchanged : (Phase → Phase) → ℕ → Thread → Thread
+exchanged to told x = if wins told x.phase then moved (to x.phase) Nothing x else moved (lost x.phase) Glance x
+
+goes_through : (to : Phase → Phase) (object : ℕ) (mode : Mode) (state : StateWord) (seen : ℕ) (x y : Thread) → y ≡ exchanged to seen x → x.phase ≡ Want object mode (Some state) → packed_state state ≡ seen
+    → y ≡ moved (to (Want object mode (Some state))) Nothing x
+goes_through to object mode state seen x y moves is word = moves
+    ∙ (ap (λ (b : Bool). if b then moved (to x.phase) Nothing x else moved (lost x.phase) Glance x) (won object mode state seen x.phase is word) ∙ ap (λ (p : Phase). moved (to p) Nothing x) is)
+
+fails : (to : Phase → Phase) (object : ℕ) (mode : Mode) (state : StateWord) (seen found : ℕ) (x y : Thread) → y ≡ exchanged to found x → x.phase ≡ Want object mode (Some state) → packed_state state ≡ seen → found ≢ seen
+    → y ≡ moved (Want object mode None) Glance x
+fails to object mode state seen found x y moves is word other = moves
+    ∙ (ap (λ (b : Bool). if b then moved (to x.phase) Nothing x else moved (lost x.phase) Glance x) (not_won object mode state seen found x.phase is word other) ∙ ap (λ (p : Phase). moved (lost p) Glance x) is)
+
+stands_so : (p : Phase) (x : Thread) (u : SeatView) → u.thread ≡ moved p Nothing x → StandsIn p u
+stands_so p x u is = (ap (λ (y : Thread). y.due) is, ap (λ (y : Thread). y.phase) is)
+
+-- what a thread does that wants this access of an object in this state
+abbrev Says : Wish → StateWord → SeatView → Act → Type 0
+Says wish state v act = decided state v.number wish.mode v.thread.count ≡ act
+
+exchange_next : (wish : Wish) (state : StateWord) (v : SeatView) (act : Act) → StandsIn (Want wish.object wish.mode (Some state)) v → Says wish state v act → next_step wish v ≡ exchange_of act
+exchange_next wish state v act stands says = next_in wish v (Want wish.object wish.mode (Some state)) stands ∙ ap exchange_of says
+
+module _ (wish : Wish) (state : StateWord) (seen : ℕ) (v u : SeatView) (stands : StandsIn (Want wish.object wish.mode (Some state)) v) (word : packed_state state ≡ seen) where
+  pub raise_comes : (w : SeatView) (n : ℕ) (answer : Poll) → Says wish state v Raise → Steps ToRaise v seen u → Comes wish u answer n w → Comes wish v answer (suc n) w
+  raise_comes w n answer says took c = comes_next wish v u w ToRaise seen n answer took (sym (exchange_next wish state v Raise stands says))
+      (ap (λ (o : Option Why). answer_by o ToRaise seen) (no_change wish.object wish.mode state seen v.thread.phase stands.1 word)) c
+
+  pub share_comes : (w : SeatView) (n from upto : ℕ) (answer : Poll) → Says wish state v (Share from upto) → Steps ToShare v seen u → Comes wish u answer n w → Comes wish v answer (suc n) w
+  share_comes w n from upto answer says took c = comes_next wish v u w ToShare seen n answer took (sym (exchange_next wish state v (Share from upto) stands says))
+      (ap (λ (o : Option Why). answer_by o ToShare seen) (no_change wish.object wish.mode state seen v.thread.phase stands.1 word)) c
+
+  pub claim_comes : (w : SeatView) (n : ℕ) (whom : Whom) (answer : Poll) → Says wish state v (Take whom) → Steps ToClaim v seen u → Comes wish u answer n w → Comes wish v answer (suc n) w
+  claim_comes w n whom answer says took c = comes_next wish v u w ToClaim seen n answer took (sym (exchange_next wish state v (Take whom) stands says))
+      (ap (λ (o : Option Why). answer_by o ToClaim seen) (no_change wish.object wish.mode state seen v.thread.phase stands.1 word)) c
+
+  module _ (found : ℕ) (other : found ≢ seen) where
+    pub raise_lost : (n : ℕ) → Says wish state v Raise → Steps ToRaise v found u → 2 < n → Comes wish v (Pending (Changed seen found)) n u
+    raise_lost n says took few = comes_by wish v u ToRaise found (Pending (Changed seen found)) n took (sym (exchange_next wish state v Raise stands says))
+        (ap (λ (o : Option Why). answer_by o ToRaise found) (is_changed wish.object wish.mode state seen found v.thread.phase stands.1 word other)) few
+
+    pub share_lost : (n from upto : ℕ) → Says wish state v (Share from upto) → Steps ToShare v found u → 2 < n → Comes wish v (Pending (Changed seen found)) n u
+    share_lost n from upto says took few = comes_by wish v u ToShare found (Pending (Changed seen found)) n took (sym (exchange_next wish state v (Share from upto) stands says))
+        (ap (λ (o : Option Why). answer_by o ToShare found) (is_changed wish.object wish.mode state seen found v.thread.phase stands.1 word other)) few
+
+    pub claim_lost : (n : ℕ) (whom : Whom) → Says wish state v (Take whom) → Steps ToClaim v found u → 2 < n → Comes wish v (Pending (Changed seen found)) n u
+    claim_lost n whom says took few = comes_by wish v u ToClaim found (Pending (Changed seen found)) n took (sym (exchange_next wish state v (Take whom) stands says))
+        (ap (λ (o : Option Why). answer_by o ToClaim found) (is_changed wish.object wish.mode state seen found v.thread.phase stands.1 word other)) few

@@ -1,0 +1,114 @@
+-- The workers of a heap, by their seats.
+use Rattle.std.proofs.Common.{◌≡◌, ◌∙◌, ℕ, zero, suc, ◌<◌, List, [], ◌∷◌, ◌++◌, map, length, Option, None, sym, refl, ap, arith, subst, slice_index_or}
+use Rattle.octet_model.specs.Machine.{Journals}
+use Rattle.octet_model.specs.Journals.{log_of}
+use Rattle.octet_model.specs.Orders.{starting_heap, values_read, ends_of, FitsScript, IsFaithful}
+use Rattle.octet_model.specs.Plays.{IsOneHistory}
+use Rattle.octet_model.proofs.lemmas.Growth.{faithful_from_history}
+use Rattle.octet_state.specs.declared.phase.Phase.TheVariants.{Off}
+use Rattle.octet_state.specs.State.{Thread}
+use Rattle.octet_state.proofs.lemmas.Laws.{off_is_frugal}
+use Rattle.octet_rule.specs.declared.words.Seat.{Seat}
+use Rattle.octet_rule.specs.Seats.{view, threads_of, starts_of, objects_of, Closes, EachFresh}
+use Rattle.octet_rule.specs.Seats as rule
+use Rattle.octet_heap.specs.declared.heap.Heap.{Heap}
+use Rattle.octet_heap.specs.declared.closed.Closed.{Closed}
+use Rattle.octet_heap.specs.declared.wish.Wish.{Wish}
+use Rattle.octet_heap.specs.declared.worker.Worker.{Worker}
+use Rattle.octet_heap.specs.Standing.{IsAbout, IsAtRest, HasFuel, IsWithin}
+use Rattle.octet_heap.specs.Workers.{seat_of, IsWorkerOf}
+use Rattle.octet_heap.specs.Seated.{seats_in, journals_of, ArePlain, EachNew, EachRests}
+use Rattle.octet_heap.specs.Closings.{IsClosed}
+
+plain_more : (fuel : ℕ) (workers : List Worker) (worker : Worker) → ArePlain fuel workers → worker.recorder.fuel ≡ fuel → worker.wish ≡ None → ArePlain fuel (workers ++ worker ∷ [])
+plain_more fuel [] worker plain is none = ((is, none), tt)
+plain_more fuel (w ∷ workers) worker plain is none = (plain.0, plain_more fuel workers worker plain.1 is none)
+
+plain_at : (fuel : ℕ) (workers : List Worker) (thread : ℕ) (none : Worker) → ArePlain fuel workers → thread < length workers
+    → ((slice_index_or workers thread none).recorder.fuel ≡ fuel) × ((slice_index_or workers thread none).wish ≡ None)
+plain_at fuel [] thread none plain there = absurd (omega (arith, there))
+plain_at fuel (w ∷ workers) zero none plain there = plain.0
+plain_at fuel (w ∷ workers) (suc thread) none plain there = plain_at fuel workers thread none plain.1 (omega (arith, there))
+
+map_more : {A B : Type 0} (f : A → B) (xs : List A) (x : A) → map f (xs ++ x ∷ []) ≡ map f xs ++ f x ∷ []
+map_more f [] x = refl
+map_more f (y ∷ xs) x = ap (λ (l : List _). f y ∷ l) (map_more f xs x)
+
+map_length : {A B : Type 0} (f : A → B) (xs : List A) → length (map f xs) ≡ length xs
+map_length f [] = refl
+map_length f (x ∷ xs) = ap suc (map_length f xs)
+
+pub seated_more : (fuel : ℕ) (seats : List Seat) (workers : List Worker) (worker : Worker) (seat : Seat) → seats_in workers ≡ seats → ArePlain fuel workers
+    → worker.recorder.seat ≡ seat → worker.recorder.fuel ≡ fuel → worker.wish ≡ None → (seats_in (workers ++ worker ∷ []) ≡ seats ++ seat ∷ []) × ArePlain fuel (workers ++ worker ∷ [])
+seated_more fuel seats workers worker seat are plain is same none = (
+  map_more (λ (w : Worker). w.recorder.seat) workers worker ∙ (λ i. are i ++ is i ∷ []),
+  plain_more fuel workers worker plain same none,
+)
+
+seat_at : (workers : List Worker) (thread : ℕ) (none : Worker) → slice_index_or (seats_in workers) thread none.recorder.seat ≡ (slice_index_or workers thread none).recorder.seat
+seat_at [] thread none = refl
+seat_at (w ∷ workers) zero none = refl
+seat_at (w ∷ workers) (suc thread) none = seat_at workers thread none
+
+pub same_count : (workers : List Worker) (seats : List Seat) → seats_in workers ≡ seats → length workers ≡ length seats
+same_count workers seats are = sym (map_length (λ (w : Worker). w.recorder.seat) workers) ∙ ap (λ (l : List Seat). length l) are
+
+pub each_new : (heap : Heap) (seats : List Seat) (workers : List Worker) → seats_in workers ≡ seats → ArePlain heap.fuel workers → EachFresh heap.words seats → EachNew heap workers
+each_new heap seats workers are plain fresh thread none there =
+    let w = slice_index_or workers thread none in
+    let here : thread < length seats = let a = ap (λ (l : List Seat). length l) are in let b = map_length (λ (x : Worker). x.recorder.seat) workers in omega (arith, there) in
+    let is : slice_index_or seats thread none.recorder.seat ≡ w.recorder.seat = ap (λ (l : List Seat). slice_index_or l thread none.recorder.seat) (sym are) ∙ seat_at workers thread none in
+    let own = subst (λ (s : Seat). rule.IsSeatOf heap.words s × rule.IsFresh thread s) is (fresh thread none.recorder.seat here) in
+    let p = plain_at heap.fuel workers thread none plain there in
+    let off : (seat_of w).thread.phase ≡ Off = ap (λ (x : Thread). x.phase) own.1.1 in (
+      record {
+        own = own.0;
+        same_fuel = p.0;
+        owes_nothing = ap (λ (x : Thread). x.due) own.1.1;
+        about = subst (λ (o : Option Wish). IsAbout (seat_of w).threads o (seat_of w).thread.phase) (sym p.1) (subst IsAtRest (sym off) tt);
+        fuelled = subst (λ (o : Option Wish). HasFuel o w.recorder.log.accesses w.recorder.fuel) (sym p.1) tt;
+        within = subst (IsWithin (objects_of heap.words)) (sym p.1) tt;
+      },
+      own.1.0,
+      own.1.1,
+      own.1.2,
+      own.1.3,
+      p.1,
+    )
+
+pub resting_seats : (heap : Heap) (seats : List Seat) (workers : List Worker) → seats ≡ seats_in workers → length workers ≡ threads_of heap.words → EachRests heap workers → (length seats ≡ threads_of heap.words) × rule.EachRests heap.words seats
+resting_seats heap seats workers are all still = let many = ap (λ (l : List Seat). length l) are ∙ map_length (λ (x : Worker). x.recorder.seat) workers in (
+  many ∙ all,
+  λ thread none there. rests_at thread none (omega (arith, there, many)),
+)
+  where
+    item : (ws : List Worker) (thread : ℕ) (none : Seat) → thread < length ws → (worker : Worker) × (slice_index_or (seats_in ws) thread none ≡ worker.recorder.seat) × ((other : Worker) → slice_index_or ws thread other ≡ worker)
+    item [] thread none there = absurd (omega (arith, there))
+    item (w ∷ ws) zero none there = (w, refl, λ other. refl)
+    item (w ∷ ws) (suc thread) none there = item ws thread none (omega (arith, there))
+
+    rests_at : (thread : ℕ) (none : Seat) → thread < length workers → rule.IsSeatOf heap.words (slice_index_or seats thread none) × rule.RestsAs thread (slice_index_or seats thread none)
+    rests_at thread none there = let found = item workers thread none there in
+        let h = subst (λ (w : Worker). IsWorkerOf heap w × ((seat_of w).number ≡ thread) × rule.RestsAs thread w.recorder.seat) (found.2 found.0) (let s = still thread found.0 there in (s.0, s.1, (s.1, s.2))) in
+        subst (λ (s : Seat). rule.IsSeatOf heap.words s × rule.RestsAs thread s) (sym (ap (λ (l : List Seat). slice_index_or l thread none) are ∙ found.1)) (h.0.own, h.2)
+
+-- the journals of the seats are those of the workers
+same_journals : (workers : List Worker) → map (λ (seat : Seat). (view seat).journal) (seats_in workers) ≡ journals_of workers
+same_journals [] = refl
+same_journals (w ∷ workers) = ap (λ (l : Journals). (seat_of w).journal ∷ l) (same_journals workers)
+
+pub all_closed : (heap : Heap) (workers : List Worker) (seats : List Seat) (closed : Closed) → length workers ≡ threads_of heap.words → seats ≡ seats_in workers
+    → closed.logs ≡ log_of (journals_of workers) → closed.reads ≡ map values_read (journals_of workers) → Closes (starts_of heap.words) seats closed.heap → IsClosed heap workers closed
+all_closed heap workers seats closed all are logs reads closes = record {
+  logs = logs;
+  reads = reads;
+  cells = subst (λ (l : List Seat). Closes (starts_of heap.words) l closed.heap) are closes;
+  faithful = λ script threads starts fit. let s = closes.last in
+      let journals : s.journals ≡ journals_of workers = closes.journals ∙ (ap (map (λ (seat : Seat). (view seat).journal)) are ∙ same_journals workers) in
+      let history : IsOneHistory (starting_heap script) s.journals s.cells s.counter = subst (λ (l : List ℕ). IsOneHistory l s.journals s.cells s.counter) (closes.began ∙ sym starts) closes.sound.one_history in
+      let many : length script.threads ≡ length s.journals = threads ∙ (sym all ∙ (sym (map_length (λ (w : Worker). (seat_of w).journal) workers) ∙ sym (ap (λ (l : Journals). length l) journals))) in
+      let whole = faithful_from_history script s.journals s.cells s.counter history (off_is_frugal s closes.sound closes.off) many (subst (FitsScript script) (sym journals) fit) in
+      subst (λ (l : _). IsFaithful script l (record { ends = ends_of script.fuel script.threads (journals_of workers); reads = closed.reads; heap = closed.heap })) (sym logs)
+      (subst (λ (o : _). IsFaithful script (log_of (journals_of workers)) o) (λ i. record { ends = ends_of script.fuel script.threads (journals_of workers); reads = sym reads i; heap = closes.cells i })
+      (subst (λ (js : Journals). IsFaithful script (log_of js) (record { ends = ends_of script.fuel script.threads js; reads = map values_read js; heap = s.cells })) journals whole));
+}

@@ -1,0 +1,35 @@
+-- The workers of a heap, all together.
+use Rattle.std.specs.Prelude.{◌≡◌, ℕ, ◌<◌, List, [], ◌∷◌, map, length, slice_index_or, None}
+use Rattle.octet_model.specs.Machine.{Journals}
+use Rattle.octet_state.specs.State.{unstarted}
+use Rattle.octet_rule.specs.Conditions.{IsResting}
+use Rattle.octet_rule.specs.declared.words.Seat.{Seat}
+use Rattle.octet_heap.specs.declared.heap.Heap.{Heap}
+use Rattle.octet_heap.specs.declared.worker.Worker.{Worker}
+use Rattle.octet_heap.specs.Workers.{seat_of, IsWorkerOf}
+
+abbrev pub seats_in : List Worker → List Seat
+seats_in workers = map (λ worker. worker.recorder.seat) workers
+
+abbrev pub journals_of : List Worker → Journals
+journals_of workers = map (λ worker. (seat_of worker).journal) workers
+
+-- each has this fuel, and has begun no access
+abbrev pub ArePlain : ℕ → List Worker → Type 0
+ArePlain fuel [] = Unit {0}
+ArePlain fuel (worker ∷ workers) = ((worker.recorder.fuel ≡ fuel) × (worker.wish ≡ None)) × ArePlain fuel workers
+
+-- the worker of this thread, which has taken no step
+abbrev pub IsNew : Heap → ℕ → Worker → Type 0
+IsNew heap thread worker = IsWorkerOf heap worker × ((seat_of worker).number ≡ thread) × ((seat_of worker).thread ≡ unstarted) × ((seat_of worker).journal ≡ []) × ((seat_of worker).trail ≡ []) × (worker.wish ≡ None)
+
+-- the worker of this thread, which is off or blocked
+abbrev pub RestsAs : Heap → ℕ → Worker → Type 0
+RestsAs heap thread worker = IsWorkerOf heap worker × ((seat_of worker).number ≡ thread) × IsResting (seat_of worker).thread.phase
+
+-- so each one
+abbrev pub EachNew : Heap → List Worker → Type 0
+EachNew heap workers = (thread : ℕ) (none : Worker) → thread < length workers → IsNew heap thread (slice_index_or workers thread none)
+
+abbrev pub EachRests : Heap → List Worker → Type 0
+EachRests heap workers = (thread : ℕ) (none : Worker) → thread < length workers → RestsAs heap thread (slice_index_or workers thread none)

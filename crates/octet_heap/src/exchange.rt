@@ -1,0 +1,110 @@
+//! The exchanges of an object's state, and what comes after them.
+ghost use Rattle.std.specs.Prelude.{◌≡◌, ◌<◌, Some, None};
+ghost use Rattle.octet_state.specs.declared.act.Act.TheVariants.{Raise as RaiseIt, Share as ShareIt, Take as TakeIt};
+ghost use Rattle.octet_state.specs.declared.act.Mode.TheVariants.{Read as ForRead, Write as ForWrite};
+ghost use Rattle.octet_state.specs.declared.phase.Phase.TheVariants.{Want};
+ghost use Rattle.octet_state.specs.Words.{packed_state};
+ghost use Rattle.octet_state.specs.Table.{decided};
+ghost use Rattle.octet_rule.specs.Seats.{view, IsSeatOf, objects_of};
+ghost use Rattle.octet_state.specs.declared.why.Why.TheVariants.{Changed};
+ghost use Rattle.octet_heap.specs.declared.poll.Poll.TheVariants.{Pending};
+ghost use Rattle.octet_heap.specs.Polls.{Comes};
+ghost use Rattle.octet_heap.specs.Waiting.{StandsIn, Leaves, counted};
+
+use crate::heap::Heap;
+use crate::poll::Poll;
+use crate::recorder::Recorder;
+use crate::wish::Wish;
+use octet_rule::Tried;
+use octet_state::{StateWord, Whom, Why};
+
+// The state is another one than was loaded.
+fn changed(seen: u64, found: u64) -> Poll
+    ensures { result ≡ Pending (Changed seen found) }
+{
+    Poll::Pending {
+        why: Why::Changed { seen, found },
+    }
+}
+
+impl Heap {
+    // Makes its read-exclusive object write-exclusive.
+    pub(crate) fn raise(
+        &self,
+        recorder: &mut Recorder,
+        wish: Wish,
+        state: StateWord,
+        seen: u64,
+    ) -> Poll
+        requires own { IsSeatOf self.now.words recorder.old.seat }
+        requires object { wish.object < objects_of self.now.words }
+        requires more { recorder.old.log.accesses < recorder.old.fuel }
+        requires stands { StandsIn (Want wish.object wish.mode (Some state)) (view recorder.old.seat) }
+        requires word { packed_state state ≡ seen }
+        requires mode { ForWrite ≡ wish.mode }
+        requires says { decided state (view recorder.old.seat).number wish.mode (view recorder.old.seat).thread.count ≡ RaiseIt }
+        ensures own { IsSeatOf self.now.words recorder.new.seat × (recorder.new.fuel ≡ recorder.old.fuel) }
+        ensures counts { recorder.new.log.accesses ≡ counted result recorder.old.log.accesses }
+        ensures comes { Comes wish (view recorder.old.seat) result 3 (view recorder.new.seat) }
+        ensures leaves { Leaves wish result (view recorder.new.seat) }
+    {
+        match recorder.raise(&self.words, wish.object, seen) {
+            Tried::Won => self.access(recorder, wish),
+            Tried::Lost { found } => changed(seen, found),
+        }
+    }
+
+    // Makes another's read-exclusive object read-shared.
+    pub(crate) fn share(
+        &self,
+        recorder: &mut Recorder,
+        wish: Wish,
+        state: StateWord,
+        seen: u64,
+        from: u8,
+        upto: u64,
+    ) -> Poll
+        requires own { IsSeatOf self.now.words recorder.old.seat }
+        requires object { wish.object < objects_of self.now.words }
+        requires more { recorder.old.log.accesses < recorder.old.fuel }
+        requires stands { StandsIn (Want wish.object wish.mode (Some state)) (view recorder.old.seat) }
+        requires word { packed_state state ≡ seen }
+        requires mode { ForRead ≡ wish.mode }
+        requires says { decided state (view recorder.old.seat).number wish.mode (view recorder.old.seat).thread.count ≡ ShareIt from upto }
+        ensures own { IsSeatOf self.now.words recorder.new.seat × (recorder.new.fuel ≡ recorder.old.fuel) }
+        ensures counts { recorder.new.log.accesses ≡ counted result recorder.old.log.accesses }
+        ensures comes { Comes wish (view recorder.old.seat) result 4 (view recorder.new.seat) }
+        ensures leaves { Leaves wish result (view recorder.new.seat) }
+    {
+        match recorder.share(&self.words, wish.object, seen, from, upto) {
+            Tried::Won => self.draw(recorder, wish),
+            Tried::Lost { found } => changed(seen, found),
+        }
+    }
+
+    // Takes the object, and asks those that may have to give way.
+    pub(crate) fn claim(
+        &self,
+        recorder: &mut Recorder,
+        wish: Wish,
+        state: StateWord,
+        seen: u64,
+        whom: Whom,
+    ) -> Poll
+        requires own { IsSeatOf self.now.words recorder.old.seat }
+        requires object { wish.object < objects_of self.now.words }
+        requires more { recorder.old.log.accesses < recorder.old.fuel }
+        requires stands { StandsIn (Want wish.object wish.mode (Some state)) (view recorder.old.seat) }
+        requires word { packed_state state ≡ seen }
+        requires says { decided state (view recorder.old.seat).number wish.mode (view recorder.old.seat).thread.count ≡ TakeIt whom }
+        ensures own { IsSeatOf self.now.words recorder.new.seat × (recorder.new.fuel ≡ recorder.old.fuel) }
+        ensures counts { recorder.new.log.accesses ≡ counted result recorder.old.log.accesses }
+        ensures comes { Comes wish (view recorder.old.seat) result 18 (view recorder.new.seat) }
+        ensures leaves { Leaves wish result (view recorder.new.seat) }
+    {
+        match recorder.claim(&self.words, wish.object, wish.mode, seen) {
+            Tried::Won => self.ask_on(recorder, wish, state, 0),
+            Tried::Lost { found } => changed(seen, found),
+        }
+    }
+}

@@ -1,0 +1,136 @@
+//! Steps on the words, each with the entry that it makes in the log.
+ghost use Rattle.std.specs.Prelude.{◌≡◌, ◌+◌, ◌<◌, ℕ, IsTrue};
+ghost use Rattle.octet_state.specs.declared.act.Act.TheVariants.{Raise as RaiseIt, Share as ShareIt};
+ghost use Rattle.octet_state.specs.declared.act.Mode.TheVariants.{Read as ForRead, Write as ForWrite};
+ghost use Rattle.octet_state.specs.declared.phase.Due.TheVariants.{Nothing};
+ghost use Rattle.octet_state.specs.Words.{unpacked_state};
+ghost use Rattle.octet_state.specs.Steps.{state_in, ToLoad, ToRead, ToWrite, ToClaim, ToSettle, ToDraw, ToFence, ToRaise, ToShare};
+ghost use Rattle.octet_state.specs.Words.{packed_state};
+ghost use Rattle.octet_rule.specs.Conditions.{MayLoad, MayPass, HoldsWord, MaySettle, MayDraw, MayFence, AsksNext, HasAsked, decision, is_take, found_by, IsLost};
+ghost use Rattle.octet_rule.specs.Rule.{Steps};
+ghost use Rattle.octet_rule.specs.Seats.{view, IsSeatOf, threads_of, objects_of};
+ghost use Rattle.octet_safe.specs.Replies.{Asks, Looks};
+
+use crate::recorder::Recorder;
+use octet_model::Mark;
+use octet_rule::{Tried, Words};
+use octet_safe::Reply;
+
+impl Recorder {
+    pub(crate) fn read(&mut self, words: &Words, object: u16) -> u64
+        requires own { IsSeatOf words.now self.old.seat }
+        requires object { object < objects_of words.now }
+        requires due { (view self.old.seat).thread.due ≡ Nothing }
+        requires phase { MayPass object ForRead (view self.old.seat).thread.phase }
+        requires more { self.old.log.accesses < self.old.fuel }
+        ensures own { IsSeatOf words.now self.new.seat × (self.new.fuel ≡ self.old.fuel) }
+        ensures counts { self.new.log.accesses ≡ self.old.log.accesses + 1 }
+        ensures step { Steps ToRead (view self.old.seat) result (view self.new.seat) }
+    {
+        let value = words.read(&mut self.seat, object);
+        self.log.add_read(value);
+        value
+    }
+
+    pub(crate) fn write(&mut self, words: &Words, object: u16, value: u64)
+        requires own { IsSeatOf words.now self.old.seat }
+        requires object { object < objects_of words.now }
+        requires due { (view self.old.seat).thread.due ≡ Nothing }
+        requires phase { MayPass object ForWrite (view self.old.seat).thread.phase }
+        requires more { self.old.log.accesses < self.old.fuel }
+        ensures own { IsSeatOf words.now self.new.seat × (self.new.fuel ≡ self.old.fuel) }
+        ensures counts { self.new.log.accesses ≡ self.old.log.accesses + 1 }
+        ensures step { Steps (ToWrite value) (view self.old.seat) value (view self.new.seat) }
+    {
+        words.write(&mut self.seat, object, value);
+        self.log.add_write();
+    }
+
+    pub(crate) fn fence(&mut self, words: &Words)
+        requires own { IsSeatOf words.now self.old.seat }
+        requires due { (view self.old.seat).thread.due ≡ Nothing }
+        requires phase { MayFence (view self.old.seat).thread.phase }
+        requires more { self.old.log.accesses < self.old.fuel }
+        ensures own { IsSeatOf words.now self.new.seat × (self.new.fuel ≡ self.old.fuel) }
+        ensures counts { self.new.log.accesses ≡ self.old.log.accesses }
+        ensures step { (number : ℕ) × Steps ToFence (view self.old.seat) number (view self.new.seat) }
+    {
+        let number = words.fence(&mut self.seat);
+        self.log.add_mark(Mark::Fence { number });
+    }
+
+    pub(crate) fn draw(&mut self, words: &Words)
+        requires own { IsSeatOf words.now self.old.seat }
+        requires due { (view self.old.seat).thread.due ≡ Nothing }
+        requires phase { MayDraw (view self.old.seat).thread.phase }
+        requires more { self.old.log.accesses < self.old.fuel }
+        ensures own { IsSeatOf words.now self.new.seat × (self.new.fuel ≡ self.old.fuel) }
+        ensures counts { self.new.log.accesses ≡ self.old.log.accesses }
+        ensures step { (last : ℕ) × Steps ToDraw (view self.old.seat) last (view self.new.seat) }
+    {
+        let last = words.draw(&mut self.seat);
+        self.log.add_mark(Mark::Draw { number: last + 1 });
+    }
+
+    /// Of a state that thread `from` took for reading, after so many of its events.
+    pub(crate) fn share(
+        &mut self,
+        words: &Words,
+        object: u16,
+        seen: u64,
+        from: u8,
+        upto: u64,
+    ) -> Tried
+        requires own { IsSeatOf words.now self.old.seat }
+        requires object { object < objects_of words.now }
+        requires due { (view self.old.seat).thread.due ≡ Nothing }
+        requires phase { HoldsWord object ForRead seen (view self.old.seat).thread.phase }
+        requires shares { decision (view self.old.seat) ≡ ShareIt from upto }
+        requires more { self.old.log.accesses < self.old.fuel }
+        ensures own { IsSeatOf words.now self.new.seat × (self.new.fuel ≡ self.old.fuel) }
+        ensures counts { self.new.log.accesses ≡ self.old.log.accesses }
+        ensures step { Steps ToShare (view self.old.seat) (found_by seen result) (view self.new.seat) }
+        ensures lost { IsLost seen result }
+    {
+        let tried = words.share(&mut self.seat, object, seen);
+        match tried {
+            Tried::Won => self.log.add_mark(Mark::Join { from, upto }),
+            Tried::Lost { .. } => {}
+        }
+        tried
+    }
+
+    pub(crate) fn ask(&mut self, words: &Words, whom: u8) -> Reply
+        requires own { IsSeatOf words.now self.old.seat }
+        requires whom { whom < threads_of words.now }
+        requires due { (view self.old.seat).thread.due ≡ Nothing }
+        requires phase { AsksNext (view self.old.seat).threads (view self.old.seat).number whom (view self.old.seat).thread.phase }
+        requires more { self.old.log.accesses < self.old.fuel }
+        ensures own { IsSeatOf words.now self.new.seat × (self.new.fuel ≡ self.old.fuel) }
+        ensures counts { self.new.log.accesses ≡ self.old.log.accesses }
+        ensures step { Asks whom (view self.old.seat) result (view self.new.seat) }
+    {
+        let reply = octet_safe::ask(words, &mut self.seat, whom);
+        if let Reply::Given { upto } = reply {
+            self.log.add_mark(Mark::Join { from: whom, upto });
+        }
+        reply
+    }
+
+    pub(crate) fn look(&mut self, words: &Words, whom: u8) -> Reply
+        requires own { IsSeatOf words.now self.old.seat }
+        requires whom { whom < threads_of words.now }
+        requires due { (view self.old.seat).thread.due ≡ Nothing }
+        requires phase { HasAsked (view self.old.seat).number whom (view self.old.seat).thread.phase }
+        requires more { self.old.log.accesses < self.old.fuel }
+        ensures own { IsSeatOf words.now self.new.seat × (self.new.fuel ≡ self.old.fuel) }
+        ensures counts { self.new.log.accesses ≡ self.old.log.accesses }
+        ensures step { Looks whom (view self.old.seat) result (view self.new.seat) }
+    {
+        let reply = octet_safe::look(words, &mut self.seat, whom);
+        if let Reply::Given { upto } = reply {
+            self.log.add_mark(Mark::Join { from: whom, upto });
+        }
+        reply
+    }
+}

@@ -1,0 +1,111 @@
+-- A step that is lawful in each state that the seat's view allows keeps the rule.
+use Rattle.std.proofs.Common.{◌≡◌, ◌≢◌, ℕ, ⊎_elim, Bool, true, List, [], ◌∷◌, length, get_or, set, sym, refl, ap, ◌∙◌, subst, arith}
+use mathlib.Core.Option.{some}
+use lib.ListN.{get_elem?}
+use Rattle.atomic_table.specs.Table.{State, Me, keeps, Allows}
+use Rattle.atomic_table.proofs.Lists.{at_set}
+use Rattle.octet_model.specs.declared.event.Event.{Event}
+use Rattle.octet_model.specs.Machine.{journal_of}
+use Rattle.octet_state.specs.State.{Thread, ProtocolState, thread_of, words}
+use Rattle.octet_state.specs.Steps.{Kind, found, told, after, made, ended_by, step}
+use Rattle.octet_state.specs.Laws.{IsLawful}
+use Rattle.octet_rule.specs.Views.{SeatView, stepped_by}
+use Rattle.octet_rule.specs.Rule.{IsSeenBy, AreJoined, IsSeated, IsRuled, Plays}
+
+-- threads that joined back, while these stay as they are
+pub joined_same : (s next : ProtocolState) (has_joined : ℕ → Bool) → ((u : ℕ) → has_joined u ≡ true → (thread_of next u ≡ thread_of s u) × (journal_of next.journals u ≡ journal_of s.journals u))
+    → (seats : List (ℕ × List Event)) → AreJoined s has_joined seats → AreJoined next has_joined seats
+joined_same s next has_joined same [] those = tt
+joined_same s next has_joined same (x ∷ xs) those = let e = same x.0 those.0 in
+    (those.0, ap (λ (y : Thread). y.phase) e.0 ∙ those.1, e.1 ∙ those.2, joined_same s next has_joined same xs those.3)
+
+module _ (k : Kind) (t place : ℕ) (operation : ℕ → ℕ) (s : ProtocolState) (law : IsLawful k t place operation s) where
+  -- the thread that steps is where its seat then knows it to be
+  seen_by_stepper : (v : SeatView) (word : ℕ) → v.number ≡ t → word ≡ told k t s → IsSeenBy v s → IsSeenBy (stepped_by k word v) (step k t s)
+  seen_by_stepper v word same is seen = record {
+    sound = law.sound;
+    as_many = law.does.threads ∙ seen.as_many;
+    began = law.does.starts ∙ seen.began;
+    inside = let a = seen.inside in let e = law.does.threads in omega arith;
+    stands = ap (thread_of (step k t s)) same ∙ (law.does.mine ∙ λ i. after k (sym same i) (sym is i) ((ap (thread_of s) (sym same) ∙ seen.stands) i));
+    has_made = ap (journal_of (step k t s).journals) same ∙ (law.does.my_journal
+        ∙ λ i. ended_by ((ap (journal_of s.journals) (sym same) ∙ seen.has_made) i) (made k (sym same i) (sym is i) ((ap (thread_of s) (sym same) ∙ seen.stands) i)));
+  }
+
+  -- and the others are where theirs know them to be
+  seen_by_other : (v : SeatView) → v.number ≢ t → IsSeenBy v s → IsSeenBy v (step k t s)
+  seen_by_other v ne seen = record {
+    sound = law.sound;
+    as_many = law.does.threads ∙ seen.as_many;
+    began = law.does.starts ∙ seen.began;
+    inside = let a = seen.inside in let e = law.does.threads in omega arith;
+    stands = law.does.others v.number ne ∙ seen.stands;
+    has_made = law.does.their_journals v.number ne ∙ seen.has_made;
+  }
+
+-- the words of a ruled table have a line for each object
+pub as_many_cells : (threads : ℕ) (starts : List ℕ) (table : State (Unit {0}) SeatView) (r : IsRuled threads starts table) → length r.state.cells ≡ length starts
+as_many_cells threads starts table r = sym r.sound.form.starts ∙ ap (λ (l : List ℕ). length l) r.began
+
+-- a step that tells what `tell` makes of the word found
+pub tells : (threads : ℕ) (starts : List ℕ) (slots id : ℕ) (me : Me (Unit {0}) SeatView) (place : ℕ) (operation tell : ℕ → ℕ) (k : Kind) → me.0.is_live ≡ true
+    → ((s : ProtocolState) → IsSeenBy me.0 s → length s.threads ≡ threads → length s.cells ≡ length starts
+    → IsLawful k me.0.number place operation s × (tell (found k me.0.number s) ≡ told k me.0.number s))
+    → Allows (IsRuled threads starts) slots id me place operation (λ word. Plays k me (tell word))
+tells threads starts slots id me place operation tell k live lawful table r _ at _ =
+    let v : SeatView = me.0 in let t : ℕ = v.number in let s : ProtocolState = r.state in let mine = r.seats id v at live in
+    let both = lawful s mine.seen r.as_many (as_many_cells threads starts table r) in let law : IsLawful k t place operation s = both.0 in let next : ProtocolState = step k t s in
+    let at_place : ℕ = get_or table.words place 0 in
+    let word : at_place ≡ found k t s = ap (λ (z : List ℕ). get_or z place 0) r.lie ∙ law.does.finds in
+    let is_told : tell at_place ≡ told k t s = ap tell word ∙ both.1 in
+    let w : SeatView = stepped_by k (tell at_place) v in
+    let seen_after : IsSeenBy w next = seen_by_stepper k t place operation s law v (tell at_place) refl is_told mine.seen in
+    let not_me : (u : ℕ) → r.has_joined u ≡ true → u ≢ t = λ u has_joined e. let a = mine.here in let b : r.has_joined t ≡ true = subst (λ (z : ℕ). r.has_joined z ≡ true) e has_joined in cc in
+    let kept : (u : ℕ) → r.has_joined u ≡ true → (thread_of next u ≡ thread_of s u) × (journal_of next.journals u ≡ journal_of s.journals u) =
+    λ u has_joined. (law.does.others u (not_me u has_joined), law.does.their_journals u (not_me u has_joined)) in
+    let within = mine.within in (
+      w,
+      keeps,
+      tt,
+      record {
+        state = next;
+        seat_of = r.seat_of;
+        seats_made = r.seats_made;
+        has_joined = r.has_joined;
+        lie = ap (λ (z : List ℕ). set z place (operation at_place)) r.lie ∙ (ap (λ (z : ℕ). set (words s) place (operation z)) word ∙ law.does.leaves);
+        sound = law.sound;
+        as_many = law.does.threads ∙ r.as_many;
+        began = law.does.starts ∙ r.began;
+        few = r.few;
+        not_joined = r.not_joined;
+        not_made = λ u h. let ne : u ≢ t = λ e. omega arith in (law.does.others u ne ∙ (r.not_made u h).0, law.does.their_journals u ne ∙ (r.not_made u h).1);
+        seats = λ j y e live'. ⊎_elim
+            (λ (p : (j ≡ id) × (w ≡ y)). subst (λ (z : ℕ × SeatView). IsSeated next r.seat_of r.seats_made r.has_joined z.0 z.1) (λ i. (sym p.0 i, p.1 i)) record {
+              within = mine.within;
+              own = mine.own;
+              here = mine.here;
+              seen = seen_after;
+              counted = mine.counted;
+              are_joined = λ z. joined_same s next r.has_joined kept v.joined (mine.are_joined z);
+              apart = mine.apart;
+            })
+            (λ (p : (j ≢ id) × (get_elem? table.views j ≡ some y)). let its = r.seats j y p.1 live' in record {
+              within = its.within;
+              own = its.own;
+              here = its.here;
+              seen = seen_by_other k t place operation s law y (λ e. p.0 (sym its.own ∙ (ap r.seat_of e ∙ mine.own))) its.seen;
+              counted = its.counted;
+              are_joined = λ z. joined_same s next r.has_joined kept y.joined (its.are_joined z);
+              apart = its.apart;
+            })
+            (at_set table.views id j w y e);
+      },
+      (refl, record { before = s; seen = mine.seen; may = law.may; word = is_told; moves = refl; seen_after = seen_after }),
+    )
+
+-- the same for a step that tells the word that it finds
+pub plays : (threads : ℕ) (starts : List ℕ) (slots id : ℕ) (me : Me (Unit {0}) SeatView) (place : ℕ) (operation : ℕ → ℕ) (k : Kind) → me.0.is_live ≡ true
+    → ((t : ℕ) (s : ProtocolState) → found k t s ≡ told k t s)
+    → ((s : ProtocolState) → IsSeenBy me.0 s → length s.threads ≡ threads → length s.cells ≡ length starts → IsLawful k me.0.number place operation s)
+    → Allows (IsRuled threads starts) slots id me place operation (Plays k me)
+plays threads starts slots id me place operation k live same lawful = tells threads starts slots id me place operation (λ word. word) k live (λ s seen a b. (lawful s seen a b, same me.0.number s))

@@ -1,0 +1,70 @@
+-- What a clause says of words and seats.
+use Rattle.std.specs.Prelude.{◌≡◌, ℕ, ◌+◌, ◌<◌, List, [], ◌∷◌, map, length, slice_index_or}
+use Rattle.octet_model.specs.declared.event.Event.{Event}
+use Rattle.octet_state.specs.declared.phase.Phase.TheVariants.{Off}
+use Rattle.octet_state.specs.State.{ProtocolState, thread_of, unstarted}
+use Rattle.octet_state.specs.Soundness.{IsSound}
+use Rattle.octet_rule.specs.Views.{SeatView}
+use Rattle.octet_rule.specs.Conditions.{IsResting}
+use Rattle.octet_rule.specs.declared.words.Seat.{Seat}
+use Rattle.octet_rule.specs.declared.words.Words.{Words}
+
+abbrev pub view : Seat → SeatView
+view seat = seat.inner.me.0
+
+abbrev pub threads_of : Words → ℕ
+threads_of words = words.table.shared.key.threads
+
+abbrev pub objects_of : Words → ℕ
+objects_of words = words.objects
+
+abbrev pub starts_of : Words → List ℕ
+starts_of words = words.table.shared.key.starts.value
+
+-- the seat is one of these words'
+abbrev pub BelongsTo : Words → Seat → Type 0
+BelongsTo words seat = (seat.inner.table_id ≡ words.table.shared.table_id) × ((view seat).threads ≡ words.threads)
+
+-- likewise, once all seats are made and before any has joined
+abbrev pub IsSeatOf : Words → Seat → Type 0
+IsSeatOf words seat = (seat.inner.table_id ≡ words.table.shared.table_id) × ((view seat).threads ≡ words.threads)
+    × ((view seat).number ≡ 0 → (view seat).seats_made ≡ words.threads) × ((view seat).number ≡ 0 → (view seat).joined ≡ [])
+
+-- the seat of this thread, which has taken no step
+abbrev pub IsFresh : ℕ → Seat → Type 0
+IsFresh thread seat = ((view seat).number ≡ thread) × ((view seat).thread ≡ unstarted) × ((view seat).journal ≡ []) × ((view seat).trail ≡ [])
+
+-- the seat of this thread, which is off or blocked
+abbrev pub RestsAs : ℕ → Seat → Type 0
+RestsAs thread seat = ((view seat).number ≡ thread) × IsResting (view seat).thread.phase
+
+-- each seat is that of its thread, and has taken no step
+abbrev pub EachFresh : Words → List Seat → Type 0
+EachFresh words seats = (thread : ℕ) (none : Seat) → thread < length seats → IsSeatOf words (slice_index_or seats thread none) × IsFresh thread (slice_index_or seats thread none)
+
+-- each seat is that of its thread, which is off or blocked
+abbrev pub EachRests : Words → List Seat → Type 0
+EachRests words seats = (thread : ℕ) (none : Seat) → thread < length seats → IsSeatOf words (slice_index_or seats thread none) × RestsAs thread (slice_index_or seats thread none)
+
+-- while seats are made: those of the threads from this one on, in order
+abbrev pub AreFresh : Words → ℕ → List Seat → Type 0
+AreFresh words thread [] = Unit {0}
+AreFresh words thread (seat ∷ seats) = BelongsTo words seat × IsFresh thread seat × AreFresh words (thread + 1) seats
+
+-- while seats join: likewise
+abbrev pub AreResting : Words → ℕ → List Seat → Type 0
+AreResting words thread [] = Unit {0}
+AreResting words thread (seat ∷ seats) = BelongsTo words seat × RestsAs thread seat × AreResting words (thread + 1) seats
+
+-- what a seat leaves that joins thread 0's
+abbrev pub journal_left : Seat → ℕ × List Event
+journal_left seat = ((view seat).number, (view seat).journal)
+
+-- the cells have these values in one sound state, in which every thread is off and the journals are those of the seats
+pub record Closes (starts : List ℕ) (seats : List Seat) (values : List ℕ) : Type 0 where
+  pub last : ProtocolState
+  pub sound : IsSound last
+  pub began : last.starts ≡ starts
+  pub off : (thread : ℕ) → (thread_of last thread).phase ≡ Off
+  pub cells : last.cells ≡ values
+  pub journals : last.journals ≡ map (λ seat. (view seat).journal) seats

@@ -1,0 +1,48 @@
+-- What a seat knows of its thread.
+use Rattle.std.specs.Prelude.{ℕ, suc, List, [], ◌∷◌, ◌++◌, Bool, true, false}
+use Rattle.octet_model.specs.declared.event.Event.{Event}
+use Rattle.octet_state.specs.State.{Thread, unstarted}
+use Rattle.octet_state.specs.Steps.{Kind, after, made, ended_by}
+
+-- a step that was taken, and the word that it was told
+pub record Taken : Type 0 where
+  pub kind : Kind
+  pub word : ℕ
+
+-- a thread's number, where it stands, its journal, and the steps that it took; how many threads there are, and what the cells had at first. The seat of thread 0 also knows how many seats were made, and the numbers and journals of those that have joined it. A seat that has joined it is spent: it is not live
+pub record SeatView : Type 0 where
+  pub is_live : Bool
+  pub number : ℕ
+  pub thread : Thread
+  pub journal : List Event
+  pub trail : List Taken
+  pub threads : ℕ
+  pub starts : List ℕ
+  pub seats_made : ℕ
+  pub joined : List (ℕ × List Event)
+
+-- a seat whose thread has not started
+abbrev pub new_view : ℕ → ℕ → List ℕ → ℕ → SeatView
+new_view number threads starts seats_made = record { is_live = true; number = number; thread = unstarted; journal = []; trail = []; threads = threads; starts = starts; seats_made = seats_made; joined = [] }
+
+-- after a step of this kind that was told this word
+abbrev pub stepped_by : Kind → ℕ → SeatView → SeatView
+stepped_by k told v = record v {
+  thread = after k v.number told v.thread;
+  journal = ended_by v.journal (made k v.number told v.thread);
+  trail = v.trail ++ record { kind = k; word = told } ∷ [];
+}
+
+-- the next seat that thread 0 splits off, and its own after that
+abbrev pub split_off : SeatView → SeatView
+split_off v = new_view v.seats_made v.threads v.starts 0
+
+abbrev pub after_split : SeatView → SeatView
+after_split v = record v { seats_made = suc v.seats_made }
+
+-- the seat of thread 0 after another has joined it, which is spent
+abbrev pub after_join : SeatView → SeatView → SeatView
+after_join v w = record v { joined = v.joined ++ (w.number, w.journal) ∷ [] }
+
+abbrev pub spent : SeatView
+spent = record { is_live = false; number = 0; thread = unstarted; journal = []; trail = []; threads = 0; starts = []; seats_made = 0; joined = [] }

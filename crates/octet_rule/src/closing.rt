@@ -1,0 +1,88 @@
+//! The seats join into one, and the cells' values are read.
+ghost use Rattle.std.specs.Prelude.{◌≡◌, ◌+◌, ◌*◌, [], length, map, IfOk};
+ghost use Rattle.std.specs.Mem.Slots.{slots_items, slots_len, IsFull};
+ghost use Rattle.octet_rule.specs.Cells.{cells_in};
+ghost use Rattle.octet_rule.specs.Conditions.{IsResting};
+ghost use Rattle.octet_rule.specs.Views.{after_join};
+ghost use Rattle.octet_rule.specs.Seats.{view, threads_of, starts_of, BelongsTo, RestsAs, EachRests, AreResting, journal_left, Closes};
+
+use crate::plays;
+use crate::words::{Seat, Words};
+use atomic_table::Closed;
+use octet_model::{List, OutOfMemory};
+use std::alloc::{AllocError, Global};
+
+impl Words {
+    /// The cells' values. Every seat of the words is handed in, in order.
+    pub fn close(self, alloc: Global, seats: List<Seat>) -> Result<List<u64>, OutOfMemory>
+        requires { (length seats ≡ threads_of self) × EachRests self seats }
+        ensures { IfOk result (λ values. Closes (starts_of self) seats values) }
+    {
+        let values = self.read_out(alloc, seats.into_vec())?;
+        Ok(List::from_vec(values))
+    }
+
+    fn read_out(self, alloc: Global, mut seats: Vec<Seat>) -> Result<Vec<u64>, AllocError>
+        requires { (length seats.items ≡ threads_of self) × EachRests self seats.items }
+        ensures { IfOk result (λ values. Closes (starts_of self) seats.items values.items) }
+    {
+        let first = seats.remove(0);
+        let first = self.join_all(first, seats);
+        let Words {
+            table,
+            threads,
+            objects,
+            ..
+        } = self;
+        let Seat { inner, .. } = first;
+        let closed = table.close_with(inner);
+        let values = read_cells(alloc, &closed, threads, objects);
+        closed.free();
+        values
+    }
+
+    // Takes all seats back into that of thread 0.
+    fn join_all(&self, mut first: Seat, mut seats: Vec<Seat>) -> Seat
+        requires first { BelongsTo self.now first × RestsAs 0 first × ((view first).joined ≡ []) }
+        requires seats { AreResting self.now 1 seats.items }
+        ensures own { BelongsTo self.now result × RestsAs 0 result }
+        ensures first { ((view result).thread ≡ (view first).thread) × ((view result).journal ≡ (view first).journal) }
+        ensures joined { (view result).joined ≡ map journal_left seats.items }
+    {
+        while !seats.is_empty() {
+            let seat = seats.remove(0);
+            self.join(&mut first, seat);
+        }
+        first
+    }
+
+    // Takes a seat back.
+    fn join(&self, first: &mut Seat, seat: Seat)
+        requires own { BelongsTo self.now first.old × ((view first.old).number ≡ 0) }
+        requires seat { BelongsTo self.now seat × IsResting (view seat).thread.phase }
+        ensures first { BelongsTo self.now first.new × (view first.new ≡ after_join (view first.old) (view seat)) }
+    {
+        let Seat { inner, .. } = seat;
+        self.table
+            .shared
+            .join_seat::<plays::JoinSeat>(&mut first.inner, inner);
+    }
+}
+
+// The cells after the lines of so many threads.
+fn read_cells(
+    alloc: Global,
+    closed: &Closed<(), Global>,
+    threads: u8,
+    objects: u16,
+) -> Result<Vec<u64>, AllocError>
+    requires { IsFull closed.now.words × (slots_len closed.now.words ≡ 8 * (1 + (threads + objects))) }
+    ensures { IfOk result (λ values. values.items ≡ cells_in (slots_items closed.now.words) threads objects) }
+{
+    let mut values = Vec::new(alloc);
+    for object in 0..objects {
+        let place = 8 * (1 + (threads as usize + object as usize)) + 1;
+        values.push(closed.word(place))?;
+    }
+    Ok(values)
+}

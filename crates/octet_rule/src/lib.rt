@@ -1,0 +1,21 @@
+//! The words of the protocol, which threads share, and the seats by which threads step on them.
+//! Each call is one step of the protocol, and takes no memory and no lock.
+#![tactic(auto)]
+
+mod closing;
+pub mod laws;
+mod objects;
+mod opening;
+mod phases;
+mod plays;
+mod seat;
+mod sharing;
+mod statuses;
+#[cfg(test)]
+mod tests;
+mod tried;
+mod view;
+mod words;
+
+pub use tried::Tried;
+pub use words::{Seat, Words};

@@ -1,0 +1,146 @@
+//! Steps on the states of objects, and on their cells.
+ghost use Rattle.std.specs.Prelude.{◌≡◌, ◌+◌, ◌-◌, ◌*◌, ◌/◌, ◌<◌, Some, length, IsTrue, IsFalse};
+ghost use Rattle.octet_state.specs.declared.act.Mode.TheVariants.{Read as ForRead, Write as ForWrite};
+ghost use Rattle.octet_state.specs.declared.phase.Due.TheVariants.{Nothing};
+ghost use Rattle.octet_state.specs.Table.{is_changed_by};
+ghost use Rattle.octet_state.specs.Words.{packed_state, unpacked_state};
+ghost use Rattle.octet_state.specs.Steps.{ToLoad, ToRead, ToWrite, ToClaim, ToSettle, state_in, settling};
+ghost use Rattle.atomic_table.specs.Table.{Allows};
+ghost use Rattle.octet_rule.specs.Rule.{IsRuled, Plays, Steps};
+ghost use Rattle.octet_rule.specs.Laws.{IsAllowedAccess};
+ghost use Rattle.octet_rule.specs.Conditions.{MayLoad, MayPass, HoldsWord, MaySettle, decision, is_take, found_by, IsLost};
+ghost use Rattle.octet_rule.specs.Seats.{view, IsSeatOf, objects_of};
+
+use crate::tried::Tried;
+use crate::view::View;
+use crate::words::{Seat, Words};
+use crate::{phases, plays};
+use octet_state::{Due, Mode, Phase, StateWord, decide};
+
+impl Words {
+    /// Loads the state of an object for an access. Answers its word, which no thread finds to be
+    /// its own intermediate state.
+    pub fn load(&self, seat: &mut Seat, object: u16, mode: &Mode) -> u64
+        requires own { IsSeatOf self.now seat.old }
+        requires object { object < objects_of self.now }
+        requires due { (view seat.old).thread.due ≡ Nothing }
+        requires phase { MayLoad object mode.now (view seat.old).journal (view seat.old).thread.phase }
+        ensures own { IsSeatOf self.now seat.new }
+        ensures step { Steps (ToLoad object mode.now) (view seat.old) result (view seat.new) }
+        ensures packed { unpacked_state result ≡ Some (state_in (unpacked_state result)) }
+        ensures foreign { IsFalse (is_changed_by (state_in (unpacked_state result)) (view seat.old).number) }
+    {
+        let place = self.state_place(object);
+        let word = self.load_by_mode(&mut seat.inner, place, mode);
+        let state = phases::state_of(word);
+        let act = decide(&state, seat.thread, mode, seat.count);
+        let (phase, due) = phases::after_load(&act, &state, object, *mode);
+        seat.phase = phase;
+        seat.due = due;
+        word
+    }
+
+    /// Reads the cell.
+    pub fn read(&self, seat: &mut Seat, object: u16) -> u64
+        requires own { IsSeatOf self.now seat.old }
+        requires object { object < objects_of self.now }
+        requires due { (view seat.old).thread.due ≡ Nothing }
+        requires phase { MayPass object ForRead (view seat.old).thread.phase }
+        ensures own { IsSeatOf self.now seat.new }
+        ensures step { Steps ToRead (view seat.old) result (view seat.new) }
+        ensures allowed { IsAllowedAccess ForRead ToRead (view seat.old) result (view seat.new) }
+    {
+        let place = self.cell_place(object);
+        let value = self
+            .table
+            .shared
+            .load::<plays::Read>(&mut seat.inner, place);
+        seat.phase = Phase::Idle;
+        seat.events += 1;
+        value
+    }
+
+    /// Writes the cell.
+    pub fn write(&self, seat: &mut Seat, object: u16, value: u64)
+        requires own { IsSeatOf self.now seat.old }
+        requires object { object < objects_of self.now }
+        requires due { (view seat.old).thread.due ≡ Nothing }
+        requires phase { MayPass object ForWrite (view seat.old).thread.phase }
+        ensures own { IsSeatOf self.now seat.new }
+        ensures step { Steps (ToWrite value) (view seat.old) value (view seat.new) }
+        ensures allowed { IsAllowedAccess ForWrite (ToWrite value) (view seat.old) value (view seat.new) }
+    {
+        let place = self.cell_place(object);
+        self.table
+            .shared
+            .store::<plays::Write>(&mut seat.inner, place, value);
+        seat.phase = Phase::Idle;
+        seat.events += 1;
+    }
+
+    /// Takes the object, where its word is still the one that was loaded.
+    pub fn claim(&self, seat: &mut Seat, object: u16, mode: &Mode, seen: u64) -> Tried
+        requires own { IsSeatOf self.now seat.old }
+        requires object { object < objects_of self.now }
+        requires due { (view seat.old).thread.due ≡ Nothing }
+        requires phase { HoldsWord object mode.now seen (view seat.old).thread.phase }
+        requires takes { IsTrue (is_take (decision (view seat.old))) }
+        ensures own { IsSeatOf self.now seat.new }
+        ensures step { Steps ToClaim (view seat.old) (found_by seen result) (view seat.new) }
+        ensures lost { IsLost seen result }
+    {
+        let place = self.state_place(object);
+        let claiming = match *mode {
+            Mode::Read => StateWord::RdInt { by: seat.thread },
+            Mode::Write => StateWord::WrInt { by: seat.thread },
+        };
+        let found = self
+            .table
+            .shared
+            .compare_exchange::<plays::Claim>(&mut seat.inner, place, seen, claiming.pack());
+        if found == seen {
+            seat.phase = phases::claimed(seat.phase);
+            Tried::Won
+        } else {
+            seat.phase = phases::lost(seat.phase);
+            seat.due = Due::Glance;
+            Tried::Lost { found }
+        }
+    }
+
+    /// Gives the object the state that it has from then on.
+    pub fn settle(&self, seat: &mut Seat, object: u16)
+        requires own { IsSeatOf self.now seat.old }
+        requires object { object < objects_of self.now }
+        requires due { (view seat.old).thread.due ≡ Nothing }
+        requires phase { MaySettle (view seat.old).threads object (view seat.old).thread.phase }
+        ensures own { IsSeatOf self.now seat.new }
+        ensures step { Steps ToSettle (view seat.old) (packed_state (settling (view seat.old).number (length (view seat.old).journal) (view seat.old).thread.phase)) (view seat.new) }
+    {
+        let place = self.state_place(object);
+        let settled = phases::settled(seat.thread, seat.events, seat.phase);
+        self.table
+            .shared
+            .store::<plays::Settle>(&mut seat.inner, place, settled.pack());
+        seat.phase = phases::passing(seat.phase);
+    }
+
+    // A play knows its mode by its type.
+    fn load_by_mode(
+        &self,
+        inner: &mut atomic_table::Seat<(), View>,
+        place: usize,
+        mode: &Mode,
+    ) -> u64
+        requires own { inner.old.table_id ≡ self.now.table.shared.table_id }
+        requires place { place < self.now.table.shared.table_id.words }
+        requires allowed { Allows (IsRuled self.now.table.shared.key.threads self.now.table.shared.key.starts.value) self.now.table.shared.table_id.slots inner.old.id inner.old.me place (λ word. word) (Plays (ToLoad (place / 8 - (1 + inner.old.me.0.threads)) mode.now) inner.old.me) }
+        ensures own { (inner.new.table_id ≡ inner.old.table_id) × (inner.new.id ≡ inner.old.id) }
+        ensures step { Plays (ToLoad (place / 8 - (1 + inner.old.me.0.threads)) mode.now) inner.old.me result inner.new.me }
+    {
+        match *mode {
+            Mode::Read => self.table.shared.load::<plays::LoadToRead>(inner, place),
+            Mode::Write => self.table.shared.load::<plays::LoadToWrite>(inner, place),
+        }
+    }
+}

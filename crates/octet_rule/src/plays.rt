@@ -1,0 +1,125 @@
+//! What each step on the table tells. The object or the thread that a step names is read off
+//! the place of its word.
+ghost use Rattle.std.specs.Prelude.{◌-◌, ◌+◌, ◌/◌, false};
+ghost use Rattle.octet_state.specs.declared.act.Mode.TheVariants.{Read as ForRead, Write as ForWrite};
+ghost use Rattle.octet_state.specs.Steps.{ToGlance, ToAnswer, ToBlock, ToUnblock, ToAsk, ToLook, ToLoad, ToRead, ToWrite, ToClaim, ToSettle, ToDraw, ToFence, ToRaise, ToShare};
+ghost use Rattle.octet_rule.specs.Rule.{Plays};
+ghost use Rattle.octet_rule.specs.Views.{after_split, split_off, after_join, spent};
+
+use crate::view::View;
+use atomic_table::{Join, Play, Split};
+
+pub(crate) struct Glance;
+
+impl Play<(), View> for Glance {
+    ghost then = { λ step me told next. Plays ToGlance me told next };
+}
+
+pub(crate) struct Answer;
+
+impl Play<(), View> for Answer {
+    ghost then = { λ step me told next. Plays ToAnswer me told next };
+}
+
+pub(crate) struct Block;
+
+impl Play<(), View> for Block {
+    ghost then = { λ step me told next. Plays (ToBlock false) me told next };
+}
+
+pub(crate) struct Unblock;
+
+impl Play<(), View> for Unblock {
+    ghost then = { λ step me told next. Plays ToUnblock me told next };
+}
+
+pub(crate) struct Ask;
+
+impl Play<(), View> for Ask {
+    ghost then = { λ step me told next. Plays (ToAsk (step.word / 8 - 1)) me told next };
+}
+
+pub(crate) struct Look;
+
+impl Play<(), View> for Look {
+    ghost then = { λ step me told next. Plays (ToLook (step.word / 8 - 1)) me told next };
+}
+
+/// A load tells for which access it is by its type.
+pub(crate) struct LoadToRead;
+
+impl Play<(), View> for LoadToRead {
+    ghost then = { λ step me told next. Plays (ToLoad (step.word / 8 - (1 + me.0.threads)) ForRead) me told next };
+}
+
+pub(crate) struct LoadToWrite;
+
+impl Play<(), View> for LoadToWrite {
+    ghost then = { λ step me told next. Plays (ToLoad (step.word / 8 - (1 + me.0.threads)) ForWrite) me told next };
+}
+
+pub(crate) struct Read;
+
+impl Play<(), View> for Read {
+    ghost then = { λ step me told next. Plays ToRead me told next };
+}
+
+pub(crate) struct Write;
+
+impl Play<(), View> for Write {
+    ghost then = { λ step me told next. Plays (ToWrite step.first) me told next };
+}
+
+pub(crate) struct Claim;
+
+impl Play<(), View> for Claim {
+    ghost then = { λ step me told next. Plays ToClaim me told next };
+}
+
+pub(crate) struct Settle;
+
+impl Play<(), View> for Settle {
+    ghost then = { λ step me told next. Plays ToSettle me told next };
+}
+
+pub(crate) struct Draw;
+
+impl Play<(), View> for Draw {
+    ghost then = { λ step me told next. Plays ToDraw me told next };
+}
+
+pub(crate) struct Fence;
+
+impl Play<(), View> for Fence {
+    ghost then = { λ step me told next. Plays ToFence me told next };
+}
+
+pub(crate) struct Raise;
+
+impl Play<(), View> for Raise {
+    ghost then = { λ step me told next. Plays ToRaise me told next };
+}
+
+pub(crate) struct Share;
+
+impl Play<(), View> for Share {
+    ghost then = { λ step me told next. Plays ToShare me told next };
+}
+
+/// Deals the seat of the next thread.
+pub(crate) struct SplitSeat;
+
+impl Split<View> for SplitSeat {
+    ghost left = { after_split };
+
+    ghost right = { split_off };
+}
+
+/// Takes a seat back.
+pub(crate) struct JoinSeat;
+
+impl Join<View> for JoinSeat {
+    ghost both = { after_join };
+
+    ghost spent = { spent };
+}
