@@ -13,8 +13,8 @@ import tempfile
 from case import join, log, script, text
 
 TOP = pathlib.Path(__file__).resolve().parent.parent
-OCTET = TOP / "bin" / "octet"
-PROGRAM = TOP / "crates" / "octet" / "out" / "octet"
+LAUNCHER = TOP / "bin" / "octet"
+OCTET = TOP / "crates" / "octet" / "out" / "octet"
 SECONDS = 60
 
 ONE = script("object x 5 / thread / read r0 x")
@@ -64,7 +64,7 @@ def full_output():
 
 
 def closed_output():
-    close = ["sh", "-c", 'exec "$0" "$@" >&-', str(PROGRAM)]
+    close = ["sh", "-c", 'exec "$0" "$@" >&-', str(OCTET)]
     with folder_with(S=ONE) as folder:
         return first(
             differs("tidy", called([*close, "tidy", "S"], folder), (6, b"")),
@@ -112,7 +112,7 @@ def missing_folders():
 def files_without_permission():
     with folder_with(S=ONE, L=ONE_LOG, closed=ONE) as folder:
         here = pathlib.Path(folder)
-        program = shutil.copy(PROGRAM, here / "octet")
+        program = shutil.copy(OCTET, here / "octet")
         for name, mode in {".": 0o755, "S": 0o644, "L": 0o444, "closed": 0, "octet": 0o755}.items():
             os.chmod(here / name, mode)
         user = {"user": "nobody"} if os.geteuid() == 0 else {}
@@ -215,12 +215,14 @@ def through_links():
     with folder_with(S=ONE) as folder:
         here = pathlib.Path(folder)
         (here / "far").mkdir()
-        (here / "far" / "octet").symlink_to(OCTET)
+        (here / "far" / "octet").symlink_to(LAUNCHER)
         (here / "near").symlink_to("far/octet")
+        (here / "folder").symlink_to(LAUNCHER.parent)
         return first(
             differs("a link", called([here / "far" / "octet", "tidy", "S"], folder)[0], 0),
             differs("a link of a link", called(["./near", "tidy", "S"], folder)[0], 0),
-            differs("by the path", called(["near", "tidy", "S"], folder, env={**os.environ, "PATH": f"{folder}:{os.environ['PATH']}"})[0], 0),
+            differs("a folder that is a link", called(["folder/octet", "tidy", "S"], folder)[0], 0),
+            differs("by the path", called(["sh", "-c", 'PATH=.:$PATH; near tidy S'], folder)[0], 0),
         )
 
 
