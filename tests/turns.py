@@ -6,7 +6,7 @@ import machine
 from case import Case, draw, fence, join, log, script, text
 
 # Whether the program has the command `turns`, and `run` goes by rounds of a turn for each thread.
-HAS_TURNS = False
+HAS_TURNS = True
 
 HANDOVER = script("object x 5 / thread / set r0 7 / write x r0 / thread / read r0 x")
 
