@@ -7,6 +7,8 @@ from case import Case, draw, fence, join, log, script, text
 
 # Whether the program has the command `turns`, and `run` goes by rounds of a turn for each thread.
 HAS_TURNS = True
+# Whether it has the command `locked`, which runs each thread of a script on a thread of its own.
+HAS_LOCKED = False
 
 HANDOVER = script("object x 5 / thread / set r0 7 / write x r0 / thread / read r0 x")
 
