@@ -1,107 +1,68 @@
-"""The cases of the end-to-end tests: words and files in, text, status and files out."""
+"""The cases of the end-to-end tests: words and files in, text, status and files out.
+
+Expected values come from docs/FORMATS.md or are worked out by hand, never from the program.
+"""
 
 import pathlib
-from dataclasses import dataclass, field
+
+from case import Case, draw, fence, join, log, script, text
 
 EXAMPLES = pathlib.Path(__file__).resolve().parent.parent / "examples"
 
 
-@dataclass
-class Case:
-    name: str
-    words: list
-    files: dict = field(default_factory=dict)
-    said: bytes = b""
-    status: int = 0
-    written: dict = field(default_factory=dict)
+def example(name):
+    return (EXAMPLES / name).read_bytes()
 
 
-def text(*lines):
-    """Lines, each ended by LF."""
-    return "".join(line + "\n" for line in lines).encode()
+def runs(name, content, said, written):
+    return Case(f"run: {name}", ["run", "S", "L"], {"S": content}, said, 0, {"L": written})
 
 
-def log(*threads):
-    """The bytes of a log. A thread is its accesses and then its marks, each (kind, gap, thread, number)."""
-    out = b"OCTL\x01" + bytes([len(threads)])
-    for accesses, *marks in threads:
-        out += accesses.to_bytes(4, "big") + len(marks).to_bytes(4, "big")
-        for kind, gap, thread, number in marks:
-            out += bytes([kind]) + gap.to_bytes(4, "big") + bytes([thread]) + number.to_bytes(8, "big")
-    return out
+def tidied(name, content, *lines):
+    return Case(f"tidy: {name}", ["tidy", "S"], {"S": content}, text(*lines))
 
 
-def join(gap, thread, upto):
-    return (1, gap, thread, upto)
-
-
-def draw(gap, number):
-    return (2, gap, 0, number)
-
-
-def fence(gap, number):
-    return (3, gap, 0, number)
-
-
-def runs(name, script, said, written):
-    return Case(f"run: {name}", ["run", "S", "L"], {"S": script}, said, 0, {"L": written})
-
-
-def example(name, said, written):
-    return runs(f"examples/{name}", (EXAMPLES / name).read_bytes(), said, written)
-
-
-def refused(name, script, line):
-    return Case(f"refused: {name}", ["tidy", "S"], {"S": script}, text(f"script: {line}"), 2)
+def refused(name, content, line):
+    return Case(f"refused: {name}", ["tidy", "S"], {"S": content}, text(f"script: line {line}"), 2)
 
 
 def shown(name, content, said, status=0):
     return Case(f"show: {name}", ["show", "L"], {"L": content}, said, status)
 
 
-def judged(command, name, script, content, said, status=0):
-    return Case(f"{command}: {name}", [command, "S", "L"], {"S": script, "L": content}, said, status)
+def log_refused(name, content, line):
+    return shown(name, content, text(f"log: {line}"), 3)
 
 
-def recorded(name, script, content, said):
-    """A log that a run left: the replay says what the run said, and the log is in order."""
+def judged(command, name, content, recorded, said, status=0):
+    return Case(f"{command}: {name}", [command, "S", "L"], {"S": content, "L": recorded}, said, status)
+
+
+def recorded(name, content, log_bytes, said):
+    """A log that a run may leave: the replay says what the run said, and all conflicts are ordered."""
     return [
-        judged("replay", name, script, content, said),
-        judged("verify", name, script, content, text("ordered")),
+        judged("replay", name, content, log_bytes, said),
+        judged("verify", name, content, log_bytes, text("ordered")),
     ]
 
 
-ONE = text("object x 5", "thread", "read r0 x")
+ONE = script("object x 5 / thread / read r0 x")
+HANDOVER = example("handover.octet")
 
-# Examples, and other scripts that are run to their end. The first log is written out.
+# Scripts that leave the same log in whatever order their threads run. The first log is written out.
 RUNS = [
-    example("one.octet", text("thread 0 done 5", "object x 5"), bytes.fromhex("4f43544c01010000000100000000")),
-    example(
-        "handover.octet",
-        text("thread 0 done", "thread 1 done 7", "object x 7"),
-        log((1,), (1, join(0, 0, 1))),
-    ),
-    example("countdown.octet", text("thread 0 done", "object x 1"), log((1000,))),
-    example(
-        "flag.octet",
-        text("thread 0 done", "thread 1 done 1 42", "object x 42", "object flag 1"),
-        log((2,), (2, join(0, 0, 2), join(1, 0, 2))),
-    ),
-    example(
-        "larger.octet",
-        text("thread 0 done 17 23", "thread 1 done 23", "object a 17", "object b 23", "object larger 23"),
-        log((3,), (1, join(0, 0, 3))),
-    ),
-    example("spent.octet", text("thread 0 spent 0", "object x 0"), log((1,))),
+    runs("one thread", ONE, text("thread 0 done 5", "object x 5"), bytes.fromhex("4f43544c01010000000100000000")),
+    runs("a loop of writes", example("countdown.octet"), text("thread 0 done", "object x 1"), log((1000,))),
+    runs("a thread that is spent", example("spent.octet"), text("thread 0 spent 0", "object x 0"), log((1,))),
     runs(
         "a first reader joins thread 0",
-        text("object y 3", "thread", "thread", "read r0 y"),
+        script("object y 3 / thread / thread / read r0 y"),
         text("thread 0 done", "thread 1 done 3", "object y 3"),
         log((0,), (1, join(0, 0, 0))),
     ),
     runs(
         "an owner's further accesses need no mark",
-        text("object y 3", "thread", "thread", "read r0 y", "write y r0", "read r0 y"),
+        script("object y 3 / thread / thread / read r0 y / write y r0 / read r0 y"),
         text("thread 0 done", "thread 1 done 3 3", "object y 3"),
         log((0,), (3, join(0, 0, 0))),
     ),
@@ -110,6 +71,27 @@ RUNS = [
         text(*["thread"] * 16),
         text(*[f"thread {t} done" for t in range(16)]),
         log(*[(0,)] * 16),
+    ),
+    runs(
+        "the last command takes the last fuel",
+        script("fuel 2 / object x 0 / thread / set r0 1 / write x r0"),
+        text("thread 0 done", "object x 1"),
+        log((1,)),
+    ),
+    runs(
+        "sums and products past 64 bits",
+        script(
+            "object a 0 / object b 0 / object c 0 / thread / set r0 18446744073709551615 / set r1 2 / add r2 r0 r1"
+            " / write a r2 / sub r2 r1 r0 / write b r2 / mul r2 r0 r1 / write c r2"
+        ),
+        text("thread 0 done", "object a 1", "object b 3", "object c 18446744073709551614"),
+        log((3,)),
+    ),
+    runs(
+        "ninety thousand nested branches",
+        text("thread", *["if r0"] * 90_000, *["end"] * 90_000),
+        text("thread 0 done"),
+        log((0,)),
     ),
     Case(
         "run: over the script's own file",
@@ -121,42 +103,92 @@ RUNS = [
     ),
 ]
 
-TIDY = [
-    Case(
-        "tidy: one canonical text",
-        ["tidy", "S"],
-        {"S": b"# t\r\n\tobject  x 007\r\nthread # main\r\n read r0 x"},
-        text("fuel 16384", "object x 7", "thread", "read r0 x"),
-    ),
-    Case(
-        "tidy: every command",
-        ["tidy", "S"],
-        {
-            "S": text(
-                "fuel 9", "object a 18446744073709551615", "thread", "set r0 1", "copy r1 r0", "add r2 r0 r1",
-                "sub r3 r0 r1", "mul r4 r0 r1", "xor r5 r0 r1", "less r6 r0 r1", "same r7 r0 r1", "read r8 a",
-                "write a r15", "while r9", "if r10", "safe", "end", "pause", "end",
-            )
-        },
-        text(
-            "fuel 9", "object a 18446744073709551615", "thread", "set r0 1", "copy r1 r0", "add r2 r0 r1",
-            "sub r3 r0 r1", "mul r4 r0 r1", "xor r5 r0 r1", "less r6 r0 r1", "same r7 r0 r1", "read r8 a",
-            "write a r15", "while r9", "if r10", "safe", "end", "pause", "end",
-        ),
-    ),
-]
+EVERY_COMMAND = [
+    "fuel 9", "object a 18446744073709551615", "thread", "set r0 1", "copy r1 r0", "add r2 r0 r1", "sub r3 r0 r1",
+    "mul r4 r0 r1", "xor r5 r0 r1", "less r6 r0 r1", "same r7 r0 r1", "read r8 a", "write a r15", "while r9", "if r10",
+    "safe", "end", "pause", "end",
+]  # fmt: skip
+OBJECTS = [f"object o{place} 0" for place in range(1024)]
+LONGEST = "object " + "n" * 32 + " 1"
 
+TIDY = [
+    tidied(
+        "one canonical text",
+        b"# t\r\n\tobject  x 007\r\nthread # main\r\n read r0 x",
+        "fuel 16384", "object x 7", "thread", "read r0 x",
+    ),
+    tidied("every command", text(*EVERY_COMMAND), *EVERY_COMMAND),
+    tidied(
+        "ninety thousand nested branches",
+        text("thread", *["if r0"] * 90_000, *["end"] * 90_000),
+        "fuel 16384", "thread", *["if r0"] * 90_000, *["end"] * 90_000,
+    ),
+    tidied("as many objects as there may be", text(*OBJECTS, "thread"), "fuel 16384", *OBJECTS, "thread"),
+    tidied("as much fuel as there may be", text("fuel 262144", "thread"), "fuel 262144", "thread"),
+    tidied("as much fuel for all threads", text("fuel 131072", "thread", "thread"), "fuel 131072", "thread", "thread"),
+    tidied("twenty digits", text("object x 00000000000000000009", "thread"), "fuel 16384", "object x 9", "thread"),
+    tidied("a name of 32 bytes", text(LONGEST, "thread"), "fuel 16384", LONGEST, "thread"),
+    tidied(
+        "names that are words of the language",
+        text("object thread 1", "object r0 2", "object end 3", "thread", "read r0 r0"),
+        "fuel 16384", "object thread 1", "object r0 2", "object end 3", "thread", "read r0 r0",
+    ),
+    tidied("a comment in another script", "thread # \u00fc \u20ac\n".encode(), "fuel 16384", "thread"),
+    tidied(
+        "a text that is longer than a script may be",
+        text("object o 1", "thread", *["read r0 o"] * 104_855),
+        "fuel 16384", "object o 1", "thread", *["read r0 o"] * 104_855,
+    ),
+]  # fmt: skip
+
+# A cause may have several rows: the first is the plain one, and then come near misses.
 REFUSED = [
-    refused("no text", b"", "line 1: 13 no thread"),
-    refused("seventeen threads", text(*["thread"] * 17), "line 17: 12 too many"),
-    refused("register 16", text("object x 1", "thread", "read r16 x"), "line 3: 8 bad register"),
-    refused("a command before any thread", text("read r0 x"), "line 1: 9 misplaced"),
-    refused("a number of 65 bits", text("thread", "set r0 18446744073709551616"), "line 2: 4 bad number"),
-    refused("a loop without an end", text("thread", "while r0", "safe"), "line 2: 10 unclosed"),
-    refused("fuel for too many threads", text("fuel 16385", *["thread"] * 16), "line 17: 14 bad fuel"),
-    refused("bytes that are no UTF-8", b"thread\nsafe\n\xff\n", "line 3: 1 not UTF-8"),
-    refused("an unknown word", text("thread", "jump r0"), "line 2: 2 unknown word"),
-    refused("an end of nothing", text("thread", "end"), "line 2: 11 end without open"),
+    refused("1, bytes that are no UTF-8", b"thread\nsafe\n\xff\n", "3: 1 not UTF-8"),
+    refused("1, before any other refusal", b"jump\nthread\nsafe \xff\n", "3: 1 not UTF-8"),
+    refused("1, cut short by the end", b"thread\nsafe # \xc3", "2: 1 not UTF-8"),
+    refused("1, longer than need be", b"thread\n# \xc0\x80\n", "2: 1 not UTF-8"),
+    refused("2, no command", script("thread / jump r0"), "2: 2 unknown word"),
+    refused("2, a capital", text("Thread"), "1: 2 unknown word"),
+    refused("2, a byte order mark", "\ufeffthread\n".encode(), "1: 2 unknown word"),
+    refused("2, a vertical tab", b"thread\x0b\n", "1: 2 unknown word"),
+    refused("2, before the count", text("jump"), "1: 2 unknown word"),
+    refused("3, too few", script("thread / set r0"), "2: 3 wrong count of words"),
+    refused("3, too many", script("thread / safe / end end"), "3: 3 wrong count of words"),
+    refused("3, before being misplaced", text("read r0"), "1: 3 wrong count of words"),
+    refused("4, 65 bits", script("thread / set r0 18446744073709551616"), "2: 4 bad number"),
+    refused("4, twenty-one digits", text("object x 000000000000000000001"), "1: 4 bad number"),
+    refused("4, a sign", script("thread / set r0 +1"), "2: 4 bad number"),
+    refused("4, before there being two", script("fuel 1 / fuel one"), "2: 4 bad number"),
+    refused("5, a digit first", text("object 1x 0"), "1: 5 bad name"),
+    refused("5, 33 bytes", text("object " + "n" * 33 + " 0"), "1: 5 bad name"),
+    refused("5, another letter", "object \u00fc 0\n".encode(), "1: 5 bad name"),
+    refused("6, a name given twice", script("object x 0 / object x 1"), "2: 6 name given twice"),
+    refused("6, before its number", script("object x 0 / object x no"), "2: 6 name given twice"),
+    refused("6, before there being too many", text(*OBJECTS, "object o0 1"), "1025: 6 name given twice"),
+    refused("7, read", script("thread / read r0 x"), "2: 7 no such object"),
+    refused("7, another case", script("object x 0 / thread / write X r0"), "3: 7 no such object"),
+    refused("7, from left to right", script("thread / write x r16"), "2: 7 no such object"),
+    refused("8, sixteen", script("object x 1 / thread / read r16 x"), "3: 8 bad register"),
+    refused("8, a leading zero", script("thread / copy r0 r01"), "2: 8 bad register"),
+    refused("8, no number", script("thread / while r"), "2: 8 bad register"),
+    refused("8, from left to right", script("thread / read R0 x"), "2: 8 bad register"),
+    refused("9, a command before any thread", text("read r0 x"), "1: 9 misplaced"),
+    refused("9, an object after a thread", script("thread / object x 1"), "2: 9 misplaced"),
+    refused("9, fuel after a thread, before its number", script("thread / fuel none"), "2: 9 misplaced"),
+    refused("10, at the end", script("thread / while r0 / safe"), "2: 10 unclosed"),
+    refused("10, the innermost open one", script("thread / if r0 / while r0 / thread"), "3: 10 unclosed"),
+    refused("10, where the inner one is closed", script("thread / if r0 / while r0 / end / thread"), "2: 10 unclosed"),
+    refused("11, an end of nothing", script("thread / end"), "2: 11 end without open"),
+    refused("11, one too many", script("thread / if r0 / end / end"), "4: 11 end without open"),
+    refused("12, objects", text(*OBJECTS, "object more 0"), "1025: 12 too many"),
+    refused("12, threads", text(*["thread"] * 17), "17: 12 too many"),
+    refused("12, before the fuel", text("fuel 16384", *["thread"] * 17), "18: 12 too many"),
+    refused("13, no text", b"", "1: 13 no thread"),
+    refused("13, no words", b"# only\n\n", "3: 13 no thread"),
+    refused("14, none", text("fuel 0"), "1: 14 bad fuel"),
+    refused("14, one too much", text("fuel 262145"), "1: 14 bad fuel"),
+    refused("14, a second line", script("fuel 1 / fuel 1"), "2: 14 bad fuel"),
+    refused("14, too much for all threads", text("fuel 16385", *["thread"] * 16), "17: 14 bad fuel"),
     Case("refused: nothing is written", ["run", "S", "L"], {"S": b""}, text("script: line 1: 13 no thread"), 2),
 ]
 
@@ -165,60 +197,61 @@ CUT = ONE[:-1]
 PREFIXES = [
     refused(f"the first {size} bytes of a script", CUT[:size], line)
     for sizes, line in [
-        ([0, 10], "line 1: 13 no thread"),
-        (range(1, 6), "line 1: 2 unknown word"),
-        (range(6, 10), "line 1: 3 wrong count of words"),
-        ([11], "line 2: 13 no thread"),
-        (range(12, 17), "line 2: 2 unknown word"),
-        (range(19, 22), "line 3: 2 unknown word"),
-        (range(22, 27), "line 3: 3 wrong count of words"),
+        ([0, 10], "1: 13 no thread"),
+        (range(1, 6), "1: 2 unknown word"),
+        (range(6, 10), "1: 3 wrong count of words"),
+        ([11], "2: 13 no thread"),
+        (range(12, 17), "2: 2 unknown word"),
+        (range(19, 22), "3: 2 unknown word"),
+        (range(22, 27), "3: 3 wrong count of words"),
     ]
     for size in sizes
 ] + [
-    Case(
-        f"tidy: the first {size} bytes of a script",
-        ["tidy", "S"],
-        {"S": CUT[:size]},
-        text("fuel 16384", "object x 5", "thread"),
-    )
-    for size in [17, 18]
-]
+    tidied(f"the first {size} bytes of a script", CUT[:size], "fuel 16384", "object x 5", "thread") for size in [17, 18]
+]  # fmt: skip
 
-HANDOVER = (EXAMPLES / "handover.octet").read_bytes()
 HANDOVER_SAID = text("thread 0 done", "thread 1 done 7", "object x 7")
 HANDOVER_LOG = log((1,), (1, join(0, 0, 1)))
 HANDOVER_UNMARKED = log((1,), (1,))
 HANDOVER_STUCK = log((1, join(0, 1, 1)), (1, join(0, 0, 1)))
 
 # Thread 1 reads first, and then thread 2 does: x becomes read-shared, and thread 1 fences.
-SHARED = text("object x 9", "thread", "thread", "read r0 x", "read r1 x", "thread", "read r0 x")
+SHARED = script("object x 9 / thread / thread / read r0 x / read r1 x / thread / read r0 x")
 SHARED_LOG = log((0,), (2, join(0, 0, 0), fence(1, 1)), (1, join(0, 1, 1), draw(0, 1)))
 
 # Each thread hands one object over while it waits for the other.
-CROSSED = text(
-    "object x 0", "object y 0", "thread", "set r0 1", "write y r0", "thread", "set r0 2", "write y r0", "write x r0"
+CROSSED = script(
+    "object x 0 / object y 0 / thread / set r0 1 / write y r0 / thread / set r0 2 / write y r0 / write x r0"
 )
 CROSSED_LOG = log((1, join(0, 1, 2)), (2, join(0, 0, 0), join(1, 0, 0)))
+
+# Thread 1 joins the write of x only after the event that thread 2 joins.
+KNOWN_LATER = script(
+    "object x 0 / object y 0 / thread / set r0 1 / write x r0 / thread / write y r0 / thread / read r0 x"
+)
+KNOWN_LATER_LOG = log((1,), (1, join(1, 0, 1)), (1, join(0, 1, 1)))
+
+HIGHEST = 2**64 - 1
 
 LOGS = (
     recorded("thread 1 joins thread 0", HANDOVER, HANDOVER_LOG, HANDOVER_SAID)
     + recorded(
-        "thread 1 reads first",
-        HANDOVER,
-        log((1, join(0, 1, 2)), (1, join(0, 0, 0))),
-        text("thread 0 done", "thread 1 done 5", "object x 7"),
+        "a draw and a fence", SHARED, SHARED_LOG,
+        text("thread 0 done", "thread 1 done 9 9", "thread 2 done 9", "object x 9"),
     )
-    + recorded("a draw and a fence", SHARED, SHARED_LOG, text("thread 0 done", "thread 1 done 9 9", "thread 2 done 9", "object x 9"))
-    + recorded("objects that cross", CROSSED, CROSSED_LOG, text("thread 0 done", "thread 1 done", "object x 2", "object y 1"))
+    + recorded(
+        "objects that cross", CROSSED, CROSSED_LOG,
+        text("thread 0 done", "thread 1 done", "object x 2", "object y 1"),
+    )
     + recorded(
         "a thread that is spent",
-        (EXAMPLES / "spent.octet").read_bytes(),
+        example("spent.octet"),
         log((1,)),
         text("thread 0 spent 0", "object x 0"),
     )
     + recorded(
         "a flag",
-        (EXAMPLES / "flag.octet").read_bytes(),
+        example("flag.octet"),
         log((2,), (2, join(0, 0, 2), join(1, 0, 2))),
         text("thread 0 done", "thread 1 done 1 42", "object x 42", "object flag 1"),
     )
@@ -228,10 +261,15 @@ LOGS = (
         judged(
             "verify",
             "two reads without marks, and then a write",
-            text("object x 1", "thread", "read r0 x", "thread", "read r0 x", "thread", "write x r0"),
+            script("object x 1 / thread / read r0 x / thread / read r0 x / thread / write x r0"),
             log((1,), (1,), (1, join(0, 0, 1))),
             text("unordered 1:0 2:1"),
             9,
+        ),
+        judged("verify", "what a thread knows only later", KNOWN_LATER, KNOWN_LATER_LOG, text("unordered 0:0 2:1"), 9),
+        judged(
+            "replay", "what a thread knows only later", KNOWN_LATER, KNOWN_LATER_LOG,
+            text("thread 0 done", "thread 1 done", "thread 2 done 1", "object x 1", "object y 0"),
         ),
         shown(
             "a draw and a fence",
@@ -241,11 +279,50 @@ LOGS = (
                 "gap 1 fence 1", "thread 2 accesses 1 marks 2", "gap 0 join 1 1", "gap 0 draw 1",
             ),
         ),
+        shown(
+            "the highest numbers, and marks after the last access",
+            log((1, draw(1, HIGHEST), join(0, 1, HIGHEST)), (0, fence(0, HIGHEST))),
+            text(
+                "threads 2", "thread 0 accesses 1 marks 2", f"gap 1 draw {HIGHEST}", f"gap 0 join 1 {HIGHEST}",
+                "thread 1 accesses 0 marks 1", f"gap 0 fence {HIGHEST}",
+            ),
+        ),
     ]
-)
+)  # fmt: skip
 
-def profiled(name, words, said, status=0, script=SHARED, content=SHARED_LOG):
-    return Case(f"profile: {name}", ["profile", "S", "L", *words], {"S": script, "L": content}, said, status)
+# The story of the README: three logs in examples/.
+EARLY, EARLY_UNMARKED, EARLY_MISFIT = (example(f"early{name}.log") for name in ["", "-unmarked", "-misfit"])
+EARLY_SAID = text("thread 0 done", "thread 1 done 5", "object x 7")
+MISFIT_SAID = text("fit: thread 1 wants 2 accesses, found 1")
+STORY = [
+    *recorded("examples/early.log", HANDOVER, EARLY, EARLY_SAID),
+    shown(
+        "examples/early.log", EARLY,
+        text(
+            "threads 2", "thread 0 accesses 1 marks 1", "gap 0 join 1 2",
+            "thread 1 accesses 1 marks 1", "gap 0 join 0 0",
+        ),
+    ),
+    judged("replay", "examples/early-unmarked.log", HANDOVER, EARLY_UNMARKED, HANDOVER_SAID),
+    judged("verify", "examples/early-unmarked.log", HANDOVER, EARLY_UNMARKED, text("unordered 0:0 1:1"), 9),
+    shown(
+        "examples/early-unmarked.log", EARLY_UNMARKED,
+        text("threads 2", "thread 0 accesses 1 marks 0", "thread 1 accesses 1 marks 1", "gap 0 join 0 0"),
+    ),
+    judged("replay", "examples/early-misfit.log", HANDOVER, EARLY_MISFIT, MISFIT_SAID, 4),
+    judged("verify", "examples/early-misfit.log", HANDOVER, EARLY_MISFIT, MISFIT_SAID, 4),
+    shown(
+        "examples/early-misfit.log", EARLY_MISFIT,
+        text(
+            "threads 2", "thread 0 accesses 1 marks 1", "gap 0 join 1 2",
+            "thread 1 accesses 2 marks 1", "gap 0 join 0 0",
+        ),
+    ),
+]  # fmt: skip
+
+
+def profiled(name, words, said, status=0, content=SHARED, recorded=SHARED_LOG):
+    return Case(f"profile: {name}", ["profile", "S", "L", *words], {"S": content, "L": recorded}, said, status)
 
 
 PROFILES = [
@@ -255,66 +332,107 @@ PROFILES = [
     profiled("an empty name", [""], text("words: no such object"), 1),
     profiled("kinds, with writes", [], text("read 0", "write 3", "join 3", "draw 0", "fence 0"), 0, CROSSED, CROSSED_LOG),
     profiled("the second object", ["y"], text("read 0", "write 2", "other 4"), 0, CROSSED, CROSSED_LOG),
-    profiled("an unknown name comes before the log", ["z"], text("words: no such object"), 1, content=b""),
+    profiled("an unknown name comes before the log", ["z"], text("words: no such object"), 1, recorded=b""),
     profiled("a script that is refused comes before the name", ["z"], text("script: line 1: 13 no thread"), 2, b""),
-    profiled("a log that is refused", ["x"], text("log: 1 no magic"), 3, content=b""),
+    profiled("a log that is refused", ["x"], text("log: 1 no magic"), 3, recorded=b""),
     Case("profile: no log", ["profile", "S"], {"S": ONE}, text("words: not a command"), 1),
 ]
 
 MISFITS = [
-    judged(command, name, script, content, text(f"fit: {line}"), 4)
+    judged(command, name, content, log_bytes, text(f"fit: {line}"), 4)
     for command in ["replay", "verify", "profile"]
-    for name, script, content, line in [
+    for name, content, log_bytes, line in [
         ("each event waits for the other", HANDOVER, HANDOVER_STUCK, "stuck at 0 0"),
         ("two threads in the log", ONE, HANDOVER_LOG, "threads 1 in the script, 2 in the log"),
         ("too few accesses", ONE, log((2,)), "thread 0 wants 2 accesses, found 1"),
         ("too many accesses", ONE, log((0,)), "thread 0 wants 0 accesses, found 1"),
         ("a number is drawn twice", ONE, log((1, draw(0, 1), draw(0, 1))), "stuck at 1"),
+        ("a join of more events than there are", HANDOVER, log((1, join(0, 1, HIGHEST)), (1,)), "stuck at 0 1"),
+        ("a fence of a draw that is not made", ONE, log((1, fence(1, HIGHEST))), "stuck at 1"),
+        (
+            "an end before a mark that is left",
+            HANDOVER,
+            log((1,), (2, join(1, 0, 9))),
+            "thread 1 wants 2 accesses, found 1",
+        ),
+        (
+            "a higher thread that does not fit comes before a lower one that is stuck",
+            HANDOVER,
+            log((1, join(0, 1, 9)), (2,)),
+            "thread 1 wants 2 accesses, found 1",
+        ),
+        ("the lower of two threads that do not fit", HANDOVER, log((2,), (2,)), "thread 0 wants 2 accesses, found 1"),
+        ("a pair that is not ordered, and then stuck", HANDOVER, log((1, join(1, 1, 9)), (1,)), "stuck at 1 1"),
+        (
+            "a pair that is not ordered, and then a misfit",
+            HANDOVER,
+            log((1,), (2,)),
+            "thread 1 wants 2 accesses, found 1",
+        ),
     ]
 ]
 
 LOG_REFUSALS = (
-    [shown(f"the first {size} bytes", SHARED_LOG[:size], text("log: 1 no magic"), 3) for size in range(4)]
+    [log_refused(f"the first {size} bytes", SHARED_LOG[:size], "1 no magic") for size in range(4)]
+    + [log_refused(f"the first {size} bytes", SHARED_LOG[:size], f"4 cut short at {size}") for size in range(4, 86)]
     + [
-        shown(f"the first {size} bytes", SHARED_LOG[:size], text(f"log: 4 cut short at {size}"), 3)
-        for size in range(4, 86)
-    ]
-    + [
-        shown("without its last byte", HANDOVER_LOG[:-1], text("log: 4 cut short at 35"), 3),
-        shown("one byte more", HANDOVER_LOG + b"\0", text("log: 7 trailing at 36"), 3),
-        shown("a join of its own thread", log((1,), (1, join(0, 1, 1))), text("log: 5 bad mark at 22"), 3),
-        shown("a join of no thread", log((1,), (1, join(0, 2, 1))), text("log: 5 bad mark at 22"), 3),
-        shown("an unknown kind", log((1,), (1, (4, 0, 0, 1))), text("log: 5 bad mark at 22"), 3),
-        shown("a gap behind the last access", log((1,), (1, join(2, 0, 1))), text("log: 5 bad mark at 22"), 3),
-        shown("no threads", b"OCTL\x01\x00", text("log: 3 bad threads"), 3),
-        shown("too many accesses", log((0x40001,), (1,)), text("log: 6 too many accesses"), 3),
+        log_refused("1, other letters", b"OCTl" + ONE, "1 no magic"),
+        log_refused("1, a script", ONE, "1 no magic"),
+        log_refused("2, none", b"OCTL\x00\x01", "2 bad version"),
+        log_refused("2, a later one, before the threads", b"OCTL\x02\x00", "2 bad version"),
+        log_refused("3, none", b"OCTL\x01\x00", "3 bad threads"),
+        log_refused("3, seventeen", b"OCTL\x01\x11", "3 bad threads"),
+        log_refused("4, without its last byte", HANDOVER_LOG[:-1], "4 cut short at 35"),
+        log_refused("4, as many marks as a number says", log((0,))[:-4] + b"\xff" * 4, "4 cut short at 14"),
+        log_refused("5, a whole bad mark comes before the cut", log((0,))[:-4] + b"\xff" * 18, "5 bad mark at 14"),
+        log_refused("5, a join of its own thread", log((1,), (1, join(0, 1, 1))), "5 bad mark at 22"),
+        log_refused("5, a join of no thread", log((1,), (1, join(0, 2, 1))), "5 bad mark at 22"),
+        log_refused("5, no kind", log((1,), (1, (0, 0, 0, 1))), "5 bad mark at 22"),
+        log_refused("5, a fourth kind", log((1,), (1, (4, 0, 0, 1))), "5 bad mark at 22"),
+        log_refused("5, a gap past the last access", log((1,), (1, join(2, 0, 1))), "5 bad mark at 22"),
+        log_refused("5, gaps that sum past it", log((1,), (1, join(1, 0, 1), join(2**32 - 1, 0, 1))), "5 bad mark at 36"),
+        log_refused("5, a thread of a draw", log((1, (2, 0, 1, 1)), (1,)), "5 bad mark at 14"),
+        log_refused("5, a thread of a fence", log((1, (3, 0, 1, 1)), (1,)), "5 bad mark at 14"),
+        log_refused("5, a draw of 0", log((1, draw(0, 0))), "5 bad mark at 14"),
+        log_refused("5, a fence of 0", log((1, fence(0, 0))), "5 bad mark at 14"),
+        log_refused("6, one thread", log((0x40001,), (1,)), "6 too many accesses"),
+        log_refused("6, their sum", log((0x40000,), (1,)), "6 too many accesses"),
+        log_refused("6, a sum past 32 bits", log((1,), (2**32 - 1,)), "6 too many accesses"),
+        log_refused("7, one byte more", HANDOVER_LOG + b"\0", "7 trailing at 36"),
+        log_refused("7, a second log", log((1,)) + log((1,)), "7 trailing at 14"),
+        shown("as many accesses as there may be", log((0x40000,)), text("threads 1", "thread 0 accesses 262144 marks 0")),
         judged("replay", "a log that is refused", HANDOVER, b"", text("log: 1 no magic"), 3),
         judged("replay", "a script that is refused", b"", HANDOVER_LOG, text("script: line 1: 13 no thread"), 2),
         judged("verify", "a log that is refused", HANDOVER, b"", text("log: 1 no magic"), 3),
     ]
 )
 
+NO_COMMAND = text("words: not a command")
 FAULTS = [
-    Case("words: none", [], {}, text("words: not a command"), 1),
-    Case("words: a file is missing", ["run", "S"], {"S": ONE}, text("words: not a command"), 1),
-    Case("words: too many", ["tidy", "S", "S"], {"S": ONE}, text("words: not a command"), 1),
-    Case("words: an unknown command", ["--help"], {}, text("words: not a command"), 1),
-    Case("words: not UTF-8", [b"tidy", b"\xff"], {}, text("words: not a command"), 1),
-    Case("words: no number", ["gen", "one", "S", "L"], {}, text("words: not a command"), 1),
-    Case("words: a number of 65 bits", ["gen", str(2**64), "S", "L"], {}, text("words: not a command"), 1),
-    Case("words: a log is missing", ["gen", "1", "S"], {}, text("words: not a command"), 1),
+    *[
+        Case(f"words: {name}", words, {"S": ONE}, NO_COMMAND, 1)
+        for name, words in [
+            ("none", []),
+            ("an empty one", [""]),
+            ("a file is missing", ["run", "S"]),
+            ("too many", ["tidy", "S", "S"]),
+            ("an unknown command", ["--help"]),
+            ("a capital", ["Tidy", "S"]),
+            ("not UTF-8", [b"tidy", b"\xff"]),
+            ("no number", ["gen", "one", "S", "L"]),
+            ("an empty number", ["gen", "", "S", "L"]),
+            ("a number with a sign", ["gen", "-1", "S", "L"]),
+            ("a number of 65 bits", ["gen", str(2**64), "S", "L"]),
+            ("a number of 21 digits", ["gen", "0" * 21, "S", "L"]),
+            ("a log is missing", ["gen", "1", "S"]),
+        ]
+    ],
     Case("read: no such log", ["verify", "S", "L"], {"S": ONE}, text("read: failed"), 5),
-    Case("read: no such file", ["tidy", "S"], {}, text("read: failed"), 5),
-    Case("read: a folder", ["tidy", "."], {}, text("read: failed"), 5),
-    Case("too long", ["tidy", "S"], {"S": b"#" * 1048577}, text("long: S over 1048576 bytes"), 8),
     Case(
-        "a script of the largest size",
-        ["tidy", "S"],
-        {"S": b"thread\n#" + b"x" * (1048576 - 8)},
-        text("fuel 16384", "thread"),
+        "read: a refused script comes before a log that is not there", ["verify", "S", "L"], {"S": b""},
+        text("script: line 1: 13 no thread"), 2,
     ),
-    Case("write: the log's folder is not there", ["run", "S", "none/L"], {"S": ONE}, b"", 6),
-    Case("write: the disk is full", ["run", "S", "/dev/full"], {"S": ONE}, b"", 6),
-]
+    Case("read: no such file", ["tidy", "S"], {}, text("read: failed"), 5),
+]  # fmt: skip
 
-CASES = RUNS + TIDY + REFUSED + PREFIXES + LOGS + PROFILES + MISFITS + LOG_REFUSALS + FAULTS
+CASES = RUNS + TIDY + REFUSED + PREFIXES + LOGS + STORY + PROFILES + MISFITS + LOG_REFUSALS + FAULTS

@@ -1,0 +1,243 @@
+"""Real files and a real standard output that are not as they should be.
+
+Each test makes what it needs in a folder of its own, and gives the first thing that is wrong, or
+None. What a root user is not refused is tried as the user `nobody`.
+"""
+
+import os
+import pathlib
+import shutil
+import subprocess
+import tempfile
+
+from case import join, log, script, text
+
+TOP = pathlib.Path(__file__).resolve().parent.parent
+LAUNCHER = TOP / "bin" / "octet"
+OCTET = TOP / "crates" / "octet" / "out" / "octet"
+SECONDS = 60
+
+ONE = script("object x 5 / thread / read r0 x")
+ONE_SAID = text("thread 0 done 5", "object x 5")
+ONE_LOG = log((1,))
+FAILED = text("read: failed")
+SCRIPT_LIMIT, LOG_LIMIT = 1_048_576, 67_108_864
+
+
+def called(words, folder, **how):
+    """The exit status and what is said."""
+    how = {"stdout": subprocess.PIPE, "stderr": subprocess.PIPE, **how}
+    done = subprocess.run(words, cwd=folder, timeout=SECONDS, check=False, **how)
+    if done.stderr:
+        return done.returncode, done.stdout, done.stderr
+    return done.returncode, done.stdout or b""
+
+
+def octet(words, folder, **how):
+    return called([str(OCTET), *words], folder, **how)
+
+
+def differs(what, found, wanted):
+    return None if found == wanted else f"{what}: {found!r:.300}, not {wanted!r:.300}"
+
+
+def first(*problems):
+    return next((problem for problem in problems if problem is not None), None)
+
+
+def folder_with(**files):
+    """A folder with these files, which goes when it is closed."""
+    folder = tempfile.TemporaryDirectory()
+    for name, content in files.items():
+        pathlib.Path(folder.name, name).write_bytes(content)
+    return folder
+
+
+def full_output():
+    with folder_with(S=ONE) as folder, open("/dev/full", "wb") as full:
+        return first(
+            differs("tidy", octet(["tidy", "S"], folder, stdout=full), (6, b"")),
+            differs("run", octet(["run", "S", "L"], folder, stdout=full), (6, b"")),
+            differs("the log", pathlib.Path(folder, "L").read_bytes(), ONE_LOG),
+            differs("a refusal", octet(["tidy"], folder, stdout=full), (6, b"")),
+        )
+
+
+def closed_output():
+    close = ["sh", "-c", 'exec "$0" "$@" >&-', str(OCTET)]
+    with folder_with(S=ONE) as folder:
+        return first(
+            differs("tidy", called([*close, "tidy", "S"], folder), (6, b"")),
+            differs("run", called([*close, "run", "S", "L"], folder), (6, b"")),
+            differs("the log", pathlib.Path(folder, "L").read_bytes(), ONE_LOG),
+            differs("the script", pathlib.Path(folder, "S").read_bytes(), ONE),
+        )
+
+
+def output_that_nobody_reads():
+    """Where no one reads on, the call ends: by the signal that the system sends, or with status 6."""
+    read_end, write_end = os.pipe()
+    os.close(read_end)
+    with folder_with(S=ONE) as folder:
+        status = octet(["tidy", "S"], folder, stdout=write_end)[0]
+    os.close(write_end)
+    return None if status in (6, -13) else f"status {status}"
+
+
+def folders_for_files():
+    with folder_with(S=ONE, L=ONE_LOG) as folder:
+        os.mkdir(pathlib.Path(folder, "F"))
+        return first(
+            differs("a script", octet(["tidy", "F"], folder), (5, FAILED)),
+            differs("a log", octet(["replay", "S", "F"], folder), (5, FAILED)),
+            differs("a log to be written", octet(["run", "S", "F"], folder), (6, b"")),
+            differs("a file as a folder", octet(["run", "S", "S/L"], folder), (6, b"")),
+            differs("a script in a file", octet(["tidy", "S/S"], folder), (5, FAILED)),
+            differs("what is left", sorted(os.listdir(folder)), ["F", "L", "S"]),
+        )
+
+
+def missing_folders():
+    with folder_with(S=ONE, L=ONE_LOG) as folder:
+        return first(
+            differs("a script", octet(["tidy", "none/S"], folder), (5, FAILED)),
+            differs("a log", octet(["replay", "S", "none/L"], folder), (5, FAILED)),
+            differs("a log to be written", octet(["run", "S", "none/L"], folder), (6, b"")),
+            differs("a script to be written", octet(["gen", "1", "none/S", "L"], folder), (6, b"")),
+            differs("what is left", sorted(os.listdir(folder)), ["L", "S"]),
+            differs("the old log", pathlib.Path(folder, "L").read_bytes(), ONE_LOG),
+        )
+
+
+def files_without_permission():
+    with folder_with(S=ONE, L=ONE_LOG, closed=ONE) as folder:
+        here = pathlib.Path(folder)
+        program = shutil.copy(OCTET, here / "octet")
+        for name, mode in {".": 0o755, "S": 0o644, "L": 0o444, "closed": 0, "octet": 0o755}.items():
+            os.chmod(here / name, mode)
+        user = {"user": "nobody"} if os.geteuid() == 0 else {}
+        if not user:
+            os.chmod(here, 0o555)
+
+        def as_nobody(*words):
+            return called([program, *words], folder, **user)
+
+        problem = first(
+            differs("a script", as_nobody("tidy", "closed"), (5, FAILED)),
+            differs("a log", as_nobody("replay", "S", "closed"), (5, FAILED)),
+            differs("a log over one that is not to be written", as_nobody("run", "S", "L"), (6, b"")),
+            differs("a log in a folder that is not to be written", as_nobody("run", "S", "new"), (6, b"")),
+            differs("what may be read", as_nobody("replay", "S", "L"), (0, ONE_SAID)),
+            differs("the old log", (here / "L").read_bytes(), ONE_LOG),
+            differs("what is left", sorted(os.listdir(folder)), ["L", "S", "closed", "octet"]),
+        )
+        os.chmod(here, 0o755)
+        return problem
+
+
+def reads_that_fail():
+    """A file that opens and whose first read fails, for any user."""
+    with folder_with(S=ONE) as folder:
+        return first(
+            differs("a script", octet(["tidy", "/proc/self/mem"], folder), (5, FAILED)),
+            differs("a log", octet(["verify", "S", "/proc/self/mem"], folder), (5, FAILED)),
+        )
+
+
+def full_disk():
+    with folder_with(S=ONE) as folder:
+        return first(
+            differs("run", octet(["run", "S", "/dev/full"], folder), (6, b"")),
+            differs("gen", octet(["gen", "1", "/dev/full", "L"], folder), (6, b"")),
+            differs("what is left", os.listdir(folder), ["S"]),
+        )
+
+
+def script_of_the_limit():
+    most = b"thread\n#" + b"x" * (SCRIPT_LIMIT - 8)
+    with folder_with(S=most, T=most + b"x") as folder:
+        long = text(f"long: T over {SCRIPT_LIMIT} bytes")
+        return first(
+            differs("of the limit", octet(["tidy", "S"], folder), (0, text("fuel 16384", "thread"))),
+            differs("one byte more", octet(["tidy", "T"], folder), (8, long)),
+            differs("run, one byte more", octet(["run", "T", "L"], folder), (8, long)),
+            differs("what is left", sorted(os.listdir(folder)), ["S", "T"]),
+            differs("no end", octet(["tidy", "/dev/zero"], folder), (8, text(f"long: /dev/zero over {SCRIPT_LIMIT} bytes"))),
+        )
+
+
+def log_of_the_limit():
+    """Five threads, of which the last one has as many marks as make the file as long as it may be."""
+    head = log(*[(0,)] * 4, (1,))
+    marks = (LOG_LIMIT - len(head)) // 14
+    mark = log((0,), (0, join(0, 0, 0)))[-14:]
+    most = head[:-4] + marks.to_bytes(4, "big") + mark * marks
+    said = text(*[f"thread {t} done" for t in range(4)], "thread 4 done 5", "object x 5")
+    with folder_with(S=script("object x 5" + " / thread" * 5 + " / read r0 x"), L=most, M=most + b"\0") as folder:
+        long = text(f"long: M over {LOG_LIMIT} bytes")
+        return first(
+            differs("its length", len(most), LOG_LIMIT),
+            differs("replay", octet(["replay", "S", "L"], folder), (0, said)),
+            differs("verify", octet(["verify", "S", "L"], folder), (0, text("ordered"))),
+            differs("one byte more", octet(["replay", "S", "M"], folder), (8, long)),
+            differs("show, one byte more", octet(["show", "M"], folder), (8, long)),
+        )
+
+
+def odd_names():
+    with folder_with(**{"a b": ONE, "-x": ONE, "ü": ONE}) as folder:
+        pathlib.Path(os.fsdecode(os.path.join(os.fsencode(folder), b"\xff"))).write_bytes(ONE)
+        long = b"x" * (SCRIPT_LIMIT + 1)
+        pathlib.Path(folder, "c d").write_bytes(long)
+        return first(
+            differs("a blank", octet(["run", "a b", "l m"], folder), (0, ONE_SAID)),
+            differs("the log", pathlib.Path(folder, "l m").read_bytes(), ONE_LOG),
+            differs("a blank in a line", octet(["tidy", "c d"], folder), (8, text(f"long: c d over {SCRIPT_LIMIT} bytes"))),
+            differs("a leading -", octet(["replay", "-x", "l m"], folder), (0, ONE_SAID)),
+            differs("UTF-8", octet(["replay", "ü", "l m"], folder), (0, ONE_SAID)),
+            differs("no UTF-8", octet([b"tidy", b"\xff"], folder), (1, text("words: not a command"))),
+            differs("an empty name", octet(["tidy", ""], folder), (5, FAILED)),
+        )
+
+
+def one_file_by_two_names():
+    """Names are compared, and not files: by two names of one file, what is written last stays."""
+    with folder_with(S=ONE, T=ONE) as folder:
+        return first(
+            differs("one name", octet(["run", "S", "S"], folder), (0, ONE_SAID)),
+            differs("its file", pathlib.Path(folder, "S").read_bytes(), ONE_LOG),
+            differs("two names", octet(["run", "T", "./T"], folder), (0, ONE_SAID)),
+            differs("their file", pathlib.Path(folder, "T").read_bytes(), ONE_LOG),
+        )
+
+
+def through_links():
+    with folder_with(S=ONE) as folder:
+        here = pathlib.Path(folder)
+        (here / "far").mkdir()
+        (here / "far" / "octet").symlink_to(LAUNCHER)
+        (here / "near").symlink_to("far/octet")
+        (here / "folder").symlink_to(LAUNCHER.parent)
+        return first(
+            differs("a link", called([here / "far" / "octet", "tidy", "S"], folder)[0], 0),
+            differs("a link of a link", called(["./near", "tidy", "S"], folder)[0], 0),
+            differs("a folder that is a link", called(["folder/octet", "tidy", "S"], folder)[0], 0),
+            differs("by the path", called(["sh", "-c", 'PATH=.:$PATH; near tidy S'], folder)[0], 0),
+        )
+
+
+TESTS = {
+    "standard output is full": full_output,
+    "standard output is closed": closed_output,
+    "standard output that nobody reads": output_that_nobody_reads,
+    "a folder for a file": folders_for_files,
+    "a folder that is not there": missing_folders,
+    "a file with no permission": files_without_permission,
+    "a read that fails": reads_that_fail,
+    "a disk that is full": full_disk,
+    "a script of the limit, and one byte more": script_of_the_limit,
+    "a log of the limit, and one byte more": log_of_the_limit,
+    "names with blanks, and no UTF-8": odd_names,
+    "one file by two names": one_file_by_two_names,
+    "bin/octet through links": through_links,
+}

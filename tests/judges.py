@@ -1,0 +1,333 @@
+"""What the program owes to any script and any log, judged plainly by docs/FORMATS.md.
+
+Each judge gives a status and what is said. Beside them stand scripts and logs that were spoiled a
+little: each keeps most of its form, so that it comes far before something is wrong with it.
+"""
+
+import random
+import re
+
+import paths
+from case import draw, fence, join, log, text
+from machine import Running, read_script
+
+# A command's arguments: R a register, N a number, O an object, and D a name that is declared.
+ARGUMENTS = {
+    "fuel": "N", "object": "DN", "thread": "", "set": "RN", "copy": "RR", "add": "RRR", "sub": "RRR", "mul": "RRR",
+    "xor": "RRR", "less": "RRR", "same": "RRR", "read": "RO", "write": "OR", "while": "R", "if": "R", "end": "",
+    "safe": "", "pause": "",
+}  # fmt: skip
+REFUSALS = [
+    "not UTF-8", "unknown word", "wrong count of words", "bad number", "bad name", "name given twice", "no such object",
+    "bad register", "misplaced", "unclosed", "end without open", "too many", "no thread", "bad fuel",
+]  # fmt: skip
+
+
+def is_number(word):
+    return re.fullmatch("[0-9]{1,20}", word) and int(word) < 2**64
+
+
+def refusal_of_argument(kind, word, objects):
+    if kind == "R":
+        return None if re.fullmatch("r([0-9]|1[0-5])", word) else 8
+    if kind == "N":
+        return None if is_number(word) else 4
+    if kind == "O":
+        return None if word in objects else 7
+    if not re.fullmatch("[A-Za-z_][A-Za-z0-9_]{0,31}", word):
+        return 5
+    return 6 if word in objects else None
+
+
+def refusal_of_script(content):
+    """The line and the number of the first refusal, or None."""
+    try:
+        lines = content.decode().split("\n")
+    except UnicodeDecodeError as fault:
+        return content[: fault.start].count(b"\n") + 1, 1
+    objects, threads, fuel, still_open = set(), 0, None, []
+    for number, line in enumerate(lines, 1):
+        words = [word for word in re.split("[ \t\r]+", line.split("#")[0]) if word]
+        if not words:
+            continue
+        first, arguments = words[0], words[1:]
+        if first not in ARGUMENTS:
+            return number, 2
+        if len(arguments) != len(ARGUMENTS[first]):
+            return number, 3
+        if first != "thread" and (first in ("fuel", "object")) == (threads > 0):
+            return number, 9
+        for kind, word in zip(ARGUMENTS[first], arguments):
+            refusal = refusal_of_argument(kind, word, objects)
+            if refusal is not None:
+                return number, refusal
+        if first == "object":
+            if len(objects) == 1024:
+                return number, 12
+            objects.add(arguments[0])
+        elif first == "fuel":
+            if fuel is not None or not 1 <= int(arguments[0]) <= 262_144:
+                return number, 14
+            fuel = int(arguments[0])
+        elif first in ("while", "if"):
+            still_open.append(number)
+        elif first == "end":
+            if not still_open:
+                return number, 11
+            still_open.pop()
+        elif first == "thread":
+            if still_open:
+                return still_open[-1], 10
+            if threads == 16:
+                return number, 12
+            threads += 1
+            if threads * (fuel or 16_384) > 262_144:
+                return number, 14
+    if still_open:
+        return still_open[-1], 10
+    return None if threads else (len(lines), 13)
+
+
+def tidied(content):
+    """What `tidy` owes."""
+    refusal = refusal_of_script(content)
+    if refusal is not None:
+        line, number = refusal
+        return 2, text(f"script: line {line}: {number} {REFUSALS[number - 1]}")
+    fuel, objects, threads = read_script(content)
+    lines = [f"fuel {fuel}", *[f"object {name} {value}" for name, value in objects.items()]]
+    for commands in threads:
+        lines.append("thread")
+        lines += [" ".join([*words[:-1], str(int(words[-1]))] if words[0] == "set" else words) for words in commands]
+    return 0, text(*lines)
+
+
+class Cut(Exception):
+    """A field goes past the end."""
+
+
+def read_log(content):
+    """The threads of a log, each its accesses and its marks; or the line that refuses it."""
+    if content[:4] != b"OCTL":
+        return "1 no magic"
+    at = 4
+
+    def field(size):
+        nonlocal at
+        if at + size > len(content):
+            raise Cut
+        at += size
+        return content[at - size : at]
+
+    def number(size):
+        return int.from_bytes(field(size), "big")
+
+    try:
+        if number(1) != 1:
+            return "2 bad version"
+        count = number(1)
+        if not 1 <= count <= 16:
+            return "3 bad threads"
+        threads, sum_so_far = [], 0
+        for thread in range(count):
+            accesses = number(4)
+            sum_so_far += accesses
+            if sum_so_far > 262_144:
+                return "6 too many accesses"
+            marks, left = [], accesses
+            for _ in range(number(4)):
+                place, whole = at, field(14)
+                mark = whole[0], int.from_bytes(whole[1:5], "big"), whole[5], int.from_bytes(whole[6:], "big")
+                left -= mark[1]
+                if not is_mark(mark, thread, count) or left < 0:
+                    return f"5 bad mark at {place}"
+                marks.append(mark)
+            threads.append((accesses, marks))
+    except Cut:
+        return f"4 cut short at {len(content)}"
+    return threads if at == len(content) else f"7 trailing at {at}"
+
+
+def is_mark(mark, thread, count):
+    kind, _, other, number = mark
+    if kind == paths.JOIN:
+        return other < count and other != thread
+    return kind in (paths.DRAW, paths.FENCE) and other == 0 and number > 0
+
+
+def shown(content):
+    """What `show` owes."""
+    threads = read_log(content)
+    if isinstance(threads, str):
+        return 3, text(f"log: {threads}")
+    lines = [f"threads {len(threads)}"]
+    for thread, (accesses, marks) in enumerate(threads):
+        lines.append(f"thread {thread} accesses {accesses} marks {len(marks)}")
+        for kind, gap, other, number in marks:
+            lines.append(f"gap {gap} " + {1: f"join {other}", 2: "draw", 3: "fence"}[kind] + f" {number}")
+    return 0, text(*lines)
+
+
+class Replayed:
+    """One thread of a replay: its script's run, and what is left of its log."""
+
+    def __init__(self, commands, fuel, thread_log):
+        self.running = Running(commands, fuel)
+        self.wanted, self.marks = thread_log[0], list(thread_log[1])
+        self.made = self.gap = 0
+        self.journal, self.reads = [], []
+
+    def demand(self):
+        while (words := self.running.demand())[0] in ("safe", "pause"):
+            self.running.pass_by()
+        return words
+
+    def is_access(self):
+        return self.demand()[0] in ("read", "write")
+
+    def next_event(self):
+        """The next mark, or access (kind, object); None where there is none."""
+        if self.marks and self.gap == self.marks[0][1]:
+            return self.marks[0]
+        if self.made < self.wanted and self.is_access():
+            words = self.demand()
+            return words[0], words[2] if words[0] == "read" else words[1]
+        return None
+
+    def step(self, heap):
+        event = self.next_event()
+        self.journal.append(event)
+        if event is not None and event[0] not in ("read", "write"):
+            self.marks.pop(0)
+            self.gap = 0
+            return
+        words = self.demand()
+        if event[0] == "read":
+            self.running.registers[words[1]] = heap[event[1]]
+            self.reads.append(heap[event[1]])
+        else:
+            heap[event[1]] = self.running.registers[words[2]]
+        self.running.pass_by()
+        self.made += 1
+        self.gap += 1
+
+    def found(self):
+        """How many accesses are found, where the thread does not fit its log; else None."""
+        if not self.is_access():
+            return self.made if self.made < self.wanted else None
+        return self.made + 1 if self.made == self.wanted and not self.marks else None
+
+    def is_through(self):
+        return not self.is_access() and self.made == self.wanted and not self.marks
+
+
+def replayed(content, log_content):
+    """What `replay` and `verify` owe to a script that is whole and good."""
+    logs = read_log(log_content)
+    if isinstance(logs, str):
+        return [(3, text(f"log: {logs}"))] * 2
+    fuel, heap, commands = read_script(content)
+    if len(commands) != len(logs):
+        return [(4, text(f"fit: threads {len(commands)} in the script, {len(logs)} in the log"))] * 2
+    threads = [Replayed(each, fuel, its_log) for each, its_log in zip(commands, logs)]
+    order, draws = [], 0
+    while (lowest := lowest_thread(threads, draws)) is not None:
+        thread = threads[lowest]
+        draws += thread.next_event()[0] == paths.DRAW
+        order.append((lowest, len(thread.journal)))
+        thread.step(heap)
+    for number, thread in enumerate(threads):
+        if thread.found() is not None:
+            line = f"fit: thread {number} wants {thread.wanted} accesses, found {thread.found()}"
+            return [(4, text(line))] * 2
+    if not all(thread.is_through() for thread in threads):
+        return [(4, text("fit: stuck at " + " ".join(str(len(thread.journal)) for thread in threads)))] * 2
+    lines = [
+        " ".join([f"thread {number} {thread.demand()[0]}", *map(str, thread.reads)])
+        for number, thread in enumerate(threads)
+    ]
+    said = text(*lines, *[f"object {name} {value}" for name, value in heap.items()])
+    pair = paths.by_paths([thread.journal for thread in threads], order)
+    if pair is None:
+        return [(0, said), (0, text("ordered"))]
+    (thread, event), (other, at) = pair
+    return [(0, said), (9, text(f"unordered {thread}:{event} {other}:{at}"))]
+
+
+def lowest_thread(threads, draws):
+    made = [len(thread.journal) for thread in threads]
+    for number, thread in enumerate(threads):
+        event = thread.next_event()
+        if event is not None and paths.may_step(event, made, draws):
+            return number
+    return None
+
+
+WORDS = [
+    "r0", "r15", "r16", "r01", "r", "x", "y", "z", "X", "0", "007", "1", "-1", "18446744073709551615",
+    "18446744073709551616", "000000000000000000001", "fuel", "object", "thread", "set", "read", "write", "while", "if",
+    "end", "safe", "pause", "add", "jump", "#", "\u00fc", "x\u000b", "\ufeffthread", "n" * 32, "n" * 33,
+]  # fmt: skip
+
+
+def spoiled_script(dice, content):
+    """A script with some of its words or bytes changed."""
+    for _ in range(dice.randint(0, 3)):
+        lines = [line.split(b" ") for line in content.split(b"\n")]
+        line = dice.choice(lines)
+        kind = dice.randrange(7)
+        if kind == 0:
+            line[dice.randrange(len(line))] = dice.choice(WORDS).encode()
+        elif kind == 1:
+            line.insert(dice.randint(0, len(line)), dice.choice(WORDS).encode())
+        elif kind == 2:
+            line.pop(dice.randrange(len(line)))
+        elif kind == 3:
+            lines.insert(dice.randrange(len(lines)), line)
+        elif kind == 4:
+            lines.remove(line)
+        elif kind == 5:
+            lines.insert(dice.randrange(len(lines)), [dice.choice(WORDS).encode() for _ in range(dice.randint(1, 4))])
+        content = b"\n".join(dice.choice([b" ", b"  ", b"\t", b" \r"]).join(words) for words in lines)
+        if kind == 6:
+            at = dice.randrange(len(content) + 1)
+            content = content[:at] + bytes([dice.choice([0, 9, 10, 13, 32, 35, 0x80, 0xC3, 0xFF])]) + content[at + 1 :]
+    return content[: dice.randrange(len(content) + 1)] if dice.random() < 0.1 else content
+
+
+def spoiled_bytes(dice, content):
+    """A log with some of its bytes changed."""
+    content = bytearray(content)
+    for _ in range(dice.randint(1, 2)):
+        at = dice.randrange(len(content))
+        content[at] = dice.choice([0, 1, 2, 3, 4, 15, 16, 17, 255, content[at] ^ 1])
+    if dice.random() < 0.2:
+        del content[dice.randrange(len(content)) :]
+    return bytes(content) + b"\0" * (dice.random() < 0.1)
+
+
+def spoiled_log(dice, content):
+    """A log of the same format that says other things: it may fit no longer, or lie."""
+    threads = read_log(content)
+    for _ in range(dice.randint(0, 3)):
+        thread = dice.randrange(len(threads))
+        accesses, marks = threads[thread]
+        kind = dice.choice([0, 0, 0, 0, 0, 0, 1, 1, 2, 3, 4])
+        if kind == 0 and marks:
+            marks.pop(dice.randrange(len(marks)))
+        elif kind == 1 and marks:
+            at = dice.randrange(len(marks))
+            least = 0 if marks[at][0] == paths.JOIN else 1
+            marks[at] = (*marks[at][:3], max(least, marks[at][3] + dice.choice([-2, -1, 1, 2, 2**40])))
+        elif kind == 2:
+            accesses += dice.choice([-1, 1])
+        elif kind == 3 and len(threads) > 1:
+            others = [u for u in range(len(threads)) if u != thread]
+            mark = dice.choice([join(0, dice.choice(others), dice.randint(0, 4)), draw(0, 1), fence(0, 1)])
+            marks.insert(dice.randint(0, len(marks)), mark)
+        elif kind == 4 and dice.random() < 0.3:
+            threads.append((0, []))
+            continue
+        if sum(mark[1] for mark in marks) <= accesses:
+            threads[thread] = accesses, marks
+    return log(*[(accesses, *marks) for accesses, marks in threads[:16]])
