@@ -5,10 +5,11 @@ import random
 import machine
 from case import Case, draw, fence, join, log, script, text
 
-# Whether the program has the command `turns`, and `run` goes by rounds of a turn for each thread.
+# Whether the program has the command `turns`.
 HAS_TURNS = True
-# Whether it has the command `locked`, which runs each thread of a script on a thread of its own.
-HAS_LOCKED = False
+# Whether it has the command `locked`: then `run`, `gen` and `locked` have a worker for each thread of
+# a script, in whatever order; else `run` and `gen` go by rounds of a turn for each thread.
+HAS_LOCKED = True
 
 HANDOVER = script("object x 5 / thread / set r0 7 / write x r0 / thread / read r0 x")
 
