@@ -1,5 +1,5 @@
--- A claim that a thread has answered goes on behind a Join of what that thread had made.
-use Rattle.std.proofs.Common.{◌≡◌, ◌≢◌, ℕ, suc, ◌+◌, ◌^◌, ◌<◌, ◌≤◌, ◌⊎◌, inl, inr, Bool, true, false, ◌&&◌, IsTrue, List, [], ◌∷◌, ◌++◌, length, Some, sym, refl, ap, ◌∙◌, subst, arith, length-append}
+-- A claim that a thread has answered goes on after a Join of what that thread had made.
+use Rattle.std.proofs.Common.{◌≡◌, ◌≢◌, ℕ, suc, ◌+◌, ◌^◌, ◌<◌, ◌≤◌, ◌⊎◌, inl, inr, Bool, true, false, ◌&&◌, ◌||◌, IsTrue, List, [], ◌∷◌, ◌++◌, length, Some, sym, refl, ap, ◌∙◌, subst, arith, length-append}
 use Rattle.std.specs.Prelude.{◌==◌, not, nat_lt, IsFalse}
 use Rattle.std.specs.List.{list_all}
 use Rattle.std.proofs.lemmas.Bool.{cases_eq, and_from, eqb-true, eq-eqb, ne_eqb, lt-ltb, le-leb}
@@ -33,17 +33,17 @@ use Rattle.octet_state.specs.Form.{HoldsPhase}
 use Rattle.octet_state.specs.Positions.{NamesThread, is_join, is_resting, PriorNamesThread, access_to_come, HasMarksAtEnd}
 use Rattle.octet_state.specs.Pasts.{KnowsAccesses}
 use Rattle.octet_state.specs.Handover.{KnowsShare, OwnerHandsOver, OwnerTells, ReaderHandsOver, ReaderTells, HandsOver, ClaimHandsOver}
-use Rattle.octet_state.specs.FrugalShape.{has_access, marks_for, fences_for, AsksThreadZero, IsPrivateState, IsFirstJoinToCome, IsPrivateShape}
+use Rattle.octet_state.specs.FrugalShape.{has_access, marks_for, fences_for, AsksThreadZero, IsPrivateState, IsFirstJoinToCome, IsPrivateShape, is_on}
 use Rattle.octet_state.specs.Soundness.{IsSound}
 use Rattle.octet_state.proofs.Looks.{TouchesAlike, each_thread}
 use Rattle.octet_state.proofs.lemmas.Widths.{few_events}
 use Rattle.octet_state.proofs.Longer.{ends_marked}
-use Rattle.octet_state.proofs.Events.{StandsBehind, mine, now_grows, now_more, form, positions}
+use Rattle.octet_state.proofs.Events.{StandsAfter, mine, now_grows, now_more, form, positions}
 use Rattle.octet_state.proofs.Marks.{mark_keeps_order, accesses_on, draw_on, draws_on, share_on, claim_on, pasts_on}
 use Rattle.octet_state.proofs.Accessing.{claimed_state}
 use Rattle.octet_state.proofs.Swapping.{own_share}
 use Rattle.octet_state.proofs.AskingOn.{next_apart, next_there, next_not_done, next_done, done_as_before, unanswered_still, answered_is_not, changes_still, asks_still, all_pass_still}
-use Rattle.octet_state.proofs.MarkShape.{access_same, shape_behind}
+use Rattle.octet_state.proofs.MarkShape.{access_same, shape_after_mark}
 
 -- a thread that has claimed an object, and the next that it asks: one that has answered, or is blocked
 module _ (s : ProtocolState) (t object : ℕ) (mode : Mode) (prior : StateWord) (done : ℕ) (asked : Bool) (inside : t < length s.threads) (sound : IsSound s)
@@ -82,7 +82,7 @@ module _ (s : ProtocolState) (t object : ℕ) (mode : Mode) (prior : StateWord) 
   within : t < length s.journals
   within = mine s t behind event inside sound
 
-  stands : StandsBehind s t behind event
+  stands : StandsAfter s t behind event
   stands = record {
     ran = ap is_resting is;
     runs = refl;
@@ -118,7 +118,7 @@ module _ (s : ProtocolState) (t object : ℕ) (mode : Mode) (prior : StateWord) 
   no_draw : (n : ℕ) → event ≡ Marked (Draw n) → ⊥
   no_draw n same = cc
 
-  -- behind the Join lies the past of the events that it names
+  -- after the Join lies the past of the events that it names
   joins : (place : Place) → InPast (appended s.journals t event) whom upto place → InPast (appended s.journals t event) t (now next t) place
   joins place h = past_has_joined (appended s.journals t event) t (now next t) (count s.journals t) whom upto place (let k = now_more s t behind event inside sound in omega arith) (new_event s.journals t event within)
       (let a = sound.positions.reached whom in let b = now_grows s t behind event inside sound whom in omega arith) h
@@ -186,6 +186,9 @@ module _ (s : ProtocolState) (t object : ℕ) (mode : Mode) (prior : StateWord) 
   touching : TouchesAlike behind (thread_of s t)
   touching = record { marks_same = λ o. sym (ap (λ (p : Phase). marks_for p o) is); fences_same = λ o. sym (ap (λ (p : Phase). fences_for p o) is) }
 
+  on_same : (o : ℕ) → is_on behind.phase o ≡ is_on (thread_of s t).phase o
+  on_same o = λ i. touching.marks_same o i || touching.fences_same o i
+
   asks : (u : ℕ) → AsksThreadZero (thread_of s u).phase → AsksThreadZero (thread_of next u).phase
   asks = asks_still s t object mode prior done (suc done) asked false Nothing (Some event) inside is
 
@@ -206,7 +209,7 @@ module _ (s : ProtocolState) (t object : ℕ) (mode : Mode) (prior : StateWord) 
       record {
         upto = upto;
         not_zero = zero.1;
-        is_first = access_same s t behind (Join whom upto) inside sound touching asks t o ∙ subst (λ (q : ℕ). IsFalse (has_access (journal_of s.journals t) q)) same zero.2;
+        is_first = access_same s t behind (Join whom upto) inside sound on_same asks t o ∙ subst (λ (q : ℕ). IsFalse (has_access (journal_of s.journals t) q)) same zero.2;
         one_join = ap (λ (j : List Event). marks_at_end j) (same_journal s.journals t event within) ∙ (ends_marked [] (journal_of s.journals t) (Join whom upto)
             ∙ (ap (λ (l : List Mark). l ++ Join whom upto ∷ []) none ∙ ap (λ (u : ℕ). Join u upto ∷ []) first));
       }
@@ -226,5 +229,5 @@ module _ (s : ProtocolState) (t object : ℕ) (mode : Mode) (prior : StateWord) 
         (draws_on s t behind (Join whom upto) inside sound no_draw (thread_of s t).count t (now s t) (now next t) (now_grows s t behind event inside sound t) (sound.pasts.draws t));
     handover = each_thread s t behind inside (Some event) (λ u y. ClaimHandsOver next.journals next.statuses u y.phase) (hands_on prior refl (subst (ClaimHandsOver s.journals s.statuses t) is (sound.handover t)))
         (λ u differ. claim_on s t behind (Join whom upto) inside sound no_draw u (thread_of s u).phase (sound.handover u));
-    frugal = shape_behind s t behind (Join whom upto) inside sound touching asks comes;
+    frugal = shape_after_mark s t behind (Join whom upto) inside sound on_same asks (λ o old. touching.fences_same o ∙ old.no_fence) (λ o old for. inr (comes o old for));
   }
