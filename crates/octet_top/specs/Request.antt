@@ -57,7 +57,7 @@ pair_task word =
 
 -- of each way to run a script
 abbrev pub way_of : List ℕ → Option Way
-way_of word = if bytes_eq word (codes "run") then Some AsTheyCome else None
+way_of word = if bytes_eq word (codes "run") then Some AsTheyCome else (if bytes_eq word (codes "locked") then Some AsTheyCome else None)
 
 -- of a run by picks, and these
 abbrev pub way_by_picks : List ℕ → List ℕ → Option Way
@@ -132,6 +132,7 @@ shown_reading (reading.OfPair task script log object) = OfPair task script.now l
 
 abbrev pub shown_task : RunTask → Way
 shown_task run.Run = AsTheyCome
+shown_task run.Locked = AsTheyCome
 shown_task (run.Turns picks) = ByPicks (map digit_value picks.now)
 
 abbrev pub shown_running : Running → Request

@@ -16,6 +16,8 @@ mod running;
 mod show;
 #[cfg(test)]
 mod tests;
+#[cfg(test)]
+mod thread_tests;
 mod tidy;
 mod verify;
 

@@ -8,23 +8,25 @@ use crate::request::RunTask;
 use octet_base::Gate;
 use octet_machine::play;
 use octet_model::{OutOfMemory, Recorded, Script};
+use octet_threads::{run, run_locked};
 use std::alloc::Global;
 use std::sync::Wait;
 use std::thread::Threads;
 
-/// A faithful recording of the script. Its threads take their turns on the calling thread as yet:
-/// no thread is started, and the gate is not passed.
+/// A faithful recording of the script: by threads beside each other, which pass the gate before
+/// each access, or by picks, on the calling thread.
 pub(crate) fn record<R: Threads + Wait + Sync, G: Gate>(
     rt: &R,
     alloc: Global,
     task: RunTask<'_>,
     script: &Script,
-    _gate: &G,
+    gate: &G,
 ) -> Result<Recorded, OutOfMemory>
     ensures { IfOk result (λ recorded. Records (shown_task task.entry) script.now recorded.log recorded.outcome) }
 {
     match task {
-        RunTask::Run => play(rt, alloc, script, &[]),
+        RunTask::Run => run(rt, alloc, script, gate),
+        RunTask::Locked => run_locked(rt, alloc, script, gate),
         RunTask::Turns { picks } => play(rt, alloc, script, &picks_of(alloc, picks)?),
     }
 }

@@ -31,6 +31,8 @@ pub(crate) enum PairTask {
 pub(crate) enum RunTask<'a> {
     /// As its threads come.
     Run,
+    /// As its threads come, over a machine behind one lock.
+    Locked,
     /// A turn for each hexadecimal digit, and then by rounds.
     Turns { picks: &'a str },
 }
@@ -110,6 +112,8 @@ fn run_task(word: &str) -> Option<RunTask<'static>>
 {
     if word == "run" {
         Some(RunTask::Run)
+    } else if word == "locked" {
+        Some(RunTask::Locked)
     } else {
         None
     }

@@ -1,5 +1,5 @@
-//! Requests that run a script: `run SCRIPT LOG`, `turns SCRIPT LOG PICKS` and
-//! `gen NUMBER SCRIPT LOG`.
+//! Requests that run a script: `run SCRIPT LOG`, `locked SCRIPT LOG`, `turns SCRIPT LOG PICKS`
+//! and `gen NUMBER SCRIPT LOG`.
 ghost use Rattle.std.specs.Prelude.{◌≡◌, IfOk, Some};
 ghost use Rattle.octet_top.specs.Answer.{answer_of, file_of};
 ghost use Rattle.octet_top.specs.Request.{shown_running, shown_task, Run};

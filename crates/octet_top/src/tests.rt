@@ -18,7 +18,7 @@ const LOG: &[u8] =
 
 /// A desk with the script as `S`. Each of `fails` is the number of a call that fails, and how many
 /// bytes it lets through.
-fn desk_with(alloc: Global, script: &[u8], fails: &[(u64, u32)]) -> Result<MemoryDesk, OutOfMemory>
+pub(crate) fn desk_with(alloc: Global, script: &[u8], fails: &[(u64, u32)]) -> Result<MemoryDesk, OutOfMemory>
     ensures { IfOk result (λ desk. (⟦<MemoryDesk as Desk>⟧.state desk).begun ≡ None) }
 {
     let mut contents = List::new(alloc);
@@ -33,7 +33,7 @@ fn desk_with(alloc: Global, script: &[u8], fails: &[(u64, u32)]) -> Result<Memor
     Ok(desk)
 }
 
-fn words_of(alloc: Global, line: &str) -> Result<Vec<String>, AllocError> {
+pub(crate) fn words_of(alloc: Global, line: &str) -> Result<Vec<String>, AllocError> {
     let mut words = Vec::new(alloc);
     for word in line.split_whitespace() {
         words.push(String::from_str(alloc, word)?)?;
@@ -50,6 +50,8 @@ fn commands_answer(rt: HostRuntime) -> Result<(), Failed> {
     for (line, status, said, log) in [
         ("run S L", Status::Done, SAID, Some(LOG)),
         ("run S S", Status::Done, SAID, None),
+        ("locked S L", Status::Done, SAID, Some(LOG)),
+        ("locked S", Status::Words, no_command, None),
         ("tidy S", Status::Done, canonical, None),
         ("tidy T", Status::Read, b"read: failed\n".as_slice(), None),
         ("turns S L 0", Status::Done, SAID, Some(LOG)),

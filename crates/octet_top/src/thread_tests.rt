@@ -1,0 +1,139 @@
+//! Runs by threads beside each other, through the top call.
+use crate::{Status, serve};
+use crate::tests::{desk_with, words_of};
+use octet_base::{Gate, OpenGate};
+use octet_model::OutOfMemory;
+use std::alloc::Global;
+use std::sync::Wait;
+use std::sync::atomic::{AtomicBool, Ordering};
+use std::test::Fail as Failed;
+use std::thread::{Threads, yield_now};
+
+/// How often a worker looks at the flags before it gives up.
+const MOST_LOOKS: u32 = 10_000_000;
+
+/// At its first access each of two threads raises its flag, and waits until both are up.
+#[derive(Drop)]
+struct TwoFlags {
+    first: AtomicBool,
+    second: AtomicBool,
+    gave_up: AtomicBool,
+}
+
+impl TwoFlags {
+    fn new() -> TwoFlags {
+        TwoFlags {
+            first: AtomicBool::new(false),
+            second: AtomicBool::new(false),
+            gave_up: AtomicBool::new(false),
+        }
+    }
+
+    fn are_up(&self) -> bool {
+        self.first.load(Ordering::SeqCst) && self.second.load(Ordering::SeqCst)
+    }
+
+    fn raise(&self, thread: u8) {
+        if thread == 0 {
+            self.first.store(true, Ordering::SeqCst);
+        } else {
+            self.second.store(true, Ordering::SeqCst);
+        }
+    }
+
+    fn await_both(&self) {
+        for _look in 0..MOST_LOOKS {
+            if self.are_up() {
+                return;
+            }
+            yield_now();
+        }
+        self.gave_up.store(true, Ordering::SeqCst);
+    }
+}
+
+impl Gate for TwoFlags {
+    fn pass<R: Threads + Wait + Sync>(&self, _rt: &R, thread: u8, access: u32) {
+        if access == 0 {
+            self.raise(thread);
+            self.await_both();
+        }
+    }
+}
+
+/// No body that runs the threads one after another, and none that leaves the gate out, passes.
+#[test]
+fn threads_run_beside_each_other(rt: HostRuntime) -> Result<(), Failed> {
+    let alloc = rt.alloc();
+    let script =
+        b"object x 0\nobject y 0\nthread\nset r0 1\nwrite x r0\nthread\nset r0 2\nwrite y r0\n"
+            .as_slice();
+    for line in ["run S L", "locked S L"] {
+        let gate = TwoFlags::new();
+        let mut desk = desk_with(alloc, script, &[])?;
+        let answer = serve(&rt, alloc, &words_of(alloc, line)?, &mut desk, &gate);
+        assert_eq!(rt; answer, Status::Done.code(), "{line}");
+        assert!(rt; gate.are_up(), "{line}");
+        assert!(rt; !gate.gave_up.load(Ordering::SeqCst), "{line}");
+    }
+    Ok(())
+}
+
+fn sixteen_threads(alloc: Global) -> Result<Vec<u8>, OutOfMemory> {
+    let mut script = Vec::from_slice(alloc, b"object x 0\n")?;
+    for _thread in 0..16 {
+        script.extend_from_slice(b"thread\nset r0 100\nset r1 1\nwhile r0\nread r2 x\n")?;
+        script.extend_from_slice(b"write x r0\nsafe\nsub r0 r0 r1\nend\n")?;
+    }
+    Ok(script)
+}
+
+fn waiting_for_a_flag(alloc: Global) -> Result<Vec<u8>, OutOfMemory> {
+    let mut script = Vec::from_slice(alloc, b"object x 0\nobject flag 0\n")?;
+    script.extend_from_slice(b"thread\nset r0 42\nwrite x r0\nset r1 1\nwrite flag r1\n")?;
+    script.extend_from_slice(b"thread\nset r2 1\nwhile r2\nread r3 flag\nsame r2 r3 r4\n")?;
+    script.extend_from_slice(b"safe\nend\nread r5 x\n")?;
+    Ok(script)
+}
+
+/// Whether the second line ends with the number, unless its thread is spent.
+fn second_reads_last(said: &[u8], number: &str) -> bool {
+    let Ok(said) = std::str::from_utf8(said) else {
+        return false;
+    };
+    match said.lines().nth(1) {
+        Some(line) => !line.starts_with("thread 1 done") || line.ends_with(number),
+        None => false,
+    }
+}
+
+/// What is said by a run of the script, whose log a replay repeats and a check finds ordered.
+#[test]
+fn contended_runs_repeat(rt: HostRuntime) -> Result<(), Failed> {
+    let alloc = rt.alloc();
+    let flag = waiting_for_a_flag(alloc)?;
+    let sixteen = sixteen_threads(alloc)?;
+    for (script, line) in [
+        (&flag, "run S L"),
+        (&flag, "locked S L"),
+        (&sixteen, "run S L"),
+        (&sixteen, "locked S L"),
+    ] {
+        let mut desk = desk_with(alloc, script.as_slice(), &[])?;
+        let answer = serve(&rt, alloc, &words_of(alloc, line)?, &mut desk, &OpenGate);
+        assert_eq!(rt; answer, Status::Done.code(), "{line}");
+        let mut wanted = Vec::from_slice(alloc, desk.said())?;
+        let once = Vec::from_slice(alloc, desk.said())?;
+        wanted.extend_from_slice(once.as_slice())?;
+        wanted.extend_from_slice(b"ordered\n")?;
+        for again in ["replay S L", "verify S L"] {
+            let answer = serve(&rt, alloc, &words_of(alloc, again)?, &mut desk, &OpenGate);
+            assert_eq!(rt; answer, Status::Done.code(), "{again}");
+        }
+        assert_eq!(rt; desk.said(), wanted.as_slice(), "{line}");
+        if script.len() == flag.len() {
+            assert!(rt; second_reads_last(once.as_slice(), " 42"), "{line}");
+        }
+    }
+    Ok(())
+}
