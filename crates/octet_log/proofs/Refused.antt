@@ -1,8 +1,8 @@
 -- After a good front, the next field or mark is refused for its own cause.
-use Rattle.std.proofs.Common.{◌≡◌, ◌≢◌, ◌⊎◌, ℕ, zero, suc, ◌+◌, ◌-◌, ◌^◌, ◌<◌, ◌≤◌, ◌&&◌, Bool, true, false, cond, leb, ltb, eqb, List, [], ◌∷◌, ◌++◌, length, take, drop, Option, Some, None, Result, Ok, Err, refl, sym, ap, subst, ◌∙◌, append_assoc, arith, inl, inr}
-use Rattle.std.specs.Prelude.{codes, sum_by}
+use Rattle.std.proofs.Common.{◌≡◌, ◌≢◌, ◌⊎◌, ℕ, zero, suc, ◌+◌, ◌-◌, ◌^◌, ◌<◌, ◌≤◌, ◌&&◌, true, false, cond, leb, List, [], ◌∷◌, ◌++◌, length, take, drop, Option, Some, None, Result, Ok, Err, refl, sym, ap, subst, ◌∙◌, append_assoc, arith, inl, inr}
+use Rattle.std.specs.Prelude.{codes}
 use Rattle.std.specs.Str.{bytes_eq}
-use Rattle.std.specs.List.{list_all, flat_map}
+use Rattle.std.specs.List.{flat_map}
 use Rattle.std.specs.Int.{Width, w32, w64, byte_len, from_be_bytes, to_be_bytes}
 use Rattle.std.proofs.lemmas.Bool.{lt-ltb, le-ltb, le-leb, lt-leb, ne_eqb}
 use Rattle.std.proofs.lemmas.List.{length-append, length-drop, take_at, drop_at}
@@ -12,17 +12,17 @@ use Rattle.std.proofs.lemmas.Slice.Eq.{bytes_eq-Decides}
 use Rattle.octet_model.specs.declared.event.Mark.{Mark}
 use Rattle.octet_model.specs.declared.log.Gapped.{Gapped}
 use Rattle.octet_model.specs.declared.log.ThreadLog.{ThreadLog}
-use Rattle.octet_model.specs.Log.{is_mark, are_thread_logs}
+use Rattle.octet_model.specs.Log.{is_mark}
 use Rattle.octet_model.specs.Texts.{mark_bytes, thread_bytes}
 use Rattle.octet_log.specs.declared.cause.LogCause.{LogCause}
 use Rattle.octet_log.specs.declared.cause.LogCause.TheVariants.{NoMagic, BadVersion, BadThreads, CutShort, BadMark, TooManyAccesses}
-use Rattle.octet_log.specs.Decoding.{◌>>=◌, wanted, byte_at, number_at, spelled_mark, judged_mark, mark_at, each_at, marks_at, thread_at, threads_at, body_at, decoded}
+use Rattle.octet_log.specs.Decoding.{◌>>=◌, byte_at, number_at, spelled_mark, judged_mark, mark_at, each_at, marks_at, thread_at, threads_at, body_at, decoded}
 use Rattle.octet_log.specs.Laws.{IsInput}
 use Rattle.octet_log.specs.Refusals.{accesses_of, gaps_of, IsStart, start_bytes, IsWithin, within_bytes, SpellsNoNext}
-use Rattle.octet_log.proofs.Fields.{wide32, number_again, IsInput-drop, Takes}
+use Rattle.octet_log.proofs.Fields.{wide32, number_again, IsInput-drop}
 use Rattle.octet_log.proofs.Each.{AllGood}
 use Rattle.octet_log.proofs.Loops.{read_next, next_thread}
-use Rattle.octet_log.proofs.Marks.{GoodMark, GoodMark32, accesses_left, mark_takes, mark_again_at, are_marks, all_small, length-bytes_of_mark}
+use Rattle.octet_log.proofs.Marks.{GoodMark32, accesses_left, mark_takes, mark_again_at, are_marks, all_small, length-bytes_of_mark}
 use Rattle.octet_log.proofs.Threads.{GoodThread, are_threads, thread_again}
 
 no_magic : (front : List ℕ) → front ≢ codes "OCTL" → bytes_eq front (codes "OCTL") ≡ false

@@ -1,5 +1,5 @@
 -- Bytes that are judged to be a log are its spelling, and each log's spelling is judged so.
-use Rattle.std.proofs.Common.{◌≡◌, ℕ, ◌-◌, ◌≤◌, ◌&&◌, true, false, leb, eqb, List, [], ◌∷◌, ◌++◌, length, take, drop, Result, Ok, Err, refl, sym, ap, subst, ◌∙◌, arith}
+use Rattle.std.proofs.Common.{◌≡◌, ℕ, ◌-◌, ◌≤◌, ◌&&◌, true, false, leb, eqb, List, [], ◌∷◌, ◌++◌, length, take, drop, Ok, Err, refl, sym, ap, subst, ◌∙◌, arith}
 use Rattle.std.specs.Prelude.{codes, sum_by}
 use Rattle.std.specs.Str.{bytes_eq}
 use Rattle.std.specs.List.{flat_map}
@@ -9,10 +9,8 @@ use Rattle.std.proofs.lemmas.Slice.Eq.{bytes_eq-Decides}
 use Rattle.octet_model.specs.declared.log.ThreadLog.{ThreadLog}
 use Rattle.octet_model.specs.Log.{is_log, are_thread_logs}
 use Rattle.octet_model.specs.Texts.{thread_bytes, log_bytes}
-use Rattle.octet_log.specs.declared.cause.LogCause.{LogCause}
 use Rattle.octet_log.specs.declared.cause.LogCause.TheVariants.{NoMagic, BadVersion, BadThreads, Trailing}
-use Rattle.octet_log.specs.declared.cause.LogFault.{LogFault}
-use Rattle.octet_log.specs.Decoding.{◌>>=◌, wanted, byte_at, threads_at, body_at, decoded, Gives, ReadsSpelling}
+use Rattle.octet_log.specs.Decoding.{◌>>=◌, wanted, byte_at, threads_at, body_at, decoded}
 use Rattle.octet_log.specs.Laws.{IsInput}
 use Rattle.octet_log.proofs.Valid.{and_first, and_second}
 use Rattle.octet_log.proofs.Fields.{bind_ok, wanted_ok, ok_is, Takes-then, byte_takes, IsInput-drop}

@@ -1,22 +1,22 @@
 -- From what is served to the promises of each command.
-use Rattle.std.proofs.Common.{◌≡◌, ◌∙◌, ◌++◌, ℕ, List, Some, Ok, inl, inr, ap, sym, subst, arith}
-use Rattle.std.specs.FinMap.{get}
+use Rattle.std.proofs.Common.{◌≡◌, ◌∙◌, ◌++◌, ℕ, List, Some, Ok, inl, inr, ap, sym, subst, arith, Option, None, refl, ◌≢◌, length, Bool, true, false, cond}
+use Rattle.std.specs.FinMap.{get, insert}
 use Rattle.octet_base.specs.Desk.{Files, Contents, DeskState}
 use Rattle.octet_model.specs.Texts.{log_bytes, outcome_text}
 use Rattle.octet_model.proofs.lemmas.LogLength.{faithful_log_is_short}
 use Rattle.octet_top.specs.declared.reply.Status.TheVariants.{Done, Read}
-use Rattle.octet_top.specs.Answer.{Answer, code_of, writes_file}
-use Rattle.octet_top.specs.Request.{Way, Run, request_in}
+use Rattle.octet_top.specs.Answer.{Answer, code_of, writes_file, writes_both, summary}
+use Rattle.octet_top.specs.Request.{Way, Run, request_in, OfPair, Gen}
 use Rattle.octet_top.specs.Commands.{Answers, RequestAnswers}
 use Rattle.octet_top.specs.Delivery.{IsServed}
 use Rattle.octet_top.specs.Outputs.{IsWhole}
-use Rattle.octet_top.specs.Promises.{IsFaithfulRun, RunsFaithfully, IsOrderedPair, VerifiesOrdered, RepeatsRecordings}
+use Rattle.octet_top.specs.Promises.{IsFaithfulRun, RunsFaithfully, IsOrderedPair, VerifiesOrdered, RepeatsRecordings, IsGeneratedRun, GeneratesFaithfully}
 use Rattle.octet_top.proofs.Recorded.{recorded_faithfully}
 use Rattle.octet_top.proofs.Causes.{same_status, has_cause}
 use Rattle.octet_top.proofs.Effects.{leaves}
 use Rattle.octet_top.specs.Effects.{Leaves}
 use Rattle.octet_model.specs.declared.outcome.Outcome.{Outcome}
-use Rattle.octet_model.specs.Orders.{execution, lowest_order, IsFaithful}
+use Rattle.octet_model.specs.Orders.{execution, lowest_order, IsFaithful, journals_after}
 use Rattle.octet_replay.proofs.Answered.{faithful}
 use Rattle.octet_clock.specs.declared.verdict.Verdict.TheVariants as verdict
 use Rattle.octet_top.specs.declared.inputs.Pair.{Pair}
@@ -24,19 +24,13 @@ use Rattle.octet_top.specs.declared.request.PairTask.TheVariants.{Replay, Verify
 use Rattle.octet_top.proofs.Due.{pair_single}
 use Rattle.octet_top.proofs.Rows.{not_done, script_refused, pair_refused}
 use Rattle.octet_top.proofs.Left.{get-inserted, get-other}
-use Rattle.std.proofs.Common.{Option, None, refl, ◌≢◌, length, Bool, true, false, cond}
-use Rattle.octet_top.specs.Request.{OfPair, Gen}
 use Rattle.octet_top.specs.Inputs.{IsPairRead}
-use Rattle.octet_top.specs.Promises.{IsGeneratedRun, GeneratesFaithfully}
 use Rattle.octet_script.specs.Spelling.{canonical_text}
-use Rattle.octet_top.specs.Answer.{writes_both, summary}
 use Rattle.std.specs.List.{sum_by}
-use Rattle.std.specs.FinMap.{insert}
 use Rattle.std.proofs.lemmas.List.{length-map}
 use Rattle.octet_model.specs.declared.script.Script.{Script}
 use Rattle.octet_model.specs.declared.log.ThreadLog.{ThreadLog}
 use Rattle.octet_model.specs.Journals.{log_of_journal, log_of}
-use Rattle.octet_model.specs.Orders.{journals_after}
 use Rattle.octet_model.proofs.lemmas.LawfulOrders.{lawful_order_has_its_log, lawful_order_fits}
 use Rattle.octet_gen.specs.Generated.{IsGenerated}
 use Rattle.octet_gen.proofs.Accesses.{script_makes_its_accesses}

@@ -1,6 +1,6 @@
 -- What the top call promises of each command.
 use Rattle.octet_model.specs.declared.limits.TheConstants.{MAX_LOG_FILE}
-use Rattle.std.specs.Prelude.{ℕ, ◌≡◌, ◌≤◌, ◌++◌, List, length, Some}
+use Rattle.std.specs.Prelude.{ℕ, ◌≡◌, ◌≤◌, ◌++◌, List, length, Some, ◌≢◌, Option, None, Ok}
 use Rattle.std.specs.FinMap.{get}
 use Rattle.octet_base.specs.Desk.{Contents, DeskState}
 use Rattle.octet_model.specs.declared.script.Script.{Script}
@@ -13,14 +13,12 @@ use Rattle.octet_script.specs.Spelling.{Spells, canonical_text}
 use Rattle.octet_replay.specs.Judged.{IsLawful}
 use Rattle.octet_clock.specs.Verified.{HasOneOutcome}
 use Rattle.octet_gen.specs.Generated.{IsGenerated}
-use Rattle.octet_top.specs.Request.{Way, Run, request_in}
+use Rattle.octet_top.specs.Request.{Way, Run, request_in, OfPair, Gen}
 use Rattle.octet_top.specs.declared.reply.Status.TheVariants.{Done}
-use Rattle.std.specs.Prelude.{◌≢◌, Option, None, Ok}
 use Rattle.std.specs.List.{sum_by}
 use Rattle.octet_top.specs.declared.inputs.Pair.{Pair}
 use Rattle.octet_top.specs.declared.request.PairTask.TheVariants.{Replay, Verify}
 use Rattle.octet_top.specs.Answer.{summary, code_of}
-use Rattle.octet_top.specs.Request.{OfPair, Gen}
 use Rattle.octet_top.specs.Inputs.{IsPairRead}
 use Rattle.octet_top.specs.Commands.{Records}
 

@@ -18,7 +18,11 @@ const LOG: &[u8] =
 
 /// A desk with the script as `S`. Each of `fails` is the number of a call that fails, and how many
 /// bytes it lets through.
-pub(crate) fn desk_with(alloc: Global, script: &[u8], fails: &[(u64, u32)]) -> Result<MemoryDesk, OutOfMemory>
+pub(crate) fn desk_with(
+    alloc: Global,
+    script: &[u8],
+    fails: &[(u64, u32)],
+) -> Result<MemoryDesk, OutOfMemory>
     ensures { IfOk result (λ desk. (⟦<MemoryDesk as Desk>⟧.state desk).begun ≡ None) }
 {
     let mut contents = List::new(alloc);
@@ -140,13 +144,17 @@ fn bytes_of(alloc: Global, hex: &str) -> Result<Vec<u8>, AllocError> {
 fn runs_by_turns(rt: HostRuntime) -> Result<(), Failed> {
     let alloc = rt.alloc();
     let reading = b"object x 5\nthread\nset r0 7\nwrite x r0\nthread\nread r0 x\n".as_slice();
-    let sharing = b"object x 9\nthread\nthread\nread r0 x\nread r1 x\nthread\nread r0 x\n".as_slice();
-    let crossing = b"object x 0\nobject y 0\nthread\nset r0 1\nwrite y r0\nthread\nset r0 2\nwrite y r0\nwrite x r0\n".as_slice();
-    let pausing = b"object x 0\nthread\nset r0 1\nwrite x r0\npause\nwrite x r0\nthread\nset r0 2\nwrite x r0\n".as_slice();
-    let racing = b"object x 0\nthread\nthread\nset r0 1\nwrite x r0\nthread\nset r0 2\nwrite x r0\n".as_slice();
-    let raising =
-        b"object y 3\nthread\nthread\nread r0 y\nwrite y r0\nread r0 y\n".as_slice();
-    let asking = b"object x 1\nthread\nset r0 9\nwrite x r0\nthread\nread r0 x\nthread\nread r0 x\nthread\nread r0 x\nthread\nread r0 x\nthread\nread r0 x\nthread\nread r0 x\nthread\nread r0 x\nthread\nread r0 x\nthread\nread r0 x\nthread\nread r0 x\nthread\nread r0 x\nthread\nread r0 x\nthread\nread r0 x\nthread\nread r0 x\nthread\nread r0 x\n".as_slice();
+    let sharing =
+        b"object x 9\nthread\nthread\nread r0 x\nread r1 x\nthread\nread r0 x\n".as_slice();
+    let crossing =
+        b"object x 0\nobject y 0\nthread\nset r0 1\nwrite y r0\nthread\nset r0 2\nwrite y r0\nwrite x r0\n".as_slice();
+    let pausing =
+        b"object x 0\nthread\nset r0 1\nwrite x r0\npause\nwrite x r0\nthread\nset r0 2\nwrite x r0\n".as_slice();
+    let racing =
+        b"object x 0\nthread\nthread\nset r0 1\nwrite x r0\nthread\nset r0 2\nwrite x r0\n".as_slice();
+    let raising = b"object y 3\nthread\nthread\nread r0 y\nwrite y r0\nread r0 y\n".as_slice();
+    let asking =
+        b"object x 1\nthread\nset r0 9\nwrite x r0\nthread\nread r0 x\nthread\nread r0 x\nthread\nread r0 x\nthread\nread r0 x\nthread\nread r0 x\nthread\nread r0 x\nthread\nread r0 x\nthread\nread r0 x\nthread\nread r0 x\nthread\nread r0 x\nthread\nread r0 x\nthread\nread r0 x\nthread\nread r0 x\nthread\nread r0 x\nthread\nread r0 x\n".as_slice();
     for (script, words, said, log) in [
         (
             reading,

@@ -1,6 +1,6 @@
 //! Runs by threads beside each other, through the top call.
-use crate::{Status, serve};
 use crate::tests::{desk_with, words_of};
+use crate::{Status, serve};
 use octet_base::{Gate, OpenGate};
 use octet_model::OutOfMemory;
 use std::alloc::Global;
@@ -66,8 +66,7 @@ impl Gate for TwoFlags {
 fn threads_run_beside_each_other(rt: HostRuntime) -> Result<(), Failed> {
     let alloc = rt.alloc();
     let script =
-        b"object x 0\nobject y 0\nthread\nset r0 1\nwrite x r0\nthread\nset r0 2\nwrite y r0\n"
-            .as_slice();
+        b"object x 0\nobject y 0\nthread\nset r0 1\nwrite x r0\nthread\nset r0 2\nwrite y r0\n".as_slice();
     for line in ["run S L", "locked S L"] {
         let gate = TwoFlags::new();
         let mut desk = desk_with(alloc, script, &[])?;

@@ -8,7 +8,7 @@ use Rattle.octet_model.specs.Texts.{log_bytes}
 use Rattle.octet_log.specs.declared.cause.LogCause.{LogCause}
 use Rattle.octet_log.specs.declared.cause.LogCause.TheVariants.{Trailing}
 use Rattle.octet_log.specs.declared.cause.LogFault.{LogFault}
-use Rattle.octet_log.specs.Decoding.{◌>>=◌, wanted, decoded, Gives, ReadsSpelling}
+use Rattle.octet_log.specs.Decoding.{decoded, Gives, ReadsSpelling}
 use Rattle.octet_log.proofs.Fields.{wanted_ok, ok_is}
 use Rattle.octet_log.proofs.Whole.{decoded_again}
 

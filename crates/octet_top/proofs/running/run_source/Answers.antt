@@ -4,17 +4,17 @@ use Rattle.octet_model.specs.declared.outcome.Outcome.{Outcome}
 use Rattle.octet_top.specs.Answer.{answer_of, writes_file}
 use Rattle.octet_top.specs.Request.{shown_task}
 use Rattle.octet_top.specs.Commands.{RunAnswers}
-use Rattle.octet_top.proofs.Recorded.{recorded_lengths}
+use Rattle.octet_top.proofs.Recorded.{recorded_whole}
 use Rattle.octet_top.proofs.running.run_source.Goals as goal
 
 pub outcome_text-requires-clause-ends : goal.outcome_text-requires-clause-ends
-outcome_text-requires-clause-ends g c = (recorded_lengths _ _ _ _ c.in_ok-recorded.ensures).ends
+outcome_text-requires-clause-ends g c = (recorded_whole _ _ _ _ c.in_ok-recorded.ensures).ends
 
 pub outcome_text-requires-clause-reads : goal.outcome_text-requires-clause-reads
-outcome_text-requires-clause-reads g c = (recorded_lengths _ _ _ _ c.in_ok-recorded.ensures).reads
+outcome_text-requires-clause-reads g c = (recorded_whole _ _ _ _ c.in_ok-recorded.ensures).reads
 
 pub outcome_text-requires-clause-heap : goal.outcome_text-requires-clause-heap
-outcome_text-requires-clause-heap g c = (recorded_lengths _ _ _ _ c.in_ok-recorded.ensures).heap
+outcome_text-requires-clause-heap g c = (recorded_whole _ _ _ _ c.in_ok-recorded.ensures).heap
 
 pub returns : goal.returns
 returns g c =
