@@ -30,35 +30,22 @@ turns_keep_script : (m : MachineState) (threads : List ℕ) → (after_turns m t
 turns_keep_script m [] = refl
 turns_keep_script m (thread ∷ threads) = turns_keep_script (after_turn m thread) threads ∙ turn_keeps_script m thread
 
-rounds_keep_script : (m : MachineState) (rounds : ℕ) → (after_rounds m rounds).script ≡ m.script
-rounds_keep_script m zero = refl
-rounds_keep_script m (suc fewer) = turns_keep_script (after_rounds m fewer) (range_with_len 0 (length (after_rounds m fewer).runners)) ∙ rounds_keep_script m fewer
-
 -- after so many rounds, before each of which some thread had not ended
-pub record IsUnderway (before after : MachineState) : Type 0 where
-  pub rounds : ℕ
-  pub comes : after ≡ after_rounds before rounds
-  pub least : (fewer : ℕ) → fewer < rounds → have_ended (after_rounds before fewer) ≡ false
+abbrev pub IsUnderway : MachineState → MachineState → Type 0
+IsUnderway before after = (rounds : ℕ) × (after ≡ after_rounds before rounds) × ((fewer : ℕ) → fewer < rounds → have_ended (after_rounds before fewer) ≡ false)
 
 -- and one more
 pub one_round : (before m m' : MachineState) → IsUnderway before m → have_ended m ≡ false → m' ≡ after_round m → IsUnderway before m'
-one_round before m m' underway going round = record {
-  rounds = suc underway.rounds;
-  comes = round ∙ ap after_round underway.comes;
-  least = λ fewer lt. elim (cases_lt fewer underway.rounds) [
-    | inl below ↦ underway.least fewer below
+one_round before m m' (rounds, comes, least) going round = (
+  suc rounds,
+  round ∙ ap after_round comes,
+  λ fewer lt. elim (cases_lt fewer rounds) [
+    | inl below ↦ least fewer below
     | inr above ↦
-        let same : fewer ≡ underway.rounds = omega arith in
-        ap (λ (n : ℕ). have_ended (after_rounds before n)) same ∙ sym (ap have_ended underway.comes) ∙ going
-  ];
-}
-
-pub underway_keeps_script : (before after : MachineState) → IsUnderway before after → after.script ≡ before.script
-underway_keeps_script before after underway = ap (λ (m : MachineState). m.script) underway.comes ∙ rounds_keep_script before underway.rounds
-
--- where all have ended
-pub ends_by_rounds : (before after : MachineState) → IsUnderway before after → have_ended after ≡ true → EndsByRounds before after
-ends_by_rounds before after underway ended = record { rounds = underway.rounds; comes = underway.comes; ended = ended; least = underway.least }
+        let same : fewer ≡ rounds = omega arith in
+        ap (λ (n : ℕ). have_ended (after_rounds before n)) same ∙ sym (ap have_ended comes) ∙ going
+  ],
+)
 
 module _ (script : Script) (picks : List ℕ) (opening picked end : MachineState) (opens : opening ≡ opening_machine script) (picks_taken : picked ≡ after_picks opening picks) where
   picked_is : picked ≡ after_picks (opening_machine script) picks

@@ -21,7 +21,8 @@ fn take_picks(machine: &mut Machine, picks: &[u8])
 
 // A turn of each thread, in order.
 fn take_round(machine: &mut Machine)
-    ensures { machine.new ≡ after_round machine.old }
+    ensures state { machine.new ≡ after_round machine.old }
+    ensures script { machine.new.script ≡ machine.old.script }
 {
     for thread in 0..machine.threads() {
         machine.turn(thread);

@@ -9,5 +9,6 @@ loop-thread-preserved c =
     let one : end - thread ≡ suc (end - (thread + 1)) = omega arith in
     record {
       threads = c.loop-thread.invariant.threads ∙ sym c.turn.ensures.threads;
+      script = c.turn.ensures.script ∙ c.loop-thread.invariant.script;
       left = one_turn c.loop-thread.machine c.turn.new.self thread (end - thread) (end - (thread + 1)) _ c.turn.ensures.state one c.loop-thread.invariant.left;
     }

@@ -8,4 +8,5 @@ abbrev pub invariant-loop-thread : goal.invariant-loop-thread
 invariant-loop-thread l = record {
   threads : l.thread-end ≡ length l.machine.runners;
   left : after_turns l.machine (range_with_len l.thread (l.thread-end - l.thread)) ≡ after_round l.fn.machine;
+  script : l.machine.script ≡ l.fn.machine.script;
 }
