@@ -6,3 +6,5 @@ pub mod Judging
 pub mod Answered
 pub mod Whole
 pub mod ManyMarks
+mod ThreadSets
+mod Placing

@@ -1,3 +1,6 @@
+pub mod Needs
+pub mod ThreadSet
+pub mod WaitingLists
 pub mod Judged
 pub mod Line
 pub mod Coming

@@ -7,12 +7,18 @@ mod fault;
 mod judge;
 pub mod laws;
 mod line;
+mod need;
 mod order;
 mod state;
 #[cfg(test)]
 mod tests;
 mod thread;
+mod thread_set;
+mod waiting;
+mod waits;
 
 pub use fault::ReplayFault;
 pub use line::fit_line;
+pub use need::Need;
 pub use order::{journals, replay};
+pub use waits::Waits;
