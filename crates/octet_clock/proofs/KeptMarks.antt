@@ -1,17 +1,13 @@
 -- The clock of a thread's first events, from the marks that are kept of it.
-use Rattle.std.proofs.Common.{◌≡◌, ℕ, suc, ◌<◌, ◌≤◌, inl, inr, List, length, Some, ltb, get_or, true, false, slice_get, sym, ap, ◌∙◌, arith}
+use Rattle.std.proofs.Common.{◌≡◌, ℕ, suc, ◌<◌, ◌≤◌, ◌⊎◌, inl, inr, List, length, Some, ltb, get_or, true, false, slice_get, sym, ap, ◌∙◌, arith}
 use Rattle.std.proofs.lemmas.Bool.{cases_eq, cases_lt, lt-ltb, ltb-true}
 use Rattle.std.proofs.lemmas.Option.{slice_get-get_or, slice_get_within, get_or_from_slice_get}
 use Rattle.std.specs.List.Sorted.{IsNonDecreasingBy, IsPartitionPoint}
-use Rattle.octet_model.specs.declared.event.Mark.{Mark}
-use Rattle.octet_model.specs.declared.event.Event.TheVariants.{Marked}
 use Rattle.octet_model.specs.Machine.{Journals, journal_of}
-use Rattle.octet_model.specs.HappensBefore.{event_at}
-use Rattle.octet_model.proofs.Pasts.{place}
 use Rattle.octet_clock.specs.declared.clock.Clock.{Clock}
 use Rattle.octet_clock.specs.declared.marks.Kept.{Kept}
 use Rattle.octet_clock.specs.Clock.{count_in, IsRaised}
-use Rattle.octet_clock.specs.Past.{IsPastOf, KeepsMarks}
+use Rattle.octet_clock.specs.Past.{AddsNothing, IsPastOf, KeepsMarks}
 use Rattle.octet_clock.proofs.Known.{past_of_none, past_raised}
 
 -- the marks are kept in order
@@ -28,27 +24,28 @@ kept_in_order js t now kept keeps i j d le lt =
 module _ (js : Journals) (t now upto : ℕ) (kept : List Kept) (keeps : KeepsMarks js t now kept) (within : upto ≤ now) (made : now ≤ length (journal_of js t))
     (i : ℕ) (low : i ≤ length kept)
     (point : IsPartitionPoint (λ one. ltb one.event upto ≡ true) (λ one. ltb one.event upto ≡ false) kept i) where
-  -- a mark among the first so many events is kept below the place
-  below_place : (event : ℕ) (mark : Mark) → event < upto → event_at js (place t event) ≡ Some (Marked mark)
-      → (j : ℕ) × (one : Kept) × (slice_get kept j ≡ Some one) × (one.event ≡ event) × (j < i)
-  below_place event mark lt is =
-      let there = keeps.all event mark (omega arith) is in
-      let j = there.0 in
-      let one = there.1 in
-      elim (cases_lt j i) [
-        | inl below ↦ (j, one, there.2, there.3, below)
-        | inr above ↦
-            let inside = slice_get_within kept j one there.2 in
-            let value = get_or_from_slice_get kept j one one there.2 in
-            let passes = lt-ltb one.event upto (omega (arith, there.3)) in
-            absurd (let fails = point.1 j one above inside in let same = ap (λ (k : Kept). ltb k.event upto) value in cc)
-      ]
+  -- an event among the first so many is kept below the place, or adds nothing
+  below_place : (event : ℕ) → event < upto → ((j : ℕ) × (one : Kept) × (slice_get kept j ≡ Some one) × (one.event ≡ event) × (j < i)) ⊎ AddsNothing js t event
+  below_place event lt = elim (keeps.all event (omega arith)) [
+    | inr nothing ↦ inr nothing
+    | inl there ↦
+        let j = there.0 in
+        let one = there.1 in
+        elim (cases_lt j i) [
+          | inl below ↦ inl (j, one, there.2, there.3, below)
+          | inr above ↦
+              let inside = slice_get_within kept j one there.2 in
+              let value = get_or_from_slice_get kept j one one there.2 in
+              let passes = lt-ltb one.event upto (omega (arith, there.3)) in
+              absurd (let fails = point.1 j one above inside in let same = ap (λ (k : Kept). ltb k.event upto) value in cc)
+        ]
+  ]
 
   -- none of them
   pub past_before_marks : (c d : Clock) → i ≡ 0 → ((u : ℕ) → count_in c u ≡ 0) → IsRaised c t upto d → IsPastOf js t upto d
   past_before_marks c d is none raised =
       past_raised js t 0 upto c d (past_of_none js t c none) (omega arith) (omega arith)
-      (λ k above lt mark at_k. absurd (let there = below_place k mark lt at_k in omega (arith, there.4)))
+      (λ k above lt. elim (below_place k lt) [ inl there ↦ absurd (omega (arith, there.4)) | inr nothing ↦ nothing ])
       raised
 
   -- the last of them
@@ -58,12 +55,13 @@ module _ (js : Journals) (t now upto : ℕ) (kept : List Kept) (keeps : KeepsMar
       let passes = point.0 j one (omega arith) (omega arith) in
       let lt : one.event < upto = ltb-true one.event upto (sym (ap (λ (k : Kept). ltb k.event upto) value) ∙ passes) in
       past_raised js t (suc one.event) upto one.clock d (keeps.pasts j one at_j) (omega arith) (omega arith)
-      (λ k above below mark at_k.
-      let there = below_place k mark below at_k in
-      absurd (elim (cases_eq there.0 j) [
-        | inl same ↦ (let e : Some there.1 ≡ Some one = sym there.2 ∙ ap (slice_get kept) same ∙ at_j in let f = ap (λ (k : Kept). k.event) (some_same there.1 one e) in omega (arith, there.3))
-        | inr differ ↦ omega (arith, there.3, there.4, keeps.rising there.0 j there.1 one (omega (arith, there.4)) there.2 at_j)
-      ]))
+      (λ k above below. elim (below_place k below) [
+        | inr nothing ↦ nothing
+        | inl there ↦ absurd (elim (cases_eq there.0 j) [
+          | inl same ↦ (let e : Some there.1 ≡ Some one = sym there.2 ∙ ap (slice_get kept) same ∙ at_j in let f = ap (λ (k : Kept). k.event) (some_same there.1 one e) in omega (arith, there.3))
+          | inr differ ↦ omega (arith, there.3, there.4, keeps.rising there.0 j there.1 one (omega (arith, there.4)) there.2 at_j)
+        ])
+      ])
       raised
     where
       some_same : (a b : Kept) → Some a ≡ Some b → a ≡ b

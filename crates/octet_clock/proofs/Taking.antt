@@ -22,10 +22,11 @@ use Rattle.octet_clock.specs.declared.verdict.Verdict.TheVariants.{Ordered, Unor
 use Rattle.octet_clock.specs.Accesses.{KeepsAccesses, AreNoted}
 use Rattle.octet_clock.specs.Clock.{count_in, IsRaised}
 use Rattle.octet_clock.specs.LastAccesses.{last_in, is_read_of, is_write_of, IsLastOf, IsNoted, KeepsLast}
-use Rattle.octet_clock.specs.Past.{IsPastOf, KeepsMarks}
+use Rattle.octet_clock.specs.Past.{AddsNothing, IsKept, IsPastOf, KeepsMarks}
 use Rattle.octet_clock.specs.Play.{made_by, step_place, IsStep}
 use Rattle.octet_clock.specs.Sources.{IsNextStep, IsDrawn, KeepsDraws, KeepsAllMarks, draws_with}
 use Rattle.octet_clock.specs.Verdict.{IsEarlierConflict, IsJoinedUp, IsFirstMissed, IsFirstUnordered, JudgedUpTo}
+use Rattle.octet_clock.proofs.Edges.{unmarked_adds}
 use Rattle.octet_clock.proofs.Walk.{made_one, made_other, draw_counts, draw_is_next, others_count_none}
 
 -- an item of a list that was pushed to
@@ -44,14 +45,14 @@ in_set (x ∷ xs) (suc i) y zero z is = inr (λ e. omega arith, is)
 in_set (x ∷ xs) (suc i) y (suc j) z is = elim (in_set xs i y j z is) [ inl new ↦ inl (ap suc new.0, new.1) | inr old ↦ inr (λ e. old.0 (omega arith), old.1) ]
 
 module _ (js : Journals) (t k : ℕ) (kept : List Kept) (keeps : KeepsMarks js t k kept) where
-  -- an access adds no mark
-  pub keeps_on : ((mark : Mark) → event_at js (place t k) ≡ Some (Marked mark) → ⊥) → KeepsMarks js t (suc k) kept
-  keeps_on quiet = record {
+  -- an event that adds nothing need not be kept
+  pub keeps_on : AddsNothing js t k → KeepsMarks js t (suc k) kept
+  keeps_on nothing = record {
     rising = keeps.rising;
     made = λ i one is. omega (arith, keeps.made i one is);
-    all = λ event mark lt is. elim (cases_eq event k) [
-      | inl same ↦ absurd (quiet mark (subst (λ (n : ℕ). event_at js (place t n) ≡ Some (Marked mark)) same is))
-      | inr differ ↦ keeps.all event mark (omega arith) is
+    all = λ event lt. elim (cases_eq event k) [
+      | inl same ↦ inr (subst (λ (n : ℕ). AddsNothing js t n) (sym same) nothing)
+      | inr differ ↦ keeps.all event (omega arith)
     ];
     pasts = keeps.pasts;
   }
@@ -78,10 +79,13 @@ module _ (js : Journals) (t k : ℕ) (kept : List Kept) (keeps : KeepsMarks js t
         | inr new_i ↦ let e = ap (λ (o : Kept). o.event) new_i.1 in omega arith
       ]
 
-      all : (event : ℕ) (mark : Mark) → event < suc k → event_at js (place t event) ≡ Some (Marked mark) → (i : ℕ) × (one : Kept) × (slice_get (kept ++ new ∷ []) i ≡ Some one) × (one.event ≡ event)
-      all event mark lt is = elim (cases_eq event k) [
-        | inl same ↦ (length kept, new, slice_get_last kept new, sym same)
-        | inr differ ↦ let there = keeps.all event mark (omega arith) is in (there.0, there.1, slice_get-append kept (new ∷ []) there.0 there.1 there.2, there.3)
+      all : (event : ℕ) → event < suc k → IsKept (kept ++ new ∷ []) event ⊎ AddsNothing js t event
+      all event lt = elim (cases_eq event k) [
+        | inl same ↦ inl (length kept, new, slice_get_last kept new, sym same)
+        | inr differ ↦ elim (keeps.all event (omega arith)) [
+          | inl there ↦ inl (there.0, there.1, slice_get-append kept (new ∷ []) there.0 there.1 there.2, there.3)
+          | inr nothing ↦ inr nothing
+        ]
       ]
 
       pasts : (i : ℕ) (one : Kept) → slice_get (kept ++ new ∷ []) i ≡ Some one → IsPastOf js t (suc one.event) one.clock
@@ -162,7 +166,7 @@ module _ (js : Journals) (play : List ℕ) (i t : ℕ) (e : Event) (next : IsNex
     each = λ u one is. elim (cases_eq u t) [
       | inl same ↦
           let old = subst (λ (v : ℕ). KeepsMarks js v (made_by play i v) one.kept.items) same (keeps.each u one is) in
-          let on = keeps_on js t k one.kept.items old (λ mark at_k. quiet mark (some_same e (Marked mark) (sym next.step.makes ∙ at_k))) in
+          let on = keeps_on js t k one.kept.items old (λ a h. unmarked_adds js t k a (λ mark at_k. quiet mark (some_same e (Marked mark) (sym next.step.makes ∙ at_k))) h) in
           subst (λ (v : ℕ). KeepsMarks js v (made_by play (suc i) v) one.kept.items) (sym same) (subst (λ (n : ℕ). KeepsMarks js t n one.kept.items) (sym one_more) on)
       | inr differ ↦ subst (λ (n : ℕ). KeepsMarks js u n one.kept.items) (sym (others_same u differ)) (keeps.each u one is)
     ];
@@ -171,9 +175,8 @@ module _ (js : Journals) (play : List ℕ) (i t : ℕ) (e : Event) (next : IsNex
       some_same : (a b : Event) → Some a ≡ Some b → a ≡ b
       some_same a b e = cc
 
-  pub marks_with : (marks marks' : List Marks) (one one' : Marks) (clock : Clock) (n : ℕ) → n ≡ k → slice_get marks t ≡ Some one → one'.kept.items ≡ one.kept.items ++ record { event = n; clock = clock } ∷ []
-      → marks' ≡ slice_set marks t one' → IsPastOf js t (suc n) clock → KeepsAllMarks js play i marks → KeepsAllMarks js play (suc i) marks'
-  marks_with marks marks' one one' clock n is at_t pushes sets past keeps =
+  pub marks_with : (marks marks' : List Marks) (one' : Marks) → KeepsMarks js t (suc k) one'.kept.items → marks' ≡ slice_set marks t one' → KeepsAllMarks js play i marks → KeepsAllMarks js play (suc i) marks'
+  marks_with marks marks' one' more sets keeps =
       subst (λ (m : List Marks). KeepsAllMarks js play (suc i) m) (sym sets) (record {
         as_many = length-set marks t one' ∙ keeps.as_many;
         each = λ u other at_u. elim (in_set marks t one' u other at_u) [
@@ -183,11 +186,7 @@ module _ (js : Journals) (play : List ℕ) (i t : ℕ) (e : Event) (next : IsNex
       })
     where
       at_thread : KeepsMarks js t (made_by play (suc i) t) one'.kept.items
-      at_thread =
-          let past' = subst (λ (m : ℕ). IsPastOf js t (suc m) clock) is past in
-          let more = keeps_mark js t k one.kept.items (keeps.each t one at_t) clock past' in
-          let pushes' = pushes ∙ ap (λ (m : ℕ). one.kept.items ++ record { event = m; clock = clock } ∷ []) is in
-          subst (λ (m : ℕ). KeepsMarks js t m one'.kept.items) (sym one_more) (subst (λ (l : List Kept). KeepsMarks js t (suc k) l) (sym pushes') more)
+      at_thread = subst (λ (m : ℕ). KeepsMarks js t m one'.kept.items) (sym one_more) more
 
   -- the draws
   drawn_stays : (number : ℕ) (first : Prefix) → IsDrawn js play i number first → IsDrawn js play (suc i) number first

@@ -1,5 +1,5 @@
 -- When a clock is the past of a thread's first events, and when a thread's marks are kept with their clocks.
-use Rattle.std.specs.Prelude.{◌≡◌, ℕ, suc, ◌<◌, ◌↔◌, List, Some, slice_get}
+use Rattle.std.specs.Prelude.{◌≡◌, ℕ, suc, ◌<◌, ◌↔◌, ◌⊎◌, List, Some, slice_get}
 use Rattle.octet_model.specs.declared.event.Mark.{Mark}
 use Rattle.octet_model.specs.declared.event.Event.TheVariants.{Marked}
 use Rattle.octet_model.specs.declared.event.Place.{Place}
@@ -14,10 +14,17 @@ use Rattle.octet_clock.specs.Clock.{count_in}
 abbrev pub IsPastOf : Journals → ℕ → ℕ → Clock → Type 0
 IsPastOf journals thread now clock = (place : Place) → InPast journals thread now place ↔ (place.event < count_in clock place.thread)
 
--- the marks among a thread's first so many events, in order, each with the past behind it
+-- an event takes nothing but itself into the past of its thread
+abbrev pub AddsNothing : Journals → ℕ → ℕ → Type 0
+AddsNothing journals thread event = (place : Place) → InPast journals thread (suc event) place → InPast journals thread event place ⊎ (place ≡ record { thread = thread; event = event })
+
+-- a mark is kept that is at this place of its journal
+abbrev pub IsKept : List Kept → ℕ → Type 0
+IsKept kept event = (i : ℕ) × (one : Kept) × (slice_get kept i ≡ Some one) × (one.event ≡ event)
+
+-- marks among a thread's first so many events, in order, each with the past behind it; the events that are not kept add nothing
 pub record KeepsMarks (journals : Journals) (thread now : ℕ) (kept : List Kept) : Type 0 where
   pub rising : (i j : ℕ) (sooner later : Kept) → i < j → slice_get kept i ≡ Some sooner → slice_get kept j ≡ Some later → sooner.event < later.event
   pub made : (i : ℕ) (one : Kept) → slice_get kept i ≡ Some one → one.event < now
-  pub all : (event : ℕ) (mark : Mark) → event < now → event_at journals (record { thread = thread; event = event }) ≡ Some (Marked mark)
-      → (i : ℕ) × (one : Kept) × (slice_get kept i ≡ Some one) × (one.event ≡ event)
+  pub all : (event : ℕ) → event < now → IsKept kept event ⊎ AddsNothing journals thread event
   pub pasts : (i : ℕ) (one : Kept) → slice_get kept i ≡ Some one → IsPastOf journals thread (suc one.event) one.clock

@@ -12,7 +12,7 @@ use Rattle.octet_clock.specs.declared.marks.Marks.{Marks}
 use Rattle.octet_clock.specs.declared.sources.Prefix.{Prefix}
 use Rattle.octet_clock.specs.Past.{KeepsMarks}
 use Rattle.octet_clock.specs.Play.{made_by, draws_by, IsWholePlay, IsStep}
-use Rattle.octet_clock.specs.Tally.{HavePlaces}
+use Rattle.octet_replay.specs.Places.{HavePlaces}
 
 -- the next step of a whole play makes this event
 pub record IsNextStep (journals : Journals) (play : List ℕ) (index thread : ℕ) (event : Event) : Type 0 where

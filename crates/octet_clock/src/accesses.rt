@@ -52,8 +52,7 @@ impl LastAccesses {
         ensures { OnOk result (IsNoted self.old.clocks.items object thread count self.new.clocks.items) }
     {
         self.cover(object)?;
-        let clock = self.clocks[object as usize];
-        self.clocks[object as usize] = clock.raised(thread, count);
+        self.clocks[object as usize].raise(thread, count);
         Ok(())
     }
 }

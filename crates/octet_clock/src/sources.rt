@@ -70,12 +70,15 @@ pub(crate) fn clock_behind(
     requires room { count + 1 < 2 ^ 32 }
     ensures { (journals : List (List Event)) (play : List ℕ) (index : ℕ) → IsNextStep journals play index thread (Marked mark) → KeepsDraws journals play index draws.now → KeepsAllMarks journals play index marks.now → count ≡ made_by play index thread → IsPastOf journals thread (suc count) result }
 {
-    let own = clock_after(marks, thread, count);
+    let mut own = clock_after(marks, thread, count);
     let Some(first) = source_of(draws, mark) else {
-        return own.raised(thread, count + 1);
+        own.raise(thread, count + 1);
+        return own;
     };
     let taken = clock_after(marks, first.thread as usize, first.count);
-    own.joined(&taken).raised(thread, count + 1)
+    own.join(&taken);
+    own.raise(thread, count + 1);
+    own
 }
 
 /// Notes a draw, with the events of its thread up to it.

@@ -1,10 +1,11 @@
 pub mod Valid
 pub mod Asking
 pub mod Growing
-pub mod Following
+pub mod Stepping
 pub mod Judging
 pub mod Answered
 pub mod Whole
+pub mod Places
 pub mod ManyMarks
 mod ThreadSets
 mod Placing

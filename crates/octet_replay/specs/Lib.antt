@@ -6,4 +6,6 @@ pub mod Line
 pub mod Coming
 pub mod Threads
 pub mod Replayed
+pub mod ReplayState
+pub mod Places
 pub mod Laws

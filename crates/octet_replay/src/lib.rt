@@ -3,13 +3,16 @@
 //! does not fit the script.
 #![tactic(auto)]
 
+mod ending;
 mod fault;
 mod judge;
 pub mod laws;
 mod line;
 mod need;
 mod order;
+mod replayer;
 mod state;
+mod stepped;
 #[cfg(test)]
 mod tests;
 mod thread;
@@ -21,4 +24,6 @@ pub use fault::ReplayFault;
 pub use line::fit_line;
 pub use need::Need;
 pub use order::{journals, replay};
+pub use replayer::Replayer;
+pub use stepped::Stepped;
 pub use waits::Waits;

@@ -11,7 +11,7 @@ returns-in_default c = λ journals play index next draws marks is.
     let nothing = subst (λ (o : Option Prefix). TakesIn journals play index t o) c.in_default.is (c.source_of.ensures journals play index t next draws) in
     let within = next.step.within in
     let own = c.clock_after-own.ensures journals play index next.whole (omega arith) marks (omega arith) in
-    counted_none journals play index t c.args.count _ c.clock_after-own.result c.raised.result is (add-one c.args.count) nothing (step_within journals play index t (Marked c.args.mark) next.step) own c.raised.ensures
+    counted_none journals play index t c.args.count _ c.clock_after-own.result c.raise.new.self is (add-one c.args.count) nothing (step_within journals play index t (Marked c.args.mark) next.step) own c.raise.ensures
 
 pub returns : goal.returns
 returns c = λ journals play index next draws marks is.
@@ -20,4 +20,4 @@ returns c = λ journals play index next draws marks is.
     let within = next.step.within in
     let own = c.clock_after-own.ensures journals play index next.whole (omega arith) marks (omega arith) in
     let other = c.clock_after-taken.ensures journals play index next.whole (omega arith) marks source.made in
-    counted_source journals play index t c.args.count _ c.in-Some.first c.clock_after-own.result c.clock_after-taken.result c.joined.result c.raised-2.result is (add-one c.args.count) source (step_within journals play index t (Marked c.args.mark) next.step) own other c.joined.ensures c.raised-2.ensures
+    counted_source journals play index t c.args.count _ c.in-Some.first c.clock_after-own.result c.clock_after-taken.result c.join.new.self c.raise-2.new.self is (add-one c.args.count) source (step_within journals play index t (Marked c.args.mark) next.step) own other c.join.ensures c.raise-2.ensures

@@ -18,7 +18,7 @@ returns-clause-taken c = λ journals play index next holds.
     let draws = subst (λ (d : List Prefix). KeepsDraws journals play index d) (sym c.deref-2.ensures.value) holds.draws in
     let past = c.clock_behind-clock.ensures journals play index next draws marks is in
     record {
-      made = made_stays journals play index t event next old.made c.raised-self.result _ holds.made (omega (arith, c.count-count.ensures)) c.raised-self.ensures;
+      made = made_stays journals play index t event next old.made c.raise.new.self _ holds.made (omega (arith, c.count-count.ensures)) c.raise.ensures;
       marks = marks_with journals play index t event next old.marks.items _ c.index_mut.result.now c.push.new.self c.clock_behind-clock.result c.count-count.result is at_t c.in_ok-push.ensures refl past holds.marks;
       draws = draws_on_mark journals play index t event next c.args.mark old.draws.items c.note_draw.new.draws.items _ refl (omega (arith, c.count-count.ensures, holds.made t)) c.in_ok-note_draw.ensures holds.draws;
       accesses = accesses_on_mark journals play index t event next c.args.mark old.accesses refl holds.accesses;
