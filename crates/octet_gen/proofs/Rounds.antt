@@ -4,7 +4,7 @@ use Rattle.std.specs.List.{All}
 use Rattle.std.proofs.lemmas.Bool.{ne_eqb}
 use Rattle.std.proofs.lemmas.List.{get_or-set_same, get_or-set_other, length-set}
 use Rattle.std.proofs.lemmas.Option.{slice_get-get_or}
-use Rattle.octet_model.proofs.Steps.{slice_get-append}
+use Rattle.octet_model.proofs.lemmas.Lists.{slice_get-append}
 use Rattle.octet_model.specs.declared.command.Command.{Command}
 use Rattle.octet_model.specs.declared.command.Command.TheVariants.{Sub, Read, Write, Close, Safe}
 use Rattle.octet_model.specs.declared.event.Event.{Event}

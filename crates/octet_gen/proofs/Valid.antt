@@ -11,7 +11,7 @@ use Rattle.octet_model.specs.declared.object.Object.{Object}
 use Rattle.octet_model.specs.Script.{is_script}
 use Rattle.octet_model.specs.Thread.{is_opener}
 use Rattle.octet_model.specs.Validity.{IsCommand, is_closer, IsNested, IsValidThread, AreDistinct}
-use Rattle.octet_model.proofs.Validity.{script_decides}
+use Rattle.octet_model.proofs.lemmas.Validity.{script_decides}
 use Rattle.octet_gen.specs.Generated.{draw_at, object_of_draw, access_of_draw, accesses_from, loop_round, generated_thread, generated_threads, generated_names}
 use Rattle.octet_gen.proofs.Names.{names_differ, length-names}
 

@@ -3,18 +3,18 @@ use Rattle.std.proofs.Common.{Bool, List, [], ◌∷◌, sym, ap, ◌∙◌}
 use Rattle.octet_model.specs.declared.event.Event.{Event}
 use Rattle.octet_model.specs.declared.event.Event.TheVariants.{Read, Write, Marked}
 use Rattle.octet_model.specs.Thread.{Configuration, settled, configuration_after}
-use Rattle.octet_model.proofs.Splits.{configuration_split, fits_join}
+use Rattle.octet_model.proofs.lemmas.Splits.{configuration_split, fits_join}
 use Rattle.octet_interp.specs.declared.demand.Demand.{Demand}
 use Rattle.octet_interp.specs.declared.demand.Demand.TheVariants.{Read, Write, Ended}
-use Rattle.octet_interp.specs.Told.{Standing, told, after_told}
+use Rattle.octet_interp.specs.Demands.{ThreadState, next_demand, after_demand}
 use Rattle.octet_interp.specs.Laws.{Agrees, IsJournalOf, IsJournalPast, JournalsKeepUp, JournalsTakeMarks}
 use Rattle.octet_interp.proofs.Agreement.{agrees, follows}
 
 -- standing elsewhere
-abbrev moved : Standing → Configuration → Bool → Standing
+abbrev moved : ThreadState → Configuration → Bool → ThreadState
 moved s at waits = record { commands = s.commands; at = at; waits = waits; objects = s.objects }
 
-keeps_with : (start : Configuration) (journal : List Event) (s : Standing) (at : Configuration) (waits : Bool) (demand : Demand)
+keeps_with : (start : Configuration) (journal : List Event) (s : ThreadState) (at : Configuration) (waits : Bool) (demand : Demand)
     → Agrees demand s (moved s at waits) → IsJournalOf start journal s → IsJournalPast start journal demand (moved s at waits)
 keeps_with start journal s at waits (Read object) agrees kept =
     let after = configuration_after s.commands start journal in
@@ -37,7 +37,7 @@ keeps_with start journal s at waits (Ended end) agrees kept =
 keeps_with start journal s at waits _ agrees kept = record { fits = kept.fits; settles = kept.settles ∙ sym agrees }
 
 pub keep_up : JournalsKeepUp
-keep_up start journal s kept = keeps_with start journal s (after_told s).at (after_told s).waits (told s) (agrees s) kept
+keep_up start journal s kept = keeps_with start journal s (after_demand s).at (after_demand s).waits (next_demand s) (agrees s) kept
 
 pub take_marks : JournalsTakeMarks
 take_marks start journal s mark kept = record {

@@ -10,7 +10,8 @@ use Rattle.octet_model.specs.declared.command.Command.{Command}
 use Rattle.octet_model.specs.declared.command.Command.TheVariants.{Loop, Branch, Close}
 use Rattle.octet_model.specs.Script.{is_nested}
 use Rattle.octet_model.specs.Thread.{is_opener, end_from, matching_end, is_opened_at, matching_opener, place_past_end, place_after_close}
-use Rattle.octet_interp.specs.Leads.{is_closer, lead_of, IsLeadTable, IsThrough, IsMatched}
+use Rattle.octet_model.specs.Validity.{is_closer}
+use Rattle.octet_interp.specs.Leads.{lead_of, IsLeadTable, HasItsLead, IsMatched}
 
 end_opener : (depth place : ℕ) (command : Command) (rest : List Command) → is_opener command ≡ true → end_from depth place (command ∷ rest) ≡ end_from (suc depth) (suc place) rest
 end_opener depth place (Loop test) rest is = refl
@@ -122,7 +123,7 @@ found commands opener end (suc place) lt is none =
 moved : (commands : List Command) (k k' e e' : ℕ) → k ≡ k' → e ≡ e' → is_opened_at commands k e ≡ true → is_opened_at commands k' e' ≡ true
 moved commands k k' e e' p q is = subst₂ (λ (a b : ℕ). is_opened_at commands a b ≡ true) p q is
 
-later : (commands : List Command) (leads : List ℕ) (here place : ℕ) → IsThrough commands leads here place → IsThrough commands leads (suc here) place
+later : (commands : List Command) (leads : List ℕ) (here place : ℕ) → HasItsLead commands leads here place → HasItsLead commands leads (suc here) place
 later commands leads here place t = record { right = t.right; ended = λ end le. t.ended end (omega arith) }
 
 drop_here : (commands : List Command) (here : ℕ) (command : Command) → slice_get commands here ≡ Some command → here < length commands → drop here commands ≡ command ∷ drop (suc here) commands
@@ -200,14 +201,14 @@ takes_closer commands here command rest opener leads past m at within closer lea
           (m.open_here j (omega arith));
       empty = λ place le. get_or-set_other (set leads opener (suc here)) here place past 0 (λ same. omega arith) ∙ get_or-set_other leads opener place (suc here) 0 (λ same. omega arith) ∙ m.empty place (omega arith);
       others = λ place lt. elim (cases_eq place here) [
-        | inl e ↦ inr (subst (λ (k : ℕ). IsThrough commands (set (set leads opener (suc here)) here past) (suc here) k) (sym e) (record {
+        | inl e ↦ inr (subst (λ (k : ℕ). HasItsLead commands (set (set leads opener (suc here)) here past) (suc here) k) (sym e) (record {
           right = get_or-set_same (set leads opener (suc here)) here past 0 (omega (arith, m.len)) ∙ leads_past
               ∙ ap (λ (k : ℕ). place_past_end (slice_get commands k) k here) (sym opener_is)
               ∙ sym (lead_closer commands here command closer) ∙ ap (lead_of commands here) (sym at);
           ended = λ end le. opens_not commands here end command at (closer_opens_not command closer);
         }))
         | inr apart ↦ elim (cases_eq place opener) [
-          | inl e ↦ inr (subst (λ (k : ℕ). IsThrough commands (set (set leads opener (suc here)) here past) (suc here) k) (sym e) (record {
+          | inl e ↦ inr (subst (λ (k : ℕ). HasItsLead commands (set (set leads opener (suc here)) here past) (suc here) k) (sym e) (record {
             right = get_or-set_other (set leads opener (suc here)) here opener past 0 (λ same. omega arith) ∙ get_or-set_same leads opener (suc here) 0 (omega (arith, m.len))
                 ∙ sym (lead_opened commands opener here (slice_get commands opener) here_opened);
             ended = λ end le. opened_once commands opener here end here_opened (λ same. omega arith);
@@ -242,7 +243,7 @@ takes_other commands here command opened leads m at within opener closer =
           (m.open_here j jn);
       empty = λ place le. m.empty place (omega arith);
       others = λ place lt. elim (cases_eq place here) [
-        | inl e ↦ inr (subst (λ (k : ℕ). IsThrough commands leads (suc here) k) (sym e) (record {
+        | inl e ↦ inr (subst (λ (k : ℕ). HasItsLead commands leads (suc here) k) (sym e) (record {
           right = m.empty here (omega arith) ∙ sym (lead_other commands here command opener closer) ∙ ap (lead_of commands here) (sym at);
           ended = λ end le. opens_not commands here end command at opener;
         }))

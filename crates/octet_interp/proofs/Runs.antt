@@ -7,8 +7,8 @@ use Rattle.octet_model.specs.declared.outcome.End.TheVariants.{Spent}
 use Rattle.octet_model.specs.Thread.{Configuration, run_to, stepped}
 use Rattle.octet_interp.specs.declared.demand.Demand.{Demand}
 use Rattle.octet_interp.specs.declared.demand.Demand.TheVariants.{Read, Write, Safe, Pause, Ended}
-use Rattle.octet_interp.specs.Progress.{CanPass}
-use Rattle.octet_interp.specs.Told.{is_told, arrived, demand_of, told_at}
+use Rattle.octet_interp.specs.Context.{CanPass}
+use Rattle.octet_interp.specs.Demands.{is_demand, at_demand, demand_of_command, demand_from}
 
 pub one_fuel : (commands : List Command) (c : Configuration) (command : Command) → (stepped commands c command).fuel ≡ pred c.fuel
 one_fuel commands c (Set to number) = refl
@@ -83,41 +83,41 @@ module _ (stops : Command → Bool) (commands : List Command) where
       go None here fuelled at next = absurd (let none : None ≡ Some command = sym here ∙ at in cc)
       go (Some other) here fuelled at next = kind other (stops other) refl here fuelled at (next other)
 
-is_told_if : (command : Command) (registers : List ℕ) (demand : Demand) → demand_of command registers ≡ Some demand → is_told command ≡ true
+is_told_if : (command : Command) (registers : List ℕ) (demand : Demand) → demand_of_command command registers ≡ Some demand → is_demand command ≡ true
 is_told_if (Read to object) registers demand is = refl
 is_told_if (Write object from) registers demand is = refl
 is_told_if Safe registers demand is = refl
 is_told_if Pause registers demand is = refl
 is_told_if _ registers demand is = absurd cc
 
-not_told_if : (command : Command) (registers : List ℕ) → demand_of command registers ≡ None → is_told command ≡ false
+not_told_if : (command : Command) (registers : List ℕ) → demand_of_command command registers ≡ None → is_demand command ≡ false
 not_told_if (Read to object) registers is = absurd cc
 not_told_if (Write object from) registers is = absurd cc
 not_told_if Safe registers is = absurd cc
 not_told_if Pause registers is = absurd cc
 not_told_if _ registers is = refl
 
-pub arrives_at_told : (commands : List Command) (c : Configuration) (command : Command) (demand : Demand) → slice_get commands c.place ≡ Some command → demand_of command c.registers ≡ Some demand → arrived commands c ≡ c
-arrives_at_told commands c command demand at is = stays_at is_told commands c.fuel c command at (is_told_if command c.registers demand is)
+pub arrives_at_told : (commands : List Command) (c : Configuration) (command : Command) (demand : Demand) → slice_get commands c.place ≡ Some command → demand_of_command command c.registers ≡ Some demand → at_demand commands c ≡ c
+arrives_at_told commands c command demand at is = stays_at is_demand commands c.fuel c command at (is_told_if command c.registers demand is)
 
-pub arrives_past : (commands : List Command) (c : Configuration) → length commands ≤ c.place → arrived commands c ≡ c
-arrives_past commands c past = stays_past is_told commands c.fuel c (slice_get_past commands c.place past)
+pub arrives_past : (commands : List Command) (c : Configuration) → length commands ≤ c.place → at_demand commands c ≡ c
+arrives_past commands c past = stays_past is_demand commands c.fuel c (slice_get_past commands c.place past)
 
-pub arrives_empty : (commands : List Command) (c : Configuration) → c.fuel ≡ 0 → arrived commands c ≡ c
-arrives_empty commands c none = stays_empty is_told commands c.fuel c none
+pub arrives_empty : (commands : List Command) (c : Configuration) → c.fuel ≡ 0 → at_demand commands c ≡ c
+arrives_empty commands c none = stays_empty is_demand commands c.fuel c none
 
-pub arrives_on : (commands : List Command) (c : Configuration) (command : Command) → slice_get commands c.place ≡ Some command → demand_of command c.registers ≡ None → 0 < c.fuel → arrived commands (stepped commands c command) ≡ arrived commands c
-arrives_on commands c command at is fuelled = goes_on is_told commands c command at (not_told_if command c.registers is) fuelled
+pub arrives_on : (commands : List Command) (c : Configuration) (command : Command) → slice_get commands c.place ≡ Some command → demand_of_command command c.registers ≡ None → 0 < c.fuel → at_demand commands (stepped commands c command) ≡ at_demand commands c
+arrives_on commands c command at is fuelled = goes_on is_demand commands c command at (not_told_if command c.registers is) fuelled
 
 abbrev pub told_with : Command → List ℕ → ℕ → Demand
-told_with command registers fuel = elim fuel [ zero ↦ Ended Spent | suc n ↦ unwrap_or (demand_of command registers) (Ended Spent) ]
+told_with command registers fuel = elim fuel [ zero ↦ Ended Spent | suc n ↦ unwrap_or (demand_of_command command registers) (Ended Spent) ]
 
-pub tells : (command : Command) (c : Configuration) (demand : Demand) → 0 < c.fuel → demand_of command c.registers ≡ Some demand → told_at (Some command) c ≡ demand
+pub tells : (command : Command) (c : Configuration) (demand : Demand) → 0 < c.fuel → demand_of_command command c.registers ≡ Some demand → demand_from (Some command) c ≡ demand
 tells command c demand fuelled is =
     let n : c.fuel ≡ suc (pred c.fuel) = omega arith in
     ap (told_with command c.registers) n ∙ ap (λ (o : Option Demand). unwrap_or o (Ended Spent)) is
 
-pub tells_end : (command : Command) (c : Configuration) → c.fuel ≡ 0 → told_at (Some command) c ≡ Ended Spent
+pub tells_end : (command : Command) (c : Configuration) → c.fuel ≡ 0 → demand_from (Some command) c ≡ Ended Spent
 tells_end command c none = ap (told_with command c.registers) none
 
 pub can_pass : (demand : Demand) (place fuel len : ℕ) → 0 < fuel → place < len → CanPass demand place fuel len

@@ -1,4 +1,4 @@
--- The laws of what a thread is told to demand, as the public functions of laws.rt prove them.
+-- The laws of what a thread demands, as the public functions of laws.rt prove them.
 use Rattle.std.specs.Prelude.{◌≡◌, ℕ, List, [], ◌∷◌, ◌++◌}
 use Rattle.octet_model.specs.declared.command.Command.{Command}
 use Rattle.octet_model.specs.declared.event.Event.{Event}
@@ -7,24 +7,24 @@ use Rattle.octet_model.specs.declared.event.Mark.{Mark}
 use Rattle.octet_model.specs.Thread.{Configuration, settled, demanded, past_demanded, configuration_after, FitsFrom, FitsToEnd, ToRead, ToWrite, ToEnd}
 use Rattle.octet_interp.specs.declared.demand.Demand.{Demand}
 use Rattle.octet_interp.specs.declared.demand.Demand.TheVariants.{Read, Write, Ended}
-use Rattle.octet_interp.specs.Told.{Standing, told, after_told, given, TakesFuel}
+use Rattle.octet_interp.specs.Demands.{ThreadState, next_demand, after_demand, given, TakesFuel}
 
--- an access or an end that is told is the one that the thread demands, and leaves it where that does; a safe point and a pause change nothing of where it settles; an end is told again
-abbrev pub Agrees : Demand → Standing → Standing → Type 0
+-- an access or an end that `next` answers is the one that the thread demands with safe points and pauses left out, and leaves it where that does; a safe point and a pause change nothing of where it settles; an end is told again
+abbrev pub Agrees : Demand → ThreadState → ThreadState → Type 0
 Agrees (Read object) before after =
     (demanded before.commands before.at ≡ ToRead object) × ((value : ℕ) → (given after value).at ≡ past_demanded before.commands before.at value)
 Agrees (Write object value) before after =
     (demanded before.commands before.at ≡ ToWrite object value) × ((any : ℕ) → after.at ≡ past_demanded before.commands before.at any)
-Agrees (Ended end) before after = (demanded before.commands before.at ≡ ToEnd end) × (told after ≡ Ended end)
+Agrees (Ended end) before after = (demanded before.commands before.at ≡ ToEnd end) × (next_demand after ≡ Ended end)
 Agrees _ before after = settled before.commands after.at ≡ settled before.commands before.at
 
--- with safe points and pauses left out, what a thread is told to demand is what it demands
+-- with safe points and pauses left out, the demands of a run are those of the thread
 abbrev pub DemandsAreThoseOfTheThread : Type 0
-DemandsAreThoseOfTheThread = (s : Standing) → Agrees (told s) s (after_told s)
+DemandsAreThoseOfTheThread = (s : ThreadState) → Agrees (next_demand s) s (after_demand s)
 
 -- each demand takes fuel but the end
 abbrev pub DemandsTakeFuel : Type 0
-DemandsTakeFuel = (s : Standing) → TakesFuel (told s) s.at.fuel (after_told s).at.fuel
+DemandsTakeFuel = (s : ThreadState) → TakesFuel (next_demand s) s.at.fuel (after_demand s).at.fuel
 
 -- configurations that settle alike demand alike, and are alike past it
 abbrev pub DemandsFollowFromWhereItSettles : Type 0
@@ -32,21 +32,21 @@ DemandsFollowFromWhereItSettles = (commands : List Command) (c d : Configuration
     → (demanded commands c ≡ demanded commands d) × ((value : ℕ) → past_demanded commands c value ≡ past_demanded commands d value)
 
 -- from this start, the journal fits the thread and leaves it where it stands, but for commands that are no access
-pub record IsJournalOf (start : Configuration) (journal : List Event) (s : Standing) : Type 0 where
+pub record IsJournalOf (start : Configuration) (journal : List Event) (s : ThreadState) : Type 0 where
   pub fits : FitsFrom s.commands start journal
   pub settles : settled s.commands (configuration_after s.commands start journal) ≡ settled s.commands s.at
 
 -- with the event of the demand, the journal is one of the thread past the demand; at the end it fits the thread to its end
-abbrev pub IsJournalPast : Configuration → List Event → Demand → Standing → Type 0
+abbrev pub IsJournalPast : Configuration → List Event → Demand → ThreadState → Type 0
 IsJournalPast start journal (Read object) after = (value : ℕ) → IsJournalOf start (journal ++ Read object value ∷ []) (given after value)
 IsJournalPast start journal (Write object value) after = IsJournalOf start (journal ++ Write object value ∷ []) after
 IsJournalPast start journal (Ended end) after = FitsToEnd after.commands start journal × (demanded after.commands (configuration_after after.commands start journal) ≡ ToEnd end)
 IsJournalPast start journal _ after = IsJournalOf start journal after
 
--- a journal keeps up with its thread when it gets the event of each demand that is told
+-- a journal keeps up with its thread when it gets the event of each demand
 abbrev pub JournalsKeepUp : Type 0
-JournalsKeepUp = (start : Configuration) (journal : List Event) (s : Standing) → IsJournalOf start journal s → IsJournalPast start journal (told s) (after_told s)
+JournalsKeepUp = (start : Configuration) (journal : List Event) (s : ThreadState) → IsJournalOf start journal s → IsJournalPast start journal (next_demand s) (after_demand s)
 
 -- and when it gets a mark
 abbrev pub JournalsTakeMarks : Type 0
-JournalsTakeMarks = (start : Configuration) (journal : List Event) (s : Standing) (mark : Mark) → IsJournalOf start journal s → IsJournalOf start (journal ++ Marked mark ∷ []) s
+JournalsTakeMarks = (start : Configuration) (journal : List Event) (s : ThreadState) (mark : Mark) → IsJournalOf start journal s → IsJournalOf start (journal ++ Marked mark ∷ []) s

@@ -1,14 +1,9 @@
 -- Where openers and their ends lead.
-use Rattle.std.specs.Prelude.{◌≡◌, ℕ, suc, ◌-◌, ◌<◌, ◌≤◌, ◌⊎◌, Bool, true, false, List, length, drop, Option, Some, slice_get, slice_index}
+use Rattle.std.specs.Prelude.{◌≡◌, ℕ, suc, ◌-◌, ◌<◌, ◌≤◌, ◌⊎◌, true, false, List, length, drop, Option, Some, slice_get, slice_index}
 use Rattle.octet_model.specs.declared.command.Command.{Command}
 use Rattle.octet_model.specs.declared.command.Command.TheVariants.{Loop, Branch, Close}
 use Rattle.octet_model.specs.Script.{is_nested}
 use Rattle.octet_model.specs.Thread.{end_from, matching_end, is_opened_at, place_after_close}
-
--- whether a command ends an opener
-abbrev pub is_closer : Command → Bool
-is_closer Close = true
-is_closer _ = false
 
 -- an opener leads past its end, an end where it says, and no other command leads anywhere
 abbrev pub lead_of : List Command → ℕ → Option Command → ℕ
@@ -31,7 +26,7 @@ abbrev pub IsAmongOpen : List ℕ → ℕ → Type 0
 IsAmongOpen opened place = (j : ℕ) × (j < length opened) × (slice_index opened j ≡ place)
 
 -- the command leads right, and it is no opener whose end is still to come
-pub record IsThrough (commands : List Command) (leads : List ℕ) (here place : ℕ) : Type 0 where
+pub record HasItsLead (commands : List Command) (leads : List ℕ) (here place : ℕ) : Type 0 where
   pub right : LeadsRight commands leads place
   pub ended : (end : ℕ) → here ≤ end → is_opened_at commands place end ≡ false
 
@@ -43,4 +38,4 @@ pub record IsMatched (commands : List Command) (here : ℕ) (opened leads : List
   pub rising : (i j : ℕ) → i < j → j < length opened → slice_index opened i < slice_index opened j
   pub open_here : (j : ℕ) → j < length opened → is_opened_at commands (slice_index opened j) (end_from (length opened - j) here (drop here commands)) ≡ true
   pub empty : (place : ℕ) → here ≤ place → slice_index leads place ≡ 0
-  pub others : (place : ℕ) → place < here → IsAmongOpen opened place ⊎ IsThrough commands leads here place
+  pub others : (place : ℕ) → place < here → IsAmongOpen opened place ⊎ HasItsLead commands leads here place

@@ -1,5 +1,4 @@
 pub mod Leads
-pub mod Registers
-pub mod Told
-pub mod Progress
+pub mod Demands
+pub mod Context
 pub mod Laws

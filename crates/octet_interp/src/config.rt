@@ -1,12 +1,13 @@
 //! One thread of a script as it runs.
-ghost use Rattle.std.specs.Prelude.{◌≡◌, ◌<◌, true, false, [], get_or, length, IfOk, IsTrue};
+ghost use Rattle.std.specs.Prelude.{◌≡◌, ◌<◌, true, false, [], get_or, length, All, IfOk, IsTrue};
 ghost use Rattle.octet_model.specs.Script.{is_thread};
-ghost use Rattle.octet_interp.specs.Told.{after_told, given, is_read, starting_standing, told, IsPossible, TakesFuel};
+ghost use Rattle.octet_model.specs.Validity.{IsCommand};
+ghost use Rattle.octet_interp.specs.Demands.{after_demand, given, is_read, starting_thread, next_demand, IsPossible, TakesFuel};
 
 use crate::Demand;
+use crate::context::{Context, advance, pass, set_register};
 use crate::leads::find_leads;
-use crate::progress::{Progress, advance, pass, set_register};
-use octet_model::{Command, OutOfMemory, Script};
+use octet_model::{Command, OutOfMemory, REGISTERS, Script};
 use std::alloc::Global;
 use std::marker::Model;
 
@@ -19,21 +20,21 @@ pub struct Config {
     leads: Vec<usize>,
     /// The number of the script's objects.
     objects: usize,
-    progress: Progress,
+    context: Context,
     /// Whether a read waits for its value.
     waits: bool,
 }
 
 impl Model for Config {
-    ghost use Rattle.octet_interp.specs.Told.{Standing};
+    ghost use Rattle.octet_interp.specs.Demands.{ThreadState};
 
-    ghost Value = { Standing };
+    ghost Value = { ThreadState };
 
-    ghost use Rattle.octet_interp.specs.Progress.{configuration_of, IsConsistent};
+    ghost use Rattle.octet_interp.specs.Context.{configuration_of, IsConsistent};
 
-    ghost view = { λ c. record { commands = c.commands.items; at = configuration_of c.progress; waits = c.waits; objects = c.objects } };
+    ghost view = { λ c. record { commands = c.commands.items; at = configuration_of c.context; waits = c.waits; objects = c.objects } };
 
-    ghost invariant = { λ c. IsConsistent c.commands.items c.leads.items c.objects c.progress c.waits };
+    ghost invariant = { λ c. IsConsistent c.commands.items c.leads.items c.objects c.context c.waits };
 }
 
 fn is_read(demand: Demand) -> bool
@@ -46,11 +47,12 @@ fn is_read(demand: Demand) -> bool
 }
 
 // The commands of a thread of a script.
-#[tactic(auto, using(crate::proofs::Valid::thread_valid))]
+#[tactic(auto, using(crate::proofs::Valid::thread_valid, crate::proofs::Valid::commands_valid))]
 fn commands_of(script: &Script, thread: u8) -> &[Command]
     requires { thread < length script.now.threads }
     ensures commands { result.now ≡ get_or script.now.threads thread [] }
     ensures valid { IsTrue (is_thread (length script.now.objects) result.now) }
+    ensures in_range { All (IsCommand (length script.now.objects)) result.now }
 {
     script.threads.as_slice()[thread as usize].as_slice()
 }
@@ -59,34 +61,43 @@ impl Config {
     /// The thread at its start. Takes time and memory in proportion to its commands.
     pub fn new(alloc: Global, script: &Script, thread: u8) -> Result<Config, OutOfMemory>
         requires { thread < length script.now.threads }
-        ensures { IfOk result (λ config. config ≡ starting_standing script.now thread) }
+        ensures { IfOk result (λ config. config ≡ starting_thread script.now thread) }
     {
         let commands = commands_of(script, thread);
         Ok(Config {
             leads: find_leads(alloc, commands)?,
             commands: Vec::from_slice(alloc, commands)?,
             objects: script.objects.len(),
-            progress: Progress {
+            context: Context {
                 place: 0,
-                registers: [0; 16],
+                registers: [0; REGISTERS],
                 fuel: script.fuel,
             },
             waits: false,
         })
     }
 
-    /// Runs to the next demand and tells it. A read then waits for its value.
+    /// Runs to the next demand and answers it. A read then waits for its value.
     pub fn next(&mut self) -> Demand
         requires { self.old.waits ≡ false }
-        ensures told { result ≡ told self.old }
-        ensures standing { self.new ≡ after_told self.old }
+        ensures demand { result ≡ next_demand self.old }
+        ensures state { self.new ≡ after_demand self.old }
         ensures possible { IsPossible self.old.objects result }
         ensures fuel { TakesFuel result self.old.at.fuel self.new.at.fuel }
     {
-        let demand = advance(&self.commands, &self.leads, &mut self.progress);
-        pass(&mut self.progress, demand);
+        let demand = advance(&self.commands, &self.leads, &mut self.context);
+        pass(&mut self.context, demand);
         self.waits = is_read(demand);
         demand
+    }
+
+    /// What `next` would answer. Changes nothing, and takes no memory.
+    pub fn peek(&self) -> Demand
+        requires { self.now.waits ≡ false }
+        ensures { result ≡ next_demand self.now }
+    {
+        let mut ahead = self.context;
+        advance(&self.commands, &self.leads, &mut ahead)
     }
 
     /// Gives the read that waits its value.
@@ -94,10 +105,10 @@ impl Config {
         requires { self.old.waits ≡ true }
         ensures { self.new ≡ given self.old value }
     {
-        let Command::Read { to, .. } = self.commands[self.progress.place] else {
+        let Command::Read { to, .. } = self.commands[self.context.place] else {
             unreachable!()
         };
-        set_register(&mut self.progress, to, value);
+        set_register(&mut self.context, to, value);
         self.waits = false;
     }
 }

@@ -1,8 +1,8 @@
-//! The laws of what a thread is told to demand. Each is the contract of a function that does
+//! The laws of what a thread demands. Each is the contract of a function that does
 //! nothing.
 ghost use Rattle.octet_interp.specs.Laws.{DemandsAreThoseOfTheThread, DemandsFollowFromWhereItSettles, DemandsTakeFuel, JournalsKeepUp, JournalsTakeMarks};
 
-/// With safe points and pauses left out, the demands that `Config::next` tells are those of the
+/// With safe points and pauses left out, the demands that `Config::next` answers are those of the
 /// thread, and after `Ended` each further one is the same.
 pub fn demands_are_those_of_the_thread()
     ensures { DemandsAreThoseOfTheThread }
@@ -19,7 +19,7 @@ pub fn demands_follow_from_where_it_settles()
 {}
 
 /// A journal that fits a thread's start and leaves it where it stands does so still with the
-/// event of each demand that is told; at the end it fits the thread to its end.
+/// event of each demand that is answered; at the end it fits the thread to its end.
 pub fn journals_keep_up()
     ensures { JournalsKeepUp }
 {}

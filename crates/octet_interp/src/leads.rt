@@ -2,7 +2,8 @@
 ghost use Rattle.std.specs.Prelude.{◌≡◌, ◌<◌, ◌≤◌, suc, Some, true, length, IfOk, IsTrue, OnOk};
 ghost use Rattle.octet_model.specs.Script.{is_nested};
 ghost use Rattle.octet_model.specs.Thread.{is_opener, place_past_end};
-ghost use Rattle.octet_interp.specs.Leads.{is_closer, IsLeadTable, IsMatched};
+ghost use Rattle.octet_model.specs.Validity.{is_closer};
+ghost use Rattle.octet_interp.specs.Leads.{IsLeadTable, IsMatched};
 
 use octet_model::{Command, OutOfMemory};
 use std::alloc::Global;

@@ -3,10 +3,10 @@
 #![tactic(auto)]
 
 mod config;
+mod context;
 mod demand;
 pub mod laws;
 mod leads;
-mod progress;
 
 pub use config::Config;
 pub use demand::Demand;

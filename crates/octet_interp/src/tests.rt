@@ -3,7 +3,7 @@ ghost use Rattle.std.specs.Prelude.{◌≡◌, ◌≤◌, ◌∷◌, [], length,
 ghost use Rattle.octet_model.specs.Script.{is_thread};
 
 use crate::{Config, Demand};
-use octet_model::{Command, End, List, Name, Object, OutOfMemory, Script};
+use octet_model::{Command, End, List, MAX_FUEL, Name, Object, OutOfMemory, Script};
 use std::alloc::Global;
 use std::test::Fail;
 
@@ -28,7 +28,7 @@ fn threads_of(alloc: Global, commands: &[Command]) -> Result<List<List<Command>>
 
 fn script_of(alloc: Global, fuel: u32, commands: &[Command]) -> Result<Script, OutOfMemory>
     requires some_fuel { 1 ≤ fuel }
-    requires little_fuel { fuel ≤ 262144 }
+    requires little_fuel { fuel ≤ MAX_FUEL }
     requires valid { IsTrue (is_thread 1 commands.now) }
     ensures { IfOk result (λ script. length script.threads ≡ 1) }
 {
@@ -44,7 +44,7 @@ fn script_of(alloc: Global, fuel: u32, commands: &[Command]) -> Result<Script, O
 // All that the thread demands, up to its end, where the cell starts with 7.
 fn demands(alloc: Global, fuel: u32, commands: &[Command]) -> Result<Vec<Demand>, OutOfMemory>
     requires some_fuel { 1 ≤ fuel }
-    requires little_fuel { fuel ≤ 262144 }
+    requires little_fuel { fuel ≤ MAX_FUEL }
     requires valid { IsTrue (is_thread 1 commands.now) }
 {
     let script = script_of(alloc, fuel, commands)?;
@@ -122,11 +122,11 @@ fn a_thousand_turns_use_their_fuel(rt: HostRuntime) -> Result<(), Fail> {
         },
         Command::Close,
     ];
-    let told = demands(alloc, 4003, &countdown)?;
-    assert_eq!(rt; told.len(), 1001);
-    assert_eq!(rt; told[0], written(1000));
-    assert_eq!(rt; told[999], written(1));
-    assert_eq!(rt; told[1000], DONE);
+    let next_demand = demands(alloc, 4003, &countdown)?;
+    assert_eq!(rt; next_demand.len(), 1001);
+    assert_eq!(rt; next_demand[0], written(1000));
+    assert_eq!(rt; next_demand[999], written(1));
+    assert_eq!(rt; next_demand[1000], DONE);
     let spent = demands(alloc, 4002, &countdown)?;
     assert_eq!(rt; spent.len(), 1001);
     assert_eq!(rt; spent[1000], SPENT);
@@ -156,8 +156,11 @@ fn loops_nest_and_branches_go_on(rt: HostRuntime) -> Result<(), Fail> {
         },
         Command::Close,
     ];
-    let told = [written(2), written(1), written(2), written(1), DONE];
-    assert_eq!(rt; demands(alloc, 100, &nested)?.as_slice(), told.as_slice());
+    let next_demand = [written(2), written(1), written(2), written(1), DONE];
+    assert_eq!(rt;
+        demands(alloc, 100, &nested)?.as_slice(),
+        next_demand.as_slice()
+    );
     let branches = [
         Command::Branch { test: 0 },
         Command::Safe,
@@ -169,8 +172,11 @@ fn loops_nest_and_branches_go_on(rt: HostRuntime) -> Result<(), Fail> {
         write(1),
         Command::Close,
     ];
-    let told = [Demand::Pause, READ, Demand::Safe, written(7), DONE];
-    assert_eq!(rt; demands(alloc, 100, &branches)?.as_slice(), told.as_slice());
+    let next_demand = [Demand::Pause, READ, Demand::Safe, written(7), DONE];
+    assert_eq!(rt;
+        demands(alloc, 100, &branches)?.as_slice(),
+        next_demand.as_slice()
+    );
     Ok(())
 }
 
@@ -198,14 +204,17 @@ fn arithmetic_wraps(rt: HostRuntime) -> Result<(), Fail> {
         Command::Xor { to, left, right },
         write(to),
     ];
-    let told = [
+    let next_demand = [
         written(1),
         written(3),
         written(1),
         written(u64::MAX - 2),
         DONE,
     ];
-    assert_eq!(rt; demands(alloc, 10, &sums)?.as_slice(), told.as_slice());
+    assert_eq!(rt;
+        demands(alloc, 10, &sums)?.as_slice(),
+        next_demand.as_slice()
+    );
     let tests = [
         set(left, u64::MAX),
         set(right, 2),
@@ -226,7 +235,10 @@ fn arithmetic_wraps(rt: HostRuntime) -> Result<(), Fail> {
         Command::Same { to, left, right },
         write(to),
     ];
-    let told = [written(1), written(0), written(1), written(0), DONE];
-    assert_eq!(rt; demands(alloc, 10, &tests)?.as_slice(), told.as_slice());
+    let next_demand = [written(1), written(0), written(1), written(0), DONE];
+    assert_eq!(rt;
+        demands(alloc, 10, &tests)?.as_slice(),
+        next_demand.as_slice()
+    );
     Ok(())
 }

@@ -11,8 +11,8 @@ use Rattle.octet_model.specs.HappensBefore.{event_at, object_of, Edge, ProgramOr
 use Rattle.octet_model.specs.Frugal.{IsPrivate, IsFrugal}
 use Rattle.octet_model.specs.Plays.{IsOneHistory}
 use Rattle.octet_model.specs.Past.{AreOwned}
-use Rattle.octet_model.proofs.Growing.{history_begins}
-use Rattle.octet_model.proofs.Owners.{history_with_mark, history_with_access, owned_with_event, owned_with_join}
+use Rattle.octet_model.proofs.lemmas.Growth.{history_begins}
+use Rattle.octet_model.proofs.lemmas.Owners.{history_with_mark, history_with_access, owned_with_event, owned_with_join}
 
 -- a write and a read with no mark
 abbrev unmarked : Journals

@@ -37,7 +37,7 @@ one_read_text : outcome_text one_read one_read_outcome ≡ codes "thread 0 done 
 unfolding digits
 one_read_text = refl
 
--- one thread writes, and another reads behind it
+-- one thread writes, and another reads after it
 abbrev write_then_read : Script
 write_then_read = record {
   fuel = 16384;

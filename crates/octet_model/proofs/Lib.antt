@@ -1,16 +1,4 @@
-pub mod Steps
-pub mod Fronts
-pub mod LowestThread
-pub mod Plays
-pub mod Splits
-pub mod Logged
-pub mod Growing
-pub mod Pasts
-pub mod Owners
-pub mod Lowest
-pub mod Following
-pub mod Short
-pub mod MarksSeen
-pub mod Executions
-pub mod Examples
-pub mod Validity
+pub mod lemmas
+mod FewAccesses
+mod Executions
+mod Examples

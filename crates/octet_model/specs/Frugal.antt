@@ -5,6 +5,7 @@ use Rattle.octet_model.specs.declared.event.Mark.TheVariants.{Join}
 use Rattle.octet_model.specs.declared.event.Event.{Event}
 use Rattle.octet_model.specs.declared.event.Event.TheVariants.{Read, Write, Marked}
 use Rattle.octet_model.specs.declared.event.Place.{Place}
+use Rattle.octet_model.specs.declared.limits.TheConstants.{MAX_MARKS_BEFORE_ACCESS}
 use Rattle.octet_model.specs.Machine.{Journals, journal_of}
 use Rattle.octet_model.specs.HappensBefore.{event_at, object_of}
 
@@ -15,7 +16,7 @@ marks_since marks (Read object value ∷ journal) = marks_since [] journal
 marks_since marks (Write object value ∷ journal) = marks_since [] journal
 marks_since marks (Marked mark ∷ journal) = marks_since (marks ++ mark ∷ []) journal
 
--- the marks behind the last access of a journal
+-- the marks after the last access of a journal
 abbrev pub marks_at_end : List Event → List Mark
 marks_at_end journal = marks_since [] journal
 
@@ -47,6 +48,6 @@ pub record IsFrugal (journals : Journals) : Type 0 where
   -- before the accesses of an object that one thread has to itself stands no mark, but for one Join of thread 0 before the first
   pub unmarked : (place : Place) (object : ℕ) → Accesses journals place object → IsPrivate journals object place.thread
       → (marks_before journals place ≡ []) ⊎ IsFirstJoin journals place object
-  pub few : (place : Place) (object : ℕ) → Accesses journals place object → length (marks_before journals place) ≤ 15
-  -- no mark stands behind the last access of its journal, nor in a journal without accesses
+  pub few : (place : Place) (object : ℕ) → Accesses journals place object → length (marks_before journals place) ≤ MAX_MARKS_BEFORE_ACCESS
+  -- no mark stands after the last access of its journal, nor in a journal without accesses
   pub none_after : (thread : ℕ) → marks_at_end (journal_of journals thread) ≡ []

@@ -14,7 +14,7 @@ event_at journals place = slice_get (journal_of journals place.thread) place.eve
 pub data Edge (journals : Journals) (a b : Place) : Type 0 where
   -- each event to the next of its thread
   ProgramOrder : a.thread ≡ b.thread → suc a.event ≡ b.event → Edge journals a b
-  -- the first so many events of a thread to a Join of so many
+  -- the events of a thread below `upto` to a Join of them
   Joined : (upto : ℕ) → event_at journals b ≡ Some (Marked (Join a.thread upto)) → a.event < upto → Edge journals a b
   -- a Draw to each later Draw
   Drawn : (first then : ℕ) → event_at journals a ≡ Some (Marked (Draw first)) → event_at journals b ≡ Some (Marked (Draw then)) → first < then → Edge journals a b

@@ -6,8 +6,8 @@ use Rattle.octet_model.specs.declared.event.Event.{Event}
 use Rattle.octet_model.specs.declared.event.Event.TheVariants.{Read, Write, Marked}
 use Rattle.octet_model.specs.declared.log.Gapped.{Gapped}
 use Rattle.octet_model.specs.declared.log.ThreadLog.{ThreadLog}
-use Rattle.octet_model.specs.Thread.{Configuration, Demand, ToRead, ToWrite, ToEnd, demanded, configuration_after}
-use Rattle.octet_model.specs.Machine.{Journals, Next, Wants, Finished, Misfit, MakeMark, MakeRead, MakeWrite}
+use Rattle.octet_model.specs.Thread.{Configuration, AccessOrEnd, ToRead, ToWrite, ToEnd, demanded, configuration_after}
+use Rattle.octet_model.specs.Machine.{Journals, Next, Wants, Finished, NothingFits, MakeMark, MakeRead, MakeWrite}
 
 -- how many accesses
 abbrev pub access_count : List Event → ℕ
@@ -23,14 +23,14 @@ mark_count (Read object value ∷ journal) = mark_count journal
 mark_count (Write object value ∷ journal) = mark_count journal
 mark_count (Marked mark ∷ journal) = suc (mark_count journal)
 
--- the accesses since the last mark; where there is none, those of the journal and so many before it
+-- the accesses since the last mark; where there is none, those of the journal and those before it
 abbrev pub gap_after : ℕ → List Event → ℕ
 gap_after before [] = before
 gap_after before (Read object value ∷ journal) = gap_after (suc before) journal
 gap_after before (Write object value ∷ journal) = gap_after (suc before) journal
 gap_after before (Marked mark ∷ journal) = gap_after 0 journal
 
--- the marks with their gaps, where so many accesses stand before the journal
+-- the marks with their gaps, where accesses stand before the journal
 abbrev pub gapped_marks : ℕ → List Event → List Gapped
 gapped_marks before [] = []
 gapped_marks before (Read object value ∷ journal) = gapped_marks (suc before) journal
@@ -50,11 +50,11 @@ due_mark None gap = None
 due_mark (Some next) gap = if next.gap == gap then Some next.mark else None
 
 -- the access that is demanded, where the log has one left; nothing more, where the end is demanded and no access and no mark is left
-abbrev pub next_access : Demand → Bool → Bool → Next
+abbrev pub next_access : AccessOrEnd → Bool → Bool → Next
 next_access (ToRead object) true mark_left = Wants (MakeRead object)
 next_access (ToWrite object value) true mark_left = Wants (MakeWrite object value)
 next_access (ToEnd end) false false = Finished
-next_access _ _ _ = Misfit
+next_access _ _ _ = NothingFits
 
 abbrev pub mark_first : Option Mark → Next → Next
 mark_first (Some mark) next = Wants (MakeMark mark)

@@ -1,10 +1,11 @@
 -- The laws of orders, plays, histories and validity, as the public functions of laws.rt prove them.
-use Rattle.std.specs.Prelude.{◌≡◌, ℕ, ◌<◌, ◌≤◌, IsTrue, List, ◌++◌, length}
+use Rattle.std.specs.Prelude.{◌≡◌, ℕ, ◌+◌, ◌*◌, ◌<◌, ◌≤◌, IsTrue, List, ◌++◌, length}
 use Rattle.std.specs.Bool.{Decides}
 use Rattle.octet_model.specs.declared.command.Command.{Command}
 use Rattle.octet_model.specs.declared.event.Event.{Event}
 use Rattle.octet_model.specs.declared.object.Object.{Object}
 use Rattle.octet_model.specs.declared.script.Script.{Script}
+use Rattle.octet_model.specs.declared.limits.TheConstants.{MAX_ACCESSES, MAX_MARKS_BEFORE_ACCESS, MAX_THREADS}
 use Rattle.octet_model.specs.declared.log.ThreadLog.{ThreadLog}
 use Rattle.octet_model.specs.declared.outcome.Outcome.{Outcome}
 use Rattle.octet_model.specs.Script.{is_script}
@@ -123,7 +124,7 @@ abbrev pub LawfulOrderFits : Type 0
 LawfulOrderFits = (script : Script) (log : List ThreadLog) (order : List ℕ)
     → IsLawfulOrder script log order → FitsScript script (journals_after script log order)
 
--- a valid log of a faithful recording is short: six bytes, eight for each of at most 16 threads, and 14 for each of at most 15 marks before each of at most 262,144 accesses
+-- a valid log of a faithful recording is short: six bytes, eight for each thread, and 14 for each mark before each access
 abbrev pub FaithfulLogIsShort : Type 0
 FaithfulLogIsShort = (script : Script) (log : List ThreadLog) (outcome : Outcome)
-    → IsFaithful script log outcome → IsTrue (is_log log) → length (log_bytes log) ≤ 55050374
+    → IsFaithful script log outcome → IsTrue (is_log log) → length (log_bytes log) ≤ 6 + 8 * MAX_THREADS + 14 * (MAX_MARKS_BEFORE_ACCESS * MAX_ACCESSES)

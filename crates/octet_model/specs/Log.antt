@@ -3,9 +3,10 @@ use Rattle.std.specs.Prelude.{ℕ, suc, ◌^◌, ◌&&◌, ◌==◌, List, [], �
 use Rattle.std.specs.List.{list_all}
 use Rattle.octet_model.specs.declared.event.Mark.{Mark}
 use Rattle.octet_model.specs.declared.event.Mark.TheVariants.{Join, Draw, Fence}
+use Rattle.octet_model.specs.declared.limits.TheConstants.{MAX_ACCESSES, MAX_THREADS}
 use Rattle.octet_model.specs.declared.log.ThreadLog.{ThreadLog}
 
--- a mark of a thread, among so many threads: a Join names another of them; a Draw or a Fence has a number of at least 1
+-- a mark of a thread, among a number of threads: a Join names another of them; a Draw or a Fence has a number of at least 1
 abbrev pub is_mark : ℕ → ℕ → Mark → Bool
 is_mark threads thread (Join from upto) = nat_lt from threads && not (from == thread) && nat_lt upto (2 ^ 64)
 is_mark threads thread (Draw number) = nat_le 1 number && nat_lt number (2 ^ 64)
@@ -25,6 +26,6 @@ are_thread_logs threads thread (log ∷ logs) = is_thread_log threads thread log
 
 abbrev pub is_log : List ThreadLog → Bool
 is_log logs =
-    nat_le 1 (length logs) && nat_le (length logs) 16
-    && nat_le (sum_by (λ log. log.accesses) logs) 262144
+    nat_le 1 (length logs) && nat_le (length logs) MAX_THREADS
+    && nat_le (sum_by (λ log. log.accesses) logs) MAX_ACCESSES
     && are_thread_logs (length logs) 0 logs

@@ -36,13 +36,13 @@ pub data Operation : Type 0 where
 pub data Next : Type 0 where
   Wants : (operation : Operation) → Next
   Finished : Next
-  Misfit : Next
+  NothingFits : Next
 
 -- what is next for each thread, by its journal so far
 abbrev pub Behavior : Type 0
 Behavior = ℕ → List Event → Next
 
--- a Join waits for so many events of its thread, a Draw for its turn, a Fence for so many draws; an access for nothing
+-- a Join waits until its thread has made `upto` events, a Draw for its turn, a Fence until its number of draws is made; an access for nothing
 abbrev pub is_enabled : PlainState → Operation → Bool
 is_enabled s (MakeMark (Join from upto)) = nat_le upto (length (journal_of s.journals from))
 is_enabled s (MakeMark (Draw number)) = number == suc s.draws

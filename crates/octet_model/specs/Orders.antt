@@ -8,7 +8,7 @@ use Rattle.octet_model.specs.declared.outcome.End.TheVariants.{Spent}
 use Rattle.octet_model.specs.declared.outcome.Outcome.{Outcome}
 use Rattle.octet_model.specs.declared.script.Script.{Script}
 use Rattle.octet_model.specs.declared.log.ThreadLog.{ThreadLog}
-use Rattle.octet_model.specs.Thread.{Demand, ToEnd, demanded, configuration_after, starting_configuration, FitsFrom, FitsToEnd}
+use Rattle.octet_model.specs.Thread.{AccessOrEnd, ToEnd, demanded, configuration_after, starting_configuration, FitsFrom, FitsToEnd}
 use Rattle.octet_model.specs.Machine.{Journals, journal_of, PlainState, starting_state, Behavior, may_step, step, after, IsFront, IsOrder}
 use Rattle.octet_model.specs.Journals.{next_by_log}
 use Rattle.octet_model.specs.HappensBefore.{IsOrdered}
@@ -56,7 +56,7 @@ values_read (Write object value ∷ journal) = values_read journal
 values_read (Marked mark ∷ journal) = values_read journal
 
 -- how a thread ended that demands its end
-abbrev pub end_of : Demand → End
+abbrev pub end_of : AccessOrEnd → End
 end_of (ToEnd end) = end
 end_of _ = Spent
 
@@ -75,7 +75,7 @@ outcome_of script s = record { ends = ends_of script.fuel script.threads s.journ
 abbrev pub execution : Script → List ThreadLog → List ℕ → Outcome
 execution script log order = outcome_of script (state_after script log order)
 
--- the first number from here on, among so many, that passes the test
+-- the first number that passes the test, from here on as far as `more` numbers go
 abbrev pub first_from : (ℕ → Bool) → ℕ → ℕ → Option ℕ
 first_from test number zero = None
 first_from test number (suc more) = elim (test number) [ true ↦ Some number | false ↦ first_from test (suc number) more ]
@@ -88,7 +88,7 @@ abbrev pub go_on : Option ℕ → (ℕ → List ℕ) → List ℕ
 go_on None then = []
 go_on (Some thread) then = thread ∷ then thread
 
--- always the lowest thread that may step, until none may; so many steps at most
+-- always the lowest thread that may step, until none may; at most `steps` of them
 abbrev pub lowest_front : Behavior → ℕ → PlainState → List ℕ
 lowest_front behavior zero s = []
 lowest_front behavior (suc steps) s = go_on (lowest behavior s) (λ thread. lowest_front behavior steps (step behavior s thread))

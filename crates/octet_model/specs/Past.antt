@@ -11,7 +11,7 @@ use Rattle.octet_model.specs.Frugal.{Accesses}
 abbrev pub Reaches : Journals → Place → Place → Type 0
 Reaches journals a b = (a ≡ b) ⊎ HappensBefore journals a b
 
--- in the past of a thread's first events: one of these so many events, or with a path to one of them
+-- in the past of a thread's events below a number: one of these, or with a path to one of them
 pub record InPast (journals : Journals) (thread now : ℕ) (place : Place) : Type 0 where
   pub is_event : IsEvent journals place
   pub near : ℕ

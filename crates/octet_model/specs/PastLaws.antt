@@ -27,7 +27,7 @@ PastsGainNothing = (starts : List ℕ) (journals : Journals) (heap : List ℕ) (
     → now ≤ length (journal_of journals thread)
     → InPast (appended journals grown event) thread now place → InPast journals thread now place
 
--- a thread's first so many events lie in their past
+-- a thread's events below a number lie in their past
 abbrev pub PastHasOwn : Type 0
 PastHasOwn = (journals : Journals) (now : ℕ) (place : Place)
     → IsEvent journals place → place.event < now → InPast journals place.thread now place
@@ -47,13 +47,13 @@ abbrev pub PastGrows : Type 0
 PastGrows = (journals : Journals) (thread sooner now : ℕ) (place : Place)
     → sooner ≤ now → InPast journals thread sooner place → InPast journals thread now place
 
--- behind a Join lies the past of the events that it names
+-- after a Join lies the past of the events that it names
 abbrev pub PastHasJoined : Type 0
 PastHasJoined = (journals : Journals) (now from upto : ℕ) (join place : Place)
     → join.event < now → event_at journals join ≡ Some (Marked (Join from upto)) → upto ≤ length (journal_of journals from)
     → InPast journals from upto place → InPast journals join.thread now place
 
--- where no two draws have one number, behind a Draw or a Fence lie the draws up to its number, each with its past
+-- where no two draws have one number, after a Draw or a Fence lie the draws up to its number, each with its past
 abbrev pub PastHasDraws : Type 0
 PastHasDraws = (journals : Journals) (now number upto : ℕ) (seen draw place : Place)
     → DrawsDiffer journals → seen.event < now

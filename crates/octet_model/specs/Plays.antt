@@ -33,7 +33,7 @@ pub record MakesAll (heap : List ℕ) (journals : Journals) (play : List ℕ) : 
 abbrev pub lowest_play : List ℕ → Journals → List ℕ
 lowest_play heap journals = lowest_front (by_journals journals) (sum_by (λ journal. length journal) journals) (starting_state heap journals)
 
--- one history: the lowest play makes every event and gives every read its value; it gives this heap, and so many draws. The journals are ordered
+-- one history: the lowest play makes every event and gives every read its value; it gives this heap, and this number of draws. The journals are ordered
 pub record IsOneHistory (starts : List ℕ) (journals : Journals) (heap : List ℕ) (draws : ℕ) : Type 0 where
   pub makes_all : MakesAll starts journals (lowest_play starts journals)
   pub gives : (state_after_play starts journals (lowest_play starts journals)).heap ≡ heap

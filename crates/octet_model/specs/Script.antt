@@ -4,27 +4,31 @@ use Rattle.std.specs.List.{list_all, list_any}
 use Rattle.std.specs.Str.{bytes_eq}
 use Rattle.octet_model.specs.declared.command.Command.{Command}
 use Rattle.octet_model.specs.declared.command.Command.TheVariants.{Set, Copy, Add, Sub, Mul, Xor, Less, Same, Read, Write, Loop, Branch, Close, Safe, Pause}
+use Rattle.octet_model.specs.declared.limits.TheConstants.{MAX_FUEL, MAX_OBJECTS, MAX_THREADS, REGISTERS}
 use Rattle.octet_model.specs.declared.object.Object.{Object}
 
--- registers are below 16, objects below their number, and numbers below 2 ^ 64
+abbrev pub is_register : ℕ → Bool
+is_register register = nat_lt register REGISTERS
+
+-- the registers and the object are there, among this number of objects, and a number has 64 bits
 abbrev pub is_command : ℕ → Command → Bool
-is_command objects (Set to number) = nat_lt to 16 && nat_lt number (2 ^ 64)
-is_command objects (Copy to from) = nat_lt to 16 && nat_lt from 16
-is_command objects (Add to left right) = nat_lt to 16 && nat_lt left 16 && nat_lt right 16
-is_command objects (Sub to left right) = nat_lt to 16 && nat_lt left 16 && nat_lt right 16
-is_command objects (Mul to left right) = nat_lt to 16 && nat_lt left 16 && nat_lt right 16
-is_command objects (Xor to left right) = nat_lt to 16 && nat_lt left 16 && nat_lt right 16
-is_command objects (Less to left right) = nat_lt to 16 && nat_lt left 16 && nat_lt right 16
-is_command objects (Same to left right) = nat_lt to 16 && nat_lt left 16 && nat_lt right 16
-is_command objects (Read to object) = nat_lt to 16 && nat_lt object objects
-is_command objects (Write object from) = nat_lt from 16 && nat_lt object objects
-is_command objects (Loop test) = nat_lt test 16
-is_command objects (Branch test) = nat_lt test 16
+is_command objects (Set to number) = is_register to && nat_lt number (2 ^ 64)
+is_command objects (Copy to from) = is_register to && is_register from
+is_command objects (Add to left right) = is_register to && is_register left && is_register right
+is_command objects (Sub to left right) = is_register to && is_register left && is_register right
+is_command objects (Mul to left right) = is_register to && is_register left && is_register right
+is_command objects (Xor to left right) = is_register to && is_register left && is_register right
+is_command objects (Less to left right) = is_register to && is_register left && is_register right
+is_command objects (Same to left right) = is_register to && is_register left && is_register right
+is_command objects (Read to object) = is_register to && nat_lt object objects
+is_command objects (Write object from) = is_register from && nat_lt object objects
+is_command objects (Loop test) = is_register test
+is_command objects (Branch test) = is_register test
 is_command objects Close = true
 is_command objects Safe = true
 is_command objects Pause = true
 
--- behind so many open openers: each closer ends an opener, and each opener is ended
+-- after a number of openers that are still open: each closer ends an opener, and each opener is ended
 abbrev pub is_nested : ℕ → List Command → Bool
 is_nested zero [] = true
 is_nested (suc depth) [] = false
@@ -44,8 +48,8 @@ is_thread objects commands = list_all (is_command objects) commands && is_nested
 
 abbrev pub is_script : ℕ → List Object → List (List Command) → Bool
 is_script fuel objects threads =
-    nat_le 1 fuel && nat_le fuel 262144
-    && nat_le (length objects) 1024 && are_distinct (map (λ o. o.name) objects)
-    && nat_le 1 (length threads) && nat_le (length threads) 16
-    && nat_le (length threads * fuel) 262144
+    nat_le 1 fuel && nat_le fuel MAX_FUEL
+    && nat_le (length objects) MAX_OBJECTS && are_distinct (map (λ o. o.name) objects)
+    && nat_le 1 (length threads) && nat_le (length threads) MAX_THREADS
+    && nat_le (length threads * fuel) MAX_FUEL
     && list_all (is_thread (length objects)) threads

@@ -4,30 +4,31 @@ use Rattle.octet_model.specs.declared.command.Command.{Command}
 use Rattle.octet_model.specs.declared.command.Command.TheVariants.{Set, Copy, Add, Sub, Mul, Xor, Less, Same, Read, Write, Loop, Branch, Close}
 use Rattle.octet_model.specs.declared.event.Event.{Event}
 use Rattle.octet_model.specs.declared.event.Event.TheVariants.{Read, Write, Marked}
+use Rattle.octet_model.specs.declared.limits.TheConstants.{REGISTERS}
 use Rattle.octet_model.specs.declared.outcome.End.{End}
 use Rattle.octet_model.specs.declared.outcome.End.TheVariants.{Done, Spent}
 
--- where a thread stands: its place among its commands, its sixteen registers, and the fuel left
+-- where a thread stands: its place among its commands, its registers, and the fuel left
 pub record Configuration : Type 0 where
   pub place : ℕ
   pub registers : List ℕ
   pub fuel : ℕ
 
 abbrev pub starting_configuration : ℕ → Configuration
-starting_configuration fuel = record { place = 0; registers = replicate 16 0; fuel = fuel }
+starting_configuration fuel = record { place = 0; registers = replicate REGISTERS 0; fuel = fuel }
 
--- what a thread comes to: a read of an object, a write of a value to an object, or its end
-pub data Demand : Type 0 where
-  ToRead : (object : ℕ) → Demand
-  ToWrite : (object value : ℕ) → Demand
-  ToEnd : (end : End) → Demand
+-- what a thread demands, with safe points and pauses left out: a read of an object, a write of a value to an object, or its end
+pub data AccessOrEnd : Type 0 where
+  ToRead : (object : ℕ) → AccessOrEnd
+  ToWrite : (object value : ℕ) → AccessOrEnd
+  ToEnd : (end : End) → AccessOrEnd
 
 abbrev pub is_opener : Command → Bool
 is_opener (Loop test) = true
 is_opener (Branch test) = true
 is_opener _ = false
 
--- of the commands from this place on, with so many openers open: the first place at which as many closers as openers have come
+-- from a place on, at a depth of open openers: the first place at which the last of these is closed
 abbrev pub end_from : ℕ → ℕ → List Command → ℕ
 end_from depth place [] = place
 end_from depth place (Loop test ∷ commands) = end_from (suc depth) (suc place) commands
@@ -91,7 +92,7 @@ is_access (Read to object) = true
 is_access (Write object from) = true
 is_access _ = false
 
--- after all commands before the first at which it stops, with so much fuel at most
+-- after all commands before the first at which it stops, or as many as there is fuel for
 abbrev pub run_to : (Command → Bool) → List Command → ℕ → Configuration → Configuration
 run_to stops commands zero c = c
 run_to stops commands (suc fuel) c =
@@ -104,14 +105,14 @@ run_to stops commands (suc fuel) c =
 abbrev pub settled : List Command → Configuration → Configuration
 settled commands c = run_to is_access commands c.fuel c
 
-abbrev pub demand_at : Option Command → Configuration → Demand
+abbrev pub demand_at : Option Command → Configuration → AccessOrEnd
 demand_at None c = ToEnd Done
 demand_at (Some (Read to object)) c = elim c.fuel [ zero ↦ ToEnd Spent | suc fuel ↦ ToRead object ]
 demand_at (Some (Write object from)) c = elim c.fuel [ zero ↦ ToEnd Spent | suc fuel ↦ ToWrite object (slice_index c.registers from) ]
 demand_at (Some _) c = ToEnd Spent
 
 -- what a configuration comes to after all commands that are neither a read nor a write
-abbrev pub demanded : List Command → Configuration → Demand
+abbrev pub demanded : List Command → Configuration → AccessOrEnd
 demanded commands c = let d = settled commands c in demand_at (slice_get commands d.place) d
 
 abbrev pub past_access : Option Command → Configuration → ℕ → Configuration

@@ -21,9 +21,9 @@ pub enum Command {
     Read { to: u8, object: u16 },
     /// The object gets the register's value.
     Write { object: u16, from: u8 },
-    /// Where the register is 0, goes on behind its `Close`; its `Close` leads back here.
+    /// Where the register is 0, goes on after its `Close`; its `Close` leads back here.
     Loop { test: u8 },
-    /// Where the register is 0, goes on behind its `Close`.
+    /// Where the register is 0, goes on after its `Close`.
     Branch { test: u8 },
     /// Ends the nearest open `Loop` or `Branch`.
     Close,

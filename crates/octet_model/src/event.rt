@@ -3,11 +3,11 @@
 /// A mark of a dependence between threads, as OCTET's transitions give them.
 #[derive(Clone, Copy, Debug, PartialEq, Eq)]
 pub enum Mark {
-    /// Behind the first `upto` events of the thread `from`.
+    /// After the first `upto` events of the thread `from`.
     Join { from: u8, upto: u64 },
     /// The draw of that number from the one counter of shared reads; the first draws 1.
     Draw { number: u64 },
-    /// Behind all draws up to that number.
+    /// After all draws up to that number.
     Fence { number: u64 },
 }
 

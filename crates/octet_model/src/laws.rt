@@ -14,7 +14,7 @@ pub fn one_outcome()
 /// Where journals are ordered and some play makes every event of them and gives every read its
 /// value, the lowest play does so too and ends with the same heap. Where they fit a script to
 /// its threads' ends, it is the lowest order of the script and the journals' log.
-pub fn lowest_play_is_as_good()
+pub fn lowest_play_makes_all()
     ensures makes_all { LowestPlayMakesAll }
     ensures heap { LowestPlayGivesHeap }
     ensures order { LowestPlayIsLowestOrder }
@@ -41,8 +41,8 @@ pub fn pasts_never_change()
 {}
 
 /// What lies in the past of a thread's first events: these themselves, what happens before one
-/// in it, the past of fewer events, behind a Join the past of the events that it names, and
-/// behind a Draw or a Fence each draw up to its number with its past, since in one history no
+/// in it, the past of fewer events, after a Join the past of the events that it names, and
+/// after a Draw or a Fence each draw up to its number with its past, since in one history no
 /// two draws have one number. An event of a past happens before each later event of the thread.
 pub fn laws_of_the_past()
     ensures own { PastHasOwn }
@@ -79,7 +79,7 @@ pub fn order_follows_its_log()
 {}
 
 /// The log of a faithful recording has at most 55,050,374 bytes, since few marks stand before an
-/// access and none behind the last: less than a log's file may have.
+/// access and none after the last: fewer than a log's file may have.
 pub fn faithful_log_is_short()
     ensures { FaithfulLogIsShort }
 {}

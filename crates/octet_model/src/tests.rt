@@ -1,5 +1,6 @@
 ghost use Rattle.std.specs.Prelude.{◌≡◌, ◌∷◌, [], length, map, codes, IfOk};
-ghost use Rattle.octet_model.specs.declared.command.Command.TheVariants.{Set, Read, Write};
+ghost use Rattle.octet_model.specs.declared.command.Command.TheVariants.{Set, Read as ReadCommand, Write as WriteCommand};
+ghost use Rattle.octet_model.specs.declared.event.Event.TheVariants.{Read, Write, Marked};
 ghost use Rattle.octet_model.specs.declared.event.Mark.TheVariants.{Join};
 
 use super::*;
@@ -19,7 +20,7 @@ fn one_object(alloc: Global) -> Result<List<Object>, OutOfMemory>
 }
 
 fn two_threads(alloc: Global) -> Result<List<List<Command>>, OutOfMemory>
-    ensures { IfOk result (λ threads. threads ≡ (Set 0 7 ∷ Write 0 0 ∷ []) ∷ (Read 0 0 ∷ []) ∷ []) }
+    ensures { IfOk result (λ threads. threads ≡ (Set 0 7 ∷ WriteCommand 0 0 ∷ []) ∷ (ReadCommand 0 0 ∷ []) ∷ []) }
 {
     let writer = [
         Command::Set { to: 0, number: 7 },
@@ -67,6 +68,52 @@ fn write_then_read_log(alloc: Global) -> Result<Log, OutOfMemory> {
     Ok(Log {
         threads: two_logs(alloc)?,
     })
+}
+
+/// The journals that the log is of.
+fn two_journals(alloc: Global) -> Result<List<List<Event>>, OutOfMemory>
+    ensures { IfOk result (λ journals. journals ≡ (Write 0 7 ∷ []) ∷ (Marked (Join 0 1) ∷ Read 0 7 ∷ []) ∷ []) }
+{
+    let write = Event::Write {
+        object: 0,
+        value: 7,
+    };
+    let join = Event::Marked {
+        mark: Mark::Join { from: 0, upto: 1 },
+    };
+    let read = Event::Read {
+        object: 0,
+        value: 7,
+    };
+    let mut journals = List::new(alloc);
+    journals.push(List::from_vec(Vec::from_slice(alloc, &[write])?))?;
+    journals.push(List::from_vec(Vec::from_slice(alloc, &[join, read])?))?;
+    Ok(journals)
+}
+
+#[test]
+fn starts_of_a_script(rt: HostRuntime) -> Result<(), Fail> {
+    let script = write_then_read(rt.alloc())?;
+    assert_eq!(rt; script.thread_count(), 2);
+    assert_eq!(rt;
+        script.starting_heap(rt.alloc())?.as_slice(),
+        [5].as_slice()
+    );
+    Ok(())
+}
+
+#[test]
+fn keeps_log_and_values_of_journals(rt: HostRuntime) -> Result<(), Fail> {
+    let journals = two_journals(rt.alloc())?;
+    let log = log_of(rt.alloc(), journals.as_slice())?;
+    assert_eq!(rt;
+        format!(in rt.alloc(); "{log:?}")?,
+        format!(in rt.alloc(); "{:?}", write_then_read_log(rt.alloc())?)?
+    );
+    let reads = reads_of(rt.alloc(), journals.as_slice())?;
+    let value = reads.get(1).and_then(|values| values.get(0));
+    assert_eq!(rt; value, Some(&7));
+    Ok(())
 }
 
 #[test]

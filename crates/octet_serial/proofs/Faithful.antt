@@ -17,7 +17,7 @@ use Rattle.octet_model.specs.declared.object.Object.{Object}
 use Rattle.octet_model.specs.declared.outcome.End.{End}
 use Rattle.octet_model.specs.declared.outcome.End.TheVariants.{Done}
 use Rattle.octet_model.specs.declared.script.Script.{Script}
-use Rattle.octet_model.specs.Script.{is_script}
+use Rattle.octet_model.specs.Validity.{IsValidScript}
 use Rattle.octet_model.specs.Log.{is_mark, is_thread_log, are_thread_logs, is_log}
 use Rattle.octet_model.specs.Thread.{ToEnd, demanded, configuration_after, starting_configuration}
 use Rattle.octet_model.specs.Machine.{Journals, journal_of, no_events}
@@ -25,33 +25,10 @@ use Rattle.octet_model.specs.Journals.{access_count, gapped_marks, log_of, log_o
 use Rattle.octet_model.specs.HappensBefore.{event_at}
 use Rattle.octet_model.specs.Frugal.{Accesses, IsFrugal}
 use Rattle.octet_model.specs.Orders.{starting_heap, end_of, ends_of, values_read, FitsScript, IsFaithful}
-use Rattle.octet_model.proofs.Fronts.{no_journal}
-use Rattle.octet_model.proofs.Growing.{history_begins, faithful_from_history}
-use Rattle.octet_model.proofs.Splits.{length-gapped_marks}
+use Rattle.octet_model.proofs.lemmas.Fronts.{no_journal}
+use Rattle.octet_model.proofs.lemmas.Growth.{history_begins, faithful_from_history}
+use Rattle.octet_model.proofs.lemmas.Splits.{length-gapped_marks}
 use Rattle.octet_serial.specs.Recorded.{IsPaired, IsOwnerMarked, IsRecorded, HaveEnded}
-
--- the bounds of a valid script
-pub record IsBounded (fuel : ℕ) (threads : ℕ) : Type 0 where
-  pub small : fuel ≤ 262144
-  pub some_thread : 1 ≤ threads
-  pub few_threads : threads ≤ 16
-  pub in_all : threads * fuel ≤ 262144
-
-pub bounded : (fuel : ℕ) (objects : List Object) (threads : List (List Command)) → IsTrue (is_script fuel objects threads) → IsBounded fuel (length threads)
-bounded fuel objects threads valid =
-    let all = and_parts _ _ valid in
-    let product = and_parts _ _ all.0 in
-    let few = and_parts _ _ product.0 in
-    let one = and_parts _ _ few.0 in
-    let names = and_parts _ _ one.0 in
-    let objects = and_parts _ _ names.0 in
-    let fuels = and_parts _ _ objects.0 in
-    record {
-      small = leb-true fuel 262144 fuels.1;
-      some_thread = leb-true 1 (length threads) one.1;
-      few_threads = leb-true (length threads) 16 few.1;
-      in_all = leb-true (length threads * fuel) 262144 product.1;
-    }
 
 -- nothing is there before the first event
 none_there : {A : Type 0} (threads : List A) (a : Place) (x : Event) → event_at (no_events threads) a ≡ Some x → ⊥
@@ -140,7 +117,7 @@ thread_logs_valid threads first (journal ∷ js) each =
     (thread_logs_valid threads (suc first) js (λ u. let step : suc first + u ≡ first + suc u = omega arith in ap (λ (n : ℕ). is_thread_log threads n (log_of_journal (journal_of js u))) step ∙ each (suc u)))
 
 -- what is recorded has a valid log
-pub log_valid : (script : Script) (js : Journals) (heap owners : List ℕ) → IsBounded script.fuel (length script.threads) → IsRecorded script js heap owners → IsTrue (is_log (log_of js))
+pub log_valid : (script : Script) (js : Journals) (heap owners : List ℕ) → IsValidScript script.fuel script.objects script.threads → IsRecorded script js heap owners → IsTrue (is_log (log_of js))
 log_valid script js heap owners bound r =
     let logs = log_of js in
     let as_many : length logs ≡ length script.threads = length-map js log_of_journal ∙ r.threads_there in
@@ -148,14 +125,14 @@ log_valid script js heap owners bound r =
     let at_k : get_or logs k d ≡ log_of_journal (journal_of js k) = get_or-map log_of_journal js k [] d (omega (arith, length-map js log_of_journal)) in
     omega (arith, ap (λ (log : ThreadLog). log.accesses) at_k, (r.is_paired k).fuelled) in
     let sum : sum_by (λ log. log.accesses) logs ≤ length script.threads * script.fuel = subst (λ (n : ℕ). sum_by (λ log. log.accesses) logs ≤ n * script.fuel) as_many (sum_by-le (λ (log : ThreadLog). log.accesses) script.fuel logs each) in
-    let total : sum_by (λ log. log.accesses) logs ≤ 262144 = omega (arith, bound.in_all) in
+    let total : sum_by (λ log. log.accesses) logs ≤ 262144 = omega (arith, bound.fuel_of_all) in
     and_from _ _
     (and_from _ _
-    (and_from _ _ (le-leb 1 (length logs) (omega (arith, bound.some_thread))) (le-leb (length logs) 16 (omega (arith, bound.few_threads))))
+    (and_from _ _ (le-leb 1 (length logs) (omega (arith, bound.some_threads))) (le-leb (length logs) 16 (omega (arith, bound.most_threads))))
     (le-leb (sum_by (λ log. log.accesses) logs) 262144 total))
     (thread_logs_valid (length logs) 0 js (λ u.
     subst (λ (n : ℕ). is_thread_log n (0 + u) (log_of_journal (journal_of js u)) ≡ true) (sym (length-map js log_of_journal))
-    (ap (λ (t : ℕ). is_thread_log (length js) t (log_of_journal (journal_of js u))) (omega arith) ∙ thread_log_valid (length js) u script.fuel (journal_of js u) bound.small (r.is_paired u) (λ k mark is. r.has_valid_marks (record { thread = u; event = k }) mark is))))
+    (ap (λ (t : ℕ). is_thread_log (length js) t (log_of_journal (journal_of js u))) (omega arith) ∙ thread_log_valid (length js) u script.fuel (journal_of js u) bound.most_fuel (r.is_paired u) (λ k mark is. r.has_valid_marks (record { thread = u; event = k }) mark is))))
 
 ends_are : (fuel : ℕ) (threads : List (List Command)) (js : Journals) (ends : List End) → length js ≡ length threads → length ends ≡ length threads
     → ((t : ℕ) (end : End) → slice_get ends t ≡ Some end → demanded (get_or threads t []) (configuration_after (get_or threads t []) (starting_configuration fuel) (journal_of js t)) ≡ ToEnd end)

@@ -12,8 +12,8 @@ use Rattle.octet_model.specs.Machine.{Journals, journal_of, appended}
 use Rattle.octet_model.specs.HappensBefore.{event_at, object_of}
 use Rattle.octet_model.specs.Frugal.{marks_since, marks_at_end, marks_before, Accesses, IsFirstOf}
 use Rattle.octet_model.specs.Log.{is_mark}
-use Rattle.octet_model.proofs.Steps.{at, count, same_journal, other_journal, as_many, stays_appended, new_event}
-use Rattle.octet_model.proofs.Growing.{old_or_new, new}
+use Rattle.octet_model.proofs.lemmas.Steps.{at, count, same_journal, other_journal, as_many, stays_appended, new_event}
+use Rattle.octet_model.proofs.lemmas.Growth.{old_or_new, new}
 use Rattle.octet_serial.specs.Recorded.{HasAccessed, IsOwnerJoined, HasOwnerMarks, HasValidMarks}
 
 -- a mark stands behind those since the last access; an access has none behind it

@@ -16,10 +16,10 @@ use Rattle.octet_model.specs.Log.{is_mark}
 use Rattle.octet_model.specs.Orders.{starting_heap}
 use Rattle.octet_model.specs.Past.{InPast, AreOwned}
 use Rattle.octet_model.specs.Plays.{IsOneHistory, operation_of}
-use Rattle.octet_model.proofs.Steps.{count, same_journal, other_journal, as_many, new_event}
-use Rattle.octet_model.proofs.Growing.{new}
-use Rattle.octet_model.proofs.Splits.{accesses_split, marks_split, length_parts}
-use Rattle.octet_model.proofs.Owners.{history_with_mark, history_with_access, owned_with_event, owned_with_join}
+use Rattle.octet_model.proofs.lemmas.Steps.{count, same_journal, other_journal, as_many, new_event}
+use Rattle.octet_model.proofs.lemmas.Growth.{new}
+use Rattle.octet_model.proofs.lemmas.Splits.{accesses_split, marks_split, length_parts}
+use Rattle.octet_model.proofs.lemmas.Owners.{history_with_mark, history_with_access, owned_with_event, owned_with_join}
 use Rattle.octet_serial.specs.Recording.{join_of_all, with_event}
 use Rattle.octet_serial.specs.Recorded.{HasAccessed, IsOwnerJoined, IsPaired, HasOwners, HasOwnerMarks, HasValidMarks, IsRecorded}
 use Rattle.octet_serial.proofs.Grown.{since_mark, since_access, each_journal, marks_of_new, accessed_stays, old_access, owner_marks_stay, valid_marks_stay}

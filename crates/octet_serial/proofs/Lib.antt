@@ -2,5 +2,5 @@ pub mod Grown
 pub mod Kept
 pub mod Running
 pub mod Faithful
-pub mod Told
+pub mod Demands
 pub mod Ended

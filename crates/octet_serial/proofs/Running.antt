@@ -14,12 +14,12 @@ use Rattle.octet_model.specs.Journals.{access_count}
 use Rattle.octet_model.specs.HappensBefore.{object_of}
 use Rattle.octet_model.specs.Orders.{commands_of}
 use Rattle.octet_model.specs.Plays.{operation_of}
-use Rattle.octet_model.proofs.Steps.{same_journal, other_journal, as_many}
-use Rattle.octet_model.proofs.Splits.{configuration_split, fits_join, accesses_split}
+use Rattle.octet_model.proofs.lemmas.Steps.{same_journal, other_journal, as_many}
+use Rattle.octet_model.proofs.lemmas.Splits.{configuration_split, fits_join, accesses_split}
 use Rattle.octet_interp.specs.declared.demand.Demand.{Demand as Told}
 use Rattle.octet_interp.specs.declared.demand.Demand.TheVariants.{Read as TellsRead, Write as TellsWrite, Safe, Pause, Ended}
 use Rattle.octet_interp.specs.Laws.{Agrees}
-use Rattle.octet_interp.specs.Told.{Standing, starting_standing, told, is_read, after_told, given, TakesFuel}
+use Rattle.octet_interp.specs.Demands.{ThreadState, starting_thread, next_demand, is_read, after_demand, given, TakesFuel}
 use Rattle.octet_interp.proofs.Agreement.{agrees, follows, takes}
 use Rattle.octet_serial.specs.Recording.{join_of_all, with_join, with_event}
 use Rattle.octet_serial.specs.Recorded.{IsRecorded, HasEnded}
@@ -75,7 +75,7 @@ past_takes_one None c value = refl
 past_takes_one (Some (Read to object)) c value = refl
 past_takes_one (Some command) c value = refl
 
-module _ (script : Script) (js : Journals) (heap owners : List ℕ) (before : Journals) (t : ℕ) (s : Standing) (lt : t < length js) (small : script.fuel ≤ 262144) (r : IsRunning script js heap owners before t s) where
+module _ (script : Script) (js : Journals) (heap owners : List ℕ) (before : Journals) (t : ℕ) (s : ThreadState) (lt : t < length js) (small : script.fuel ≤ 262144) (r : IsRunning script js heap owners before t s) where
   abbrev commands : List Command
   commands = commands_of script t
 
@@ -83,7 +83,7 @@ module _ (script : Script) (js : Journals) (heap owners : List ℕ) (before : Jo
   start = starting_configuration script.fuel
 
   -- an access that the thread demands, to where it stands then
-  on_access : (o : ℕ) (e : Event) (next : Standing) → o < length owners → IsAccess e o heap → FitsFrom commands s.at (e ∷ [])
+  on_access : (o : ℕ) (e : Event) (next : ThreadState) → o < length owners → IsAccess e o heap → FitsFrom commands s.at (e ∷ [])
       → next.commands ≡ s.commands → next.objects ≡ s.objects → next.waits ≡ false → next.at ≡ configuration_after commands s.at (e ∷ []) → suc next.at.fuel ≤ s.at.fuel
       → IsRunning script (with_event js owners t o e) (heap_after (operation_of e) heap) (slice_set owners o t) before t next
   on_access o e next within access fit same_commands same_objects idle there fuel =
@@ -102,35 +102,35 @@ module _ (script : Script) (js : Journals) (heap owners : List ℕ) (before : Jo
         fuel_left = omega (arith, ap access_count longer, accesses_split (journal_of js1 t) (e ∷ []), a.counts, access.counts, r.fuel_left);
       }
 
-  agrees_as : (d : Told) → told s ≡ d → Agrees d s (after_told s)
-  agrees_as d is = subst (λ (x : Told). Agrees x s (after_told s)) is (agrees s)
+  agrees_as : (d : Told) → next_demand s ≡ d → Agrees d s (after_demand s)
+  agrees_as d is = subst (λ (x : Told). Agrees x s (after_demand s)) is (agrees s)
 
-  takes_as : (d : Told) → told s ≡ d → TakesFuel d s.at.fuel (after_told s).at.fuel
-  takes_as d is = subst (λ (x : Told). TakesFuel x s.at.fuel (after_told s).at.fuel) is (takes s)
+  takes_as : (d : Told) → next_demand s ≡ d → TakesFuel d s.at.fuel (after_demand s).at.fuel
+  takes_as d is = subst (λ (x : Told). TakesFuel x s.at.fuel (after_demand s).at.fuel) is (takes s)
 
-  pub on_read : (o : ℕ) → told s ≡ TellsRead o → o < length owners
-      → IsRunning script (with_event js owners t o (Read o (slice_index heap o))) heap (slice_set owners o t) before t (given (after_told s) (slice_index heap o))
+  pub on_read : (o : ℕ) → next_demand s ≡ TellsRead o → o < length owners
+      → IsRunning script (with_event js owners t o (Read o (slice_index heap o))) heap (slice_set owners o t) before t (given (after_demand s) (slice_index heap o))
   on_read o is within =
       let value = slice_index heap o in
       let told_right = agrees_as (TellsRead o) is in
       let takes_fuel = takes_as (TellsRead o) is in
-      let next = given (after_told s) value in
+      let next = given (after_demand s) value in
       let wanted : demanded commands s.at ≡ ToRead o = ap (λ (cs : List Command). demanded cs s.at) (sym r.has_commands) ∙ told_right.0 in
       let there : next.at ≡ past_demanded commands s.at value = told_right.1 value ∙ ap (λ (cs : List Command). past_demanded cs s.at value) r.has_commands in
-      let one : next.at.fuel ≡ pred (after_told s).at.fuel = past_takes_one _ (after_told s).at value in
+      let one : next.at.fuel ≡ pred (after_demand s).at.fuel = past_takes_one _ (after_demand s).at value in
       on_access o (Read o value) next within (read_is_access o heap) (wanted, tt) refl refl refl there (omega arith)
 
-  pub on_write : (o value : ℕ) → told s ≡ TellsWrite o value → o < length owners
-      → IsRunning script (with_event js owners t o (Write o value)) (slice_set heap o value) (slice_set owners o t) before t (after_told s)
+  pub on_write : (o value : ℕ) → next_demand s ≡ TellsWrite o value → o < length owners
+      → IsRunning script (with_event js owners t o (Write o value)) (slice_set heap o value) (slice_set owners o t) before t (after_demand s)
   on_write o value is within =
       let told_right = agrees_as (TellsWrite o value) is in
       let takes_fuel = takes_as (TellsWrite o value) is in
       let wanted : demanded commands s.at ≡ ToWrite o value = ap (λ (cs : List Command). demanded cs s.at) (sym r.has_commands) ∙ told_right.0 in
-      let there : (after_told s).at ≡ past_demanded commands s.at value = told_right.1 value ∙ ap (λ (cs : List Command). past_demanded cs s.at value) r.has_commands in
-      on_access o (Write o value) (after_told s) within (write_is_access o value heap) (wanted, tt) refl refl (ap is_read is) there (omega arith)
+      let there : (after_demand s).at ≡ past_demanded commands s.at value = told_right.1 value ∙ ap (λ (cs : List Command). past_demanded cs s.at value) r.has_commands in
+      on_access o (Write o value) (after_demand s) within (write_is_access o value heap) (wanted, tt) refl refl (ap is_read is) there (omega arith)
 
   -- a safe point or a pause
-  on_pause : settled s.commands (after_told s).at ≡ settled s.commands s.at → (after_told s).at.fuel < s.at.fuel → (after_told s).waits ≡ false → IsRunning script js heap owners before t (after_told s)
+  on_pause : settled s.commands (after_demand s).at ≡ settled s.commands s.at → (after_demand s).at.fuel < s.at.fuel → (after_demand s).waits ≡ false → IsRunning script js heap owners before t (after_demand s)
   on_pause same less idle =
       record {
         recorded = r.recorded;
@@ -139,15 +139,15 @@ module _ (script : Script) (js : Journals) (heap owners : List ℕ) (before : Jo
         has_objects = r.has_objects;
         is_idle = idle;
         fits = r.fits;
-        stands = r.stands ∙ ap (λ (cs : List Command). settled cs s.at) (sym r.has_commands) ∙ sym same ∙ ap (λ (cs : List Command). settled cs (after_told s).at) r.has_commands;
+        stands = r.stands ∙ ap (λ (cs : List Command). settled cs s.at) (sym r.has_commands) ∙ sym same ∙ ap (λ (cs : List Command). settled cs (after_demand s).at) r.has_commands;
         fuel_left = omega (arith, r.fuel_left);
       }
 
-  pub on_safe_or_pause : (told s ≡ Safe) ⊎ (told s ≡ Pause) → IsRunning script js heap owners before t (after_told s)
+  pub on_safe_or_pause : (next_demand s ≡ Safe) ⊎ (next_demand s ≡ Pause) → IsRunning script js heap owners before t (after_demand s)
   on_safe_or_pause (inl is) = on_pause (agrees_as Safe is) (takes_as Safe is) (ap is_read is)
   on_safe_or_pause (inr is) = on_pause (agrees_as Pause is) (takes_as Pause is) (ap is_read is)
 
-  pub on_end : (end : End) → told s ≡ Ended end → HasEnded script js t end
+  pub on_end : (end : End) → next_demand s ≡ Ended end → HasEnded script js t end
   on_end end is =
       record {
         fits = r.fits;
@@ -156,7 +156,7 @@ module _ (script : Script) (js : Journals) (heap owners : List ℕ) (before : Jo
       }
 
 -- a thread that has made nothing, at its start
-pub at_start : (script : Script) (js : Journals) (heap owners : List ℕ) (t : ℕ) → IsRecorded script js heap owners → journal_of js t ≡ [] → IsRunning script js heap owners js t (starting_standing script t)
+pub at_start : (script : Script) (js : Journals) (heap owners : List ℕ) (t : ℕ) → IsRecorded script js heap owners → journal_of js t ≡ [] → IsRunning script js heap owners js t (starting_thread script t)
 at_start script js heap owners t recorded none =
     let commands = commands_of script t in
     let start = starting_configuration script.fuel in

@@ -5,7 +5,7 @@ use Rattle.octet_model.specs.Thread.{starting_configuration, configuration_after
 use Rattle.octet_model.specs.Machine.{Journals, journal_of}
 use Rattle.octet_model.specs.Journals.{access_count}
 use Rattle.octet_model.specs.Orders.{commands_of, FitsThread}
-use Rattle.octet_interp.specs.Told.{Standing}
+use Rattle.octet_interp.specs.Demands.{ThreadState}
 use Rattle.octet_serial.specs.Recorded.{IsRecorded}
 
 -- the journals differ at most in this thread's
@@ -13,7 +13,7 @@ abbrev pub AreOthersSame : Journals → Journals → ℕ → Type 0
 AreOthersSame journals before thread = (other : ℕ) → other ≢ thread → journal_of journals other ≡ journal_of before other
 
 -- what is recorded while a thread runs that stands here: its journal fits its commands up to where it settles, and the fuel that it has left was not spent on accesses
-pub record IsRunning (script : Script) (journals : Journals) (heap owners : List ℕ) (before : Journals) (thread : ℕ) (standing : Standing) : Type 0 where
+pub record IsRunning (script : Script) (journals : Journals) (heap owners : List ℕ) (before : Journals) (thread : ℕ) (standing : ThreadState) : Type 0 where
   pub recorded : IsRecorded script journals heap owners
   pub others_same : AreOthersSame journals before thread
   pub has_commands : standing.commands ≡ commands_of script thread

@@ -4,7 +4,6 @@
 #![tactic(auto)]
 
 mod recording;
-mod results;
 mod serial;
 #[cfg(test)]
 mod tests;

@@ -1,11 +1,11 @@
 //! The journals, the heap and the owners of a run that is being recorded.
-ghost use Rattle.std.specs.Prelude.{◌≡◌, ◌<◌, List, length, map, replicate, slice_index, slice_set, IfOk, OnOk};
+ghost use Rattle.std.specs.Prelude.{◌≡◌, ◌<◌, List, length, replicate, slice_index, slice_set, IfOk, OnOk};
 ghost use Rattle.octet_model.specs.Machine.{appended, no_events};
 ghost use Rattle.octet_model.specs.Orders.{starting_heap};
 ghost use Rattle.octet_model.specs.declared.event.Event.TheVariants.{Read, Write};
 ghost use Rattle.octet_serial.specs.Recording.{with_event, with_join};
 
-use octet_model::{Command, Event, List, Mark, Object, OutOfMemory, Script};
+use octet_model::{Command, Event, List, Mark, OutOfMemory, Script};
 use std::alloc::Global;
 
 /// What is recorded so far.
@@ -29,16 +29,6 @@ fn no_events(alloc: Global, threads: &[List<Command>]) -> Result<Vec<List<Event>
     Ok(journals)
 }
 
-fn starting_heap(alloc: Global, objects: &[Object]) -> Result<Vec<u64>, OutOfMemory>
-    ensures { IfOk result (λ heap. heap.items ≡ map (λ o. o.start) objects.now) }
-{
-    let mut heap = Vec::new(alloc);
-    for object in objects {
-        heap.push(object.start)?;
-    }
-    Ok(heap)
-}
-
 // Adds an event at the end of a thread's journal.
 fn append(journals: &mut Vec<List<Event>>, thread: u8, event: Event) -> Result<(), OutOfMemory>
     requires { thread < length journals.old.items }
@@ -56,7 +46,7 @@ impl Recording {
         ensures owners { IfOk result (λ r. r.owners.items ≡ replicate (length script.now.objects) 0) }
     {
         let journals = no_events(alloc, script.threads.as_slice())?;
-        let heap = starting_heap(alloc, script.objects.as_slice())?;
+        let heap = script.starting_heap(alloc)?;
         let owners = vec![in alloc; 0; script.objects.len()]?;
         Ok(Recording {
             journals,

@@ -6,9 +6,8 @@ ghost use Rattle.octet_serial.specs.Recorded.{AreEmptyFrom, HasEnded, HaveEnded,
 ghost use Rattle.octet_serial.specs.Running.{AreOthersSame};
 
 use crate::recording::Recording;
-use crate::results::{log_of, reads_of};
 use octet_interp::{Config, Demand};
-use octet_model::{End, List, OutOfMemory, Outcome, Recorded, Script};
+use octet_model::{End, List, OutOfMemory, Outcome, Recorded, Script, log_of, reads_of};
 use std::alloc::Global;
 
 // Runs one thread from its start to its end.
@@ -41,13 +40,6 @@ fn run_thread(
     }
 }
 
-#[tactic(auto, using(crate::proofs::Faithful::bounded))]
-fn thread_count(script: &Script) -> u8
-    ensures { result ≡ length script.now.threads }
-{
-    script.threads.len() as u8
-}
-
 // Runs all threads, lowest first.
 fn run_threads(
     alloc: Global,
@@ -61,7 +53,7 @@ fn run_threads(
     ensures ended { IfOk result (λ ends. HaveEnded script.now recording.new.journals.items ends) }
 {
     let mut ends = List::new(alloc);
-    for thread in 0..thread_count(script) {
+    for thread in 0..script.thread_count() {
         let end = run_thread(alloc, script, thread, recording)?;
         ends.push(end)?;
     }

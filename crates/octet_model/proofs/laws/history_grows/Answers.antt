@@ -1,5 +1,5 @@
 use Rattle.octet_model.specs.Orders.{starting_heap}
-use Rattle.octet_model.proofs.Growing.{history_begins, history_grows}
+use Rattle.octet_model.proofs.lemmas.Growth.{history_begins, history_grows}
 use Rattle.octet_model.proofs.laws.history_grows.Goals as goal
 
 pub returns-clause-begins : goal.returns-clause-begins

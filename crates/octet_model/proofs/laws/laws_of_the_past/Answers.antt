@@ -1,5 +1,5 @@
-use Rattle.octet_model.proofs.Pasts.{past_has_own, past_happens_before, past_is_closed, past_grows, past_has_joined, past_has_draws_whole}
-use Rattle.octet_model.proofs.MarksSeen.{history_marks_seen}
+use Rattle.octet_model.proofs.lemmas.Pasts.{past_has_own, past_happens_before, past_is_closed, past_grows, past_has_joined, past_has_draws_whole}
+use Rattle.octet_model.proofs.lemmas.MarksSeen.{history_marks_seen}
 use Rattle.octet_model.proofs.laws.laws_of_the_past.Goals as goal
 
 pub returns-clause-own : goal.returns-clause-own

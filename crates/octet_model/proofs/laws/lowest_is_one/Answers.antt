@@ -1,4 +1,4 @@
-use Rattle.octet_model.proofs.Lowest.{lowest_is_front, one_lowest, lowest_order_is_lowest, lowest_play_is_lowest, lowest_order_is_lawful}
+use Rattle.octet_model.proofs.lemmas.LowestFronts.{lowest_is_front, one_lowest, lowest_order_is_lowest, lowest_play_is_lowest, lowest_order_is_lawful}
 use Rattle.octet_model.proofs.laws.lowest_is_one.Goals as goal
 
 pub returns-clause-front : goal.returns-clause-front

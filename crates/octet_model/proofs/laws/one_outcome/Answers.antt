@@ -1,7 +1,7 @@
 use Rattle.std.proofs.Common.{ap}
 use Rattle.octet_model.specs.Machine.{PlainState}
 use Rattle.octet_model.specs.Orders.{by_log, starting_heap, outcome_of}
-use Rattle.octet_model.proofs.Fronts.{one_end, front_leads_on}
+use Rattle.octet_model.proofs.lemmas.Fronts.{one_end, front_leads_on}
 use Rattle.octet_model.proofs.laws.one_outcome.Goals as goal
 
 pub returns-clause-execution : goal.returns-clause-execution

@@ -1,4 +1,4 @@
-use Rattle.octet_model.proofs.Following.{lawful_order_has_its_log, lawful_order_fits}
+use Rattle.octet_model.proofs.lemmas.LawfulOrders.{lawful_order_has_its_log, lawful_order_fits}
 use Rattle.octet_model.proofs.laws.order_follows_its_log.Goals as goal
 
 pub returns-clause-log : goal.returns-clause-log

@@ -1,6 +1,6 @@
-use Rattle.octet_model.proofs.Growing.{path_longer}
-use Rattle.octet_model.proofs.Pasts.{past_stays}
-use Rattle.octet_model.proofs.MarksSeen.{past_gains}
+use Rattle.octet_model.proofs.lemmas.Growth.{path_longer}
+use Rattle.octet_model.proofs.lemmas.Pasts.{past_stays}
+use Rattle.octet_model.proofs.lemmas.MarksSeen.{past_gains}
 use Rattle.octet_model.proofs.laws.pasts_never_change.Goals as goal
 
 pub returns-clause-paths : goal.returns-clause-paths

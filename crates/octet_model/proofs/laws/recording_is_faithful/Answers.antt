@@ -1,4 +1,4 @@
-use Rattle.octet_model.proofs.Growing.{faithful_from_play, faithful_from_history}
+use Rattle.octet_model.proofs.lemmas.Growth.{faithful_from_play, faithful_from_history}
 use Rattle.octet_model.proofs.laws.recording_is_faithful.Goals as goal
 
 pub returns-clause-play : goal.returns-clause-play

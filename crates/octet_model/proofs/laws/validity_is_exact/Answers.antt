@@ -1,4 +1,4 @@
-use Rattle.octet_model.proofs.Validity.{script_decides, log_decides}
+use Rattle.octet_model.proofs.lemmas.Validity.{script_decides, log_decides}
 use Rattle.octet_model.proofs.laws.validity_is_exact.Goals as goal
 
 pub returns-clause-script : goal.returns-clause-script

@@ -4,15 +4,16 @@ use Rattle.octet_model.specs.Journals.{log_of}
 use Rattle.octet_model.specs.Log.{is_log}
 use Rattle.octet_model.specs.Machine.{Journals}
 use Rattle.octet_model.specs.Orders.{values_read}
-use Rattle.octet_serial.proofs.Faithful.{bounded, log_valid, faithful_as, owner_marked}
+use Rattle.octet_model.proofs.lemmas.Validity.{valid_script}
+use Rattle.octet_serial.proofs.Faithful.{log_valid, faithful_as, owner_marked}
 use Rattle.octet_serial.proofs.serial.recorded.Goals as goal
 
-pub log_of-requires-clause-valid : goal.log_of-requires-clause-valid
-log_of-requires-clause-valid c =
+pub log_of-requires : goal.log_of-requires
+log_of-requires c =
     let s = c.args.script.now in
     let r = c.args.recording in
     subst (λ (js : Journals). IsTrue (is_log (log_of js))) (sym c.deref.ensures.value)
-    (log_valid s r.journals.items r.heap.items r.owners.items (bounded s.fuel s.objects s.threads s.valid) c.requires.recorded)
+    (log_valid s r.journals.items r.heap.items r.owners.items (valid_script s.fuel s.objects s.threads s.valid) c.requires.recorded)
 
 pub returns-clause-faithful : goal.returns-clause-faithful
 returns-clause-faithful c =

@@ -1,0 +1,80 @@
+-- What a thread demands, safe points and pauses among it.
+use Rattle.std.specs.Prelude.{ℕ, zero, suc, ◌^◌, ◌<◌, ◌≤◌, Bool, true, false, List, [], length, Option, Some, None, unwrap_or, get_or, slice_get, slice_index}
+use Rattle.octet_model.specs.declared.command.Command.{Command}
+use Rattle.octet_model.specs.declared.command.Command.TheVariants.{Read, Write, Safe, Pause}
+use Rattle.octet_model.specs.declared.outcome.End.TheVariants.{Done, Spent}
+use Rattle.octet_model.specs.declared.script.Script.{Script}
+use Rattle.octet_model.specs.Thread.{Configuration, starting_configuration, run_to, moved_to, past_access}
+use Rattle.octet_interp.specs.declared.demand.Demand.{Demand}
+use Rattle.octet_interp.specs.declared.demand.Demand.TheVariants.{Read, Write, Safe, Pause, Ended}
+
+-- what callers know of a thread that runs: its commands, where it stands, whether a read waits for its value, and the number of the script's objects
+pub record ThreadState : Type 0 where
+  pub commands : List Command
+  pub at : Configuration
+  pub waits : Bool
+  pub objects : ℕ
+
+-- at the start of a thread of a script
+abbrev pub starting_thread : Script → ℕ → ThreadState
+starting_thread script thread = record { commands = get_or script.threads thread []; at = starting_configuration script.fuel; waits = false; objects = length script.objects }
+
+-- accesses, safe points and pauses are demands
+abbrev pub is_demand : Command → Bool
+is_demand (Read to object) = true
+is_demand (Write object from) = true
+is_demand Safe = true
+is_demand Pause = true
+is_demand _ = false
+
+-- run on to the next command that is a demand, or to the thread's end
+abbrev pub at_demand : List Command → Configuration → Configuration
+at_demand commands c = run_to is_demand commands c.fuel c
+
+-- what a command demands, if it is a demand
+abbrev pub demand_of_command : Command → List ℕ → Option Demand
+demand_of_command (Read to object) registers = Some (Read object)
+demand_of_command (Write object from) registers = Some (Write object (slice_index registers from))
+demand_of_command Safe registers = Some Safe
+demand_of_command Pause registers = Some Pause
+demand_of_command _ registers = None
+
+-- done where no command is left, else spent where no fuel is left, else what the command demands; with fuel left, a run stops at no other command
+abbrev pub demand_from : Option Command → Configuration → Demand
+demand_from None c = Ended Done
+demand_from (Some command) c = elim c.fuel [ zero ↦ Ended Spent | suc fuel ↦ unwrap_or (demand_of_command command c.registers) (Ended Spent) ]
+
+-- a read and an end stay where they are, the others go on to the next place
+abbrev pub past_demand : Demand → Configuration → Configuration
+past_demand (Read object) c = c
+past_demand (Ended end) c = c
+past_demand _ c = moved_to c (suc c.place)
+
+-- whether a value is to be given
+abbrev pub is_read : Demand → Bool
+is_read (Read object) = true
+is_read _ = false
+
+-- what a thread demands next
+abbrev pub next_demand : ThreadState → Demand
+next_demand s = let c = at_demand s.commands s.at in demand_from (slice_get s.commands c.place) c
+
+-- where it stands then
+abbrev pub after_demand : ThreadState → ThreadState
+after_demand s = record { commands = s.commands; at = past_demand (next_demand s) (at_demand s.commands s.at); waits = is_read (next_demand s); objects = s.objects }
+
+-- past the read that waits, with its value
+abbrev pub given : ThreadState → ℕ → ThreadState
+given s value = record { commands = s.commands; at = past_access (slice_get s.commands s.at.place) s.at value; waits = false; objects = s.objects }
+
+-- its object is one of so many, and its value below 2 ^ 64
+abbrev pub IsPossible : ℕ → Demand → Type 0
+IsPossible objects (Read object) = object < objects
+IsPossible objects (Write object value) = (object < objects) × (value < 2 ^ 64)
+IsPossible objects _ = Unit {0}
+
+-- a demand takes fuel: a read when its value is given, the others as they are answered. The end takes none
+abbrev pub TakesFuel : Demand → ℕ → ℕ → Type 0
+TakesFuel (Read object) before after = (0 < after) × (after ≤ before)
+TakesFuel (Ended end) before after = after ≤ before
+TakesFuel _ before after = after < before

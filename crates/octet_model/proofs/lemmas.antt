@@ -1,0 +1,15 @@
+pub mod Lists
+pub mod Validity
+pub mod Splits
+pub mod Steps
+pub mod Fronts
+pub mod LowestThread
+pub mod Plays
+pub mod LogsOfJournals
+pub mod Growth
+pub mod Pasts
+pub mod Owners
+pub mod MarksSeen
+pub mod LowestFronts
+pub mod LawfulOrders
+pub mod LogLength
