@@ -10,7 +10,7 @@ use Rattle.octet_clock.specs.declared.verdict.Verdict.{Verdict}
 use Rattle.octet_clock.specs.declared.verdict.Verdict.TheVariants.{Ordered, Unordered}
 use Rattle.octet_clock.specs.Play.{made_by, IsWholePlay}
 use Rattle.octet_clock.specs.Sources.{IsNextStep}
-use Rattle.octet_replay.specs.Places.{HavePlaces}
+use Rattle.octet_replay.specs.Places.{FitInPlaces}
 use Rattle.octet_clock.specs.Verdict.{IsFirstUnordered, JudgedUpTo, IsVerdict}
 use Rattle.octet_clock.proofs.Forward.{ordered_by_steps, unordered_by_pair}
 use Rattle.octet_clock.proofs.Taken.{step_within}
@@ -18,7 +18,7 @@ use Rattle.octet_clock.proofs.Walk.{event_of_step}
 
 -- a step of a whole play of journals that have places
 pub record Stands (js : Journals) (play : List ℕ) (i : ℕ) : Type 0 where
-  pub places : HavePlaces js
+  pub places : FitInPlaces js
   pub whole : IsWholePlay js play
   pub within : i < length play
 
@@ -38,7 +38,7 @@ module _ (js : Journals) (play : List ℕ) (i : ℕ) (here : Stands js play i) w
   pub has_room : suc k < 2 ^ 32
   has_room = omega (arith, within, here.places.events t [] mover_within)
 
--- the verdict behind all steps
+-- the verdict after all steps
 pub verdict_is : (js : Journals) (play : List ℕ) (verdict : Verdict) → IsWholePlay js play → JudgedUpTo js play (length play) verdict → IsVerdict js play verdict
 verdict_is js play Ordered whole judged = record {
   ordered = (λ is. ordered_by_steps js play whole judged, λ ordered. refl);

@@ -8,7 +8,7 @@ use Rattle.octet_model.specs.declared.event.Place.{Place}
 use Rattle.octet_model.specs.Machine.{Journals}
 use Rattle.octet_model.specs.HappensBefore.{event_at, Edge, ProgramOrder, Joined, Drawn, Fenced, IsEvent, IsPath, HappensBefore}
 use Rattle.octet_model.specs.Past.{Reaches, InPast}
-use Rattle.octet_model.proofs.Pasts.{place, path_on, by_edge}
+use Rattle.octet_model.proofs.lemmas.Pasts.{place, path_on, by_edge}
 use Rattle.octet_clock.specs.Past.{AddsNothing}
 
 module _ (js : Journals) where

@@ -7,7 +7,7 @@ use Rattle.octet_model.specs.declared.event.Place.{Place}
 use Rattle.octet_model.specs.Machine.{Journals, journal_of}
 use Rattle.octet_model.specs.HappensBefore.{IsEvent}
 use Rattle.octet_model.specs.Past.{InPast}
-use Rattle.octet_model.proofs.Pasts.{place, past_grows, past_has_own}
+use Rattle.octet_model.proofs.lemmas.Pasts.{place, past_grows, past_has_own}
 use Rattle.octet_clock.specs.declared.clock.Clock.{Clock}
 use Rattle.octet_clock.specs.Clock.{count_in, IsRaised, IsJoined}
 use Rattle.octet_clock.specs.Past.{AddsNothing, IsPastOf}
@@ -67,7 +67,7 @@ module _ (js : Journals) where
         | inr own ↦ own_event t now a own.0 own.1 within
       ]
 
-  -- behind an event that takes in another past lie the thread's own past, the other past and the event
+  -- after an event that takes in another past lie the thread's own past, the other past and the event
   pub past_joined : (t k u n : ℕ) (c d b e : Clock) → IsPastOf js t k c → IsPastOf js u n d → IsJoined c d b → IsRaised b t (suc k) e → k < length (journal_of js t)
       → ((a : Place) → InPast js u n a → InPast js t (suc k) a)
       → ((a : Place) → InPast js t (suc k) a → InPast js t k a ⊎ (InPast js u n a ⊎ (a ≡ place t k)))
@@ -92,10 +92,10 @@ module _ (js : Journals) where
         | inr here ↦ own_event t (suc k) a here.0 here.1 (omega arith)
       ]
 
-  -- an event adds nothing where the clock behind it knows no more of the other threads
+  -- an event adds nothing where the clock after it knows no more of the other threads
   pub nothing_new : (t k : ℕ) (c d : Clock) → IsPastOf js t k c → IsPastOf js t (suc k) d → k ≤ length (journal_of js t) → ((u : ℕ) → u ≢ t → count_in d u ≤ count_in c u) → count_in d t ≤ suc k → AddsNothing js t k
-  nothing_new t k c d before behind within others own a h =
-      let known = (behind a).0 h in
+  nothing_new t k c d before after within others own a h =
+      let known = (after a).0 h in
       elim (cases_eq a.thread t) [
         | inr differ ↦ inl ((before a).1 (omega (arith, known, others a.thread differ)))
         | inl same ↦ elim (cases_lt a.event k) [

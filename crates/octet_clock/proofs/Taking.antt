@@ -9,10 +9,10 @@ use Rattle.octet_model.specs.declared.event.Event.TheVariants.{Read, Write, Mark
 use Rattle.octet_model.specs.declared.event.Place.{Place}
 use Rattle.octet_model.specs.Machine.{Journals}
 use Rattle.octet_model.specs.HappensBefore.{event_at, object_of, is_write}
-use Rattle.octet_model.proofs.Pasts.{place}
-use Rattle.octet_model.proofs.Steps.{slice_get-append, slice_get_last}
+use Rattle.octet_model.proofs.lemmas.Pasts.{place}
+use Rattle.octet_model.proofs.lemmas.Lists.{slice_get-append, slice_get_last}
 use Rattle.octet_clock.specs.declared.clock.Clock.{Clock}
-use Rattle.octet_clock.specs.declared.marks.Kept.{Kept}
+use Rattle.octet_clock.specs.declared.marks.MarkClock.{MarkClock}
 use Rattle.octet_clock.specs.declared.marks.Marks.{Marks}
 use Rattle.octet_clock.specs.declared.sources.Prefix.{Prefix}
 use Rattle.octet_clock.specs.declared.accesses.Accesses.{Accesses}
@@ -25,7 +25,7 @@ use Rattle.octet_clock.specs.LastAccesses.{last_in, is_read_of, is_write_of, IsL
 use Rattle.octet_clock.specs.Past.{AddsNothing, IsKept, IsPastOf, KeepsMarks}
 use Rattle.octet_clock.specs.Play.{made_by, step_place, IsStep}
 use Rattle.octet_clock.specs.Sources.{IsNextStep, IsDrawn, KeepsDraws, KeepsAllMarks, draws_with}
-use Rattle.octet_clock.specs.Verdict.{IsEarlierConflict, IsJoinedUp, IsFirstMissed, IsFirstUnordered, JudgedUpTo}
+use Rattle.octet_clock.specs.Verdict.{IsEarlierConflict, FollowsConflicts, IsFirstMissed, IsFirstUnordered, JudgedUpTo}
 use Rattle.octet_clock.proofs.Edges.{unmarked_adds}
 use Rattle.octet_clock.proofs.Walk.{made_one, made_other, draw_counts, draw_is_next, others_count_none}
 
@@ -44,7 +44,7 @@ in_set (x ∷ xs) zero y (suc j) z is = inr (λ e. omega arith, is)
 in_set (x ∷ xs) (suc i) y zero z is = inr (λ e. omega arith, is)
 in_set (x ∷ xs) (suc i) y (suc j) z is = elim (in_set xs i y j z is) [ inl new ↦ inl (ap suc new.0, new.1) | inr old ↦ inr (λ e. old.0 (omega arith), old.1) ]
 
-module _ (js : Journals) (t k : ℕ) (kept : List Kept) (keeps : KeepsMarks js t k kept) where
+module _ (js : Journals) (t k : ℕ) (kept : List MarkClock) (keeps : KeepsMarks js t k kept) where
   -- an event that adds nothing need not be kept
   pub keeps_on : AddsNothing js t k → KeepsMarks js t (suc k) kept
   keeps_on nothing = record {
@@ -61,22 +61,22 @@ module _ (js : Journals) (t k : ℕ) (kept : List Kept) (keeps : KeepsMarks js t
   pub keeps_mark : (clock : Clock) → IsPastOf js t (suc k) clock → KeepsMarks js t (suc k) (kept ++ record { event = k; clock = clock } ∷ [])
   keeps_mark clock past = record { rising = rising; made = made; all = all; pasts = pasts }
     where
-      new : Kept
+      new : MarkClock
       new = record { event = k; clock = clock }
 
-      rising : (i j : ℕ) (sooner later : Kept) → i < j → slice_get (kept ++ new ∷ []) i ≡ Some sooner → slice_get (kept ++ new ∷ []) j ≡ Some later → sooner.event < later.event
+      rising : (i j : ℕ) (sooner later : MarkClock) → i < j → slice_get (kept ++ new ∷ []) i ≡ Some sooner → slice_get (kept ++ new ∷ []) j ≡ Some later → sooner.event < later.event
       rising i j sooner later lt at_i at_j = elim (pushed kept new sooner i at_i) [
         | inl old_i ↦ elim (pushed kept new later j at_j) [
           | inl old_j ↦ keeps.rising i j sooner later lt old_i old_j
-          | inr new_j ↦ let e = ap (λ (o : Kept). o.event) new_j.1 in omega (arith, keeps.made i sooner old_i)
+          | inr new_j ↦ let e = ap (λ (o : MarkClock). o.event) new_j.1 in omega (arith, keeps.made i sooner old_i)
         ]
         | inr new_i ↦ absurd (omega (arith, new_i.0, slice_get_within (kept ++ new ∷ []) j later at_j, length-append kept (new ∷ [])))
       ]
 
-      made : (i : ℕ) (one : Kept) → slice_get (kept ++ new ∷ []) i ≡ Some one → one.event < suc k
+      made : (i : ℕ) (one : MarkClock) → slice_get (kept ++ new ∷ []) i ≡ Some one → one.event < suc k
       made i one is = elim (pushed kept new one i is) [
         | inl old ↦ omega (arith, keeps.made i one old)
-        | inr new_i ↦ let e = ap (λ (o : Kept). o.event) new_i.1 in omega arith
+        | inr new_i ↦ let e = ap (λ (o : MarkClock). o.event) new_i.1 in omega arith
       ]
 
       all : (event : ℕ) → event < suc k → IsKept (kept ++ new ∷ []) event ⊎ AddsNothing js t event
@@ -88,10 +88,10 @@ module _ (js : Journals) (t k : ℕ) (kept : List Kept) (keeps : KeepsMarks js t
         ]
       ]
 
-      pasts : (i : ℕ) (one : Kept) → slice_get (kept ++ new ∷ []) i ≡ Some one → IsPastOf js t (suc one.event) one.clock
+      pasts : (i : ℕ) (one : MarkClock) → slice_get (kept ++ new ∷ []) i ≡ Some one → IsPastOf js t (suc one.event) one.clock
       pasts i one is = elim (pushed kept new one i is) [
         | inl old ↦ keeps.pasts i one old
-        | inr new_i ↦ subst (λ (o : Kept). IsPastOf js t (suc o.event) o.clock) new_i.1 past
+        | inr new_i ↦ subst (λ (o : MarkClock). IsPastOf js t (suc o.event) o.clock) new_i.1 past
       ]
 
 module _ (js : Journals) (test : Event → Bool) (t k n : ℕ) (last : IsLastOf js test t k n) where
@@ -201,11 +201,11 @@ module _ (js : Journals) (play : List ℕ) (i t : ℕ) (e : Event) (next : IsNex
   draw_added : (c : ℕ) (draws : List Prefix) → e ≡ Marked (Draw c) → KeepsDraws js play i draws → KeepsDraws js play (suc i) (draws ++ record { thread = t; count = suc k } ∷ [])
   draw_added c draws is keeps =
       let step = subst (λ (x : Event). IsStep js play i t x) is next.step in
-      let behind : Prefix = record { thread = t; count = suc k } in
+      let after : Prefix = record { thread = t; count = suc k } in
       let number : c ≡ suc (length draws) = draw_is_next js play next.whole i t c step ∙ ap suc (sym keeps.counts) in
       record {
-        counts = omega (arith, length-append draws (behind ∷ []), keeps.counts, draw_counts js play next.whole i t c step);
-        each = λ n first at_n. elim (pushed draws behind first n at_n) [
+        counts = omega (arith, length-append draws (after ∷ []), keeps.counts, draw_counts js play next.whole i t c step);
+        each = λ n first at_n. elim (pushed draws after first n at_n) [
           | inl old ↦ drawn_stays (suc n) first (keeps.each n first old)
           | inr new ↦ subst (λ (f : Prefix). IsDrawn js play (suc i) (suc n) f) new.1 (record {
             event = k;
@@ -284,9 +284,9 @@ module _ (js : Journals) (play : List ℕ) (i t : ℕ) (e : Event) (next : IsNex
       }
 
   -- one more step that is joined up
-  pub judged_more : (verdict : Verdict) → JudgedUpTo js play i verdict → IsJoinedUp js play i → JudgedUpTo js play (suc i) verdict
+  pub judged_more : (verdict : Verdict) → JudgedUpTo js play i verdict → FollowsConflicts js play i → JudgedUpTo js play (suc i) verdict
   judged_more Ordered judged joined = λ step lt. elim (cases_eq step i) [
-    | inl same ↦ subst (λ (n : ℕ). IsJoinedUp js play n) (sym same) joined
+    | inl same ↦ subst (λ (n : ℕ). FollowsConflicts js play n) (sym same) joined
     | inr differ ↦ judged step (omega arith)
   ]
   judged_more (Unordered first second) judged joined = judged

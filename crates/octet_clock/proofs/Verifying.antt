@@ -10,10 +10,10 @@ use Rattle.octet_model.specs.declared.log.ThreadLog.{ThreadLog}
 use Rattle.octet_model.specs.Machine.{Journals, PlainState, may_proceed, next_of}
 use Rattle.octet_model.specs.HappensBefore.{IsOrdered}
 use Rattle.octet_model.specs.Orders.{by_log, opening_state, starting_heap, journals_after, lowest_order, outcome_of, IsLawfulOrder}
-use Rattle.octet_model.proofs.Fronts.{one_end, front_leads_on}
-use Rattle.octet_model.proofs.Logged.{as_many_after}
-use Rattle.octet_model.proofs.Lowest.{lowest_is_front, lowest_order_is_lowest}
-use Rattle.octet_replay.specs.Places.{HavePlaces}
+use Rattle.octet_model.proofs.lemmas.Fronts.{one_end, front_leads_on}
+use Rattle.octet_model.proofs.lemmas.LogsOfJournals.{as_many_after}
+use Rattle.octet_model.proofs.lemmas.LowestFronts.{lowest_is_front, lowest_order_is_lowest}
+use Rattle.octet_replay.specs.Places.{FitInPlaces}
 use Rattle.octet_replay.specs.ReplayState as replayed
 use Rattle.octet_replay.specs.ReplayState.{ReplayState, HasHalted, plain_state, state_at}
 use Rattle.octet_replay.proofs.Places.{have_places}
@@ -39,7 +39,7 @@ one_outcome script log lawful ordered =
 
 -- the next step of a replay is the next of a play of the journals that its order comes to
 module _ (r : ReplayState) (agree : length r.script.threads ≡ length r.log.threads) (t : ℕ) (event : Event) (next : replayed.IsNextStep r t event) where
-  places : HavePlaces (journals_after r.script r.log.threads (lowest_order r.script r.log.threads))
+  places : FitInPlaces (journals_after r.script r.log.threads (lowest_order r.script r.log.threads))
   places =
       have_places r.script r.log.threads (lowest_order r.script r.log.threads) agree
       (lowest_is_front (by_log r.script r.log.threads) (lowest_order r.script r.log.threads) (opening_state r.script) (lowest_order_is_lowest r.script r.log.threads agree))

@@ -20,7 +20,7 @@ pub record IsVerified (script : Script) (log : List ThreadLog) (verdict : Verdic
   pub told : IsVerdict (journals_after script log (lowest_order script log)) (lowest_order script log) verdict
   pub one_outcome : verdict ≡ Ordered → HasOneOutcome script log
 
--- a walk that took a replayer from its first step on: all accesses so far are joined up and no thread may step, or the verdict is on the last one
+-- what the steps of a replayer told, from its first step on: they are in order and no thread may step any more, or the last of them is the second of the pair
 pub record IsJudged (before after : ReplayState) (verdict : Verdict) : Type 0 where
   pub script : after.script ≡ before.script
   pub log : after.log ≡ before.log

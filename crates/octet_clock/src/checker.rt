@@ -13,7 +13,7 @@ ghost use Rattle.octet_clock.specs.Verified.{IsJudged};
 use crate::accesses::Accesses;
 use crate::clock::{Clock, THREADS};
 use crate::marks::Marks;
-use crate::sources::{Prefix, clock_after, clock_behind, note_draw};
+use crate::sources::{Prefix, clock_after, clock_past_mark, note_draw};
 use crate::verdict::Verdict;
 use octet_model::{Event, Mark, OutOfMemory, Place};
 use octet_replay::{Replayer, Stepped};
@@ -58,7 +58,7 @@ impl Checker {
             .missed(self.marks.len(), thread, object, writing, &known)
     }
 
-    // The verdict behind a thread's access.
+    // The verdict with a thread's access.
     fn judged(&self, thread: usize, object: u16, writing: bool) -> Verdict
         requires threads { length self.now.marks.items ≤ THREADS }
         requires thread { thread < length self.now.marks.items }
@@ -101,13 +101,13 @@ impl Checker {
         ensures taken { OnOk result (TakesEvent self.old thread (Marked mark) self.new) }
     {
         let count = self.made.count(thread);
-        let clock = clock_behind(&self.marks, &self.draws, thread, count, mark);
+        let clock = clock_past_mark(&self.marks, &self.draws, thread, count, mark);
         self.marks[thread].keep(thread, count, clock)?;
-        let behind = Prefix {
+        let upto = Prefix {
             thread: thread as u8,
             count: count + 1,
         };
-        note_draw(&mut self.draws, mark, behind)?;
+        note_draw(&mut self.draws, mark, upto)?;
         self.made.raise(thread, count + 1);
         Ok(())
     }
@@ -132,7 +132,7 @@ impl Checker {
 /// misses an earlier conflicting one.
 ///
 /// Behind each mark its thread's vector clock is kept, since a `Join` of a thread's first events
-/// takes in what the thread knew behind these, and not what it knows by now.
+/// takes in what the thread knew when it had made these, and not what it knows by now.
 pub(crate) fn judge(
     alloc: Global,
     replayer: &mut Replayer,

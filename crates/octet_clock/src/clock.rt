@@ -32,7 +32,7 @@ impl Clock {
         }
     }
 
-    /// Takes in a thread's first events, so many.
+    /// Takes in a thread's first `count` events.
     pub(crate) fn raise(&mut self, thread: usize, count: u32)
         requires { thread < THREADS }
         ensures { IsRaised self.old thread count self.new }
@@ -50,8 +50,8 @@ impl Clock {
         }
     }
 
-    /// Whether it knows more than so many events of its thread, or more of another thread than
-    /// the clock before it.
+    /// Whether it knows more than `own` events of its thread, or more of another thread than the
+    /// clock before it.
     pub(crate) fn adds_to(&self, before: &Clock, thread: usize, own: u32) -> bool
         ensures others { result ≡ false → (other : ℕ) → other ≢ thread → count_in self.now other ≤ count_in before.now other }
         ensures own { result ≡ false → count_in self.now thread ≤ own }

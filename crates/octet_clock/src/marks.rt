@@ -9,18 +9,18 @@ use crate::clock::{Clock, THREADS};
 use octet_model::OutOfMemory;
 use std::alloc::Global;
 
-/// A mark's place in its thread's journal, and the clock behind it.
+/// A mark's place in its thread's journal, and the clock after it.
 #[derive(Clone, Copy, Debug, PartialEq, Eq)]
-pub(crate) struct Kept {
+pub(crate) struct MarkClock {
     event: u32,
     clock: Clock,
 }
 
 /// The marks that a thread has made. What a thread knows of others changes at its marks alone,
-/// so they give its clock behind any of its events.
+/// so they give its clock after any of its events.
 #[derive(Debug, Drop)]
 pub(crate) struct Marks {
-    kept: Vec<Kept>,
+    kept: Vec<MarkClock>,
 }
 
 impl Marks {
@@ -32,7 +32,7 @@ impl Marks {
         }
     }
 
-    // How many of the kept marks are among the thread's first so many events.
+    // How many of the kept marks are among the thread's first `upto` events.
     fn kept_before(&self, upto: u32) -> usize
         ensures within { result ≤ length self.now.kept.items }
         ensures point { IsNonDecreasingBy (λ one. one.event) self.now.kept.items → IsPartitionPoint (λ one. nat_lt one.event upto ≡ true) (λ one. nat_lt one.event upto ≡ false) self.now.kept.items result }
@@ -43,7 +43,7 @@ impl Marks {
         }
     }
 
-    /// The clock of the thread's first so many events.
+    /// The clock of the thread's first `upto` events.
     pub(crate) fn clock_after(&self, thread: usize, upto: u32) -> Clock
         requires { thread < THREADS }
         ensures { (journals : List (List Event)) (now : ℕ) → KeepsMarks journals thread now self.now.kept.items → upto ≤ now → now ≤ length (journal_of journals thread) → IsPastOf journals thread upto result }
@@ -58,7 +58,7 @@ impl Marks {
         known
     }
 
-    /// Keeps a mark with the clock behind it, unless that knows no more of the other threads than
+    /// Keeps a mark with the clock after it, unless that knows no more of the other threads than
     /// the thread did.
     pub(crate) fn keep(
         &mut self,
@@ -72,7 +72,7 @@ impl Marks {
     {
         let known = self.clock_after(thread, event);
         if clock.adds_to(&known, thread, event + 1) {
-            self.kept.push(Kept { event, clock })?;
+            self.kept.push(MarkClock { event, clock })?;
         }
         Ok(())
     }

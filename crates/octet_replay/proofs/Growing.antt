@@ -8,54 +8,54 @@ use Rattle.octet_model.specs.declared.event.Event.{Event}
 use Rattle.octet_model.specs.declared.event.Event.TheVariants.{Read, Write, Marked}
 use Rattle.octet_model.specs.declared.log.Gapped.{Gapped}
 use Rattle.octet_model.specs.declared.log.ThreadLog.{ThreadLog}
-use Rattle.octet_model.specs.Thread.{Configuration, Demand, configuration_after}
+use Rattle.octet_model.specs.Thread.{Configuration, AccessOrEnd, configuration_after}
 use Rattle.octet_model.specs.Machine.{Operation, MakeMark, MakeRead, MakeWrite, event_made}
 use Rattle.octet_model.specs.Journals.{access_count, mark_count, gap_after, due_mark, next_access, mark_first, next_by_log}
 use Rattle.std.specs.Vec.{vec_len, vec_capacity}
 use Rattle.octet_model.specs.Orders.{values_read}
 use Rattle.octet_model.specs.Plays.{operation_of}
-use Rattle.octet_model.proofs.Splits.{accesses_split, marks_split, values_split, gap_split, configuration_split}
-use Rattle.octet_interp.specs.Told.{Standing, given}
-use Rattle.octet_replay.specs.declared.thread.Coming.{Coming}
-use Rattle.octet_replay.specs.declared.thread.Coming.TheVariants.{Read as ReadComing, Write as WriteComing, Ended as EndComing}
+use Rattle.octet_model.proofs.lemmas.Splits.{accesses_split, marks_split, values_split, gap_split, configuration_split}
+use Rattle.octet_interp.specs.Demands.{ThreadState, given}
+use Rattle.octet_replay.specs.declared.thread.NextDemand.{NextDemand}
+use Rattle.octet_replay.specs.declared.thread.NextDemand.TheVariants.{Read as ReadNext, Write as WriteNext, Ended as EndNext}
 use Rattle.octet_replay.specs.declared.thread.ThreadReplay.{ThreadReplay}
-use Rattle.octet_replay.specs.Coming.{demand_of, StandsBefore, IsComing, NamesObject}
-use Rattle.octet_replay.specs.Threads.{next_by_counts, next_event, ComesPast, Grown, HasRoomFor, IsReplayOf, StandsFor, WritesWithin}
+use Rattle.octet_replay.specs.NextDemand.{demand_of, IsBeforeDemand, IsDemandedNext, NamesObject}
+use Rattle.octet_replay.specs.Threads.{next_by_counts, next_event, IsPastEvent, Grown, HasRoomFor, IsReplayOf, StandsFor, WritesWithin}
 
--- the event comes of what is coming
-abbrev ComesOf : Event → Coming → Type 0
-ComesOf (Read object value) coming = coming ≡ ReadComing object
-ComesOf (Write object value) coming = coming ≡ WriteComing object value
-ComesOf (Marked mark) coming = Unit {0}
+-- the event comes of what it demands next
+abbrev pub ComesOf : Event → NextDemand → Type 0
+ComesOf (Read object value) up_next = up_next ≡ ReadNext object
+ComesOf (Write object value) up_next = up_next ≡ WriteNext object value
+ComesOf (Marked mark) up_next = Unit {0}
 
 -- what the log has left for the event
-abbrev HasLeft : Event → Option Mark → Bool → Type 0
+abbrev pub HasLeft : Event → Option Mark → Bool → Type 0
 HasLeft (Marked mark) due left = due ≡ Some mark
 HasLeft _ due left = left ≡ true
 
-record Came (event : Event) (due : Option Mark) (coming : Coming) (left : Bool) : Type 0 where
-  comes : ComesOf event coming
-  has : HasLeft event due left
+pub record Came (event : Event) (due : Option Mark) (up_next : NextDemand) (left : Bool) : Type 0 where
+  pub comes : ComesOf event up_next
+  pub has : HasLeft event due left
 
-came : (due : Option Mark) (coming : Coming) (left marks : Bool) (heap : List ℕ) (event : Event)
-    → next_event (mark_first due (next_access (demand_of coming) left marks)) heap ≡ Some event → Came event due coming left
-came (Some mark) coming left marks heap event is =
-    subst (λ (e : Event). Came e (Some mark) coming left) (same_Some (Marked mark) event is) (record { comes = tt; has = refl })
-came None (ReadComing object) true marks heap event is =
-    subst (λ (e : Event). Came e None (ReadComing object) true) (same_Some (Read object (slice_index heap object)) event is) (record { comes = refl; has = refl })
-came None (ReadComing object) false marks heap event is = absurd cc
-came None (WriteComing object value) true marks heap event is =
-    subst (λ (e : Event). Came e None (WriteComing object value) true) (same_Some (Write object value) event is) (record { comes = refl; has = refl })
-came None (WriteComing object value) false marks heap event is = absurd cc
-came None (EndComing end) true marks heap event is = absurd cc
-came None (EndComing end) false true heap event is = absurd cc
-came None (EndComing end) false false heap event is = absurd cc
+came : (due : Option Mark) (up_next : NextDemand) (left marks : Bool) (heap : List ℕ) (event : Event)
+    → next_event (mark_first due (next_access (demand_of up_next) left marks)) heap ≡ Some event → Came event due up_next left
+came (Some mark) up_next left marks heap event is =
+    subst (λ (e : Event). Came e (Some mark) up_next left) (same_Some (Marked mark) event is) (record { comes = tt; has = refl })
+came None (ReadNext object) true marks heap event is =
+    subst (λ (e : Event). Came e None (ReadNext object) true) (same_Some (Read object (slice_index heap object)) event is) (record { comes = refl; has = refl })
+came None (ReadNext object) false marks heap event is = absurd cc
+came None (WriteNext object value) true marks heap event is =
+    subst (λ (e : Event). Came e None (WriteNext object value) true) (same_Some (Write object value) event is) (record { comes = refl; has = refl })
+came None (WriteNext object value) false marks heap event is = absurd cc
+came None (EndNext end) true marks heap event is = absurd cc
+came None (EndNext end) false true heap event is = absurd cc
+came None (EndNext end) false false heap event is = absurd cc
 
 -- the same, of a thread's counts
-came_here : (log : ThreadLog) (t : ThreadReplay) (heap : List ℕ) (event : Event) → next_event (next_by_counts log t) heap ≡ Some event
-    → Came event (due_mark (slice_get log.marks t.marks) t.gap) t.coming (nat_lt t.accesses log.accesses)
+pub came_here : (log : ThreadLog) (t : ThreadReplay) (heap : List ℕ) (event : Event) → next_event (next_by_counts log t) heap ≡ Some event
+    → Came event (due_mark (slice_get log.marks t.marks) t.gap) t.up_next (nat_lt t.accesses log.accesses)
 came_here log t heap event is =
-    came (due_mark (slice_get log.marks t.marks) t.gap) t.coming (nat_lt t.accesses log.accesses) (nat_lt t.marks (length log.marks)) heap event is
+    came (due_mark (slice_get log.marks t.marks) t.gap) t.up_next (nat_lt t.accesses log.accesses) (nat_lt t.marks (length log.marks)) heap event is
 
 -- the operation of an event that is made
 pub same_operation : (operation : Operation) (heap : List ℕ) → operation_of (event_made operation heap) ≡ operation
@@ -80,7 +80,7 @@ due_there None gap mark is = absurd cc
 due_there (Some g) gap mark is = (g, refl)
 
 -- what is next, from the four things that decide it
-next_from : {m m' : Option Mark} {d d' : Demand} {a a' k k' : Bool} → m ≡ m' → d ≡ d' → a ≡ a' → k ≡ k' → mark_first m (next_access d a k) ≡ mark_first m' (next_access d' a' k')
+next_from : {m m' : Option Mark} {d d' : AccessOrEnd} {a a' k k' : Bool} → m ≡ m' → d ≡ d' → a ≡ a' → k ≡ k' → mark_first m (next_access d a k) ≡ mark_first m' (next_access d' a' k')
 next_from p q r s = rw (p, q, r, s) refl
 
 module _ (commands : List Command) (start : Configuration) (objects : ℕ) (log : ThreadLog) (journal : List Event) (t : ThreadReplay) (replay : IsReplayOf commands start objects log journal t) where
@@ -98,16 +98,16 @@ module _ (commands : List Command) (start : Configuration) (objects : ℕ) (log 
   module _ (heap : List ℕ) where
     pub stands_for : (event : Event) → next_event (next_by_counts t.log t) heap ≡ Some event → StandsFor event t
     stands_for (Read object value) is =
-        let here = subst (λ (x : Coming). StandsBefore commands (configuration_after commands start journal) x t.config) (came_here t.log t heap (Read object value) is).comes replay.comes.stands in
+        let here = subst (λ (x : NextDemand). IsBeforeDemand commands (configuration_after commands start journal) x t.config) (came_here t.log t heap (Read object value) is).comes replay.comes.stands in
         here.0
     stands_for (Write object value) is =
-        let here = subst (λ (x : Coming). StandsBefore commands (configuration_after commands start journal) x t.config) (came_here t.log t heap (Write object value) is).comes replay.comes.stands in
+        let here = subst (λ (x : NextDemand). IsBeforeDemand commands (configuration_after commands start journal) x t.config) (came_here t.log t heap (Write object value) is).comes replay.comes.stands in
         here.0
     stands_for (Marked mark) is = tt
 
     pub writes_within : (event : Event) → next_event (next_by_counts t.log t) heap ≡ Some event → WritesWithin objects event
     writes_within (Read object value) is = tt
-    writes_within (Write object value) is = subst (λ (x : Coming). NamesObject objects x) (came_here t.log t heap (Write object value) is).comes replay.names
+    writes_within (Write object value) is = subst (λ (x : NextDemand). NamesObject objects x) (came_here t.log t heap (Write object value) is).comes replay.names
     writes_within (Marked mark) is = tt
 
     accesses_are : t.log.accesses ≡ log.accesses
@@ -141,10 +141,10 @@ module _ (commands : List Command) (start : Configuration) (objects : ℕ) (log 
         counts_gap = grown.gap ∙ ap (λ (gap : ℕ). gap_after gap (event ∷ [])) replay.counts.counts_gap ∙ sym (gap_split 0 journal (event ∷ []));
       };
       comes =
-          subst (λ (c : Configuration). IsComing commands c after.coming after.config) (sym (configuration_split commands start journal (event ∷ []))) (moved event (came_here t.log t heap event is).comes grown.comes);
+          subst (λ (c : Configuration). IsDemandedNext commands c after.up_next after.config) (sym (configuration_split commands start journal (event ∷ []))) (moved event (came_here t.log t heap event is).comes grown.comes);
       runs = grown.runs ∙ replay.runs;
       has = grown.has ∙ replay.has;
-      names = subst (λ (n : ℕ). NamesObject n after.coming) replay.has (grown.names (subst (λ (n : ℕ). NamesObject n t.coming) (sym replay.has) replay.names));
+      names = subst (λ (n : ℕ). NamesObject n after.up_next) replay.has (grown.names (subst (λ (n : ℕ). NamesObject n t.up_next) (sym replay.has) replay.names));
       follows = grown.log ∙ replay.follows;
       reads = grown.reads ∙ ap (λ (xs : List ℕ). xs ++ values_read (event ∷ [])) replay.reads ∙ sym (values_split journal (event ∷ []));
       room = omega (arith, grown.room, replay.room);
@@ -167,15 +167,15 @@ module _ (commands : List Command) (start : Configuration) (objects : ℕ) (log 
         here : Configuration
         here = configuration_after commands start journal
 
-        moved : (e : Event) → ComesOf e t.coming → ComesPast e t after → IsComing commands (configuration_after commands here (e ∷ [])) after.coming after.config
+        moved : (e : Event) → ComesOf e t.up_next → IsPastEvent e t after → IsDemandedNext commands (configuration_after commands here (e ∷ [])) after.up_next after.config
         moved (Read object value) of past =
-            let stands = subst (λ (x : Coming). StandsBefore commands here x t.config) of replay.comes.stands in
-            let there = subst (λ (x : List Command). IsComing x (given t.config value).at after.coming after.config) replay.runs past in
-            subst (λ (c : Configuration). IsComing commands c after.coming after.config) (stands.1 value) there
+            let stands = subst (λ (x : NextDemand). IsBeforeDemand commands here x t.config) of replay.comes.stands in
+            let there = subst (λ (x : List Command). IsDemandedNext x (given t.config value).at after.up_next after.config) replay.runs past in
+            subst (λ (c : Configuration). IsDemandedNext commands c after.up_next after.config) (stands.1 value) there
         moved (Write object value) of past =
-            let stands = subst (λ (x : Coming). StandsBefore commands here x t.config) of replay.comes.stands in
-            let there = subst (λ (x : List Command). IsComing x t.config.at after.coming after.config) replay.runs past in
-            subst (λ (c : Configuration). IsComing commands c after.coming after.config) (stands.1 value) there
+            let stands = subst (λ (x : NextDemand). IsBeforeDemand commands here x t.config) of replay.comes.stands in
+            let there = subst (λ (x : List Command). IsDemandedNext x t.config.at after.up_next after.config) replay.runs past in
+            subst (λ (c : Configuration). IsDemandedNext commands c after.up_next after.config) (stands.1 value) there
         moved (Marked mark) of past =
-            let there = subst (λ (x : Coming). IsComing commands here x t.config) (sym past.0) replay.comes in
-            subst (λ (s : Standing). IsComing commands here after.coming s) (sym past.1) there
+            let there = subst (λ (x : NextDemand). IsDemandedNext commands here x t.config) (sym past.0) replay.comes in
+            subst (λ (s : ThreadState). IsDemandedNext commands here after.up_next s) (sym past.1) there

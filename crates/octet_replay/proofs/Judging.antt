@@ -1,5 +1,5 @@
 -- What becomes of the threads when none may step.
-use Rattle.std.proofs.Common.{◌≡◌, ℕ, suc, ◌+◌, ◌<◌, inl, inr, List, [], ◌∷◌, length, map, take, Some, get_or, slice_get, refl, sym, ap, ◌∙◌, subst, arith}
+use Rattle.std.proofs.Common.{◌≡◌, ℕ, suc, ◌+◌, ◌^◌, ◌<◌, ◌≤◌, inl, inr, List, [], ◌∷◌, length, map, take, Some, get_or, slice_get, refl, sym, ap, ◌∙◌, subst, arith}
 use Rattle.std.proofs.lemmas.List.{length-map}
 use Rattle.std.proofs.lemmas.Option.{slice_get_within, slice_get_cases}
 use Rattle.std.specs.List.{sum}
@@ -9,22 +9,23 @@ use Rattle.octet_model.specs.declared.outcome.Outcome.{Outcome}
 use Rattle.octet_model.specs.declared.event.Event.{Event}
 use Rattle.octet_model.specs.declared.script.Script.{Script}
 use Rattle.octet_model.specs.declared.log.ThreadLog.{ThreadLog}
-use Rattle.octet_model.specs.Thread.{Demand, demanded, configuration_after, starting_configuration}
+use Rattle.octet_model.specs.Thread.{AccessOrEnd, demanded, configuration_after, starting_configuration}
 use Rattle.octet_model.specs.Machine.{Journals, journal_of, PlainState, next_of}
 use Rattle.octet_model.specs.Orders.{commands_of, thread_log_of, by_log, opening_state, lowest_order, end_of, ends_of, values_read, outcome_of, execution}
-use Rattle.octet_model.proofs.Lowest.{lowest_order_is_lowest, lowest_is_front}
-use Rattle.octet_model.proofs.Logged.{as_many_after}
-use Rattle.octet_model.proofs.Splits.{length_parts}
+use Rattle.octet_model.proofs.lemmas.LowestFronts.{lowest_order_is_lowest, lowest_is_front}
+use Rattle.octet_model.proofs.lemmas.LogsOfJournals.{as_many_after}
+use Rattle.octet_model.proofs.lemmas.Splits.{length_parts}
 use Rattle.octet_replay.specs.declared.fault.ReplayFault.{ReplayFault}
 use Rattle.octet_replay.specs.declared.fault.ReplayFault.TheVariants.{ThreadsDiffer, Stuck, Misfit, OutOfMemory}
 use Rattle.octet_replay.specs.declared.thread.ThreadReplay.{ThreadReplay}
 use Rattle.octet_replay.specs.declared.state.Replay.{Replay}
-use Rattle.octet_replay.specs.Coming.{demand_of}
+use Rattle.octet_replay.specs.NextDemand.{demand_of}
 use Rattle.octet_replay.specs.Judged.{IsLawful, last_state, last_journal, last_demand, Finds, FindsOf, IsMisfitThread, IsStuck, HasCause}
 use Rattle.octet_replay.specs.ReplayState.{plain_state, HasHalted}
 use Rattle.octet_replay.specs.Replayed.{state_of, FindsIn, FindsNothing, IsAt, IsThroughHere, TellsMisfit}
 use Rattle.octet_replay.specs.Threads.{HasCounts, IsReplayOf}
 use Rattle.octet_replay.proofs.Stepping.{at_the_end, next_here}
+use Rattle.octet_replay.proofs.Valid.{few_accesses, few_marks, few_threads}
 
 some_thread : (threads : List ThreadReplay) (t : ℕ) → t < length threads → (x : ThreadReplay) × (slice_get threads t ≡ Some x)
 some_thread threads t within =
@@ -45,24 +46,24 @@ same_maps {B = B} f g (x ∷ threads) (j ∷ journals) as_many same =
 
 ends_are : (fuel : ℕ) (commands : List (List Command)) (threads : List ThreadReplay) (journals : Journals) → length threads ≡ length commands → length threads ≡ length journals
     → ((t : ℕ) (x : ThreadReplay) → slice_get threads t ≡ Some x
-    → demanded (get_or commands t []) (configuration_after (get_or commands t []) (starting_configuration fuel) (journal_of journals t)) ≡ demand_of x.coming)
-    → map (λ (x : ThreadReplay). end_of (demand_of x.coming)) threads ≡ ends_of fuel commands journals
+    → demanded (get_or commands t []) (configuration_after (get_or commands t []) (starting_configuration fuel) (journal_of journals t)) ≡ demand_of x.up_next)
+    → map (λ (x : ThreadReplay). end_of (demand_of x.up_next)) threads ≡ ends_of fuel commands journals
 ends_are fuel [] [] journals same as_many demands = refl
 ends_are fuel [] (x ∷ threads) journals same as_many demands = absurd (omega arith)
 ends_are fuel (c ∷ commands) [] journals same as_many demands = absurd (omega arith)
 ends_are fuel (c ∷ commands) (x ∷ threads) [] same as_many demands = absurd (omega arith)
 ends_are fuel (c ∷ commands) (x ∷ threads) (j ∷ journals) same as_many demands =
-    let first : demanded c (configuration_after c (starting_configuration fuel) j) ≡ demand_of x.coming = demands 0 x refl in
+    let first : demanded c (configuration_after c (starting_configuration fuel) j) ≡ demand_of x.up_next = demands 0 x refl in
     let rest = ends_are fuel commands threads journals (omega arith) (omega arith) (λ t y at. demands (suc t) y at) in
-    ap (λ (es : List End). end_of (demand_of x.coming) ∷ es) rest ∙ ap (λ (d : Demand). end_of d ∷ ends_of fuel commands journals) (sym first)
+    ap (λ (es : List End). end_of (demand_of x.up_next) ∷ es) rest ∙ ap (λ (d : AccessOrEnd). end_of d ∷ ends_of fuel commands journals) (sym first)
 
 same_outcome : {e e' : List End} {p p' : List (List ℕ)} {h h' : List ℕ} → e ≡ e' → p ≡ p' → h ≡ h'
     → ◌≡◌ {A = Outcome} (record { ends = e; reads = p; heap = h }) (record { ends = e'; reads = p'; heap = h' })
 same_outcome e p h = rw (e, p, h) refl
 
-same_finds : {d d' : Demand} {l l' : ThreadLog} {j j' : List Event} (found : ℕ) → d ≡ d' → l ≡ l' → j ≡ j' → Finds d l j found → Finds d' l' j' found
+same_finds : {d d' : AccessOrEnd} {l l' : ThreadLog} {j j' : List Event} (found : ℕ) → d ≡ d' → l ≡ l' → j ≡ j' → Finds d l j found → Finds d' l' j' found
 same_finds {d = d} {d' = d'} {l = l} {l' = l'} {j = j} {j' = j'} found p q r finds =
-    subst (λ (x : List Event). Finds d' l' x found) r (subst (λ (x : ThreadLog). Finds d' x j found) q (subst (λ (x : Demand). Finds x l j found) p finds))
+    subst (λ (x : List Event). Finds d' l' x found) r (subst (λ (x : ThreadLog). Finds d' x j found) q (subst (λ (x : AccessOrEnd). Finds x l j found) p finds))
 
 -- the replay has come to the end of the lowest order
 module _ (r : Replay) (at : IsAt r) (halted : HasHalted (state_of r)) where
@@ -76,10 +77,19 @@ module _ (r : Replay) (at : IsAt r) (halted : HasHalted (state_of r)) where
       at.stands.as_many ∙ as_many_after (by_log r.script.value r.log.value.threads) (take (sum r.waits.events) (lowest_order r.script.value r.log.value.threads)) (opening_state r.script.value)
       ∙ length-map r.script.value.threads (λ (c : List Command). [])
 
+  pub few_here : length r.threads.items ≤ 16
+  few_here = omega (arith, as_many, at.agree, few_threads r.log.value.threads r.log.value.valid)
+
+  pub accesses_here : (t : ℕ) (x : ThreadReplay) → slice_get r.threads.items t ≡ Some x → x.log.accesses < 4294967295
+  accesses_here t x there = omega (arith, ap (λ (l : ThreadLog). l.accesses) (at.stands.each t x there).follows, few_accesses r.log.value.threads r.log.value.valid t)
+
+  pub marks_here : (t : ℕ) (x : ThreadReplay) → slice_get r.threads.items t ≡ Some x → x.marks < 2 ^ 32
+  marks_here t x there = omega (arith, (at.stands.each t x there).few_marks, few_marks r.log.value.threads r.log.value.valid t)
+
   journal_is : (t : ℕ) → last_journal r.script.value r.log.value.threads t ≡ journal_of (plain_state (state_of r)).journals t
   journal_is t = ap (λ (s : PlainState). journal_of s.journals t) (sym ends)
 
-  demand_is : (t : ℕ) (x : ThreadReplay) → slice_get r.threads.items t ≡ Some x → last_demand r.script.value r.log.value.threads t ≡ demand_of x.coming
+  demand_is : (t : ℕ) (x : ThreadReplay) → slice_get r.threads.items t ≡ Some x → last_demand r.script.value r.log.value.threads t ≡ demand_of x.up_next
   demand_is t x there =
       ap (λ (j : List Event). demanded (commands_of r.script.value t) (configuration_after (commands_of r.script.value t) (starting_configuration r.script.value.fuel) j)) (journal_is t)
       ∙ (at.stands.each t x there).comes.demands
@@ -128,8 +138,8 @@ module _ (r : Replay) (at : IsAt r) (halted : HasHalted (state_of r)) where
         made
         ∙ same_maps (λ (x : ThreadReplay). x.accesses + x.marks) (λ (j : List Event). length j) r.threads.items (plain_state (state_of r)).journals at.stands.as_many
         (λ t x there.
-            let counts = (at.stands.each t x there).counts in
-            omega (arith, counts.counts_accesses, counts.counts_marks, length_parts (journal_of (plain_state (state_of r)).journals t)))
+        let counts = (at.stands.each t x there).counts in
+        omega (arith, counts.counts_accesses, counts.counts_marks, length_parts (journal_of (plain_state (state_of r)).journals t)))
         ∙ ap (λ (s : PlainState). map (λ (j : List Event). length j) s.journals) ends;
   }
 
@@ -138,7 +148,7 @@ module _ (r : Replay) (at : IsAt r) (halted : HasHalted (state_of r)) where
     at.agree,
     (
       lowest_is_front (by_log r.script.value r.log.value.threads) (lowest_order r.script.value r.log.value.threads) (opening_state r.script.value)
-      (lowest_order_is_lowest r.script.value r.log.value.threads at.agree),
+          (lowest_order_is_lowest r.script.value r.log.value.threads at.agree),
       λ t within.
           let there = some_thread r.threads.items t (omega (arith, at.stands.as_many, ap (λ (s : PlainState). length s.journals) ends)) in
           ap (λ (s : PlainState). next_of (by_log r.script.value r.log.value.threads) s t) (sym ends)
@@ -147,7 +157,7 @@ module _ (r : Replay) (at : IsAt r) (halted : HasHalted (state_of r)) where
   )
 
   pub outcome_is : (ends_told : List End) (reads : List (List ℕ)) (heap : List ℕ)
-      → ends_told ≡ map (λ (x : ThreadReplay). end_of (demand_of x.coming)) r.threads.items
+      → ends_told ≡ map (λ (x : ThreadReplay). end_of (demand_of x.up_next)) r.threads.items
       → reads ≡ map (λ (x : ThreadReplay). x.reads.items) r.threads.items
       → heap ≡ r.heap.items
       → ◌≡◌ {A = Outcome} (record { ends = ends_told; reads = reads; heap = heap }) (execution r.script.value r.log.value.threads (lowest_order r.script.value r.log.value.threads))

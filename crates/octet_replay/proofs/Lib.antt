@@ -6,6 +6,7 @@ pub mod Judging
 pub mod Answered
 pub mod Whole
 pub mod Places
+pub mod Collecting
 pub mod ManyMarks
 mod ThreadSets
 mod Placing

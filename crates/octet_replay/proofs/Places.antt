@@ -11,17 +11,17 @@ use Rattle.octet_model.specs.declared.event.Mark.{Mark}
 use Rattle.octet_model.specs.declared.log.Gapped.{Gapped}
 use Rattle.octet_model.specs.declared.log.ThreadLog.{ThreadLog}
 use Rattle.octet_model.specs.declared.script.Script.{Script}
-use Rattle.octet_model.specs.Thread.{Configuration, Demand, ToRead, ToWrite, ToEnd, demanded, configuration_after, starting_configuration}
+use Rattle.octet_model.specs.Thread.{Configuration, AccessOrEnd, ToRead, ToWrite, ToEnd, demanded, configuration_after, starting_configuration}
 use Rattle.octet_model.specs.Journals.{access_count, mark_count, gap_after, due_mark, next_access, mark_first, next_by_log}
 use Rattle.octet_model.specs.Machine.{Journals, journal_of, PlainState, Operation, MakeMark, MakeRead, MakeWrite, Wants, event_made, step, after, IsFront}
 use Rattle.octet_model.specs.Orders.{commands_of, thread_log_of, by_log, opening_state, journals_after}
 use Rattle.octet_model.specs.Log.{is_log}
-use Rattle.octet_model.proofs.Steps.{what_it_makes, same_journal, other_step}
-use Rattle.octet_model.proofs.Fronts.{no_journal}
-use Rattle.octet_model.proofs.Logged.{as_many_after}
-use Rattle.octet_model.proofs.Splits.{accesses_split, marks_split, length_parts}
-use Rattle.octet_model.proofs.Validity.{log_decides}
-use Rattle.octet_replay.specs.Places.{HavePlaces}
+use Rattle.octet_model.proofs.lemmas.Steps.{what_it_makes, same_journal, other_step}
+use Rattle.octet_model.proofs.lemmas.Fronts.{no_journal}
+use Rattle.octet_model.proofs.lemmas.LogsOfJournals.{as_many_after}
+use Rattle.octet_model.proofs.lemmas.Splits.{accesses_split, marks_split, length_parts}
+use Rattle.octet_model.proofs.lemmas.Validity.{log_decides}
+use Rattle.octet_replay.specs.Places.{FitInPlaces}
 
 -- a journal with no more accesses and marks than its log
 record IsWithin (log : ThreadLog) (journal : List Event) : Type 0 where
@@ -29,7 +29,7 @@ record IsWithin (log : ThreadLog) (journal : List Event) : Type 0 where
   marks : mark_count journal ≤ length log.marks
 
 -- what the log asks for next is a mark that it has left, or an access that it has left
-asks : (o : Option Mark) (d : Demand) (a m : Bool) (op : Operation) → mark_first o (next_access d a m) ≡ Wants op → ((mark : Mark) × (o ≡ Some mark) × (op ≡ MakeMark mark)) ⊎ ((a ≡ true) × ((mark : Mark) → op ≡ MakeMark mark → ⊥))
+asks : (o : Option Mark) (d : AccessOrEnd) (a m : Bool) (op : Operation) → mark_first o (next_access d a m) ≡ Wants op → ((mark : Mark) × (o ≡ Some mark) × (op ≡ MakeMark mark)) ⊎ ((a ≡ true) × ((mark : Mark) → op ≡ MakeMark mark → ⊥))
 asks (Some mark) d a m op is = inl (mark, refl, cc)
 asks None (ToRead object) true m op is = inr (refl, λ mark e. cc)
 asks None (ToRead object) false m op is = absurd cc
@@ -67,7 +67,7 @@ next_within commands c log journal op heap is within = more journal op heap log 
     due : Option Mark
     due = due_mark (slice_get log.marks (mark_count journal)) (gap_after 0 journal)
 
-    demand : Demand
+    demand : AccessOrEnd
     demand = demanded commands (configuration_after commands c journal)
 
     go : ((mark : Mark) × (due ≡ Some mark) × (op ≡ MakeMark mark)) ⊎ ((nat_lt (access_count journal) log.accesses ≡ true) × ((mark : Mark) → op ≡ MakeMark mark → ⊥))
@@ -95,7 +95,7 @@ module _ (script : Script) (log : List ThreadLog) where
             | inr differ ↦ subst (λ (j : List Event). IsWithin (thread_log_of log t) j) (sym (other_step (by_log script log) s u t differ)) (within t)
           ]
 
-  pub have_places : (order : List ℕ) → length script.threads ≡ length log → IsFront (by_log script log) (opening_state script) order → IsTrue (is_log log) → HavePlaces (journals_after script log order)
+  pub have_places : (order : List ℕ) → length script.threads ≡ length log → IsFront (by_log script log) (opening_state script) order → IsTrue (is_log log) → FitInPlaces (journals_after script log order)
   have_places order agree front valid =
       let s = opening_state script in
       let is = (log_decides log).0 valid in

@@ -3,7 +3,7 @@ pub mod ThreadSet
 pub mod WaitingLists
 pub mod Judged
 pub mod Line
-pub mod Coming
+pub mod NextDemand
 pub mod Threads
 pub mod Replayed
 pub mod ReplayState

@@ -15,7 +15,7 @@ use Rattle.octet_replay.specs.declared.fault.ReplayFault.TheVariants.{Misfit}
 use Rattle.octet_replay.specs.declared.need.Need.{Need}
 use Rattle.octet_replay.specs.declared.thread.ThreadReplay.{ThreadReplay}
 use Rattle.octet_replay.specs.declared.state.Replay.{Replay}
-use Rattle.octet_replay.specs.Coming.{demand_of, NamesObject}
+use Rattle.octet_replay.specs.NextDemand.{demand_of, NamesObject}
 use Rattle.octet_replay.specs.Needs.{NeedsAndCounts, after_step}
 use Rattle.octet_replay.specs.ReplayState.{ReplayState, plain_state}
 use Rattle.octet_replay.specs.Threads.{need_of, next_by_counts, next_event, Grown, HasCounts, IsReplayOf}
@@ -51,9 +51,9 @@ pub record IsAt (r : Replay) : Type 0 where
   pub agree : length r.script.value.threads ≡ length r.log.value.threads
   pub stands : StandsAt r.script.value r.log.value.threads (plain_state (state_of r)) r.threads.items r.heap.items r.waits
 
--- what is coming names objects of the heap
+-- what it demands next names objects of the heap
 abbrev pub AllNameObjects : List ThreadReplay → ℕ → Type 0
-AllNameObjects threads objects = (thread : ℕ) (t : ThreadReplay) → slice_get threads thread ≡ Some t → NamesObject objects t.coming
+AllNameObjects threads objects = (thread : ℕ) (t : ThreadReplay) → slice_get threads thread ≡ Some t → NamesObject objects t.up_next
 
 abbrev pub is_draw : Event → Bool
 is_draw (Marked (Draw number)) = true
@@ -71,12 +71,12 @@ pub record MakesEvent (before : Replay) (thread : ℕ) (event : Event) (after : 
   pub script : after.script ≡ before.script
   pub log : after.log ≡ before.log
 
--- by what is coming, a thread does not fit its log, and so many accesses are found of it
+-- by what it demands next, a thread does not fit its log, and so many accesses are found of it
 abbrev pub FindsIn : ThreadReplay → ℕ → Type 0
-FindsIn t found = (journal : List Event) → HasCounts journal t → Finds (demand_of t.coming) t.log journal found
+FindsIn t found = (journal : List Event) → HasCounts journal t → Finds (demand_of t.up_next) t.log journal found
 
 abbrev pub FindsNothing : ThreadReplay → Type 0
-FindsNothing t = (journal : List Event) (found : ℕ) → HasCounts journal t → ¬ Finds (demand_of t.coming) t.log journal found
+FindsNothing t = (journal : List Event) (found : ℕ) → HasCounts journal t → ¬ Finds (demand_of t.up_next) t.log journal found
 
 -- the lowest misfit, as it is told
 pub record IsLowestMisfit (threads : List ThreadReplay) (thread wanted found : ℕ) : Type 0 where

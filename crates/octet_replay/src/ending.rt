@@ -1,7 +1,7 @@
 //! What a replay comes to at the end of the lowest order.
 ghost use Rattle.std.specs.Prelude.{◌≡◌, length, map, IfOk, IfErr};
 ghost use Rattle.octet_model.specs.Orders.{end_of, execution, lowest_order};
-ghost use Rattle.octet_replay.specs.Coming.{demand_of};
+ghost use Rattle.octet_replay.specs.NextDemand.{demand_of};
 ghost use Rattle.octet_replay.specs.Judged.{HasCause, IsLawful};
 ghost use Rattle.octet_replay.specs.Replayed.{state_of, IsAt};
 ghost use Rattle.octet_replay.specs.ReplayState.{HasHalted};
@@ -9,21 +9,21 @@ ghost use Rattle.octet_replay.specs.ReplayState.{HasHalted};
 use crate::ReplayFault;
 use crate::judge::{are_through, lowest_misfit, positions_of};
 use crate::state::Replay;
-use crate::thread::{Coming, ThreadReplay};
+use crate::thread::{NextDemand, ThreadReplay};
 use octet_model::{End, List, OutOfMemory, Outcome};
 use std::alloc::Global;
 
 fn end_of(thread: &ThreadReplay) -> End
-    ensures { result ≡ end_of (demand_of thread.now.coming) }
+    ensures { result ≡ end_of (demand_of thread.now.up_next) }
 {
-    match thread.coming {
-        Coming::Ended { end } => end,
+    match thread.up_next {
+        NextDemand::Ended { end } => end,
         _ => End::Spent,
     }
 }
 
 fn ends_of(alloc: Global, threads: &[ThreadReplay]) -> Result<List<End>, OutOfMemory>
-    ensures { IfOk result (λ ends. ends ≡ map (λ t. end_of (demand_of t.coming)) threads.now) }
+    ensures { IfOk result (λ ends. ends ≡ map (λ t. end_of (demand_of t.up_next)) threads.now) }
 {
     let mut ends = List::new(alloc);
     for thread in threads {

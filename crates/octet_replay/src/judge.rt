@@ -6,7 +6,7 @@ ghost use Rattle.octet_replay.specs.Threads.{next_by_counts};
 ghost use Rattle.octet_replay.specs.declared.thread.ThreadReplay.{ThreadReplay};
 
 use crate::ReplayFault;
-use crate::thread::{Coming, ThreadReplay};
+use crate::thread::{NextDemand, ThreadReplay};
 use octet_model::{List, OutOfMemory};
 use std::alloc::Global;
 
@@ -23,9 +23,9 @@ fn misfit(thread: &ThreadReplay) -> Option<u32>
     ensures some { IfSome result (FindsIn thread.now) }
     ensures none { IsNone result → FindsNothing thread.now }
 {
-    match thread.coming {
-        Coming::Ended { .. } if thread.accesses < thread.log.accesses => Some(thread.accesses),
-        Coming::Ended { .. } => None,
+    match thread.up_next {
+        NextDemand::Ended { .. } if thread.accesses < thread.log.accesses => Some(thread.accesses),
+        NextDemand::Ended { .. } => None,
         _ if thread.accesses == thread.log.accesses && has_all_marks(thread) => {
             Some(thread.log.accesses + 1)
         }
@@ -56,7 +56,7 @@ pub(crate) fn lowest_misfit(threads: &[ThreadReplay]) -> Option<ReplayFault>
 fn is_through(thread: &ThreadReplay) -> bool
     ensures { IsTrue result ↔ (next_by_counts thread.now.log thread.now ≡ Finished) }
 {
-    let Coming::Ended { .. } = thread.coming else {
+    let NextDemand::Ended { .. } = thread.up_next else {
         return false;
     };
     thread.accesses >= thread.log.accesses && has_all_marks(thread)

@@ -2,12 +2,11 @@
 ghost use Rattle.std.specs.Prelude.{◌≡◌, [], replicate, length, IfOk, IfErr, OnOk};
 ghost use Rattle.octet_model.specs.Orders.{execution, journals_after, lowest_order};
 ghost use Rattle.octet_replay.specs.Judged.{HasCause, IsLawful};
-ghost use Rattle.octet_replay.specs.Places.{HavePlaces};
+ghost use Rattle.octet_replay.specs.Places.{FitInPlaces};
 ghost use Rattle.octet_replay.specs.ReplayState.{HasHalted, plain_state};
 
-use crate::ReplayFault;
-use crate::Stepped;
 use crate::replayer::Replayer;
+use crate::{ReplayFault, Stepped};
 use octet_model::{Event, List, Log, OutOfMemory, Outcome, Script};
 use std::alloc::Global;
 
@@ -36,7 +35,11 @@ fn empty_journals(alloc: Global, threads: usize) -> Result<Vec<List<Event>>, Out
 }
 
 // Steps to the end of the lowest order, and keeps the events.
-fn collect(alloc: Global, replayer: &mut Replayer, threads: usize) -> Result<List<List<Event>>, OutOfMemory>
+fn collect(
+    alloc: Global,
+    replayer: &mut Replayer,
+    threads: usize,
+) -> Result<List<List<Event>>, OutOfMemory>
     requires begins { replayer.old.steps ≡ 0 }
     requires threads { threads ≡ length replayer.old.script.threads }
     ensures halted { OnOk result (HasHalted replayer.new) }
@@ -55,7 +58,7 @@ fn collect(alloc: Global, replayer: &mut Replayer, threads: usize) -> Result<Lis
 pub fn journals(alloc: Global, script: &Script, log: &Log) -> Result<List<List<Event>>, ReplayFault>
     ensures lawful { IfOk result (λ _. IsLawful script.now log.now.threads) }
     ensures journals { IfOk result (λ journals. journals ≡ journals_after script.now log.now.threads (lowest_order script.now log.now.threads)) }
-    ensures places { IfOk result HavePlaces }
+    ensures places { IfOk result FitInPlaces }
     ensures refused { IfErr result (HasCause script.now log.now.threads) }
 {
     let mut replayer = Replayer::new(alloc, script, log)?;

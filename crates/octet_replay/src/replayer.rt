@@ -4,10 +4,9 @@ ghost use Rattle.octet_model.specs.Orders.{execution, lowest_order};
 ghost use Rattle.octet_replay.specs.Judged.{HasCause, IsLawful};
 ghost use Rattle.octet_replay.specs.ReplayState.{HasHalted, IsNotBegun, StepsTo};
 
-use crate::ReplayFault;
-use crate::Stepped;
 use crate::ending::end;
 use crate::state::Replay;
+use crate::{ReplayFault, Stepped};
 use octet_model::{Log, Outcome, Script};
 use std::alloc::Global;
 use std::marker::Model;

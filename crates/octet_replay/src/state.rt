@@ -1,17 +1,16 @@
 //! All threads as far as they are replayed.
 ghost use Rattle.std.specs.Prelude.{◌≡◌, ◌<◌, ◌≤◌, ◌^◌, true, false, Some, length, map, All, IfOk, IsTrue, slice_get, slice_index};
-ghost use Rattle.octet_model.specs.Machine.{no_events};
+ghost use Rattle.octet_model.specs.Machine.{heap_after, no_events};
+ghost use Rattle.octet_model.specs.Plays.{operation_of};
 ghost use Rattle.octet_replay.specs.Needs.{is_ready, NamesThread};
 ghost use Rattle.octet_replay.specs.Replayed.{is_draw, state_of, AreReplaysOf, IsAt, MakesEvent};
 ghost use Rattle.octet_replay.specs.ReplayState.{StepsTo};
 ghost use Rattle.octet_replay.specs.Threads.{need_of, next_by_counts, Grown, HasRoomFor, StandsFor, WritesWithin};
 ghost use Rattle.octet_replay.specs.declared.thread.ThreadReplay.{ThreadReplay};
 
-use crate::Need;
-use crate::Stepped;
-use crate::Waits;
 use crate::thread::ThreadReplay;
-use octet_model::{Event, List, Log, Mark, Object, OutOfMemory, Script};
+use crate::{Need, Stepped, Waits};
+use octet_model::{Event, List, Log, Mark, OutOfMemory, Script};
 use std::alloc::Global;
 use std::snapshot::Snapshot;
 
@@ -36,14 +35,14 @@ fn is_draw(event: Event) -> bool
     }
 }
 
-fn starting_heap(alloc: Global, objects: &[Object]) -> Result<Vec<u64>, OutOfMemory>
-    ensures { IfOk result (λ heap. heap.items ≡ map (λ object. object.start) objects.now) }
+// A write changes its object's value.
+fn write(heap: &mut Vec<u64>, event: Event)
+    requires { WritesWithin (length heap.old.items) event }
+    ensures { heap.new.items ≡ heap_after (operation_of event) heap.old.items }
 {
-    let mut heap = Vec::new(alloc);
-    for object in objects {
-        heap.push(object.start)?;
+    if let Event::Write { object, value } = event {
+        heap[object as usize] = value;
     }
-    Ok(heap)
 }
 
 // What each thread waits for.
@@ -86,7 +85,7 @@ impl Replay {
         let needs = needs_of(alloc, &threads)?;
         Ok(Replay {
             threads,
-            heap: starting_heap(alloc, script.objects.as_slice())?,
+            heap: script.starting_heap(alloc)?,
             waits: Waits::new(alloc, &needs)?,
             script: Snapshot::of(script),
             log: Snapshot::of(log),
@@ -105,11 +104,10 @@ impl Replay {
         requires draws { is_draw event ≡ true → self.old.waits.draws < u64.MAX }
         ensures { MakesEvent self.old thread event self.new }
     {
-        self.threads[thread as usize].make(event);
-        if let Event::Write { object, value } = event {
-            self.heap[object as usize] = value;
-        }
-        let next = self.threads[thread as usize].need();
+        let it = &mut self.threads[thread as usize];
+        it.make(event);
+        let next = it.need();
+        write(&mut self.heap, event);
         self.waits.step(thread, is_draw(event), next);
     }
 

@@ -4,7 +4,7 @@ ghost use Rattle.octet_model.specs.Journals.{due_mark};
 ghost use Rattle.octet_model.specs.Machine.{Wants, MakeMark};
 ghost use Rattle.octet_model.specs.Orders.{commands_of};
 ghost use Rattle.octet_model.specs.Thread.{starting_configuration};
-ghost use Rattle.octet_replay.specs.Coming.{IsComing, NamesObject};
+ghost use Rattle.octet_replay.specs.NextDemand.{IsDemandedNext, NamesObject};
 ghost use Rattle.octet_replay.specs.Threads.{need_of, next_by_counts, next_event, Counted, Grown, HasRoomFor, IsReplayOf, StandsFor};
 
 use crate::Need;
@@ -14,7 +14,7 @@ use std::alloc::Global;
 
 /// What a thread demands next: an access, or its end.
 #[derive(Clone, Copy, Debug, PartialEq, Eq)]
-pub(crate) enum Coming {
+pub(crate) enum NextDemand {
     Read { object: u16 },
     Write { object: u16, value: u64 },
     Ended { end: End },
@@ -25,7 +25,7 @@ pub(crate) enum Coming {
 #[derive(Debug, Drop)]
 pub(crate) struct ThreadReplay {
     pub(crate) config: Config,
-    pub(crate) coming: Coming,
+    pub(crate) up_next: NextDemand,
     pub(crate) log: ThreadLog,
     pub(crate) marks: usize,
     pub(crate) accesses: u32,
@@ -34,19 +34,19 @@ pub(crate) struct ThreadReplay {
 }
 
 // Asks a thread for its next access, or its end.
-fn ask(config: &mut Config) -> Coming
+fn ask(config: &mut Config) -> NextDemand
     requires { config.old.waits ≡ false }
-    ensures coming { IsComing config.old.commands config.old.at result config.new }
+    ensures up_next { IsDemandedNext config.old.commands config.old.at result config.new }
     ensures names { NamesObject config.old.objects result }
     ensures commands { config.new.commands ≡ config.old.commands }
     ensures objects { config.new.objects ≡ config.old.objects }
 {
     loop {
         match config.next() {
-            Demand::Read { object } => return Coming::Read { object },
-            Demand::Write { object, value } => return Coming::Write { object, value },
+            Demand::Read { object } => return NextDemand::Read { object },
+            Demand::Write { object, value } => return NextDemand::Write { object, value },
             Demand::Safe | Demand::Pause => {}
-            Demand::Ended { end } => return Coming::Ended { end },
+            Demand::Ended { end } => return NextDemand::Ended { end },
         }
     }
 }
@@ -94,10 +94,10 @@ impl ThreadReplay {
         ensures { IfOk result (λ replay. IsReplayOf (commands_of script.now thread) (starting_configuration script.now.fuel) (length script.now.objects) log.now [] replay) }
     {
         let mut config = Config::new(alloc, script, thread)?;
-        let coming = ask(&mut config);
+        let up_next = ask(&mut config);
         Ok(ThreadReplay {
             config,
-            coming,
+            up_next,
             log: ThreadLog {
                 accesses: log.accesses,
                 marks: log.marks.try_clone(alloc)?,
@@ -111,7 +111,7 @@ impl ThreadReplay {
 
     /// The event that is next by the log, where a read would take its value from the heap now.
     pub(crate) fn next_event(&self, heap: &[u64]) -> Option<Event>
-        requires { NamesObject (length heap.now) self.now.coming }
+        requires { NamesObject (length heap.now) self.now.up_next }
         ensures { result ≡ next_event (next_by_counts self.now.log self.now) heap.now }
     {
         if let Some(mark) = due_mark(&self.log, self.marks, self.gap) {
@@ -120,13 +120,13 @@ impl ThreadReplay {
         if self.accesses >= self.log.accesses {
             return None;
         }
-        match self.coming {
-            Coming::Read { object } => Some(Event::Read {
+        match self.up_next {
+            NextDemand::Read { object } => Some(Event::Read {
                 object,
                 value: heap[object as usize],
             }),
-            Coming::Write { object, value } => Some(Event::Write { object, value }),
-            Coming::Ended { .. } => None,
+            NextDemand::Write { object, value } => Some(Event::Write { object, value }),
+            NextDemand::Ended { .. } => None,
         }
     }
 
@@ -140,9 +140,9 @@ impl ThreadReplay {
         if self.accesses >= self.log.accesses {
             return Need::Never;
         }
-        match self.coming {
-            Coming::Read { .. } | Coming::Write { .. } => Need::Free,
-            Coming::Ended { .. } => Need::Never,
+        match self.up_next {
+            NextDemand::Read { .. } | NextDemand::Write { .. } => Need::Free,
+            NextDemand::Ended { .. } => Need::Never,
         }
     }
 
@@ -155,7 +155,7 @@ impl ThreadReplay {
     {
         self.accesses += 1;
         self.gap += 1;
-        self.coming = ask(&mut self.config);
+        self.up_next = ask(&mut self.config);
     }
 
     /// Makes an event.

@@ -1,15 +1,5 @@
-use Rattle.std.proofs.Common.{◌<◌, ◌^◌, sym, subst, length}
-use Rattle.octet_watch.specs.Tally.{all_events}
-use Rattle.octet_model.specs.Orders.{lowest_order}
-use Rattle.octet_clock.proofs.Places.{have_places}
 use Rattle.octet_top.proofs.Counted.{few_events}
 use Rattle.octet_top.proofs.profile.profile_log.Goals as goal
 
 pub counts-requires : goal.counts-requires
-counts-requires c =
-    let script = c.args.script.now in
-    let log = c.args.log.now.threads in
-    record {
-      few = subst (λ js. length (all_events js) < 2 ^ 64) (sym c.in-Ok.ensures.journals)
-          (few_events _ (have_places script log (lowest_order script log) c.in-Ok.ensures.lawful c.args.log.now.valid));
-    }
+counts-requires c = record { few = few_events _ c.in-Ok.ensures.places }

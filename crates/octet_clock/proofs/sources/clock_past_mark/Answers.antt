@@ -3,7 +3,7 @@ use Rattle.octet_model.specs.declared.event.Event.TheVariants.{Marked}
 use Rattle.octet_clock.specs.declared.sources.Prefix.{Prefix}
 use Rattle.octet_clock.specs.Sources.{TakesIn}
 use Rattle.octet_clock.proofs.Taken.{counted_source, counted_none, step_within}
-use Rattle.octet_clock.proofs.sources.clock_behind.Goals as goal
+use Rattle.octet_clock.proofs.sources.clock_past_mark.Goals as goal
 
 pub returns-in_default : goal.returns-in_default
 returns-in_default c = λ journals play index next draws marks is.
