@@ -65,6 +65,24 @@ module _ (r : ReplayState) (agree : length r.script.threads ≡ length r.log.thr
       (has_room (journals_after r.script r.log.threads (lowest_order r.script r.log.threads)) (lowest_order r.script r.log.threads) r.steps
       (record { places = places; whole = whole_play r.script r.log.threads agree; within = next.within }))
 
+-- the same, for a replayer that began with this script and log
+module _ (script : Script) (log : Log) (agree : length script.threads ≡ length log.threads) (r : ReplayState) (same_script : r.script ≡ script) (same_log : r.log ≡ log)
+    (t : ℕ) (event : Event) (next : replayed.IsNextStep r t event) where
+  r_is : r ≡ record { script = script; log = log; steps = r.steps }
+  r_is = λ i. record { script = same_script i; log = same_log i; steps = r.steps }
+
+  next_here : replayed.IsNextStep (record { script = script; log = log; steps = r.steps }) t event
+  next_here = subst (λ (x : ReplayState). replayed.IsNextStep x t event) r_is next
+
+  pub next_in_play : IsNextStep (journals_after script log.threads (lowest_order script log.threads)) (lowest_order script log.threads) r.steps t event
+  next_in_play = next_of_play (record { script = script; log = log; steps = r.steps }) agree t event next_here
+
+  pub thread_in_play : t < length log.threads
+  thread_in_play = thread_within (record { script = script; log = log; steps = r.steps }) agree t event next_here
+
+  pub room_in_play : suc (made_by (lowest_order script log.threads) r.steps t) < 2 ^ 32
+  room_in_play = room_for (record { script = script; log = log; steps = r.steps }) agree t event next_here
+
 -- the verdict on all steps
 module _ (script : Script) (log : Log) (before after : ReplayState) (opens : before ≡ record { script = script; log = log; steps = 0 }) where
   judged_all : (verdict : Verdict) → length script.threads ≡ length log.threads → IsJudged (record { script = script; log = log; steps = 0 }) after verdict

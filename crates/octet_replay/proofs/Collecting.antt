@@ -1,5 +1,5 @@
 -- The events of a replayer, kept until it halts.
-use Rattle.std.proofs.Common.{◌≡◌, ℕ, suc, ◌+◌, ◌-◌, ◌<◌, List, [], ◌∷◌, ◌++◌, length, replicate, get_or, slice_set, IsFalse, refl, sym, ap, ◌∙◌, subst, arith}
+use Rattle.std.proofs.Common.{◌≡◌, ℕ, suc, ◌-◌, ◌<◌, List, [], ◌∷◌, ◌++◌, length, replicate, get_or, slice_set, refl, sym, ap, ◌∙◌, subst, arith}
 use Rattle.std.proofs.lemmas.Bool.{and_parts, ltb-true}
 use Rattle.std.proofs.lemmas.List.{get_or_default}
 use Rattle.octet_model.specs.declared.event.Event.{Event}
@@ -7,14 +7,16 @@ use Rattle.octet_model.specs.declared.script.Script.{Script}
 use Rattle.octet_model.specs.declared.log.Log.{Log}
 use Rattle.octet_model.specs.declared.log.ThreadLog.{ThreadLog}
 use Rattle.octet_model.specs.Machine.{Journals, journal_of, PlainState, no_events, next_of, may_proceed, appended}
-use Rattle.octet_model.specs.Orders.{by_log, opening_state, lowest_order}
-use Rattle.octet_model.proofs.lemmas.LowestFronts.{lowest_order_is_lowest}
+use Rattle.octet_model.specs.Orders.{by_log, opening_state, journals_after, lowest_order}
+use Rattle.octet_model.proofs.lemmas.LowestFronts.{lowest_is_front, lowest_order_is_lowest}
 use Rattle.octet_replay.specs.declared.fault.ReplayFault.{ReplayFault}
 use Rattle.octet_replay.specs.declared.fault.ReplayFault.TheVariants.{ThreadsDiffer, Stuck, Misfit, OutOfMemory}
 use Rattle.octet_replay.specs.declared.stepped.Stepped.{Stepped}
 use Rattle.octet_replay.specs.declared.stepped.Stepped.TheVariants.{Made, Halted}
 use Rattle.octet_replay.specs.Judged.{HasCause, last_state}
 use Rattle.octet_replay.specs.ReplayState.{ReplayState, state_at, plain_state, HasHalted, IsNextStep, IsNotBegun, StepsTo}
+use Rattle.octet_replay.specs.Places.{FitInPlaces}
+use Rattle.octet_replay.proofs.Places.{have_places}
 use Rattle.octet_replay.proofs.Stepping.{at_the_end}
 
 pub no_events_are : {A : Type 0} (xs : List A) → replicate (length xs) [] ≡ no_events xs
@@ -59,6 +61,22 @@ halted_after before after h = subst (λ (x : ReplayState). HasHalted x) (sym h.1
 pub last_is : (r : ReplayState) → length r.script.threads ≡ length r.log.threads → HasHalted r → plain_state r ≡ last_state r.script r.log.threads
 last_is r agree halted =
     at_the_end (by_log r.script r.log.threads) r.steps (lowest_order r.script r.log.threads) (opening_state r.script) (lowest_order_is_lowest r.script r.log.threads agree) halted
+
+-- the journals that were kept until then
+pub collected : (script : Script) (log : Log) (old new : ReplayState) (journals : Journals) → old ≡ record { script = script; log = log; steps = 0 } → new.script ≡ old.script → new.log ≡ old.log
+    → length script.threads ≡ length log.threads → HasHalted new → journals ≡ (plain_state new).journals → journals ≡ journals_after script log.threads (lowest_order script log.threads)
+collected script log old new journals opens same_script same_log agree halted is =
+    let new_is : new ≡ record { script = script; log = log; steps = new.steps } =
+    λ i. record { script = (same_script ∙ ap (λ (x : ReplayState). x.script) opens) i; log = (same_log ∙ ap (λ (x : ReplayState). x.log) opens) i; steps = new.steps } in
+    let halted' = subst (λ (x : ReplayState). HasHalted x) new_is halted in
+    is ∙ ap (λ (x : ReplayState). (plain_state x).journals) new_is
+    ∙ ap (λ (s : PlainState). s.journals) (last_is (record { script = script; log = log; steps = new.steps }) agree halted')
+
+pub collected_fit : (script : Script) (log : Log) (journals : Journals) → length script.threads ≡ length log.threads → journals ≡ journals_after script log.threads (lowest_order script log.threads) → FitInPlaces journals
+collected_fit script log journals agree is =
+    subst (λ (js : Journals). FitInPlaces js) (sym is)
+    (have_places script log.threads (lowest_order script log.threads) agree
+    (lowest_is_front (by_log script log.threads) (lowest_order script log.threads) (opening_state script) (lowest_order_is_lowest script log.threads agree)) log.valid)
 
 -- why a replay is not begun is why it is refused
 pub not_begun : (script : Script) (log : List ThreadLog) (fault : ReplayFault) → IsNotBegun script log fault → HasCause script log fault

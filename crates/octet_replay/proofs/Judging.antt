@@ -7,11 +7,10 @@ use Rattle.octet_model.specs.declared.command.Command.{Command}
 use Rattle.octet_model.specs.declared.outcome.End.{End}
 use Rattle.octet_model.specs.declared.outcome.Outcome.{Outcome}
 use Rattle.octet_model.specs.declared.event.Event.{Event}
-use Rattle.octet_model.specs.declared.script.Script.{Script}
 use Rattle.octet_model.specs.declared.log.ThreadLog.{ThreadLog}
 use Rattle.octet_model.specs.Thread.{AccessOrEnd, demanded, configuration_after, starting_configuration}
 use Rattle.octet_model.specs.Machine.{Journals, journal_of, PlainState, next_of}
-use Rattle.octet_model.specs.Orders.{commands_of, thread_log_of, by_log, opening_state, lowest_order, end_of, ends_of, values_read, outcome_of, execution}
+use Rattle.octet_model.specs.Orders.{commands_of, by_log, opening_state, lowest_order, end_of, ends_of, values_read, outcome_of, execution}
 use Rattle.octet_model.proofs.lemmas.LowestFronts.{lowest_order_is_lowest, lowest_is_front}
 use Rattle.octet_model.proofs.lemmas.LogsOfJournals.{as_many_after}
 use Rattle.octet_model.proofs.lemmas.Splits.{length_parts}
@@ -23,7 +22,6 @@ use Rattle.octet_replay.specs.NextDemand.{demand_of}
 use Rattle.octet_replay.specs.Judged.{IsLawful, last_state, last_journal, last_demand, Finds, FindsOf, IsMisfitThread, IsStuck, HasCause}
 use Rattle.octet_replay.specs.ReplayState.{plain_state, HasHalted}
 use Rattle.octet_replay.specs.Replayed.{state_of, FindsIn, FindsNothing, IsAt, IsThroughHere, TellsMisfit}
-use Rattle.octet_replay.specs.Threads.{HasCounts, IsReplayOf}
 use Rattle.octet_replay.proofs.Stepping.{at_the_end, next_here}
 use Rattle.octet_replay.proofs.Valid.{few_accesses, few_marks, few_threads}
 

@@ -1,5 +1,5 @@
 -- Threads that stay where their needs say, as lists and counts grow.
-use Rattle.std.proofs.Common.{◌≡◌, ◌≢◌, ℕ, zero, suc, ◌<◌, ◌≤◌, ◌⊎◌, inl, inr, Bool, true, false, List, [], ◌∷◌, length, Option, Some, None, get_or, slice_get, slice_set, eqb, nat_le, refl, sym, ap, ◌∙◌, subst, arith, length-set}
+use Rattle.std.proofs.Common.{◌≡◌, ◌≢◌, ℕ, zero, suc, ◌<◌, ◌⊎◌, inl, inr, Bool, true, false, List, [], ◌∷◌, length, Option, Some, None, get_or, slice_get, slice_set, eqb, nat_le, refl, sym, ap, ◌∙◌, subst, arith, length-set}
 use Rattle.std.proofs.lemmas.Bool.{cases_eq, cases_lt, le-leb, lt-leb, ne_eqb}
 use Rattle.std.proofs.lemmas.List.{get_or-set_same, get_or-set_other}
 use Rattle.std.proofs.lemmas.Option.{same_Some, slice_get-get_or, slice_get_within, get_or_from_slice_get}
@@ -8,9 +8,9 @@ use Rattle.octet_replay.specs.declared.need.Need.TheVariants.{Free, Events, Draw
 use Rattle.octet_replay.specs.declared.thread_set.ThreadSet.{ThreadSet}
 use Rattle.octet_replay.specs.declared.waiting.WaitingList.{WaitingList}
 use Rattle.octet_replay.specs.declared.waits.Lists.{Lists}
-use Rattle.octet_replay.specs.Needs.{NeedsAndCounts, is_met, is_ready, NamesThread}
+use Rattle.octet_replay.specs.Needs.{NeedsAndCounts, is_met, is_ready}
 use Rattle.octet_replay.specs.ThreadSet.{has}
-use Rattle.octet_replay.specs.WaitingLists.{counts_of, with_event, with_draw, Awaits, ArePlacedBut, IsListed, IsPlaced, IsSized, Keeps}
+use Rattle.octet_replay.specs.WaitingLists.{counts_of, Awaits, IsListed, IsPlaced, Keeps}
 
 -- what stands at a place of a list that was written at a place
 pub get_same : {A : Type 0} (xs : List A) (i : ℕ) (y x : A) → slice_get (slice_set xs i y) i ≡ Some x → y ≡ x

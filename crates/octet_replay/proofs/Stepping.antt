@@ -1,5 +1,5 @@
 -- A replay that makes the steps of the lowest order.
-use Rattle.std.proofs.Common.{◌≡◌, ℕ, zero, suc, ◌+◌, ◌^◌, ◌<◌, ◌≤◌, inl, inr, Bool, true, false, ◌&&◌, if◌then◌else◌, ltb, nat_le, nat_lt, eqb, eq-eqb, List, [], ◌∷◌, ◌++◌, length, map, replicate, take, drop, Option, Some, None, IsTrue, IsFalse, get_or, slice_get, slice_set, sum_by, refl, sym, ap, ◌∙◌, subst, arith, length-set}
+use Rattle.std.proofs.Common.{◌≡◌, ℕ, zero, suc, ◌^◌, ◌<◌, ◌≤◌, inl, inr, Bool, true, false, ◌&&◌, if◌then◌else◌, nat_le, nat_lt, eqb, eq-eqb, List, [], ◌∷◌, ◌++◌, length, map, replicate, take, Option, Some, None, IsTrue, IsFalse, get_or, slice_get, slice_set, refl, sym, ap, ◌∙◌, subst, arith, length-set}
 use Rattle.std.proofs.lemmas.Bool.{cases_eq, cases_lt, lt-ltb, le-ltb, ltb-true, eqb-true, ne_eqb, and_left, and_parts}
 use Rattle.std.proofs.lemmas.List.{get_or-set_same, get_or-set_other, length-map, length-replicate}
 use Rattle.std.proofs.lemmas.List.Sums.{sum_by-cons, sum_by-set}
@@ -17,7 +17,7 @@ use Rattle.octet_model.specs.Thread.{AccessOrEnd, ToRead, ToWrite, ToEnd, starti
 use Rattle.octet_model.specs.Machine.{Behavior, Journals, journal_of, PlainState, Next, Wants, Finished, NothingFits, Operation, MakeMark, MakeRead, MakeWrite, is_enabled, event_made, heap_after, draws_after, appended, no_events, next_of, may_proceed, may_step, step, after}
 use Rattle.octet_model.specs.Orders.{commands_of, thread_log_of, by_log, starting_heap, opening_state, lowest_order, IsLowestFront}
 use Rattle.octet_model.specs.Plays.{operation_of}
-use Rattle.octet_model.proofs.lemmas.Steps.{count, Makes, makes_from, same_journal, as_many_step, other_step, counts_step}
+use Rattle.octet_model.proofs.lemmas.Steps.{Makes, makes_from, same_journal, as_many_step, other_step, counts_step}
 use Rattle.octet_model.proofs.lemmas.Fronts.{no_journal}
 use Rattle.octet_model.proofs.lemmas.LogsOfJournals.{as_many_after}
 use Rattle.octet_model.proofs.lemmas.LowestFronts.{lowest_order_is_lowest}
@@ -34,7 +34,7 @@ use Rattle.octet_replay.specs.declared.state.Replay.{Replay}
 use Rattle.octet_replay.specs.NextDemand.{demand_of, NamesObject}
 use Rattle.octet_replay.specs.Needs.{NeedsAndCounts, after_step, no_counts, is_met, is_ready, IsLowestReady, NamesThread}
 use Rattle.octet_replay.specs.ReplayState.{ReplayState, state_at, plain_state, HasHalted, IsNextStep}
-use Rattle.octet_replay.specs.Replayed.{state_of, is_draw, AllNameObjects, AreReplaysOf, AwaitsNext, IsAt, MakesEvent, StandsAt}
+use Rattle.octet_replay.specs.Replayed.{state_of, is_draw, AllNameObjects, AreReplaysOf, IsAt, MakesEvent, StandsAt}
 use Rattle.octet_replay.specs.Threads.{need_of, next_by_counts, next_event, Grown, HasRoomFor, IsReplayOf, StandsFor, WritesWithin}
 use Rattle.octet_replay.proofs.Growing.{by_counts, came_here, same_operation, grows, stands_for, writes_within, has_room}
 use Rattle.octet_replay.proofs.Valid.{few_accesses, few_marks}
@@ -407,10 +407,10 @@ map_at f [] i y at = absurd cc
 map_at f (x ∷ xs) zero y at = (x, refl, same_Some (f x) y at)
 map_at f (x ∷ xs) (suc i) y at = map_at f xs i y at
 
-zero_there : (n t : ℕ) → get_or (replicate n 0) t 0 ≡ 0
-zero_there zero t = refl
-zero_there (suc n) zero = refl
-zero_there (suc n) (suc t) = zero_there n t
+zero_there : (none : ℕ) (n t : ℕ) → get_or (replicate n none) t none ≡ none
+zero_there none zero t = refl
+zero_there none (suc n) zero = refl
+zero_there none (suc n) (suc t) = zero_there none n t
 
 pub sum_none : (n : ℕ) → sum (replicate n 0) ≡ 0
 sum_none zero = refl
@@ -435,7 +435,7 @@ module _ (script : Script) (log : List ThreadLog) (agree : length script.threads
           sym there.2
           ∙ ap need_of (sym (by_counts (commands_of script t) (starting_configuration script.fuel) (length script.objects) (thread_log_of log t) (journal_of (no_events script.threads) t) there.0 (each t there.0 there.1)));
       events = λ t.
-          ap (λ (v : NeedsAndCounts). get_or v.events t 0) waits_are ∙ zero_there (length (map need_here threads)) t
+          ap (λ (v : NeedsAndCounts). get_or v.events t 0) waits_are ∙ zero_there 0 (length (map need_here threads)) t
           ∙ sym (ap (λ (j : List Event). length j) (no_journal script.threads t));
       draws = ap (λ (v : NeedsAndCounts). v.draws) waits_are;
     };

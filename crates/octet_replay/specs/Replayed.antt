@@ -1,9 +1,9 @@
 -- How far all threads are replayed.
-use Rattle.std.specs.Prelude.{◌≡◌, ℕ, suc, ◌+◌, ◌<◌, Bool, true, false, List, length, map, Option, Some, None, slice_get, slice_index, slice_set}
+use Rattle.std.specs.Prelude.{◌≡◌, ℕ, ◌<◌, Bool, true, false, List, length, Some, slice_get, slice_index, slice_set}
 use Rattle.std.specs.List.{sum}
 use Rattle.octet_model.specs.declared.event.Event.{Event}
-use Rattle.octet_model.specs.declared.event.Event.TheVariants.{Read, Write, Marked}
-use Rattle.octet_model.specs.declared.event.Mark.TheVariants.{Join, Draw, Fence}
+use Rattle.octet_model.specs.declared.event.Event.TheVariants.{Marked}
+use Rattle.octet_model.specs.declared.event.Mark.TheVariants.{Draw}
 use Rattle.octet_model.specs.declared.script.Script.{Script}
 use Rattle.octet_model.specs.declared.log.ThreadLog.{ThreadLog}
 use Rattle.octet_model.specs.Thread.{starting_configuration}
@@ -18,7 +18,7 @@ use Rattle.octet_replay.specs.declared.state.Replay.{Replay}
 use Rattle.octet_replay.specs.NextDemand.{demand_of, NamesObject}
 use Rattle.octet_replay.specs.Needs.{NeedsAndCounts, after_step}
 use Rattle.octet_replay.specs.ReplayState.{ReplayState, plain_state}
-use Rattle.octet_replay.specs.Threads.{need_of, next_by_counts, next_event, Grown, HasCounts, IsReplayOf}
+use Rattle.octet_replay.specs.Threads.{need_of, next_by_counts, Grown, HasCounts, IsReplayOf}
 use Rattle.octet_replay.specs.Judged.{Finds}
 
 -- what contracts of a replayer see: as many steps were made as the threads have made events

@@ -1,7 +1,7 @@
 -- When each thread stands among those that may step, or on the list of what it waits for.
-use Rattle.std.specs.Prelude.{◌≡◌, ◌≢◌, ℕ, suc, ◌<◌, ◌≤◌, Bool, true, List, length, Some, slice_get, slice_index, slice_set}
+use Rattle.std.specs.Prelude.{◌≡◌, ◌≢◌, ℕ, suc, ◌<◌, ◌≤◌, true, length, Some, slice_get, slice_index, slice_set}
 use Rattle.octet_replay.specs.declared.need.Need.{Need}
-use Rattle.octet_replay.specs.declared.need.Need.TheVariants.{Free, Events, DrawsAre, DrawsReach, Never}
+use Rattle.octet_replay.specs.declared.need.Need.TheVariants.{Events, DrawsAre, DrawsReach}
 use Rattle.octet_replay.specs.declared.waiting.WaitingList.{WaitingList}
 use Rattle.octet_replay.specs.declared.waits.Lists.{Lists}
 use Rattle.octet_replay.specs.Needs.{NeedsAndCounts, is_ready, NamesThread}

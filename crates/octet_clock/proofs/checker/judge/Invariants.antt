@@ -3,8 +3,8 @@ use Rattle.octet_model.specs.Orders.{journals_after, lowest_order}
 use Rattle.octet_clock.specs.Checker.{Holds}
 use Rattle.octet_clock.proofs.checker.judge.Given as goal
 
-abbrev pub invariant-loop-replayer : goal.invariant-loop-replayer
-invariant-loop-replayer l = record {
+abbrev pub invariant-loop-thread : goal.invariant-loop-replayer
+invariant-loop-thread l = record {
   script : l.replayer.script ≡ l.fn.replayer.script;
   log : l.replayer.log ≡ l.fn.replayer.log;
   many : length l.checker.marks.items ≡ l.threads;
@@ -12,5 +12,5 @@ invariant-loop-replayer l = record {
       (lowest_order l.fn.replayer.script l.fn.replayer.log.threads) l.replayer.steps l.checker;
 }
 
-abbrev pub decreases-loop-replayer : goal.decreases-loop-replayer
-decreases-loop-replayer l = length (lowest_order l.fn.replayer.script l.fn.replayer.log.threads) - l.replayer.steps
+abbrev pub decreases-loop-thread : goal.decreases-loop-replayer
+decreases-loop-thread l = length (lowest_order l.fn.replayer.script l.fn.replayer.log.threads) - l.replayer.steps

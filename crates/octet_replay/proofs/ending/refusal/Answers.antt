@@ -1,4 +1,4 @@
-use Rattle.std.proofs.Common.{◌≡◌, ◌+◌, ℕ, ◌<◌, ◌≤◌, ◌^◌, List, length, map, Some, slice_get, refl, sym, ap, ◌∙◌, subst, arith}
+use Rattle.std.proofs.Common.{◌≡◌, ◌+◌, ℕ, ◌<◌, ◌≤◌, ◌^◌, List, length, map, Some, slice_get, refl, sym, ap, ◌∙◌, subst}
 use Rattle.octet_replay.specs.declared.thread.ThreadReplay.{ThreadReplay}
 use Rattle.octet_replay.specs.Replayed.{FindsNothing, IsThroughHere, TellsMisfit}
 use Rattle.octet_replay.proofs.Judging.{few_here, accesses_here, marks_here, misfit_is_cause, stuck_is_cause, through_is_lawful}

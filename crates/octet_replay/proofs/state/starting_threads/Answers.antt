@@ -1,4 +1,4 @@
-use Rattle.std.proofs.Common.{◌≡◌, ℕ, ◌<◌, [], List, length, refl, ap, ◌∙◌, subst, sym, get_or, slice_get, arith, length-append}
+use Rattle.std.proofs.Common.{◌≡◌, ℕ, ◌<◌, [], List, length, ap, ◌∙◌, subst, sym, get_or, slice_get, arith, length-append}
 use Rattle.std.proofs.lemmas.List.{get_or_default}
 use Rattle.octet_model.specs.declared.event.Event.{Event}
 use Rattle.octet_model.specs.declared.log.ThreadLog.{ThreadLog}

@@ -1,7 +1,5 @@
-use Rattle.std.proofs.Common.{◌≡◌, List, map, length, sym, ap, ◌∙◌}
+use Rattle.std.proofs.Common.{map, length, ap, ◌∙◌}
 use Rattle.std.specs.List.{sum}
-use Rattle.octet_replay.specs.declared.need.Need.{Need}
-use Rattle.octet_replay.specs.declared.thread.ThreadReplay.{ThreadReplay}
 use Rattle.octet_replay.specs.Needs.{NeedsAndCounts, no_counts}
 use Rattle.octet_replay.proofs.Stepping.{need_here, opening_is, at_start, start_stands, start_names, sum_none}
 use Rattle.octet_replay.proofs.state.Replay.new.Goals as goal

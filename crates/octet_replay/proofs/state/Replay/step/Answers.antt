@@ -1,4 +1,4 @@
-use Rattle.std.proofs.Common.{◌≡◌, ℕ, List, length, Some, None, slice_get, refl, sym, ap, ◌∙◌, subst, arith}
+use Rattle.std.proofs.Common.{ℕ, List, length, Some, None, refl, sym, subst}
 use Rattle.octet_replay.specs.NextDemand.{NamesObject}
 use Rattle.octet_replay.specs.ReplayState.{plain_state}
 use Rattle.octet_replay.specs.Replayed.{state_of}

@@ -1,4 +1,4 @@
-use Rattle.std.proofs.Common.{inl, inr, refl, suc, ◌+◌, arith}
+use Rattle.std.proofs.Common.{inl, inr, refl, ◌+◌, arith}
 use Rattle.octet_replay.proofs.Placing.{after_draw, placed_or_due}
 use Rattle.octet_replay.proofs.waits.Lists.count_draw.Goals as goal
 
