@@ -1,15 +1,13 @@
 -- The steps of the check, and its verdict.
-use Rattle.std.proofs.Common.{◌≡◌, ℕ, suc, ◌<◌, ◌≤◌, ◌^◌, inl, inr, List, [], length, Some, None, get_or, slice_get, refl, sym, ap, ◌∙◌, subst, arith}
+use Rattle.std.proofs.Common.{◌≡◌, ℕ, suc, ◌<◌, ◌^◌, inl, inr, List, [], length, get_or, refl, ap, subst, arith}
 use Rattle.std.proofs.lemmas.Bool.{cases_lt}
-use Rattle.std.proofs.lemmas.List.{get_or_past, get_or_default}
+use Rattle.std.proofs.lemmas.List.{get_or_past}
 use Rattle.octet_model.specs.declared.event.Event.{Event}
 use Rattle.octet_model.specs.declared.event.Place.{Place}
 use Rattle.octet_model.specs.Machine.{Journals, journal_of}
-use Rattle.octet_model.specs.Plays.{lowest_play}
 use Rattle.octet_clock.specs.declared.verdict.Verdict.{Verdict}
 use Rattle.octet_clock.specs.declared.verdict.Verdict.TheVariants.{Ordered, Unordered}
 use Rattle.octet_clock.specs.Play.{made_by, IsWholePlay}
-use Rattle.octet_clock.specs.Sources.{IsNextStep}
 use Rattle.octet_replay.specs.Places.{FitInPlaces}
 use Rattle.octet_clock.specs.Verdict.{IsFirstUnordered, JudgedUpTo, IsVerdict}
 use Rattle.octet_clock.proofs.Forward.{ordered_by_steps, unordered_by_pair}

@@ -1,5 +1,5 @@
 -- The clock of a thread's first events, from the marks that are kept of it.
-use Rattle.std.proofs.Common.{◌≡◌, ℕ, suc, ◌<◌, ◌≤◌, ◌⊎◌, inl, inr, List, length, Some, ltb, get_or, true, false, slice_get, sym, ap, ◌∙◌, arith}
+use Rattle.std.proofs.Common.{◌≡◌, ℕ, suc, ◌-◌, ◌<◌, ◌≤◌, ◌⊎◌, inl, inr, List, length, Some, ltb, get_or, true, false, slice_get, sym, ap, ◌∙◌, arith}
 use Rattle.std.proofs.lemmas.Bool.{cases_eq, cases_lt, lt-ltb, ltb-true}
 use Rattle.std.proofs.lemmas.Option.{slice_get-get_or, slice_get_within, get_or_from_slice_get}
 use Rattle.std.specs.List.Sorted.{IsNonDecreasingBy, IsPartitionPoint}
@@ -20,6 +20,17 @@ kept_in_order js t now kept keeps i j d le lt =
           let later = slice_get-get_or kept j d lt in
           omega (arith, keeps.rising i j (get_or kept i d) (get_or kept j d) (omega arith) sooner later)
     ]
+
+-- where the last one is among the first so many events, all are
+pub all_before : (kept : List MarkClock) (upto : ℕ) (last : MarkClock) (n : ℕ) → n ≡ length kept → slice_get kept (length kept - 1) ≡ Some last → last.event < upto
+    → IsNonDecreasingBy (λ (one : MarkClock). one.event) kept → IsPartitionPoint (λ (one : MarkClock). ltb one.event upto ≡ true) (λ (one : MarkClock). ltb one.event upto ≡ false) kept n
+all_before kept upto last n is there below sorted = (
+  λ k d low lt.
+      let end : length kept - 1 < length kept = slice_get_within kept (length kept - 1) last there in
+      let value = ap (λ (one : MarkClock). one.event) (get_or_from_slice_get kept (length kept - 1) last d there) in
+      lt-ltb (get_or kept k d).event upto (omega (arith, sorted k (length kept - 1) d (omega arith) end, value)),
+  λ k d ge lt. absurd (omega arith),
+)
 
 module _ (js : Journals) (t now upto : ℕ) (kept : List MarkClock) (keeps : KeepsMarks js t now kept) (within : upto ≤ now) (made : now ≤ length (journal_of js t))
     (i : ℕ) (low : i ≤ length kept)

@@ -1,5 +1,5 @@
 -- The check of a script and a log, from the steps of a replay.
-use Rattle.std.proofs.Common.{◌≡◌, ℕ, suc, ◌<◌, ◌≤◌, ◌^◌, List, [], length, take, IsTrue, get_or, refl, sym, ap, ◌∙◌, subst, arith}
+use Rattle.std.proofs.Common.{◌≡◌, ℕ, suc, ◌<◌, ◌^◌, List, [], length, take, refl, ap, ◌∙◌, subst, arith}
 use Rattle.std.proofs.lemmas.Bool.{and_parts, ltb-true}
 use Rattle.std.proofs.lemmas.List.{length-map}
 use Rattle.octet_model.specs.declared.command.Command.{Command}
@@ -7,7 +7,7 @@ use Rattle.octet_model.specs.declared.event.Event.{Event}
 use Rattle.octet_model.specs.declared.script.Script.{Script}
 use Rattle.octet_model.specs.declared.log.Log.{Log}
 use Rattle.octet_model.specs.declared.log.ThreadLog.{ThreadLog}
-use Rattle.octet_model.specs.Machine.{Journals, PlainState, may_proceed, next_of}
+use Rattle.octet_model.specs.Machine.{PlainState, may_proceed, next_of}
 use Rattle.octet_model.specs.HappensBefore.{IsOrdered}
 use Rattle.octet_model.specs.Orders.{by_log, opening_state, starting_heap, journals_after, lowest_order, outcome_of, IsLawfulOrder}
 use Rattle.octet_model.proofs.lemmas.Fronts.{one_end, front_leads_on}
@@ -20,11 +20,11 @@ use Rattle.octet_replay.proofs.Places.{have_places}
 use Rattle.octet_replay.proofs.Stepping.{all_made}
 use Rattle.octet_clock.specs.declared.verdict.Verdict.{Verdict}
 use Rattle.octet_clock.specs.declared.verdict.Verdict.TheVariants.{Ordered, Unordered}
-use Rattle.octet_clock.specs.Play.{made_by, IsWholePlay}
+use Rattle.octet_clock.specs.Play.{made_by}
 use Rattle.octet_clock.specs.Sources.{IsNextStep}
-use Rattle.octet_clock.specs.Verdict.{IsVerdict, JudgedUpTo}
+use Rattle.octet_clock.specs.Verdict.{JudgedUpTo}
 use Rattle.octet_clock.specs.Verified.{HasOneOutcome, IsVerified, IsJudged}
-use Rattle.octet_clock.proofs.Checking.{Stands, has_room, verdict_is}
+use Rattle.octet_clock.proofs.Checking.{has_room, verdict_is}
 use Rattle.octet_clock.proofs.WholePlay.{whole_play, step_of_play}
 
 -- where the journals of the lowest order are ordered, the log has one outcome
@@ -36,6 +36,10 @@ one_outcome script log lawful ordered =
       journals = λ order is. ap (λ (s : PlainState). s.journals) (one_end (by_log script log) (starting_heap script) script.threads low order lawful.1 ordered is.1);
       continues = λ front is. (let on = front_leads_on (by_log script log) (starting_heap script) script.threads low front lawful.1 ordered is.1 in (on.0, (lawful.0, on.1)));
     }
+
+pub as_many_journals : (script : Script) (log : List ThreadLog) → length script.threads ≡ length log → length (journals_after script log (lowest_order script log)) ≡ length log
+as_many_journals script log agree =
+    as_many_after (by_log script log) (lowest_order script log) (opening_state script) ∙ length-map {B = List Event} script.threads (λ (c : List Command). []) ∙ agree
 
 -- the next step of a replay is the next of a play of the journals that its order comes to
 module _ (r : ReplayState) (agree : length r.script.threads ≡ length r.log.threads) (t : ℕ) (event : Event) (next : replayed.IsNextStep r t event) where
@@ -57,7 +61,7 @@ module _ (r : ReplayState) (agree : length r.script.threads ≡ length r.log.thr
 
   pub thread_within : t < length r.log.threads
   thread_within =
-      omega (arith, there, agree, as_many_after (by_log r.script r.log.threads) (take r.steps (lowest_order r.script r.log.threads)) (opening_state r.script), length-map r.script.threads (λ (c : List Command). []))
+      omega (arith, there, agree, as_many_after (by_log r.script r.log.threads) (take r.steps (lowest_order r.script r.log.threads)) (opening_state r.script), length-map {B = List Event} r.script.threads (λ (c : List Command). []))
 
   pub room_for : suc (made_by (lowest_order r.script r.log.threads) r.steps t) < 2 ^ 32
   room_for =

@@ -1,5 +1,5 @@
 -- A front of a script and a log makes every event of the journals that it comes to, as a play of them.
-use Rattle.std.proofs.Common.{◌≡◌, ℕ, zero, suc, ◌<◌, ◌≤◌, inl, inr, eqb, nat_le, List, [], ◌∷◌, ◌++◌, length, take, drop, Some, IsTrue, get_or, refl, sym, ap, ◌∙◌, subst, arith}
+use Rattle.std.proofs.Common.{◌≡◌, ℕ, zero, suc, ◌<◌, ◌≤◌, inl, inr, eqb, nat_le, List, [], ◌∷◌, length, take, drop, Some, get_or, refl, sym, ap, ◌∙◌, arith}
 use Rattle.std.proofs.Math.Seq.{take-length}
 use Rattle.std.proofs.Math.ListN.{take-append-drop}
 use Rattle.std.proofs.lemmas.Bool.{cases_eq}
@@ -8,7 +8,7 @@ use Rattle.octet_model.specs.declared.event.Mark.TheVariants.{Join, Draw, Fence}
 use Rattle.octet_model.specs.declared.event.Event.{Event}
 use Rattle.octet_model.specs.declared.script.Script.{Script}
 use Rattle.octet_model.specs.declared.log.ThreadLog.{ThreadLog}
-use Rattle.octet_model.specs.Machine.{Journals, journal_of, PlainState, starting_state, Operation, MakeMark, MakeRead, MakeWrite, Wants, Behavior, is_enabled, event_made, draws_after, appended, next_of, step, after, IsFront}
+use Rattle.octet_model.specs.Machine.{Journals, PlainState, starting_state, Operation, MakeMark, MakeRead, MakeWrite, Wants, Behavior, is_enabled, event_made, draws_after, appended, next_of, step, after, IsFront}
 use Rattle.octet_model.specs.Orders.{by_log, opening_state, lowest_order, journals_after}
 use Rattle.octet_model.specs.Plays.{operation_of, next_in, by_journals}
 use Rattle.octet_model.proofs.lemmas.Steps.{at, count, new_event, Makes, what_it_makes, makes_from, as_many_step, other_step, counts_step, made_there}
@@ -48,9 +48,9 @@ module _ (V : Behavior) (js : Journals) where
   both t order s s' front is alike =
       let m = what_it_makes V s t front.0 in
       let made : at js t (count s.journals t) ≡ Some (event_made m.0 s.heap) =
-          ap (λ (j : Journals). at j t (count s.journals t)) (sym is) ∙ stays V order (step V s t) t (count s.journals t) (event_made m.0 s.heap) (made_there V s t m.0 m.1) in
+      ap (λ (j : Journals). at j t (count s.journals t)) (sym is) ∙ stays V order (step V s t) t (count s.journals t) (event_made m.0 s.heap) (made_there V s t m.0 m.1) in
       let next : next_of (by_journals js) s' t ≡ Wants m.0 =
-          ap next_in (ap (λ (n : ℕ). at js t n) (sym (alike.counts t)) ∙ made) ∙ ap Wants (same_operation m.0 s.heap) in
+      ap next_in (ap (λ (n : ℕ). at js t n) (sym (alike.counts t)) ∙ made) ∙ ap Wants (same_operation m.0 s.heap) in
       (m.0, record { here = m.1; there = makes_from (by_journals js) s' t m.0 (omega (arith, m.1.within, alike.as_many)) next (sym (enabled_alike s s' m.0 alike) ∙ m.1.enabled) })
 
   step_alike : (s s' : PlainState) (t : ℕ) (o : Operation) → Both s s' t o → Alike s s' → Alike (step V s t) (step (by_journals js) s' t)

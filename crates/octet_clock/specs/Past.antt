@@ -1,10 +1,7 @@
 -- When a clock is the past of a thread's first events, and when a thread's marks are kept with their clocks.
 use Rattle.std.specs.Prelude.{◌≡◌, ℕ, suc, ◌<◌, ◌↔◌, ◌⊎◌, List, Some, slice_get}
-use Rattle.octet_model.specs.declared.event.Mark.{Mark}
-use Rattle.octet_model.specs.declared.event.Event.TheVariants.{Marked}
 use Rattle.octet_model.specs.declared.event.Place.{Place}
 use Rattle.octet_model.specs.Machine.{Journals}
-use Rattle.octet_model.specs.HappensBefore.{event_at}
 use Rattle.octet_model.specs.Past.{InPast}
 use Rattle.octet_clock.specs.declared.clock.Clock.{Clock}
 use Rattle.octet_clock.specs.declared.marks.MarkClock.{MarkClock}
