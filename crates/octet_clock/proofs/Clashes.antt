@@ -10,7 +10,7 @@ use Rattle.octet_model.specs.declared.event.Place.{Place}
 use Rattle.octet_model.specs.Machine.{Journals}
 use Rattle.octet_model.specs.HappensBefore.{event_at, IsEvent, HappensBefore, object_of, is_write, Conflict}
 use Rattle.octet_model.specs.Past.{InPast}
-use Rattle.octet_model.proofs.Pasts.{place, past_happens_before}
+use Rattle.octet_model.proofs.lemmas.Pasts.{place, past_happens_before}
 use Rattle.octet_clock.specs.declared.clock.Clock.{Clock}
 use Rattle.octet_clock.specs.Clock.{count_in}
 use Rattle.octet_clock.specs.Accesses.{IsAccessStep}
@@ -104,7 +104,7 @@ module _ (js : Journals) (play : List ℕ) (i t object : ℕ) (writing : Bool) (
       ]
 
   module _ (u n : ℕ) (last : IsLastOf js (is_clash object writing) u (made_by play i u) n) where
-    -- an earlier conflicting access is not behind the last clash
+    -- an earlier conflicting access is not after the last clash
     below_last : (a : Place) → a.thread ≡ u → IsEarlierConflict js play i a → a.event < n
     below_last a same c =
         elim (cases_lt a.event n) [

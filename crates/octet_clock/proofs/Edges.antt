@@ -8,7 +8,8 @@ use Rattle.octet_model.specs.declared.event.Place.{Place}
 use Rattle.octet_model.specs.Machine.{Journals}
 use Rattle.octet_model.specs.HappensBefore.{event_at, Edge, ProgramOrder, Joined, Drawn, Fenced, IsEvent, IsPath, HappensBefore}
 use Rattle.octet_model.specs.Past.{Reaches, InPast}
-use Rattle.octet_model.proofs.Pasts.{place, path_on, by_edge}
+use Rattle.octet_model.proofs.lemmas.Pasts.{place, path_on, by_edge}
+use Rattle.octet_clock.specs.Past.{AddsNothing}
 
 module _ (js : Journals) where
   -- the last edge of a path
@@ -76,15 +77,15 @@ module _ (js : Journals) where
       go (ByDraw first then draw at_draw is below reaches) = absurd (quiet (Draw then) is)
       go (ByFence first upto draw at_draw is below reaches) = absurd (quiet (Fence upto) is)
 
-  -- so do events without a mark among them
-  pub unmarked_add : (more t k now : ℕ) (a : Place) → k + more ≡ now → ((i : ℕ) → k ≤ i → i < now → IsUnmarked t i) → InPast js t now a
+  -- so do events that add nothing else
+  pub nothing_added : (more t k now : ℕ) (a : Place) → k + more ≡ now → ((i : ℕ) → k ≤ i → i < now → AddsNothing js t i) → InPast js t now a
       → InPast js t k a ⊎ ((a.thread ≡ t) × (a.event < now))
-  unmarked_add zero t k now a is quiet h = inl (subst (λ (n : ℕ). InPast js t n a) (omega arith) h)
-  unmarked_add (suc more) t k now a is quiet h =
+  nothing_added zero t k now a is quiet h = inl (subst (λ (n : ℕ). InPast js t n a) (omega arith) h)
+  nothing_added (suc more) t k now a is quiet h =
       let same : suc (k + more) ≡ now = omega arith in
       let h' = subst (λ (n : ℕ). InPast js t n a) (sym same) h in
-      elim (unmarked_adds t (k + more) a (quiet (k + more) (omega arith) (omega arith)) h') [
-        | inl was ↦ elim (unmarked_add more t k (k + more) a refl (λ i low high. quiet i low (omega arith)) was) [
+      elim (quiet (k + more) (omega arith) (omega arith) a h') [
+        | inl was ↦ elim (nothing_added more t k (k + more) a refl (λ i low high. quiet i low (omega arith)) was) [
           | inl there ↦ inl there
           | inr own ↦ inr (own.0, omega (arith, own.1))
         ]

@@ -7,7 +7,7 @@ use Rattle.octet_model.specs.declared.event.Place.{Place}
 use Rattle.octet_model.specs.Machine.{Journals}
 use Rattle.octet_model.specs.HappensBefore.{Edge, ProgramOrder, Joined, Drawn, Fenced, IsPath, HappensBefore, is_write, Conflict, IsOrdered}
 use Rattle.octet_clock.specs.Play.{made_by, step_place, IsMadeBefore, IsWholePlay}
-use Rattle.octet_clock.specs.Verdict.{IsJoinedUp, IsFirstUnordered}
+use Rattle.octet_clock.specs.Verdict.{FollowsConflicts, IsFirstUnordered}
 use Rattle.octet_clock.proofs.Walk.{index_in, index_of, step_at_place, made_one, made_grows, join_names, draw_is_next, fence_names, drawn_is_made}
 
 module _ (js : Journals) (play : List ℕ) (whole : IsWholePlay js play) where
@@ -67,7 +67,7 @@ module _ (js : Journals) (play : List ℕ) (whole : IsWholePlay js play) where
       either false false h = h
 
   -- where each step is joined up, the journals are ordered
-  pub ordered_by_steps : ((i : ℕ) → i < length play → IsJoinedUp js play i) → IsOrdered js
+  pub ordered_by_steps : ((i : ℕ) → i < length play → FollowsConflicts js play i) → IsOrdered js
   ordered_by_steps joined a b c =
       let i = index_in js play whole a (c.first, c.is_first) in
       let j = index_in js play whole b (c.second, c.is_second) in

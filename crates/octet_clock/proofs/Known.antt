@@ -1,5 +1,5 @@
 -- Clocks that are pasts.
-use Rattle.std.proofs.Common.{◌≡◌, ℕ, suc, ◌<◌, ◌≤◌, ◌-◌, ◌⊎◌, inl, inr, length, get_or, sym, ap, subst, arith}
+use Rattle.std.proofs.Common.{◌≡◌, ◌≢◌, ℕ, suc, ◌<◌, ◌≤◌, ◌-◌, ◌⊎◌, inl, inr, length, get_or, sym, ap, subst, arith}
 use Rattle.std.proofs.lemmas.Bool.{cases_eq, cases_lt}
 use Rattle.std.proofs.lemmas.Option.{slice_get-get_or}
 use Rattle.octet_model.specs.declared.event.Event.TheVariants.{Read}
@@ -7,11 +7,11 @@ use Rattle.octet_model.specs.declared.event.Place.{Place}
 use Rattle.octet_model.specs.Machine.{Journals, journal_of}
 use Rattle.octet_model.specs.HappensBefore.{IsEvent}
 use Rattle.octet_model.specs.Past.{InPast}
-use Rattle.octet_model.proofs.Pasts.{place, past_grows, past_has_own}
+use Rattle.octet_model.proofs.lemmas.Pasts.{place, past_grows, past_has_own}
 use Rattle.octet_clock.specs.declared.clock.Clock.{Clock}
 use Rattle.octet_clock.specs.Clock.{count_in, IsRaised, IsJoined}
-use Rattle.octet_clock.specs.Past.{IsPastOf}
-use Rattle.octet_clock.proofs.Edges.{IsUnmarked, unmarked_add}
+use Rattle.octet_clock.specs.Past.{AddsNothing, IsPastOf}
+use Rattle.octet_clock.proofs.Edges.{nothing_added}
 
 -- what a raised clock knows
 pub raised_has : (c d : Clock) (t n u e : ℕ) → IsRaised c t n d → e < count_in c u → e < count_in d u
@@ -50,13 +50,13 @@ module _ (js : Journals) where
   pub past_of_none : (t : ℕ) (c : Clock) → ((u : ℕ) → count_in c u ≡ 0) → IsPastOf js t 0 c
   past_of_none t c none a = ((λ h. absurd (omega (arith, h.below))), λ lt. absurd (omega (arith, none a.thread)))
 
-  -- the past of some of a thread's events, raised to more of them without a mark among these, is the past of the more
+  -- the past of some of a thread's events, raised to more of them that add nothing, is the past of the more
   pub past_raised : (t k now : ℕ) (c d : Clock) → IsPastOf js t k c → k ≤ now → now ≤ length (journal_of js t)
-      → ((i : ℕ) → k ≤ i → i < now → IsUnmarked js t i) → IsRaised c t now d → IsPastOf js t now d
+      → ((i : ℕ) → k ≤ i → i < now → AddsNothing js t i) → IsRaised c t now d → IsPastOf js t now d
   past_raised t k now c d past le within quiet raised a = (to, from)
     where
       to : InPast js t now a → a.event < count_in d a.thread
-      to h = elim (unmarked_add js (now - k) t k now a (omega arith) quiet h) [
+      to h = elim (nothing_added js (now - k) t k now a (omega arith) quiet h) [
         | inl was ↦ raised_has c d t now a.thread a.event raised ((past a).0 was)
         | inr own ↦ subst (λ (u : ℕ). a.event < count_in d u) (sym own.0) (raised_own c d t now a.event raised own.1)
       ]
@@ -67,7 +67,7 @@ module _ (js : Journals) where
         | inr own ↦ own_event t now a own.0 own.1 within
       ]
 
-  -- behind an event that takes in another past lie the thread's own past, the other past and the event
+  -- after an event that takes in another past lie the thread's own past, the other past and the event
   pub past_joined : (t k u n : ℕ) (c d b e : Clock) → IsPastOf js t k c → IsPastOf js u n d → IsJoined c d b → IsRaised b t (suc k) e → k < length (journal_of js t)
       → ((a : Place) → InPast js u n a → InPast js t (suc k) a)
       → ((a : Place) → InPast js t (suc k) a → InPast js t k a ⊎ (InPast js u n a ⊎ (a ≡ place t k)))
@@ -90,4 +90,18 @@ module _ (js : Journals) where
           | inr its ↦ has a ((other a).1 its)
         ]
         | inr here ↦ own_event t (suc k) a here.0 here.1 (omega arith)
+      ]
+
+  -- an event adds nothing where the clock after it knows no more of the other threads
+  pub nothing_new : (t k : ℕ) (c d : Clock) → IsPastOf js t k c → IsPastOf js t (suc k) d → k ≤ length (journal_of js t) → ((u : ℕ) → u ≢ t → count_in d u ≤ count_in c u) → count_in d t ≤ suc k → AddsNothing js t k
+  nothing_new t k c d before after within others own a h =
+      let known = (after a).0 h in
+      elim (cases_eq a.thread t) [
+        | inr differ ↦ inl ((before a).1 (omega (arith, known, others a.thread differ)))
+        | inl same ↦ elim (cases_lt a.event k) [
+          | inl below ↦ inl (own_event t k a same below within)
+          | inr above ↦
+              let here : a.event ≡ k = omega (arith, known, ap (count_in d) same) in
+              inr (λ i. record { thread = same i; event = here i })
+        ]
       ]

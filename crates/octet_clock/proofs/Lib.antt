@@ -3,11 +3,9 @@ pub mod Known
 pub mod KeptMarks
 pub mod Walk
 pub mod Forward
-pub mod LowestSteps
 pub mod Taken
 pub mod Clashes
 pub mod Taking
 pub mod Checking
-pub mod OwnPlay
-pub mod Places
+pub mod WholePlay
 pub mod Verifying

@@ -1,4 +1,4 @@
--- What marks take in, and the clocks behind them.
+-- What marks take in, and the clocks after them.
 use Rattle.std.proofs.Common.{◌≡◌, ℕ, zero, suc, ◌-◌, ◌<◌, ◌≤◌, ◌^◌, ◌⊎◌, inl, inr, List, [], length, get_or, Option, Some, None, slice_get, sym, ap, ◌∙◌, subst, arith}
 use Rattle.std.proofs.lemmas.Bool.{cases_eq, cases_lt}
 use Rattle.std.proofs.lemmas.Option.{slice_get-get_or, slice_get_within}
@@ -10,7 +10,7 @@ use Rattle.octet_model.specs.declared.event.Place.{Place}
 use Rattle.octet_model.specs.Machine.{Journals, journal_of}
 use Rattle.octet_model.specs.HappensBefore.{event_at, HappensBefore}
 use Rattle.octet_model.specs.Past.{Reaches, InPast}
-use Rattle.octet_model.proofs.Pasts.{place, path_on, along_journal, past_has_joined, past_has_draws_whole, past_grows}
+use Rattle.octet_model.proofs.lemmas.Pasts.{place, path_on, along_journal, past_has_joined, past_has_draws_whole, past_grows}
 use Rattle.octet_clock.specs.declared.clock.Clock.{Clock}
 use Rattle.octet_clock.specs.declared.sources.Prefix.{Prefix}
 use Rattle.octet_clock.specs.Clock.{count_in, IsRaised, IsJoined}
@@ -177,14 +177,14 @@ module _ (js : Journals) (play : List ℕ) (i t : ℕ) where
     pub draw_number : (number : ℕ) → IsStep js play i t (Marked (Draw number)) → 1 ≤ number
     draw_number number step = omega (arith, draw_is_next js play whole i t number step)
 
-  -- the clock behind a mark, from the clock before it and what it takes in
-  pub behind_source : (first : Prefix) (own other both after : Clock) → IsSource js play i t first → k < length (journal_of js t) → IsPastOf js t k own → IsPastOf js first.thread first.count other
+  -- the clock after a mark, from the clock before it and what it takes in
+  pub past_source : (first : Prefix) (own other both after : Clock) → IsSource js play i t first → k < length (journal_of js t) → IsPastOf js t k own → IsPastOf js first.thread first.count other
       → IsJoined own other both → IsRaised both t (suc k) after → IsPastOf js t (suc k) after
-  behind_source first own other both after source within mine its joined raised =
+  past_source first own other both after source within mine its joined raised =
       past_joined js t k first.thread first.count own other both after mine its joined raised within source.taken source.only
 
-  pub behind_none : (own after : Clock) → TakesIn js play i t None → k < length (journal_of js t) → IsPastOf js t k own → IsRaised own t (suc k) after → IsPastOf js t (suc k) after
-  behind_none own after nothing within mine raised a = (to, from)
+  pub past_nothing : (own after : Clock) → TakesIn js play i t None → k < length (journal_of js t) → IsPastOf js t k own → IsRaised own t (suc k) after → IsPastOf js t (suc k) after
+  past_nothing own after nothing within mine raised a = (to, from)
     where
       to : InPast js t (suc k) a → a.event < count_in after a.thread
       to h = elim (nothing a h) [
@@ -204,13 +204,13 @@ module _ (js : Journals) (play : List ℕ) (i t : ℕ) where
   counted_source count next first own other both after is more source within mine its joined raised =
       let mine' = subst (λ (n : ℕ). IsPastOf js t n own) is mine in
       let raised' = subst (λ (n : ℕ). IsRaised both t n after) (more ∙ ap suc is) raised in
-      subst (λ (n : ℕ). IsPastOf js t (suc n) after) (sym is) (behind_source first own other both after source within mine' its joined raised')
+      subst (λ (n : ℕ). IsPastOf js t (suc n) after) (sym is) (past_source first own other both after source within mine' its joined raised')
 
   pub counted_none : (count next : ℕ) (own after : Clock) → count ≡ k → next ≡ suc count → TakesIn js play i t None → k < length (journal_of js t) → IsPastOf js t count own → IsRaised own t next after → IsPastOf js t (suc count) after
   counted_none count next own after is more nothing within mine raised =
       let mine' = subst (λ (n : ℕ). IsPastOf js t n own) is mine in
       let raised' = subst (λ (n : ℕ). IsRaised own t n after) (more ∙ ap suc is) raised in
-      subst (λ (n : ℕ). IsPastOf js t (suc n) after) (sym is) (behind_none own after nothing within mine' raised')
+      subst (λ (n : ℕ). IsPastOf js t (suc n) after) (sym is) (past_nothing own after nothing within mine' raised')
 
   -- a step's event is in its journal
   pub step_within : (e : Event) → IsStep js play i t e → k < length (journal_of js t)

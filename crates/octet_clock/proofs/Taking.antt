@@ -9,10 +9,10 @@ use Rattle.octet_model.specs.declared.event.Event.TheVariants.{Read, Write, Mark
 use Rattle.octet_model.specs.declared.event.Place.{Place}
 use Rattle.octet_model.specs.Machine.{Journals}
 use Rattle.octet_model.specs.HappensBefore.{event_at, object_of, is_write}
-use Rattle.octet_model.proofs.Pasts.{place}
-use Rattle.octet_model.proofs.Steps.{slice_get-append, slice_get_last}
+use Rattle.octet_model.proofs.lemmas.Pasts.{place}
+use Rattle.octet_model.proofs.lemmas.Lists.{slice_get-append, slice_get_last}
 use Rattle.octet_clock.specs.declared.clock.Clock.{Clock}
-use Rattle.octet_clock.specs.declared.marks.Kept.{Kept}
+use Rattle.octet_clock.specs.declared.marks.MarkClock.{MarkClock}
 use Rattle.octet_clock.specs.declared.marks.Marks.{Marks}
 use Rattle.octet_clock.specs.declared.sources.Prefix.{Prefix}
 use Rattle.octet_clock.specs.declared.accesses.Accesses.{Accesses}
@@ -22,10 +22,11 @@ use Rattle.octet_clock.specs.declared.verdict.Verdict.TheVariants.{Ordered, Unor
 use Rattle.octet_clock.specs.Accesses.{KeepsAccesses, AreNoted}
 use Rattle.octet_clock.specs.Clock.{count_in, IsRaised}
 use Rattle.octet_clock.specs.LastAccesses.{last_in, is_read_of, is_write_of, IsLastOf, IsNoted, KeepsLast}
-use Rattle.octet_clock.specs.Past.{IsPastOf, KeepsMarks}
+use Rattle.octet_clock.specs.Past.{AddsNothing, IsKept, IsPastOf, KeepsMarks}
 use Rattle.octet_clock.specs.Play.{made_by, step_place, IsStep}
 use Rattle.octet_clock.specs.Sources.{IsNextStep, IsDrawn, KeepsDraws, KeepsAllMarks, draws_with}
-use Rattle.octet_clock.specs.Verdict.{IsEarlierConflict, IsJoinedUp, IsFirstMissed, IsFirstUnordered, JudgedUpTo}
+use Rattle.octet_clock.specs.Verdict.{IsEarlierConflict, FollowsConflicts, IsFirstMissed, IsFirstUnordered, JudgedUpTo}
+use Rattle.octet_clock.proofs.Edges.{unmarked_adds}
 use Rattle.octet_clock.proofs.Walk.{made_one, made_other, draw_counts, draw_is_next, others_count_none}
 
 -- an item of a list that was pushed to
@@ -43,15 +44,15 @@ in_set (x ∷ xs) zero y (suc j) z is = inr (λ e. omega arith, is)
 in_set (x ∷ xs) (suc i) y zero z is = inr (λ e. omega arith, is)
 in_set (x ∷ xs) (suc i) y (suc j) z is = elim (in_set xs i y j z is) [ inl new ↦ inl (ap suc new.0, new.1) | inr old ↦ inr (λ e. old.0 (omega arith), old.1) ]
 
-module _ (js : Journals) (t k : ℕ) (kept : List Kept) (keeps : KeepsMarks js t k kept) where
-  -- an access adds no mark
-  pub keeps_on : ((mark : Mark) → event_at js (place t k) ≡ Some (Marked mark) → ⊥) → KeepsMarks js t (suc k) kept
-  keeps_on quiet = record {
+module _ (js : Journals) (t k : ℕ) (kept : List MarkClock) (keeps : KeepsMarks js t k kept) where
+  -- an event that adds nothing need not be kept
+  pub keeps_on : AddsNothing js t k → KeepsMarks js t (suc k) kept
+  keeps_on nothing = record {
     rising = keeps.rising;
     made = λ i one is. omega (arith, keeps.made i one is);
-    all = λ event mark lt is. elim (cases_eq event k) [
-      | inl same ↦ absurd (quiet mark (subst (λ (n : ℕ). event_at js (place t n) ≡ Some (Marked mark)) same is))
-      | inr differ ↦ keeps.all event mark (omega arith) is
+    all = λ event lt. elim (cases_eq event k) [
+      | inl same ↦ inr (subst (λ (n : ℕ). AddsNothing js t n) (sym same) nothing)
+      | inr differ ↦ keeps.all event (omega arith)
     ];
     pasts = keeps.pasts;
   }
@@ -60,34 +61,37 @@ module _ (js : Journals) (t k : ℕ) (kept : List Kept) (keeps : KeepsMarks js t
   pub keeps_mark : (clock : Clock) → IsPastOf js t (suc k) clock → KeepsMarks js t (suc k) (kept ++ record { event = k; clock = clock } ∷ [])
   keeps_mark clock past = record { rising = rising; made = made; all = all; pasts = pasts }
     where
-      new : Kept
+      new : MarkClock
       new = record { event = k; clock = clock }
 
-      rising : (i j : ℕ) (sooner later : Kept) → i < j → slice_get (kept ++ new ∷ []) i ≡ Some sooner → slice_get (kept ++ new ∷ []) j ≡ Some later → sooner.event < later.event
+      rising : (i j : ℕ) (sooner later : MarkClock) → i < j → slice_get (kept ++ new ∷ []) i ≡ Some sooner → slice_get (kept ++ new ∷ []) j ≡ Some later → sooner.event < later.event
       rising i j sooner later lt at_i at_j = elim (pushed kept new sooner i at_i) [
         | inl old_i ↦ elim (pushed kept new later j at_j) [
           | inl old_j ↦ keeps.rising i j sooner later lt old_i old_j
-          | inr new_j ↦ let e = ap (λ (o : Kept). o.event) new_j.1 in omega (arith, keeps.made i sooner old_i)
+          | inr new_j ↦ let e = ap (λ (o : MarkClock). o.event) new_j.1 in omega (arith, keeps.made i sooner old_i)
         ]
         | inr new_i ↦ absurd (omega (arith, new_i.0, slice_get_within (kept ++ new ∷ []) j later at_j, length-append kept (new ∷ [])))
       ]
 
-      made : (i : ℕ) (one : Kept) → slice_get (kept ++ new ∷ []) i ≡ Some one → one.event < suc k
+      made : (i : ℕ) (one : MarkClock) → slice_get (kept ++ new ∷ []) i ≡ Some one → one.event < suc k
       made i one is = elim (pushed kept new one i is) [
         | inl old ↦ omega (arith, keeps.made i one old)
-        | inr new_i ↦ let e = ap (λ (o : Kept). o.event) new_i.1 in omega arith
+        | inr new_i ↦ let e = ap (λ (o : MarkClock). o.event) new_i.1 in omega arith
       ]
 
-      all : (event : ℕ) (mark : Mark) → event < suc k → event_at js (place t event) ≡ Some (Marked mark) → (i : ℕ) × (one : Kept) × (slice_get (kept ++ new ∷ []) i ≡ Some one) × (one.event ≡ event)
-      all event mark lt is = elim (cases_eq event k) [
-        | inl same ↦ (length kept, new, slice_get_last kept new, sym same)
-        | inr differ ↦ let there = keeps.all event mark (omega arith) is in (there.0, there.1, slice_get-append kept (new ∷ []) there.0 there.1 there.2, there.3)
+      all : (event : ℕ) → event < suc k → IsKept (kept ++ new ∷ []) event ⊎ AddsNothing js t event
+      all event lt = elim (cases_eq event k) [
+        | inl same ↦ inl (length kept, new, slice_get_last kept new, sym same)
+        | inr differ ↦ elim (keeps.all event (omega arith)) [
+          | inl there ↦ inl (there.0, there.1, slice_get-append kept (new ∷ []) there.0 there.1 there.2, there.3)
+          | inr nothing ↦ inr nothing
+        ]
       ]
 
-      pasts : (i : ℕ) (one : Kept) → slice_get (kept ++ new ∷ []) i ≡ Some one → IsPastOf js t (suc one.event) one.clock
+      pasts : (i : ℕ) (one : MarkClock) → slice_get (kept ++ new ∷ []) i ≡ Some one → IsPastOf js t (suc one.event) one.clock
       pasts i one is = elim (pushed kept new one i is) [
         | inl old ↦ keeps.pasts i one old
-        | inr new_i ↦ subst (λ (o : Kept). IsPastOf js t (suc o.event) o.clock) new_i.1 past
+        | inr new_i ↦ subst (λ (o : MarkClock). IsPastOf js t (suc o.event) o.clock) new_i.1 past
       ]
 
 module _ (js : Journals) (test : Event → Bool) (t k n : ℕ) (last : IsLastOf js test t k n) where
@@ -162,7 +166,7 @@ module _ (js : Journals) (play : List ℕ) (i t : ℕ) (e : Event) (next : IsNex
     each = λ u one is. elim (cases_eq u t) [
       | inl same ↦
           let old = subst (λ (v : ℕ). KeepsMarks js v (made_by play i v) one.kept.items) same (keeps.each u one is) in
-          let on = keeps_on js t k one.kept.items old (λ mark at_k. quiet mark (some_same e (Marked mark) (sym next.step.makes ∙ at_k))) in
+          let on = keeps_on js t k one.kept.items old (λ a h. unmarked_adds js t k a (λ mark at_k. quiet mark (some_same e (Marked mark) (sym next.step.makes ∙ at_k))) h) in
           subst (λ (v : ℕ). KeepsMarks js v (made_by play (suc i) v) one.kept.items) (sym same) (subst (λ (n : ℕ). KeepsMarks js t n one.kept.items) (sym one_more) on)
       | inr differ ↦ subst (λ (n : ℕ). KeepsMarks js u n one.kept.items) (sym (others_same u differ)) (keeps.each u one is)
     ];
@@ -171,9 +175,8 @@ module _ (js : Journals) (play : List ℕ) (i t : ℕ) (e : Event) (next : IsNex
       some_same : (a b : Event) → Some a ≡ Some b → a ≡ b
       some_same a b e = cc
 
-  pub marks_with : (marks marks' : List Marks) (one one' : Marks) (clock : Clock) (n : ℕ) → n ≡ k → slice_get marks t ≡ Some one → one'.kept.items ≡ one.kept.items ++ record { event = n; clock = clock } ∷ []
-      → marks' ≡ slice_set marks t one' → IsPastOf js t (suc n) clock → KeepsAllMarks js play i marks → KeepsAllMarks js play (suc i) marks'
-  marks_with marks marks' one one' clock n is at_t pushes sets past keeps =
+  pub marks_with : (marks marks' : List Marks) (one' : Marks) → KeepsMarks js t (suc k) one'.kept.items → marks' ≡ slice_set marks t one' → KeepsAllMarks js play i marks → KeepsAllMarks js play (suc i) marks'
+  marks_with marks marks' one' more sets keeps =
       subst (λ (m : List Marks). KeepsAllMarks js play (suc i) m) (sym sets) (record {
         as_many = length-set marks t one' ∙ keeps.as_many;
         each = λ u other at_u. elim (in_set marks t one' u other at_u) [
@@ -183,11 +186,7 @@ module _ (js : Journals) (play : List ℕ) (i t : ℕ) (e : Event) (next : IsNex
       })
     where
       at_thread : KeepsMarks js t (made_by play (suc i) t) one'.kept.items
-      at_thread =
-          let past' = subst (λ (m : ℕ). IsPastOf js t (suc m) clock) is past in
-          let more = keeps_mark js t k one.kept.items (keeps.each t one at_t) clock past' in
-          let pushes' = pushes ∙ ap (λ (m : ℕ). one.kept.items ++ record { event = m; clock = clock } ∷ []) is in
-          subst (λ (m : ℕ). KeepsMarks js t m one'.kept.items) (sym one_more) (subst (λ (l : List Kept). KeepsMarks js t (suc k) l) (sym pushes') more)
+      at_thread = subst (λ (m : ℕ). KeepsMarks js t m one'.kept.items) (sym one_more) more
 
   -- the draws
   drawn_stays : (number : ℕ) (first : Prefix) → IsDrawn js play i number first → IsDrawn js play (suc i) number first
@@ -202,11 +201,11 @@ module _ (js : Journals) (play : List ℕ) (i t : ℕ) (e : Event) (next : IsNex
   draw_added : (c : ℕ) (draws : List Prefix) → e ≡ Marked (Draw c) → KeepsDraws js play i draws → KeepsDraws js play (suc i) (draws ++ record { thread = t; count = suc k } ∷ [])
   draw_added c draws is keeps =
       let step = subst (λ (x : Event). IsStep js play i t x) is next.step in
-      let behind : Prefix = record { thread = t; count = suc k } in
+      let after : Prefix = record { thread = t; count = suc k } in
       let number : c ≡ suc (length draws) = draw_is_next js play next.whole i t c step ∙ ap suc (sym keeps.counts) in
       record {
-        counts = omega (arith, length-append draws (behind ∷ []), keeps.counts, draw_counts js play next.whole i t c step);
-        each = λ n first at_n. elim (pushed draws behind first n at_n) [
+        counts = omega (arith, length-append draws (after ∷ []), keeps.counts, draw_counts js play next.whole i t c step);
+        each = λ n first at_n. elim (pushed draws after first n at_n) [
           | inl old ↦ drawn_stays (suc n) first (keeps.each n first old)
           | inr new ↦ subst (λ (f : Prefix). IsDrawn js play (suc i) (suc n) f) new.1 (record {
             event = k;
@@ -285,9 +284,9 @@ module _ (js : Journals) (play : List ℕ) (i t : ℕ) (e : Event) (next : IsNex
       }
 
   -- one more step that is joined up
-  pub judged_more : (verdict : Verdict) → JudgedUpTo js play i verdict → IsJoinedUp js play i → JudgedUpTo js play (suc i) verdict
+  pub judged_more : (verdict : Verdict) → JudgedUpTo js play i verdict → FollowsConflicts js play i → JudgedUpTo js play (suc i) verdict
   judged_more Ordered judged joined = λ step lt. elim (cases_eq step i) [
-    | inl same ↦ subst (λ (n : ℕ). IsJoinedUp js play n) (sym same) joined
+    | inl same ↦ subst (λ (n : ℕ). FollowsConflicts js play n) (sym same) joined
     | inr differ ↦ judged step (omega arith)
   ]
   judged_more (Unordered first second) judged joined = judged

@@ -1,20 +1,31 @@
--- The check of a script and a log, from the check of the journals of its lowest order.
-use Rattle.std.proofs.Common.{◌≡◌, ℕ, List, [], IsTrue, sym, ap, subst}
+-- The check of a script and a log, from the steps of a replay.
+use Rattle.std.proofs.Common.{◌≡◌, ℕ, suc, ◌<◌, ◌^◌, List, [], length, take, refl, ap, ◌∙◌, subst, arith}
+use Rattle.std.proofs.lemmas.Bool.{and_parts, ltb-true}
+use Rattle.std.proofs.lemmas.List.{length-map}
+use Rattle.octet_model.specs.declared.command.Command.{Command}
+use Rattle.octet_model.specs.declared.event.Event.{Event}
 use Rattle.octet_model.specs.declared.script.Script.{Script}
+use Rattle.octet_model.specs.declared.log.Log.{Log}
 use Rattle.octet_model.specs.declared.log.ThreadLog.{ThreadLog}
-use Rattle.octet_model.specs.Machine.{Journals, PlainState}
+use Rattle.octet_model.specs.Machine.{PlainState, may_proceed, next_of}
 use Rattle.octet_model.specs.HappensBefore.{IsOrdered}
-use Rattle.octet_model.specs.Log.{is_log}
-use Rattle.octet_model.specs.Orders.{by_log, starting_heap, journals_after, lowest_order, outcome_of, IsLawfulOrder}
-use Rattle.octet_model.specs.Plays.{lowest_play}
-use Rattle.octet_model.proofs.Fronts.{one_end, front_leads_on}
+use Rattle.octet_model.specs.Orders.{by_log, opening_state, starting_heap, journals_after, lowest_order, outcome_of, IsLawfulOrder}
+use Rattle.octet_model.proofs.lemmas.Fronts.{one_end, front_leads_on}
+use Rattle.octet_model.proofs.lemmas.LogsOfJournals.{as_many_after}
+use Rattle.octet_model.proofs.lemmas.LowestFronts.{lowest_is_front, lowest_order_is_lowest}
+use Rattle.octet_replay.specs.Places.{FitInPlaces}
+use Rattle.octet_replay.specs.ReplayState as replayed
+use Rattle.octet_replay.specs.ReplayState.{ReplayState, HasHalted, plain_state, state_at}
+use Rattle.octet_replay.proofs.Places.{have_places}
+use Rattle.octet_replay.proofs.Stepping.{all_made}
 use Rattle.octet_clock.specs.declared.verdict.Verdict.{Verdict}
-use Rattle.octet_clock.specs.Play.{IsWholePlay}
-use Rattle.octet_clock.specs.Tally.{HavePlaces}
-use Rattle.octet_clock.specs.Verdict.{IsVerdict}
-use Rattle.octet_clock.specs.Verified.{HasOneOutcome, IsVerified}
-use Rattle.octet_clock.proofs.OwnPlay.{own_play}
-use Rattle.octet_clock.proofs.Places.{have_places}
+use Rattle.octet_clock.specs.declared.verdict.Verdict.TheVariants.{Ordered, Unordered}
+use Rattle.octet_clock.specs.Play.{made_by}
+use Rattle.octet_clock.specs.Sources.{IsNextStep}
+use Rattle.octet_clock.specs.Verdict.{JudgedUpTo}
+use Rattle.octet_clock.specs.Verified.{HasOneOutcome, IsVerified, IsJudged}
+use Rattle.octet_clock.proofs.Checking.{has_room, verdict_is}
+use Rattle.octet_clock.proofs.WholePlay.{whole_play, step_of_play}
 
 -- where the journals of the lowest order are ordered, the log has one outcome
 one_outcome : (script : Script) (log : List ThreadLog) → IsLawfulOrder script log (lowest_order script log) → IsOrdered (journals_after script log (lowest_order script log)) → HasOneOutcome script log
@@ -26,18 +37,69 @@ one_outcome script log lawful ordered =
       continues = λ front is. (let on = front_leads_on (by_log script log) (starting_heap script) script.threads low front lawful.1 ordered is.1 in (on.0, (lawful.0, on.1)));
     }
 
-module _ (script : Script) (log : List ThreadLog) (lawful : IsLawfulOrder script log (lowest_order script log)) (js : Journals) (is : js ≡ journals_after script log (lowest_order script log)) where
-  pub places_of : IsTrue (is_log log) → HavePlaces js
-  places_of valid = subst HavePlaces (sym is) (have_places script log (lowest_order script log) lawful valid)
+pub as_many_journals : (script : Script) (log : List ThreadLog) → length script.threads ≡ length log → length (journals_after script log (lowest_order script log)) ≡ length log
+as_many_journals script log agree =
+    as_many_after (by_log script log) (lowest_order script log) (opening_state script) ∙ length-map {B = List Event} script.threads (λ (c : List Command). []) ∙ agree
 
-  same_play : lowest_order script log ≡ lowest_play [] js
-  same_play = subst (λ (j : Journals). lowest_order script log ≡ lowest_play [] j) (sym is) (own_play script log lawful).0
+-- the next step of a replay is the next of a play of the journals that its order comes to
+module _ (r : ReplayState) (agree : length r.script.threads ≡ length r.log.threads) (t : ℕ) (event : Event) (next : replayed.IsNextStep r t event) where
+  places : FitInPlaces (journals_after r.script r.log.threads (lowest_order r.script r.log.threads))
+  places =
+      have_places r.script r.log.threads (lowest_order r.script r.log.threads) agree
+      (lowest_is_front (by_log r.script r.log.threads) (lowest_order r.script r.log.threads) (opening_state r.script) (lowest_order_is_lowest r.script r.log.threads agree))
+      r.log.valid
 
-  pub whole_of : IsWholePlay js (lowest_play [] js)
-  whole_of = subst (λ (p : List ℕ). IsWholePlay js p) same_play (subst (λ (j : Journals). IsWholePlay j (lowest_order script log)) (sym is) (own_play script log lawful).1)
+  there : t < length (plain_state r).journals
+  there = ltb-true t (length (plain_state r).journals) (and_parts _ (may_proceed (plain_state r) (next_of (by_log r.script r.log.threads) (plain_state r) t)) next.may).0
 
-  pub verified : (verdict : Verdict) → IsVerdict js (lowest_play [] js) verdict → IsVerified script log verdict
-  verified verdict told =
-      let on_order = subst (λ (p : List ℕ). IsVerdict js p verdict) (sym same_play) told in
-      let on_log = subst (λ (j : Journals). IsVerdict j (lowest_order script log) verdict) is on_order in
-      record { lawful = lawful; told = on_log; one_outcome = λ ordered. one_outcome script log lawful (on_log.ordered.0 ordered) }
+  pub next_of_play : IsNextStep (journals_after r.script r.log.threads (lowest_order r.script r.log.threads)) (lowest_order r.script r.log.threads) r.steps t event
+  next_of_play = record {
+    places = places;
+    whole = whole_play r.script r.log.threads agree;
+    step = step_of_play r.script r.log.threads agree r.steps t event next.within next.is_of there next.makes;
+  }
+
+  pub thread_within : t < length r.log.threads
+  thread_within =
+      omega (arith, there, agree, as_many_after (by_log r.script r.log.threads) (take r.steps (lowest_order r.script r.log.threads)) (opening_state r.script), length-map {B = List Event} r.script.threads (λ (c : List Command). []))
+
+  pub room_for : suc (made_by (lowest_order r.script r.log.threads) r.steps t) < 2 ^ 32
+  room_for =
+      subst (λ (u : ℕ). suc (made_by (lowest_order r.script r.log.threads) r.steps u) < 2 ^ 32) next.is_of
+      (has_room (journals_after r.script r.log.threads (lowest_order r.script r.log.threads)) (lowest_order r.script r.log.threads) r.steps
+      (record { places = places; whole = whole_play r.script r.log.threads agree; within = next.within }))
+
+-- the same, for a replayer that began with this script and log
+module _ (script : Script) (log : Log) (agree : length script.threads ≡ length log.threads) (r : ReplayState) (same_script : r.script ≡ script) (same_log : r.log ≡ log)
+    (t : ℕ) (event : Event) (next : replayed.IsNextStep r t event) where
+  r_is : r ≡ record { script = script; log = log; steps = r.steps }
+  r_is = λ i. record { script = same_script i; log = same_log i; steps = r.steps }
+
+  next_here : replayed.IsNextStep (record { script = script; log = log; steps = r.steps }) t event
+  next_here = subst (λ (x : ReplayState). replayed.IsNextStep x t event) r_is next
+
+  pub next_in_play : IsNextStep (journals_after script log.threads (lowest_order script log.threads)) (lowest_order script log.threads) r.steps t event
+  next_in_play = next_of_play (record { script = script; log = log; steps = r.steps }) agree t event next_here
+
+  pub thread_in_play : t < length log.threads
+  thread_in_play = thread_within (record { script = script; log = log; steps = r.steps }) agree t event next_here
+
+  pub room_in_play : suc (made_by (lowest_order script log.threads) r.steps t) < 2 ^ 32
+  room_in_play = room_for (record { script = script; log = log; steps = r.steps }) agree t event next_here
+
+-- the verdict on all steps
+module _ (script : Script) (log : Log) (before after : ReplayState) (opens : before ≡ record { script = script; log = log; steps = 0 }) where
+  judged_all : (verdict : Verdict) → length script.threads ≡ length log.threads → IsJudged (record { script = script; log = log; steps = 0 }) after verdict
+      → JudgedUpTo (journals_after script log.threads (lowest_order script log.threads)) (lowest_order script log.threads) (length (lowest_order script log.threads)) verdict
+  judged_all (Unordered first second) agree j = j.judged
+  judged_all Ordered agree j =
+      let after_is : after ≡ record { script = script; log = log; steps = after.steps } = λ i. record { script = j.script i; log = j.log i; steps = after.steps } in
+      let halted : HasHalted (record { script = script; log = log; steps = after.steps }) = subst (λ (r : ReplayState). HasHalted r) after_is (j.halted refl) in
+      let made = all_made (by_log script log.threads) after.steps (lowest_order script log.threads) (opening_state script) (lowest_order_is_lowest script log.threads agree) halted in
+      λ step lt. j.judged step (omega (arith, made))
+
+  pub verified : (verdict : Verdict) → IsJudged before after verdict → IsLawfulOrder script log.threads (lowest_order script log.threads) → IsVerified script log.threads verdict
+  verified verdict judged lawful =
+      let judged' = subst (λ (r : ReplayState). IsJudged r after verdict) opens judged in
+      let told = verdict_is (journals_after script log.threads (lowest_order script log.threads)) (lowest_order script log.threads) verdict (whole_play script log.threads lawful.0) (judged_all verdict lawful.0 judged') in
+      record { lawful = lawful; told = told; one_outcome = λ ordered. one_outcome script log.threads lawful (told.ordered.0 ordered) }

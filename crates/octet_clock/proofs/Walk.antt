@@ -11,8 +11,8 @@ use Rattle.octet_model.specs.Machine.{Journals, journal_of, PlainState, starting
 use Rattle.octet_model.specs.HappensBefore.{event_at, IsEvent}
 use Rattle.octet_model.specs.Past.{DrawsDiffer}
 use Rattle.octet_model.specs.Plays.{operation_of, next_in, by_journals}
-use Rattle.octet_model.proofs.Steps.{count, draws_grow, what_it_makes, other_step, counts_step}
-use Rattle.octet_model.proofs.Fronts.{no_journal}
+use Rattle.octet_model.proofs.lemmas.Steps.{count, draws_grow, what_it_makes, other_step, counts_step}
+use Rattle.octet_model.proofs.lemmas.Fronts.{no_journal}
 use Rattle.octet_clock.specs.Play.{made_by, step_place, IsMadeBefore, IsWholePlay, draws_by, IsStep}
 
 module _ (behavior : Behavior) where

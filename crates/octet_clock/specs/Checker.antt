@@ -16,6 +16,6 @@ pub record Holds (journals : Journals) (play : List ℕ) (index : ℕ) (checker 
   pub accesses : KeepsAccesses journals play index checker.accesses
   pub judged : JudgedUpTo journals play index checker.verdict
 
--- a thread's event was taken in: what held before it holds behind it
+-- a thread's event was taken in: what held before it holds after it
 abbrev pub TakesEvent : Checker → ℕ → Event → Checker → Type 0
 TakesEvent before thread event after = (journals : Journals) (play : List ℕ) (index : ℕ) → IsNextStep journals play index thread event → Holds journals play index before → Holds journals play (suc index) after

@@ -5,7 +5,5 @@ pub mod LastAccesses
 pub mod Past
 pub mod Play
 pub mod Sources
-pub mod Tally
 pub mod Verdict
 pub mod Verified
-pub mod Laws

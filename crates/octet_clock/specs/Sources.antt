@@ -12,11 +12,11 @@ use Rattle.octet_clock.specs.declared.marks.Marks.{Marks}
 use Rattle.octet_clock.specs.declared.sources.Prefix.{Prefix}
 use Rattle.octet_clock.specs.Past.{KeepsMarks}
 use Rattle.octet_clock.specs.Play.{made_by, draws_by, IsWholePlay, IsStep}
-use Rattle.octet_clock.specs.Tally.{HavePlaces}
+use Rattle.octet_replay.specs.Places.{FitInPlaces}
 
 -- the next step of a whole play makes this event
 pub record IsNextStep (journals : Journals) (play : List ℕ) (index thread : ℕ) (event : Event) : Type 0 where
-  pub places : HavePlaces journals
+  pub places : FitInPlaces journals
   pub whole : IsWholePlay journals play
   pub step : IsStep journals play index thread event
 
@@ -58,6 +58,6 @@ draw_of draws (suc place) = slice_get draws place
 
 -- a draw is added, with the events of its thread up to it
 abbrev pub draws_with : List Prefix → Mark → Prefix → List Prefix
-draws_with draws (Draw number) behind = draws ++ behind ∷ []
-draws_with draws (Join from upto) behind = draws
-draws_with draws (Fence number) behind = draws
+draws_with draws (Draw number) upto = draws ++ upto ∷ []
+draws_with draws (Join from number) upto = draws
+draws_with draws (Fence number) upto = draws

@@ -13,8 +13,8 @@ pub record IsEarlierConflict (journals : Journals) (play : List ℕ) (index : �
   pub conflict : Conflict journals place (step_place play index)
 
 -- each of these happens before the event of the step
-abbrev pub IsJoinedUp : Journals → List ℕ → ℕ → Type 0
-IsJoinedUp journals play index = (place : Place) → IsEarlierConflict journals play index place → HappensBefore journals place (step_place play index)
+abbrev pub FollowsConflicts : Journals → List ℕ → ℕ → Type 0
+FollowsConflicts journals play index = (place : Place) → IsEarlierConflict journals play index place → HappensBefore journals place (step_place play index)
 
 -- of the earlier conflicting events that do not happen before that of the step, one of the lowest thread that has such; and that thread's last conflicting event before the step
 pub record IsFirstMissed (journals : Journals) (play : List ℕ) (index : ℕ) (first : Place) : Type 0 where
@@ -29,16 +29,16 @@ pub record IsFirstUnordered (journals : Journals) (play : List ℕ) (first secon
   pub within : index < length play
   pub is_second : step_place play index ≡ second
   pub missed : IsFirstMissed journals play index first
-  pub none_sooner : (sooner : ℕ) → sooner < index → IsJoinedUp journals play sooner
+  pub none_sooner : (sooner : ℕ) → sooner < index → FollowsConflicts journals play sooner
 
 -- what the event of a step misses, if anything
 abbrev pub Misses : Journals → List ℕ → ℕ → Option Place → Type 0
-Misses journals play index None = IsJoinedUp journals play index
+Misses journals play index None = FollowsConflicts journals play index
 Misses journals play index (Some first) = IsFirstMissed journals play index first
 
 -- what so many steps tell
 abbrev pub JudgedUpTo : Journals → List ℕ → ℕ → Verdict → Type 0
-JudgedUpTo journals play index Ordered = (step : ℕ) → step < index → IsJoinedUp journals play step
+JudgedUpTo journals play index Ordered = (step : ℕ) → step < index → FollowsConflicts journals play step
 JudgedUpTo journals play index (Unordered first second) = IsFirstUnordered journals play first second
 
 -- ordered exactly where the journals are; else the pair

@@ -5,7 +5,8 @@ use Rattle.octet_model.specs.declared.log.ThreadLog.{ThreadLog}
 use Rattle.octet_model.specs.Orders.{execution, journals_after, lowest_order, IsLawfulFront, IsLawfulOrder}
 use Rattle.octet_clock.specs.declared.verdict.Verdict.{Verdict}
 use Rattle.octet_clock.specs.declared.verdict.Verdict.TheVariants.{Ordered}
-use Rattle.octet_clock.specs.Verdict.{IsVerdict}
+use Rattle.octet_clock.specs.Verdict.{IsVerdict, JudgedUpTo}
+use Rattle.octet_replay.specs.ReplayState.{ReplayState, HasHalted}
 
 -- all lawful orders have one execution and the same journals, and every lawful front can be continued to a lawful order
 pub record HasOneOutcome (script : Script) (log : List ThreadLog) : Type 0 where
@@ -18,3 +19,10 @@ pub record IsVerified (script : Script) (log : List ThreadLog) (verdict : Verdic
   pub lawful : IsLawfulOrder script log (lowest_order script log)
   pub told : IsVerdict (journals_after script log (lowest_order script log)) (lowest_order script log) verdict
   pub one_outcome : verdict ≡ Ordered → HasOneOutcome script log
+
+-- what the steps of a replayer told, from its first step on: they are in order and no thread may step any more, or the last of them is the second of the pair
+pub record IsJudged (before after : ReplayState) (verdict : Verdict) : Type 0 where
+  pub script : after.script ≡ before.script
+  pub log : after.log ≡ before.log
+  pub halted : verdict ≡ Ordered → HasHalted after
+  pub judged : JudgedUpTo (journals_after before.script before.log.threads (lowest_order before.script before.log.threads)) (lowest_order before.script before.log.threads) after.steps verdict

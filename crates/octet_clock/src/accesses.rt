@@ -46,14 +46,13 @@ impl LastAccesses {
         Ok(())
     }
 
-    // Notes an access by a thread that has made so many events with it.
+    // Notes an access by a thread that has made `count` events with it.
     fn note(&mut self, object: u16, thread: usize, count: u32) -> Result<(), OutOfMemory>
         requires { thread < THREADS }
         ensures { OnOk result (IsNoted self.old.clocks.items object thread count self.new.clocks.items) }
     {
         self.cover(object)?;
-        let clock = self.clocks[object as usize];
-        self.clocks[object as usize] = clock.raised(thread, count);
+        self.clocks[object as usize].raise(thread, count);
         Ok(())
     }
 }
@@ -88,8 +87,8 @@ impl Accesses {
         write.max(self.reads.count(object, thread))
     }
 
-    /// Among so many threads, the last clashing access by the lowest thread whose last one the
-    /// clock behind an access does not know.
+    /// Among the first `threads` threads, the last clashing access by the lowest thread whose last one the
+    /// clock after an access does not know.
     pub(crate) fn missed(
         &self,
         threads: usize,
@@ -113,7 +112,7 @@ impl Accesses {
         None
     }
 
-    /// Notes an access by a thread that has made so many events with it.
+    /// Notes an access by a thread that has made `count` events with it.
     pub(crate) fn note(
         &mut self,
         object: u16,

@@ -4,21 +4,19 @@ ghost use Rattle.octet_model.specs.declared.event.Event.{Event};
 ghost use Rattle.octet_model.specs.declared.event.Event.TheVariants.{Marked};
 ghost use Rattle.octet_model.specs.Machine.{Journals};
 ghost use Rattle.octet_model.specs.HappensBefore.{object_of, is_write};
-ghost use Rattle.octet_model.specs.Plays.{lowest_play};
 ghost use Rattle.octet_clock.specs.Checker.{Holds, TakesEvent};
 ghost use Rattle.octet_clock.specs.Clock.{count_in};
-ghost use Rattle.octet_clock.specs.Play.{IsWholePlay};
 ghost use Rattle.octet_clock.specs.Sources.{IsNextStep};
-ghost use Rattle.octet_clock.specs.Tally.{HavePlaces};
-ghost use Rattle.octet_clock.specs.Verdict.{IsVerdict, JudgedUpTo, Misses};
+ghost use Rattle.octet_clock.specs.Verdict.{JudgedUpTo, Misses};
+ghost use Rattle.octet_clock.specs.Verified.{IsJudged};
 
 use crate::accesses::Accesses;
 use crate::clock::{Clock, THREADS};
 use crate::marks::Marks;
-use crate::sources::{Prefix, clock_after, clock_behind, note_draw};
-use crate::tally::lowest_play;
+use crate::sources::{Prefix, clock_after, clock_past_mark, note_draw};
 use crate::verdict::Verdict;
-use octet_model::{Event, List, Mark, OutOfMemory, Place};
+use octet_model::{Event, Mark, OutOfMemory, Place};
+use octet_replay::{Replayer, Stepped};
 use std::alloc::Global;
 
 /// What is known of the events so far.
@@ -60,7 +58,7 @@ impl Checker {
             .missed(self.marks.len(), thread, object, writing, &known)
     }
 
-    // The verdict behind a thread's access.
+    // The verdict with a thread's access.
     fn judged(&self, thread: usize, object: u16, writing: bool) -> Verdict
         requires threads { length self.now.marks.items ≤ THREADS }
         requires thread { thread < length self.now.marks.items }
@@ -91,7 +89,7 @@ impl Checker {
         let count = self.made.count(thread) + 1;
         self.verdict = self.judged(thread, object, writing);
         self.accesses.note(object, writing, thread, count)?;
-        self.made = self.made.raised(thread, count);
+        self.made.raise(thread, count);
         Ok(())
     }
 
@@ -103,14 +101,14 @@ impl Checker {
         ensures taken { OnOk result (TakesEvent self.old thread (Marked mark) self.new) }
     {
         let count = self.made.count(thread);
-        let clock = clock_behind(&self.marks, &self.draws, thread, count, mark);
-        self.marks[thread].push(count, clock)?;
-        let behind = Prefix {
+        let clock = clock_past_mark(&self.marks, &self.draws, thread, count, mark);
+        self.marks[thread].keep(thread, count, clock)?;
+        let upto = Prefix {
             thread: thread as u8,
             count: count + 1,
         };
-        note_draw(&mut self.draws, mark, behind)?;
-        self.made = self.made.raised(thread, count + 1);
+        note_draw(&mut self.draws, mark, upto)?;
+        self.made.raise(thread, count + 1);
         Ok(())
     }
 
@@ -130,27 +128,27 @@ impl Checker {
     }
 }
 
-/// Whether journals are ordered: of every two conflicting accesses one happens before the other.
-/// If they are not, the first access in their lowest play that misses an earlier one, and the
-/// one that it misses.
+/// Judges the events of a replay one by one, from its first step on, up to the first access that
+/// misses an earlier conflicting one.
 ///
 /// Behind each mark its thread's vector clock is kept, since a `Join` of a thread's first events
-/// takes in what the thread knew behind these, and not what it knows by now.
-pub fn check(alloc: Global, journals: &List<List<Event>>) -> Result<Verdict, OutOfMemory>
-    requires places { HavePlaces journals.now }
-    requires whole { IsWholePlay journals.now (lowest_play [] journals.now) }
-    ensures { IfOk result (λ verdict. IsVerdict journals.now (lowest_play [] journals.now) verdict) }
+/// takes in what the thread knew when it had made these, and not what it knows by now.
+pub(crate) fn judge(
+    alloc: Global,
+    replayer: &mut Replayer,
+    threads: usize,
+) -> Result<Verdict, OutOfMemory>
+    requires threads { threads ≡ length replayer.old.log.threads }
+    requires agree { length replayer.old.script.threads ≡ length replayer.old.log.threads }
+    requires begins { replayer.old.steps ≡ 0 }
+    ensures { IfOk result (IsJudged replayer.old replayer.new) }
 {
-    let threads = journals.as_slice();
-    let play = lowest_play(alloc, threads)?;
-    let mut checker = Checker::new(alloc, threads.len())?;
-    for step in &play {
-        let thread = *step as usize;
-        let made = checker.made.count(thread) as usize;
-        let Some(event) = threads[thread].get(made) else {
-            unreachable!()
-        };
-        checker.take_in(thread, *event)?;
+    let mut checker = Checker::new(alloc, threads)?;
+    while let Stepped::Made { thread, event } = replayer.step() {
+        checker.take_in(thread as usize, event)?;
+        if let Verdict::Unordered { .. } = checker.verdict {
+            return Ok(checker.verdict);
+        }
     }
     Ok(checker.verdict)
 }

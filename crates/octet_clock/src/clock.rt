@@ -1,5 +1,5 @@
 //! Vector clocks.
-ghost use Rattle.std.specs.Prelude.{◌≡◌, ◌<◌, ℕ};
+ghost use Rattle.std.specs.Prelude.{◌≡◌, ◌≢◌, ◌<◌, ◌≤◌, false, ℕ};
 ghost use Rattle.octet_clock.specs.Clock.{count_in, IsRaised, IsJoined};
 
 /// How many threads a log has at most.
@@ -32,23 +32,35 @@ impl Clock {
         }
     }
 
-    /// The clock that knows at least so many events of one thread.
-    pub(crate) fn raised(mut self, thread: usize, count: u32) -> Clock
+    /// Takes in a thread's first `count` events.
+    pub(crate) fn raise(&mut self, thread: usize, count: u32)
         requires { thread < THREADS }
-        ensures { IsRaised self thread count result }
+        ensures { IsRaised self.old thread count self.new }
     {
         let known = self.counts[thread];
         self.counts[thread] = known.max(count);
-        self
     }
 
-    /// The clock that knows what either knows.
-    pub(crate) fn joined(mut self, other: &Clock) -> Clock
-        ensures { IsJoined self other.now result }
+    /// Takes in what another clock knows.
+    pub(crate) fn join(&mut self, other: &Clock)
+        ensures { IsJoined self.old other.now self.new }
     {
         for thread in 0..THREADS {
-            self = self.raised(thread, other.counts[thread]);
+            self.raise(thread, other.counts[thread]);
         }
-        self
+    }
+
+    /// Whether it knows more than `own` events of its thread, or more of another thread than the
+    /// clock before it.
+    pub(crate) fn adds_to(&self, before: &Clock, thread: usize, own: u32) -> bool
+        ensures others { result ≡ false → (other : ℕ) → other ≢ thread → count_in self.now other ≤ count_in before.now other }
+        ensures own { result ≡ false → count_in self.now thread ≤ own }
+    {
+        for other in 0..THREADS {
+            if other != thread && self.counts[other] > before.counts[other] {
+                return true;
+            }
+        }
+        self.count(thread) > own
     }
 }

@@ -5,15 +5,12 @@
 mod accesses;
 mod checker;
 mod clock;
-pub mod laws;
 mod marks;
 mod sources;
-mod tally;
 #[cfg(test)]
 mod tests;
 mod verdict;
 mod verified;
 
-pub use checker::check;
 pub use verdict::Verdict;
 pub use verified::verify;

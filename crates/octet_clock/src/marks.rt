@@ -1,5 +1,6 @@
 //! The marks that a thread has made, each with its clock.
-ghost use Rattle.std.specs.Prelude.{◌≡◌, ◌<◌, ◌≤◌, ◌++◌, ◌∷◌, [], ℕ, List, length, OnOk};
+ghost use Rattle.std.specs.Prelude.{◌≡◌, ◌<◌, ◌≤◌, ◌+◌, ◌^◌, [], ℕ, suc, true, false, nat_lt, List, length, OnOk};
+ghost use Rattle.std.specs.List.Sorted.{IsNonDecreasingBy, IsPartitionPoint};
 ghost use Rattle.octet_model.specs.declared.event.Event.{Event};
 ghost use Rattle.octet_model.specs.Machine.{journal_of};
 ghost use Rattle.octet_clock.specs.Past.{IsPastOf, KeepsMarks};
@@ -8,18 +9,18 @@ use crate::clock::{Clock, THREADS};
 use octet_model::OutOfMemory;
 use std::alloc::Global;
 
-/// A mark's place in its thread's journal, and the clock behind it.
+/// A mark's place in its thread's journal, and the clock after it.
 #[derive(Clone, Copy, Debug, PartialEq, Eq)]
-pub(crate) struct Kept {
+pub(crate) struct MarkClock {
     event: u32,
     clock: Clock,
 }
 
 /// The marks that a thread has made. What a thread knows of others changes at its marks alone,
-/// so they give its clock behind any of its events.
+/// so they give its clock after any of its events.
 #[derive(Debug, Drop)]
 pub(crate) struct Marks {
-    kept: Vec<Kept>,
+    kept: Vec<MarkClock>,
 }
 
 impl Marks {
@@ -31,24 +32,48 @@ impl Marks {
         }
     }
 
-    /// The clock of the thread's first so many events.
+    // How many of the kept marks are among the thread's first `upto` events.
+    fn kept_before(&self, upto: u32) -> usize
+        ensures within { result ≤ length self.now.kept.items }
+        ensures point { IsNonDecreasingBy (λ one. one.event) self.now.kept.items → IsPartitionPoint (λ one. nat_lt one.event upto ≡ true) (λ one. nat_lt one.event upto ≡ false) self.now.kept.items result }
+    {
+        match self.kept.last() {
+            Some(last) if last.event < upto => self.kept.len(),
+            _ => self.kept.partition_point(|one| one.event < upto),
+        }
+    }
+
+    /// The clock of the thread's first `upto` events.
     pub(crate) fn clock_after(&self, thread: usize, upto: u32) -> Clock
         requires { thread < THREADS }
         ensures { (journals : List (List Event)) (now : ℕ) → KeepsMarks journals thread now self.now.kept.items → upto ≤ now → now ≤ length (journal_of journals thread) → IsPastOf journals thread upto result }
     {
-        let earlier = self.kept.partition_point(|one| one.event < upto);
-        let known = if earlier == 0 {
+        let earlier = self.kept_before(upto);
+        let mut known = if earlier == 0 {
             Clock::new()
         } else {
             self.kept[earlier - 1].clock
         };
-        known.raised(thread, upto)
+        known.raise(thread, upto);
+        known
     }
 
-    pub(crate) fn push(&mut self, event: u32, clock: Clock) -> Result<(), OutOfMemory>
-        ensures { OnOk result (self.new.kept.items ≡ self.old.kept.items ++ record { event = event; clock = clock } ∷ []) }
+    /// Keeps a mark with the clock after it, unless that knows no more of the other threads than
+    /// the thread did.
+    pub(crate) fn keep(
+        &mut self,
+        thread: usize,
+        event: u32,
+        clock: Clock,
+    ) -> Result<(), OutOfMemory>
+        requires thread { thread < THREADS }
+        requires room { event + 1 < 2 ^ 32 }
+        ensures { OnOk result ((journals : List (List Event)) → event ≤ length (journal_of journals thread) → IsPastOf journals thread (suc event) clock → KeepsMarks journals thread event self.old.kept.items → KeepsMarks journals thread (suc event) self.new.kept.items) }
     {
-        self.kept.push(Kept { event, clock })?;
+        let known = self.clock_after(thread, event);
+        if clock.adds_to(&known, thread, event + 1) {
+            self.kept.push(MarkClock { event, clock })?;
+        }
         Ok(())
     }
 }

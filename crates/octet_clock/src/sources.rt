@@ -10,7 +10,7 @@ use crate::clock::{Clock, THREADS};
 use crate::marks::Marks;
 use octet_model::{Mark, OutOfMemory};
 
-/// The first events of a thread, so many.
+/// A thread, and how many of its first events are meant.
 #[derive(Clone, Copy, Debug, PartialEq, Eq)]
 pub(crate) struct Prefix {
     pub(crate) thread: u8,
@@ -28,7 +28,7 @@ fn draw_of(draws: &[Prefix], number: u64) -> Option<Prefix>
 }
 
 // Whose past a mark takes in: of a Join the events that it names; of a Draw the draw before it,
-// and of a Fence the draw of its number, since behind each draw lie all earlier ones.
+// and of a Fence the draw of its number, since all earlier ones lie in its past.
 fn source_of(draws: &[Prefix], mark: Mark) -> Option<Prefix>
     ensures { (journals : List (List Event)) (play : List ℕ) (index thread : ℕ) → IsNextStep journals play index thread (Marked mark) → KeepsDraws journals play index draws.now → TakesIn journals play index thread result }
 {
@@ -57,8 +57,8 @@ pub(crate) fn clock_after(marks: &[Marks], thread: usize, count: u32) -> Clock
     }
 }
 
-/// The clock behind a mark that a thread makes after so many events.
-pub(crate) fn clock_behind(
+/// The clock after a mark that a thread makes after `count` events.
+pub(crate) fn clock_past_mark(
     marks: &[Marks],
     draws: &[Prefix],
     thread: usize,
@@ -70,24 +70,27 @@ pub(crate) fn clock_behind(
     requires room { count + 1 < 2 ^ 32 }
     ensures { (journals : List (List Event)) (play : List ℕ) (index : ℕ) → IsNextStep journals play index thread (Marked mark) → KeepsDraws journals play index draws.now → KeepsAllMarks journals play index marks.now → count ≡ made_by play index thread → IsPastOf journals thread (suc count) result }
 {
-    let own = clock_after(marks, thread, count);
+    let mut own = clock_after(marks, thread, count);
     let Some(first) = source_of(draws, mark) else {
-        return own.raised(thread, count + 1);
+        own.raise(thread, count + 1);
+        return own;
     };
     let taken = clock_after(marks, first.thread as usize, first.count);
-    own.joined(&taken).raised(thread, count + 1)
+    own.join(&taken);
+    own.raise(thread, count + 1);
+    own
 }
 
 /// Notes a draw, with the events of its thread up to it.
 pub(crate) fn note_draw(
     draws: &mut Vec<Prefix>,
     mark: Mark,
-    behind: Prefix,
+    upto: Prefix,
 ) -> Result<(), OutOfMemory>
-    ensures { OnOk result (draws.new.items ≡ draws_with draws.old.items mark behind) }
+    ensures { OnOk result (draws.new.items ≡ draws_with draws.old.items mark upto) }
 {
     if let Mark::Draw { .. } = mark {
-        draws.push(behind)?;
+        draws.push(upto)?;
     }
     Ok(())
 }

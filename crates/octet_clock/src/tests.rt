@@ -109,8 +109,8 @@ fn unordered(first: u8, first_event: u32, second: u8, second_event: u32) -> Verd
 fn two_threads_are_judged(rt: HostRuntime) -> Result<(), Fail> {
     let alloc = rt.alloc();
     let script = two_threads(alloc, &[WRITE_X], &[READ_X])?;
-    let behind_the_write = after(0, Mark::Join { from: 0, upto: 1 });
-    let log = log_of_two(alloc, 1, NO_MARKS, 1, &[behind_the_write])?;
+    let after_the_write = after(0, Mark::Join { from: 0, upto: 1 });
+    let log = log_of_two(alloc, 1, NO_MARKS, 1, &[after_the_write])?;
     assert_eq!(rt; verify(alloc, &script, &log)?, Verdict::Ordered);
     let log = log_of_two(alloc, 1, NO_MARKS, 1, NO_MARKS)?;
     assert_eq!(rt; verify(alloc, &script, &log)?, unordered(0, 0, 1, 0));
@@ -125,12 +125,12 @@ fn two_threads_are_judged(rt: HostRuntime) -> Result<(), Fail> {
 fn crossed_claims_are_ordered(rt: HostRuntime) -> Result<(), Fail> {
     let alloc = rt.alloc();
     let script = two_threads(alloc, &[WRITE_Y], &[WRITE_Y, WRITE_X])?;
-    let behind_y = after(0, Mark::Join { from: 1, upto: 2 });
+    let after_y = after(0, Mark::Join { from: 1, upto: 2 });
     let marks = [
         after(0, Mark::Join { from: 0, upto: 0 }),
         after(1, Mark::Join { from: 0, upto: 0 }),
     ];
-    let log = log_of_two(alloc, 1, &[behind_y], 2, &marks)?;
+    let log = log_of_two(alloc, 1, &[after_y], 2, &marks)?;
     assert_eq!(rt; verify(alloc, &script, &log)?, Verdict::Ordered);
     Ok(())
 }
@@ -167,12 +167,12 @@ fn log_of_three(alloc: Global, second: &[Gapped], third: &[Gapped]) -> Result<Lo
 fn join_takes_in_no_later_events(rt: HostRuntime) -> Result<(), Fail> {
     let alloc = rt.alloc();
     let script = three_threads(alloc)?;
-    let behind_the_write = after(1, Mark::Join { from: 0, upto: 1 });
-    let behind_one = after(0, Mark::Join { from: 1, upto: 1 });
-    let log = log_of_three(alloc, &[behind_the_write], &[behind_one])?;
+    let after_the_write = after(1, Mark::Join { from: 0, upto: 1 });
+    let after_one = after(0, Mark::Join { from: 1, upto: 1 });
+    let log = log_of_three(alloc, &[after_the_write], &[after_one])?;
     assert_eq!(rt; verify(alloc, &script, &log)?, unordered(0, 0, 2, 1));
-    let behind_two = after(0, Mark::Join { from: 1, upto: 2 });
-    let log = log_of_three(alloc, &[behind_the_write], &[behind_two])?;
+    let after_two = after(0, Mark::Join { from: 1, upto: 2 });
+    let log = log_of_three(alloc, &[after_the_write], &[after_two])?;
     assert_eq!(rt; verify(alloc, &script, &log)?, Verdict::Ordered);
     Ok(())
 }

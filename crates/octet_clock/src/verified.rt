@@ -3,10 +3,10 @@ ghost use Rattle.std.specs.Prelude.{IfOk, IfErr};
 ghost use Rattle.octet_replay.specs.Judged.{HasCause};
 ghost use Rattle.octet_clock.specs.Verified.{IsVerified};
 
-use crate::checker::check;
+use crate::checker::judge;
 use crate::verdict::Verdict;
 use octet_model::{Log, Script};
-use octet_replay::{ReplayFault, journals};
+use octet_replay::{ReplayFault, Replayer};
 use std::alloc::Global;
 
 /// Checks that a log orders all conflicts: that in the journals of its lowest order, of every two
@@ -17,6 +17,9 @@ pub fn verify(alloc: Global, script: &Script, log: &Log) -> Result<Verdict, Repl
     ensures verdict { IfOk result (IsVerified script.now log.now.threads) }
     ensures refused { IfErr result (HasCause script.now log.now.threads) }
 {
-    let journals = journals(alloc, script, log)?;
-    Ok(check(alloc, &journals)?)
+    let mut replayer = Replayer::new(alloc, script, log)?;
+    let verdict = judge(alloc, &mut replayer, log.threads.len())?;
+    replayer.run();
+    replayer.end(alloc)?;
+    Ok(verdict)
 }

@@ -7,12 +7,12 @@ use Rattle.octet_model.specs.declared.event.Event.{Event}
 use Rattle.octet_model.specs.declared.event.Mark.{Mark}
 use Rattle.octet_model.specs.declared.script.Script.{Script}
 use Rattle.octet_model.specs.declared.log.ThreadLog.{ThreadLog}
-use Rattle.octet_model.specs.Thread.{Demand, ToRead, ToWrite, ToEnd}
-use Rattle.octet_model.specs.Machine.{Next, Wants, Finished, Misfit as Unfit, next_of}
+use Rattle.octet_model.specs.Thread.{AccessOrEnd, ToRead, ToWrite, ToEnd}
+use Rattle.octet_model.specs.Machine.{Next, Wants, Finished, NothingFits, next_of}
 use Rattle.octet_model.specs.Journals.{access_count, mark_count, next_access, mark_first}
 use Rattle.octet_model.specs.Orders.{thread_log_of, by_log, opening_state, lowest_order}
-use Rattle.octet_model.proofs.Logged.{as_many_after}
-use Rattle.octet_model.proofs.Lowest.{lowest_order_is_lowest, lowest_is_front, lowest_order_is_lawful}
+use Rattle.octet_model.proofs.lemmas.LogsOfJournals.{as_many_after}
+use Rattle.octet_model.proofs.lemmas.LowestFronts.{lowest_order_is_lowest, lowest_is_front, lowest_order_is_lawful}
 use Rattle.octet_replay.specs.declared.fault.ReplayFault.{ReplayFault}
 use Rattle.octet_replay.specs.declared.fault.ReplayFault.TheVariants.{ThreadsDiffer, Stuck, Misfit, OutOfMemory}
 use Rattle.octet_replay.specs.Judged.{IsLawful, last_state, last_journal, last_demand, DemandsEnd, DemandsAccess, Finds, FindsOf, IsMisfitThread, IsThrough, IsMisfit, HasCause}
@@ -28,13 +28,13 @@ as_many_last script log =
     as_many_after (by_log script log) (lowest_order script log) (opening_state script) ∙ length-map script.threads (λ (c : List Command). [])
 
 -- no thread both ends early and goes on
-end_or_access : (d : Demand) → DemandsEnd d → DemandsAccess d → ⊥
+end_or_access : (d : AccessOrEnd) → DemandsEnd d → DemandsAccess d → ⊥
 end_or_access (ToRead object) ends access = ends
 end_or_access (ToWrite object value) ends access = ends
 end_or_access (ToEnd end) ends access = access
 
 -- a thread that is through is at its end, and no access of its log is left
-through_parts : (due : Option Mark) (d : Demand) (a m : Bool) → mark_first due (next_access d a m) ≡ Finished → DemandsEnd d × (a ≡ false)
+through_parts : (due : Option Mark) (d : AccessOrEnd) (a m : Bool) → mark_first due (next_access d a m) ≡ Finished → DemandsEnd d × (a ≡ false)
 through_parts (Some mark) d a m is = absurd cc
 through_parts None (ToRead object) true m is = absurd cc
 through_parts None (ToRead object) false m is = absurd cc
@@ -62,7 +62,7 @@ not_refused script log (Misfit thread wanted found) lawful not_memory cause =
     through_fits script log thread (lawful.1.1 thread (omega (arith, as_many_last script log, lawful.0, cause.within))) (found, cause.finds)
 not_refused script log OutOfMemory lawful not_memory cause = not_memory refl
 
-one_found : (d : Demand) (log : ThreadLog) (j : List Event) (found other : ℕ) → Finds d log j found → Finds d log j other → found ≡ other
+one_found : (d : AccessOrEnd) (log : ThreadLog) (j : List Event) (found other : ℕ) → Finds d log j found → Finds d log j other → found ≡ other
 one_found d log j found other (inl p) (inl q) = p.1 ∙ sym q.1
 one_found d log j found other (inl p) (inr q) = absurd (end_or_access d p.0.ends q.0.demands)
 one_found d log j found other (inr p) (inl q) = absurd (end_or_access d q.0.ends p.0.demands)
@@ -118,7 +118,7 @@ first_or_none P decide (suc n) =
       ]
     ]
 
-goes_on_or_not : (d : Demand) (log : ThreadLog) (j : List Event) → DemandsAccess d → ((found : ℕ) × Finds d log j found) ⊎ ¬ ((found : ℕ) × Finds d log j found)
+goes_on_or_not : (d : AccessOrEnd) (log : ThreadLog) (j : List Event) → DemandsAccess d → ((found : ℕ) × Finds d log j found) ⊎ ¬ ((found : ℕ) × Finds d log j found)
 goes_on_or_not d log j access =
     elim (cases_eq (access_count j) log.accesses) [
       | inr differ ↦ inr (λ misfit. elim misfit.1 [ inl early ↦ end_or_access d early.0.ends access | inr on ↦ differ on.0.made ])
@@ -128,7 +128,7 @@ goes_on_or_not d log j access =
       ]
     ]
 
-misfit_or_not : (d : Demand) (log : ThreadLog) (j : List Event) → ((found : ℕ) × Finds d log j found) ⊎ ¬ ((found : ℕ) × Finds d log j found)
+misfit_or_not : (d : AccessOrEnd) (log : ThreadLog) (j : List Event) → ((found : ℕ) × Finds d log j found) ⊎ ¬ ((found : ℕ) × Finds d log j found)
 misfit_or_not (ToRead object) log j = goes_on_or_not (ToRead object) log j tt
 misfit_or_not (ToWrite object value) log j = goes_on_or_not (ToWrite object value) log j tt
 misfit_or_not (ToEnd end) log j =
@@ -139,7 +139,7 @@ misfit_or_not (ToEnd end) log j =
 
 finished_or_not : (next : Next) → (next ≡ Finished) ⊎ ¬ (next ≡ Finished)
 finished_or_not Finished = inl refl
-finished_or_not Unfit = inr (λ is. absurd cc)
+finished_or_not NothingFits = inr (λ is. absurd cc)
 finished_or_not (Wants operation) = inr (λ is. absurd cc)
 
 waits_or_through : (next : Next) → (¬ (next ≡ Finished)) ⊎ ¬ (¬ (next ≡ Finished))

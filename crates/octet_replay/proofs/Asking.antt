@@ -5,45 +5,45 @@ use Rattle.octet_model.specs.declared.outcome.End.{End}
 use Rattle.octet_model.specs.Thread.{Configuration, settled}
 use Rattle.octet_interp.specs.declared.demand.Demand.{Demand}
 use Rattle.octet_interp.specs.declared.demand.Demand.TheVariants.{Read, Write, Safe, Pause, Ended}
-use Rattle.octet_interp.specs.Told.{Standing, told, after_told, is_read}
+use Rattle.octet_interp.specs.Demands.{ThreadState, next_demand, after_demand, is_read}
 use Rattle.octet_interp.specs.Laws.{Agrees}
 use Rattle.octet_interp.proofs.Agreement.{agrees, follows}
-use Rattle.octet_replay.specs.declared.thread.Coming.TheVariants.{Read as ReadComing, Write as WriteComing, Ended as EndComing}
-use Rattle.octet_replay.specs.Coming.{IsComing}
+use Rattle.octet_replay.specs.declared.thread.NextDemand.TheVariants.{Read as ReadNext, Write as WriteNext, Ended as EndNext}
+use Rattle.octet_replay.specs.NextDemand.{IsDemandedNext}
 
--- the thread settles as the configuration does, and was told this
-pub record Asked (commands : List Command) (c : Configuration) (s : Standing) (demand : Demand) (after : Standing) : Type 0 where
+-- the thread settles as the configuration does, and was next_demand this
+pub record Asked (commands : List Command) (c : Configuration) (s : ThreadState) (demand : Demand) (after : ThreadState) : Type 0 where
   pub runs : s.commands ≡ commands
   pub settles : settled commands s.at ≡ settled commands c
-  pub tells : demand ≡ told s
-  pub stands : after ≡ after_told s
+  pub tells : demand ≡ next_demand s
+  pub stands : after ≡ after_demand s
 
-module _ (commands : List Command) (c : Configuration) (s after : Standing) where
+module _ (commands : List Command) (c : Configuration) (s after : ThreadState) where
   agrees_here : (demand : Demand) → Asked commands c s demand after → Agrees demand (record s { commands = commands }) after
   agrees_here demand a =
-      let at_told : Agrees (told s) s after = subst (λ (x : Standing). Agrees (told s) s x) (sym a.stands) (agrees s) in
+      let at_told : Agrees (next_demand s) s after = subst (λ (x : ThreadState). Agrees (next_demand s) s x) (sym a.stands) (agrees s) in
       let at_demand : Agrees demand s after = subst (λ (d : Demand). Agrees d s after) (sym a.tells) at_told in
       subst (λ (x : List Command). Agrees demand (record s { commands = x }) after) a.runs at_demand
 
-  pub asked_read : (object : ℕ) → Asked commands c s (Read object) after → IsComing commands c (ReadComing object) after
+  pub asked_read : (object : ℕ) → Asked commands c s (Read object) after → IsDemandedNext commands c (ReadNext object) after
   asked_read object a =
       let here = agrees_here (Read object) a in
       let on = follows commands s.at c a.settles in
       record {
         demands = sym on.0 ∙ here.0;
-        stands = (ap (λ (x : Standing). x.waits) a.stands ∙ ap is_read (sym a.tells), λ value. here.1 value ∙ on.1 value);
+        stands = (ap (λ (x : ThreadState). x.waits) a.stands ∙ ap is_read (sym a.tells), λ value. here.1 value ∙ on.1 value);
       }
 
-  pub asked_write : (object value : ℕ) → Asked commands c s (Write object value) after → IsComing commands c (WriteComing object value) after
+  pub asked_write : (object value : ℕ) → Asked commands c s (Write object value) after → IsDemandedNext commands c (WriteNext object value) after
   asked_write object value a =
       let here = agrees_here (Write object value) a in
       let on = follows commands s.at c a.settles in
       record {
         demands = sym on.0 ∙ here.0;
-        stands = (ap (λ (x : Standing). x.waits) a.stands ∙ ap is_read (sym a.tells), λ any. here.1 any ∙ on.1 any);
+        stands = (ap (λ (x : ThreadState). x.waits) a.stands ∙ ap is_read (sym a.tells), λ any. here.1 any ∙ on.1 any);
       }
 
-  pub asked_end : (end : End) → Asked commands c s (Ended end) after → IsComing commands c (EndComing end) after
+  pub asked_end : (end : End) → Asked commands c s (Ended end) after → IsDemandedNext commands c (EndNext end) after
   asked_end end a =
       let here = agrees_here (Ended end) a in
       let on = follows commands s.at c a.settles in
@@ -53,7 +53,7 @@ module _ (commands : List Command) (c : Configuration) (s after : Standing) wher
   pub asked_on : (demand : Demand) → (demand ≡ Safe) ⊎ (demand ≡ Pause) → Asked commands c s demand after → (after.waits ≡ false) × (settled commands after.at ≡ settled commands c)
   asked_on demand (inl is) a =
       let at_safe = subst (λ (d : Demand). Asked commands c s d after) is a in
-      (ap (λ (x : Standing). x.waits) a.stands ∙ ap is_read (sym at_safe.tells), agrees_here Safe at_safe ∙ a.settles)
+      (ap (λ (x : ThreadState). x.waits) a.stands ∙ ap is_read (sym at_safe.tells), agrees_here Safe at_safe ∙ a.settles)
   asked_on demand (inr is) a =
       let at_pause = subst (λ (d : Demand). Asked commands c s d after) is a in
-      (ap (λ (x : Standing). x.waits) a.stands ∙ ap is_read (sym at_pause.tells), agrees_here Pause at_pause ∙ a.settles)
+      (ap (λ (x : ThreadState). x.waits) a.stands ∙ ap is_read (sym at_pause.tells), agrees_here Pause at_pause ∙ a.settles)

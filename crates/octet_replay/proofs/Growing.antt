@@ -1,5 +1,5 @@
 -- One thread that makes one event more.
-use Rattle.std.proofs.Common.{◌≡◌, ℕ, suc, ◌+◌, ◌^◌, ◌<◌, ◌≤◌, Bool, true, false, nat_lt, List, [], ◌∷◌, length, Option, Some, None, slice_get, slice_index, refl, sym, ap, ◌∙◌, subst, arith}
+use Rattle.std.proofs.Common.{◌≡◌, ℕ, suc, ◌+◌, ◌^◌, ◌<◌, ◌≤◌, Bool, true, false, nat_lt, List, [], ◌∷◌, ◌++◌, length, Option, Some, None, slice_get, slice_index, refl, sym, ap, ◌∙◌, subst, arith}
 use Rattle.std.proofs.lemmas.Bool.{ltb-true}
 use Rattle.std.proofs.lemmas.Option.{same_Some, slice_get_within}
 use Rattle.octet_model.specs.declared.command.Command.{Command}
@@ -8,52 +8,54 @@ use Rattle.octet_model.specs.declared.event.Event.{Event}
 use Rattle.octet_model.specs.declared.event.Event.TheVariants.{Read, Write, Marked}
 use Rattle.octet_model.specs.declared.log.Gapped.{Gapped}
 use Rattle.octet_model.specs.declared.log.ThreadLog.{ThreadLog}
-use Rattle.octet_model.specs.Thread.{Configuration, Demand, configuration_after}
+use Rattle.octet_model.specs.Thread.{Configuration, AccessOrEnd, configuration_after}
 use Rattle.octet_model.specs.Machine.{Operation, MakeMark, MakeRead, MakeWrite, event_made}
 use Rattle.octet_model.specs.Journals.{access_count, mark_count, gap_after, due_mark, next_access, mark_first, next_by_log}
+use Rattle.std.specs.Vec.{vec_len, vec_capacity}
+use Rattle.octet_model.specs.Orders.{values_read}
 use Rattle.octet_model.specs.Plays.{operation_of}
-use Rattle.octet_model.proofs.Splits.{accesses_split, marks_split, gap_split, configuration_split}
-use Rattle.octet_interp.specs.Told.{Standing, given}
-use Rattle.octet_replay.specs.declared.thread.Coming.{Coming}
-use Rattle.octet_replay.specs.declared.thread.Coming.TheVariants.{Read as ReadComing, Write as WriteComing, Ended as EndComing}
+use Rattle.octet_model.proofs.lemmas.Splits.{accesses_split, marks_split, values_split, gap_split, configuration_split}
+use Rattle.octet_interp.specs.Demands.{ThreadState, given}
+use Rattle.octet_replay.specs.declared.thread.NextDemand.{NextDemand}
+use Rattle.octet_replay.specs.declared.thread.NextDemand.TheVariants.{Read as ReadNext, Write as WriteNext, Ended as EndNext}
 use Rattle.octet_replay.specs.declared.thread.ThreadReplay.{ThreadReplay}
-use Rattle.octet_replay.specs.Coming.{demand_of, StandsBefore, IsComing, NamesObject}
-use Rattle.octet_replay.specs.Threads.{next_by_counts, next_event, ComesPast, Grown, HasRoomFor, IsReplayOf, StandsFor, WritesWithin}
+use Rattle.octet_replay.specs.NextDemand.{demand_of, IsBeforeDemand, IsDemandedNext, NamesObject}
+use Rattle.octet_replay.specs.Threads.{next_by_counts, next_event, IsPastEvent, Grown, HasRoomFor, IsReplayOf, StandsFor, WritesWithin}
 
--- the event comes of what is coming
-abbrev ComesOf : Event → Coming → Type 0
-ComesOf (Read object value) coming = coming ≡ ReadComing object
-ComesOf (Write object value) coming = coming ≡ WriteComing object value
-ComesOf (Marked mark) coming = Unit {0}
+-- the event comes of what it demands next
+abbrev pub ComesOf : Event → NextDemand → Type 0
+ComesOf (Read object value) up_next = up_next ≡ ReadNext object
+ComesOf (Write object value) up_next = up_next ≡ WriteNext object value
+ComesOf (Marked mark) up_next = Unit {0}
 
 -- what the log has left for the event
-abbrev HasLeft : Event → Option Mark → Bool → Type 0
+abbrev pub HasLeft : Event → Option Mark → Bool → Type 0
 HasLeft (Marked mark) due left = due ≡ Some mark
 HasLeft _ due left = left ≡ true
 
-record Came (event : Event) (due : Option Mark) (coming : Coming) (left : Bool) : Type 0 where
-  comes : ComesOf event coming
-  has : HasLeft event due left
+pub record Came (event : Event) (due : Option Mark) (up_next : NextDemand) (left : Bool) : Type 0 where
+  pub comes : ComesOf event up_next
+  pub has : HasLeft event due left
 
-came : (due : Option Mark) (coming : Coming) (left marks : Bool) (heap : List ℕ) (event : Event)
-    → next_event (mark_first due (next_access (demand_of coming) left marks)) heap ≡ Some event → Came event due coming left
-came (Some mark) coming left marks heap event is =
-    subst (λ (e : Event). Came e (Some mark) coming left) (same_Some (Marked mark) event is) (record { comes = tt; has = refl })
-came None (ReadComing object) true marks heap event is =
-    subst (λ (e : Event). Came e None (ReadComing object) true) (same_Some (Read object (slice_index heap object)) event is) (record { comes = refl; has = refl })
-came None (ReadComing object) false marks heap event is = absurd cc
-came None (WriteComing object value) true marks heap event is =
-    subst (λ (e : Event). Came e None (WriteComing object value) true) (same_Some (Write object value) event is) (record { comes = refl; has = refl })
-came None (WriteComing object value) false marks heap event is = absurd cc
-came None (EndComing end) true marks heap event is = absurd cc
-came None (EndComing end) false true heap event is = absurd cc
-came None (EndComing end) false false heap event is = absurd cc
+came : (due : Option Mark) (up_next : NextDemand) (left marks : Bool) (heap : List ℕ) (event : Event)
+    → next_event (mark_first due (next_access (demand_of up_next) left marks)) heap ≡ Some event → Came event due up_next left
+came (Some mark) up_next left marks heap event is =
+    subst (λ (e : Event). Came e (Some mark) up_next left) (same_Some (Marked mark) event is) (record { comes = tt; has = refl })
+came None (ReadNext object) true marks heap event is =
+    subst (λ (e : Event). Came e None (ReadNext object) true) (same_Some (Read object (slice_index heap object)) event is) (record { comes = refl; has = refl })
+came None (ReadNext object) false marks heap event is = absurd cc
+came None (WriteNext object value) true marks heap event is =
+    subst (λ (e : Event). Came e None (WriteNext object value) true) (same_Some (Write object value) event is) (record { comes = refl; has = refl })
+came None (WriteNext object value) false marks heap event is = absurd cc
+came None (EndNext end) true marks heap event is = absurd cc
+came None (EndNext end) false true heap event is = absurd cc
+came None (EndNext end) false false heap event is = absurd cc
 
 -- the same, of a thread's counts
-came_here : (log : ThreadLog) (t : ThreadReplay) (heap : List ℕ) (event : Event) → next_event (next_by_counts log t) heap ≡ Some event
-    → Came event (due_mark (slice_get log.marks t.marks) t.gap) t.coming (nat_lt t.accesses log.accesses)
+pub came_here : (log : ThreadLog) (t : ThreadReplay) (heap : List ℕ) (event : Event) → next_event (next_by_counts log t) heap ≡ Some event
+    → Came event (due_mark (slice_get log.marks t.marks) t.gap) t.up_next (nat_lt t.accesses log.accesses)
 came_here log t heap event is =
-    came (due_mark (slice_get log.marks t.marks) t.gap) t.coming (nat_lt t.accesses log.accesses) (nat_lt t.marks (length log.marks)) heap event is
+    came (due_mark (slice_get log.marks t.marks) t.gap) t.up_next (nat_lt t.accesses log.accesses) (nat_lt t.marks (length log.marks)) heap event is
 
 -- the operation of an event that is made
 pub same_operation : (operation : Operation) (heap : List ℕ) → operation_of (event_made operation heap) ≡ operation
@@ -67,78 +69,113 @@ gap_within before (Read object value ∷ journal) = omega (arith, gap_within (su
 gap_within before (Write object value ∷ journal) = omega (arith, gap_within (suc before) journal)
 gap_within before (Marked mark ∷ journal) = omega (arith, gap_within 0 journal)
 
+few_values : (journal : List Event) → length (values_read journal) ≤ access_count journal
+few_values [] = omega arith
+few_values (Read object value ∷ journal) = omega (arith, few_values journal)
+few_values (Write object value ∷ journal) = omega (arith, few_values journal)
+few_values (Marked mark ∷ journal) = few_values journal
+
 due_there : (o : Option Gapped) (gap : ℕ) (mark : Mark) → due_mark o gap ≡ Some mark → (g : Gapped) × (o ≡ Some g)
 due_there None gap mark is = absurd cc
 due_there (Some g) gap mark is = (g, refl)
 
 -- what is next, from the four things that decide it
-next_from : {m m' : Option Mark} {d d' : Demand} {a a' k k' : Bool} → m ≡ m' → d ≡ d' → a ≡ a' → k ≡ k' → mark_first m (next_access d a k) ≡ mark_first m' (next_access d' a' k')
+next_from : {m m' : Option Mark} {d d' : AccessOrEnd} {a a' k k' : Bool} → m ≡ m' → d ≡ d' → a ≡ a' → k ≡ k' → mark_first m (next_access d a k) ≡ mark_first m' (next_access d' a' k')
 next_from p q r s = rw (p, q, r, s) refl
 
-module _ (commands : List Command) (start : Configuration) (objects : ℕ) (t : ThreadReplay) (replay : IsReplayOf commands start objects t) where
-  -- by the counts is next what is next by the log
-  pub by_counts : (log : ThreadLog) → next_by_log commands start log t.journal ≡ next_by_counts log t
-  by_counts log =
-      next_from (ap (λ (k : ℕ). due_mark (slice_get log.marks k) (gap_after 0 t.journal)) (sym replay.counts.counts_marks) ∙ ap (λ (gap : ℕ). due_mark (slice_get log.marks t.marks) gap) (sym replay.counts.counts_gap))
+module _ (commands : List Command) (start : Configuration) (objects : ℕ) (log : ThreadLog) (journal : List Event) (t : ThreadReplay) (replay : IsReplayOf commands start objects log journal t) where
+  by_counts_of : (log : ThreadLog) → next_by_log commands start log journal ≡ next_by_counts log t
+  by_counts_of log =
+      next_from (ap (λ (k : ℕ). due_mark (slice_get log.marks k) (gap_after 0 journal)) (sym replay.counts.counts_marks) ∙ ap (λ (gap : ℕ). due_mark (slice_get log.marks t.marks) gap) (sym replay.counts.counts_gap))
       replay.comes.demands
       (ap (λ (k : ℕ). nat_lt k log.accesses) (sym replay.counts.counts_accesses))
       (ap (λ (k : ℕ). nat_lt k (length log.marks)) (sym replay.counts.counts_marks))
 
-  module _ (log : ThreadLog) (heap : List ℕ) where
-    pub stands_for : (event : Event) → next_event (next_by_counts log t) heap ≡ Some event → StandsFor event t
+  -- by the counts is next what is next by the log
+  pub by_counts : next_by_log commands start log journal ≡ next_by_counts t.log t
+  by_counts = ap (λ (l : ThreadLog). next_by_log commands start l journal) (sym replay.follows) ∙ by_counts_of t.log
+
+  module _ (heap : List ℕ) where
+    pub stands_for : (event : Event) → next_event (next_by_counts t.log t) heap ≡ Some event → StandsFor event t
     stands_for (Read object value) is =
-        let here = subst (λ (x : Coming). StandsBefore commands (configuration_after commands start t.journal) x t.config) (came_here log t heap (Read object value) is).comes replay.comes.stands in
+        let here = subst (λ (x : NextDemand). IsBeforeDemand commands (configuration_after commands start journal) x t.config) (came_here t.log t heap (Read object value) is).comes replay.comes.stands in
         here.0
     stands_for (Write object value) is =
-        let here = subst (λ (x : Coming). StandsBefore commands (configuration_after commands start t.journal) x t.config) (came_here log t heap (Write object value) is).comes replay.comes.stands in
+        let here = subst (λ (x : NextDemand). IsBeforeDemand commands (configuration_after commands start journal) x t.config) (came_here t.log t heap (Write object value) is).comes replay.comes.stands in
         here.0
     stands_for (Marked mark) is = tt
 
-    pub writes_within : (event : Event) → next_event (next_by_counts log t) heap ≡ Some event → WritesWithin objects event
+    pub writes_within : (event : Event) → next_event (next_by_counts t.log t) heap ≡ Some event → WritesWithin objects event
     writes_within (Read object value) is = tt
-    writes_within (Write object value) is = subst (λ (x : Coming). NamesObject objects x) (came_here log t heap (Write object value) is).comes replay.names
+    writes_within (Write object value) is = subst (λ (x : NextDemand). NamesObject objects x) (came_here t.log t heap (Write object value) is).comes replay.names
     writes_within (Marked mark) is = tt
 
-    room_of_access : nat_lt t.accesses log.accesses ≡ true → log.accesses ≤ 262144 → (suc t.accesses < 2 ^ 32) × (suc t.gap < 2 ^ 32)
-    room_of_access left few =
-        let below = ltb-true t.accesses log.accesses left in
-        (omega arith, omega (arith, gap_within 0 t.journal, replay.counts.counts_gap, replay.counts.counts_accesses))
+    accesses_are : t.log.accesses ≡ log.accesses
+    accesses_are = ap (λ (l : ThreadLog). l.accesses) replay.follows
 
-    pub has_room : (event : Event) → next_event (next_by_counts log t) heap ≡ Some event → log.accesses ≤ 262144 → length log.marks < 2 ^ 31 → HasRoomFor event t
-    has_room (Read object value) is few marks = room_of_access (came_here log t heap (Read object value) is).has few
-    has_room (Write object value) is few marks = room_of_access (came_here log t heap (Write object value) is).has few
+    room_of_access : nat_lt t.accesses t.log.accesses ≡ true → log.accesses ≤ 262144 → (suc t.accesses < 2 ^ 32) × (suc t.gap < 2 ^ 32)
+    room_of_access left few =
+        let below = ltb-true t.accesses t.log.accesses left in
+        (omega (arith, accesses_are), omega (arith, accesses_are, gap_within 0 journal, replay.counts.counts_gap, replay.counts.counts_accesses))
+
+    room_of_read : nat_lt t.accesses t.log.accesses ≡ true → vec_len t.reads < vec_capacity t.reads
+    room_of_read left =
+        let below = ltb-true t.accesses t.log.accesses left in
+        omega (arith, accesses_are, t.reads.ok.0, ap (λ (xs : List ℕ). length xs) replay.reads, few_values journal, replay.counts.counts_accesses, replay.room)
+
+    pub has_room : (event : Event) → next_event (next_by_counts t.log t) heap ≡ Some event → log.accesses ≤ 262144 → length log.marks < 2 ^ 31 → HasRoomFor event t
+    has_room (Read object value) is few marks =
+        let left = (came_here t.log t heap (Read object value) is).has in
+        ((room_of_access left few).0, (room_of_access left few).1, room_of_read left)
+    has_room (Write object value) is few marks = room_of_access (came_here t.log t heap (Write object value) is).has few
     has_room (Marked mark) is few marks =
-        let there = due_there (slice_get log.marks t.marks) t.gap mark (came_here log t heap (Marked mark) is).has in
-        omega (arith, slice_get_within log.marks t.marks there.0 there.1)
+        let there = due_there (slice_get t.log.marks t.marks) t.gap mark (came_here t.log t heap (Marked mark) is).has in
+        omega (arith, slice_get_within t.log.marks t.marks there.0 there.1, ap (λ (l : ThreadLog). length l.marks) replay.follows)
 
     -- the thread that made the event is again a thread as far as it is replayed
-    pub grows : (event : Event) (after : ThreadReplay) → next_event (next_by_counts log t) heap ≡ Some event → Grown t event after → IsReplayOf commands start objects after
+    pub grows : (event : Event) (after : ThreadReplay) → next_event (next_by_counts t.log t) heap ≡ Some event → Grown t event after → IsReplayOf commands start objects log (journal ++ event ∷ []) after
     grows event after is grown = record {
       counts = record {
-        counts_marks = grown.marks ∙ omega (arith, replay.counts.counts_marks, marks_split t.journal (event ∷ [])) ∙ ap mark_count (sym grown.journal);
-        counts_accesses = grown.accesses ∙ omega (arith, replay.counts.counts_accesses, accesses_split t.journal (event ∷ [])) ∙ ap access_count (sym grown.journal);
-        counts_gap = grown.gap ∙ ap (λ (gap : ℕ). gap_after gap (event ∷ [])) replay.counts.counts_gap ∙ sym (gap_split 0 t.journal (event ∷ [])) ∙ ap (gap_after 0) (sym grown.journal);
+        counts_marks = grown.marks ∙ omega (arith, replay.counts.counts_marks, marks_split journal (event ∷ []));
+        counts_accesses = grown.accesses ∙ omega (arith, replay.counts.counts_accesses, accesses_split journal (event ∷ []));
+        counts_gap = grown.gap ∙ ap (λ (gap : ℕ). gap_after gap (event ∷ [])) replay.counts.counts_gap ∙ sym (gap_split 0 journal (event ∷ []));
       };
       comes =
-          let there = subst (λ (c : Configuration). IsComing commands c after.coming after.config) (sym (configuration_split commands start t.journal (event ∷ []))) (moved event (came_here log t heap event is).comes grown.comes) in
-          subst (λ (j : List Event). IsComing commands (configuration_after commands start j) after.coming after.config) (sym grown.journal) there;
+          subst (λ (c : Configuration). IsDemandedNext commands c after.up_next after.config) (sym (configuration_split commands start journal (event ∷ []))) (moved event (came_here t.log t heap event is).comes grown.comes);
       runs = grown.runs ∙ replay.runs;
       has = grown.has ∙ replay.has;
-      names = subst (λ (n : ℕ). NamesObject n after.coming) replay.has (grown.names (subst (λ (n : ℕ). NamesObject n t.coming) (sym replay.has) replay.names));
+      names = subst (λ (n : ℕ). NamesObject n after.up_next) replay.has (grown.names (subst (λ (n : ℕ). NamesObject n t.up_next) (sym replay.has) replay.names));
+      follows = grown.log ∙ replay.follows;
+      reads = grown.reads ∙ ap (λ (xs : List ℕ). xs ++ values_read (event ∷ [])) replay.reads ∙ sym (values_split journal (event ∷ []));
+      room = omega (arith, grown.room, replay.room);
+      few_accesses = few_accesses event is (omega (arith, grown.accesses));
+      few_marks = few_marks event is grown.marks;
     }
       where
-        here : Configuration
-        here = configuration_after commands start t.journal
+        few_accesses : (e : Event) → next_event (next_by_counts t.log t) heap ≡ Some e → after.accesses ≤ t.accesses + access_count (e ∷ []) → after.accesses ≤ log.accesses
+        few_accesses (Read object value) is_e more = omega (arith, accesses_are, ltb-true t.accesses t.log.accesses (came_here t.log t heap (Read object value) is_e).has)
+        few_accesses (Write object value) is_e more = omega (arith, accesses_are, ltb-true t.accesses t.log.accesses (came_here t.log t heap (Write object value) is_e).has)
+        few_accesses (Marked mark) is_e more = omega (arith, replay.few_accesses)
 
-        moved : (e : Event) → ComesOf e t.coming → ComesPast e t after → IsComing commands (configuration_after commands here (e ∷ [])) after.coming after.config
+        few_marks : (e : Event) → next_event (next_by_counts t.log t) heap ≡ Some e → after.marks ≡ t.marks + mark_count (e ∷ []) → after.marks ≤ length log.marks
+        few_marks (Read object value) is_e more = omega (arith, replay.few_marks)
+        few_marks (Write object value) is_e more = omega (arith, replay.few_marks)
+        few_marks (Marked mark) is_e more =
+            let there = due_there (slice_get t.log.marks t.marks) t.gap mark (came_here t.log t heap (Marked mark) is_e).has in
+            omega (arith, slice_get_within t.log.marks t.marks there.0 there.1, ap (λ (l : ThreadLog). length l.marks) replay.follows)
+
+        here : Configuration
+        here = configuration_after commands start journal
+
+        moved : (e : Event) → ComesOf e t.up_next → IsPastEvent e t after → IsDemandedNext commands (configuration_after commands here (e ∷ [])) after.up_next after.config
         moved (Read object value) of past =
-            let stands = subst (λ (x : Coming). StandsBefore commands here x t.config) of replay.comes.stands in
-            let there = subst (λ (x : List Command). IsComing x (given t.config value).at after.coming after.config) replay.runs past in
-            subst (λ (c : Configuration). IsComing commands c after.coming after.config) (stands.1 value) there
+            let stands = subst (λ (x : NextDemand). IsBeforeDemand commands here x t.config) of replay.comes.stands in
+            let there = subst (λ (x : List Command). IsDemandedNext x (given t.config value).at after.up_next after.config) replay.runs past in
+            subst (λ (c : Configuration). IsDemandedNext commands c after.up_next after.config) (stands.1 value) there
         moved (Write object value) of past =
-            let stands = subst (λ (x : Coming). StandsBefore commands here x t.config) of replay.comes.stands in
-            let there = subst (λ (x : List Command). IsComing x t.config.at after.coming after.config) replay.runs past in
-            subst (λ (c : Configuration). IsComing commands c after.coming after.config) (stands.1 value) there
+            let stands = subst (λ (x : NextDemand). IsBeforeDemand commands here x t.config) of replay.comes.stands in
+            let there = subst (λ (x : List Command). IsDemandedNext x t.config.at after.up_next after.config) replay.runs past in
+            subst (λ (c : Configuration). IsDemandedNext commands c after.up_next after.config) (stands.1 value) there
         moved (Marked mark) of past =
-            let there = subst (λ (x : Coming). IsComing commands here x t.config) (sym past.0) replay.comes in
-            subst (λ (s : Standing). IsComing commands here after.coming s) (sym past.1) there
+            let there = subst (λ (x : NextDemand). IsDemandedNext commands here x t.config) (sym past.0) replay.comes in
+            subst (λ (s : ThreadState). IsDemandedNext commands here after.up_next s) (sym past.1) there

@@ -1,147 +1,167 @@
 -- What becomes of the threads when none may step.
-use Rattle.std.proofs.Common.{◌≡◌, ℕ, suc, ◌+◌, ◌<◌, inl, inr, List, [], ◌∷◌, length, map, Some, get_or, slice_get, refl, sym, ap, ◌∙◌, subst, arith}
-use Rattle.std.proofs.lemmas.Bool.{cases_eq}
-use Rattle.std.proofs.lemmas.Option.{same_Some, slice_get_within, slice_get_cases, slice_get_read, get_or_from_slice_get}
+use Rattle.std.proofs.Common.{◌≡◌, ℕ, suc, ◌+◌, ◌^◌, ◌<◌, ◌≤◌, inl, inr, List, [], ◌∷◌, length, map, take, Some, get_or, slice_get, refl, sym, ap, ◌∙◌, subst, arith}
+use Rattle.std.proofs.lemmas.List.{length-map}
+use Rattle.std.proofs.lemmas.Option.{slice_get_within, slice_get_cases}
+use Rattle.std.specs.List.{sum}
 use Rattle.octet_model.specs.declared.command.Command.{Command}
 use Rattle.octet_model.specs.declared.outcome.End.{End}
 use Rattle.octet_model.specs.declared.outcome.Outcome.{Outcome}
 use Rattle.octet_model.specs.declared.event.Event.{Event}
-use Rattle.octet_model.specs.declared.script.Script.{Script}
 use Rattle.octet_model.specs.declared.log.ThreadLog.{ThreadLog}
-use Rattle.octet_model.specs.Thread.{Demand, demanded, configuration_after, starting_configuration}
-use Rattle.octet_model.specs.Machine.{journal_of, PlainState, next_of}
-use Rattle.octet_model.specs.Orders.{commands_of, thread_log_of, by_log, opening_state, lowest_order, end_of, ends_of, values_read, outcome_of, execution}
-use Rattle.octet_model.proofs.Lowest.{lowest_order_is_lowest, lowest_is_front}
+use Rattle.octet_model.specs.Thread.{AccessOrEnd, demanded, configuration_after, starting_configuration}
+use Rattle.octet_model.specs.Machine.{Journals, journal_of, PlainState, next_of}
+use Rattle.octet_model.specs.Orders.{commands_of, by_log, opening_state, lowest_order, end_of, ends_of, values_read, outcome_of, execution}
+use Rattle.octet_model.proofs.lemmas.LowestFronts.{lowest_order_is_lowest, lowest_is_front}
+use Rattle.octet_model.proofs.lemmas.LogsOfJournals.{as_many_after}
+use Rattle.octet_model.proofs.lemmas.Splits.{length_parts}
 use Rattle.octet_replay.specs.declared.fault.ReplayFault.{ReplayFault}
 use Rattle.octet_replay.specs.declared.fault.ReplayFault.TheVariants.{ThreadsDiffer, Stuck, Misfit, OutOfMemory}
 use Rattle.octet_replay.specs.declared.thread.ThreadReplay.{ThreadReplay}
 use Rattle.octet_replay.specs.declared.state.Replay.{Replay}
-use Rattle.octet_replay.specs.Coming.{demand_of}
+use Rattle.octet_replay.specs.NextDemand.{demand_of}
 use Rattle.octet_replay.specs.Judged.{IsLawful, last_state, last_journal, last_demand, Finds, FindsOf, IsMisfitThread, IsStuck, HasCause}
-use Rattle.octet_replay.specs.Replayed.{journals_of, plain_state_of, IsReplay, FindsHere, TellsMisfit, IsThroughHere}
-use Rattle.octet_replay.proofs.Following.{journal_here, length_journals, next_here}
+use Rattle.octet_replay.specs.ReplayState.{plain_state, HasHalted}
+use Rattle.octet_replay.specs.Replayed.{state_of, FindsIn, FindsNothing, IsAt, IsThroughHere, TellsMisfit}
+use Rattle.octet_replay.proofs.Stepping.{at_the_end, next_here}
+use Rattle.octet_replay.proofs.Valid.{few_accesses, few_marks, few_threads}
 
-pub some_thread : (threads : List ThreadReplay) (t : ℕ) → t < length threads → (x : ThreadReplay) × (slice_get threads t ≡ Some x)
+some_thread : (threads : List ThreadReplay) (t : ℕ) → t < length threads → (x : ThreadReplay) × (slice_get threads t ≡ Some x)
 some_thread threads t within =
     elim (slice_get_cases threads t).1 [
       | inl there ↦ (there.0, there.2)
       | inr past ↦ absurd (omega (arith, past.0))
     ]
 
-map_journals : {B : Type 0} (f : List Event → B) (threads : List ThreadReplay) → map (λ (x : ThreadReplay). f x.journal) threads ≡ map f (journals_of threads)
-map_journals {B = B} f [] = refl
-map_journals {B = B} f (x ∷ threads) = ap (λ (bs : List B). f x.journal ∷ bs) (map_journals f threads)
+-- the same of each thread and of its journal
+same_maps : {B : Type 0} (f : ThreadReplay → B) (g : List Event → B) (threads : List ThreadReplay) (journals : Journals) → length threads ≡ length journals
+    → ((t : ℕ) (x : ThreadReplay) → slice_get threads t ≡ Some x → f x ≡ g (journal_of journals t)) → map f threads ≡ map g journals
+same_maps f g [] [] as_many same = refl
+same_maps f g [] (j ∷ journals) as_many same = absurd (omega arith)
+same_maps f g (x ∷ threads) [] as_many same = absurd (omega arith)
+same_maps {B = B} f g (x ∷ threads) (j ∷ journals) as_many same =
+    let rest = same_maps f g threads journals (omega arith) (λ t y at. same (suc t) y at) in
+    ap (λ (bs : List B). f x ∷ bs) rest ∙ ap (λ (b : B). b ∷ map g journals) (same 0 x refl)
 
-ends_are : (fuel : ℕ) (commands : List (List Command)) (threads : List ThreadReplay) → length threads ≡ length commands
+ends_are : (fuel : ℕ) (commands : List (List Command)) (threads : List ThreadReplay) (journals : Journals) → length threads ≡ length commands → length threads ≡ length journals
     → ((t : ℕ) (x : ThreadReplay) → slice_get threads t ≡ Some x
-    → demanded (get_or commands t []) (configuration_after (get_or commands t []) (starting_configuration fuel) x.journal) ≡ demand_of x.coming)
-    → map (λ (x : ThreadReplay). end_of (demand_of x.coming)) threads ≡ ends_of fuel commands (journals_of threads)
-ends_are fuel [] [] same demands = refl
-ends_are fuel [] (x ∷ threads) same demands = absurd (omega arith)
-ends_are fuel (c ∷ commands) [] same demands = absurd (omega arith)
-ends_are fuel (c ∷ commands) (x ∷ threads) same demands =
-    let first : demanded c (configuration_after c (starting_configuration fuel) x.journal) ≡ demand_of x.coming = demands 0 x refl in
-    let rest = ends_are fuel commands threads (omega arith) (λ t y at. demands (suc t) y at) in
-    ap (λ (es : List End). end_of (demand_of x.coming) ∷ es) rest ∙ ap (λ (d : Demand). end_of d ∷ ends_of fuel commands (journals_of threads)) (sym first)
-
--- the thread's log that was read
-log_read : (log : List ThreadLog) (t : ℕ) (l : ThreadLog) → t < length log → l ≡ get_or log t l → thread_log_of log t ≡ l
-log_read log t l within is = get_or_from_slice_get log t l (record { accesses = 0; marks = [] }) (slice_get_read log (length log) t l refl within is)
-
--- no thread below is a misfit, nor this one
-pub none_so_far : (log : List ThreadLog) (threads : List ThreadReplay) (thread : ℕ) (x : ThreadReplay) (l : ThreadLog)
-    → thread < length threads → length threads ≡ length log → x ≡ get_or threads thread x → l ≡ get_or log thread l
-    → ((found : ℕ) → ¬ Finds (demand_of x.coming) l x.journal found)
-    → ((lower : ℕ) → lower < thread → (any : ℕ) → ¬ FindsHere log threads lower any)
-    → (lower : ℕ) → lower < thread + 1 → (any : ℕ) → ¬ FindsHere log threads lower any
-none_so_far log threads thread x l within same x_is l_is fits below lower lt any here =
-    elim (cases_eq lower thread) [
-      | inr differ ↦ below lower (omega arith) any here
-      | inl is ↦
-          let at : slice_get threads thread ≡ Some x = slice_get_read threads (length threads) thread x refl within x_is in
-          let same_x : here.0 ≡ x = same_Some here.0 x (sym here.1 ∙ ap (slice_get threads) is ∙ at) in
-          let same_l : thread_log_of log lower ≡ l = ap (thread_log_of log) is ∙ log_read log thread l (omega arith) l_is in
-          let finds = subst (λ (y : ThreadReplay). Finds (demand_of y.coming) (thread_log_of log lower) y.journal any) same_x here.2 in
-          fits any (subst (λ (m : ThreadLog). Finds (demand_of x.coming) m x.journal any) same_l finds)
-    ]
+    → demanded (get_or commands t []) (configuration_after (get_or commands t []) (starting_configuration fuel) (journal_of journals t)) ≡ demand_of x.up_next)
+    → map (λ (x : ThreadReplay). end_of (demand_of x.up_next)) threads ≡ ends_of fuel commands journals
+ends_are fuel [] [] journals same as_many demands = refl
+ends_are fuel [] (x ∷ threads) journals same as_many demands = absurd (omega arith)
+ends_are fuel (c ∷ commands) [] journals same as_many demands = absurd (omega arith)
+ends_are fuel (c ∷ commands) (x ∷ threads) [] same as_many demands = absurd (omega arith)
+ends_are fuel (c ∷ commands) (x ∷ threads) (j ∷ journals) same as_many demands =
+    let first : demanded c (configuration_after c (starting_configuration fuel) j) ≡ demand_of x.up_next = demands 0 x refl in
+    let rest = ends_are fuel commands threads journals (omega arith) (omega arith) (λ t y at. demands (suc t) y at) in
+    ap (λ (es : List End). end_of (demand_of x.up_next) ∷ es) rest ∙ ap (λ (d : AccessOrEnd). end_of d ∷ ends_of fuel commands journals) (sym first)
 
 same_outcome : {e e' : List End} {p p' : List (List ℕ)} {h h' : List ℕ} → e ≡ e' → p ≡ p' → h ≡ h'
     → ◌≡◌ {A = Outcome} (record { ends = e; reads = p; heap = h }) (record { ends = e'; reads = p'; heap = h' })
 same_outcome e p h = rw (e, p, h) refl
 
--- the replay has come to the last state
-module _ (script : Script) (log : List ThreadLog) (r : Replay) (same : length script.threads ≡ length log) (replay : IsReplay script r) (ends : plain_state_of r ≡ last_state script log) where
-  journal_is : (t : ℕ) (x : ThreadReplay) → slice_get r.threads.items t ≡ Some x → last_journal script log t ≡ x.journal
-  journal_is t x at = ap (λ (s : PlainState). journal_of s.journals t) (sym ends) ∙ journal_here r.threads.items t x at
+same_finds : {d d' : AccessOrEnd} {l l' : ThreadLog} {j j' : List Event} (found : ℕ) → d ≡ d' → l ≡ l' → j ≡ j' → Finds d l j found → Finds d' l' j' found
+same_finds {d = d} {d' = d'} {l = l} {l' = l'} {j = j} {j' = j'} found p q r finds =
+    subst (λ (x : List Event). Finds d' l' x found) r (subst (λ (x : ThreadLog). Finds d' x j found) q (subst (λ (x : AccessOrEnd). Finds x l j found) p finds))
 
-  demand_is : (t : ℕ) (x : ThreadReplay) → slice_get r.threads.items t ≡ Some x → last_demand script log t ≡ demand_of x.coming
-  demand_is t x at =
-      ap (λ (j : List Event). demanded (commands_of script t) (configuration_after (commands_of script t) (starting_configuration script.fuel) j)) (journal_is t x at)
-      ∙ (replay.each t x at).comes.demands
+-- the replay has come to the end of the lowest order
+module _ (r : Replay) (at : IsAt r) (halted : HasHalted (state_of r)) where
+  pub ends : plain_state (state_of r) ≡ last_state r.script.value r.log.value.threads
+  ends =
+      at_the_end (by_log r.script.value r.log.value.threads) (sum r.waits.events) (lowest_order r.script.value r.log.value.threads) (opening_state r.script.value)
+      (lowest_order_is_lowest r.script.value r.log.value.threads at.agree) halted
 
-  finds_of : (t found : ℕ) → FindsHere log r.threads.items t found → FindsOf script log t found
-  finds_of t found here =
-      let by_demand = subst (λ (d : Demand). Finds d (thread_log_of log t) here.0.journal found) (sym (demand_is t here.0 here.1)) here.2 in
-      subst (λ (j : List Event). Finds (last_demand script log t) (thread_log_of log t) j found) (sym (journal_is t here.0 here.1)) by_demand
+  as_many : length r.threads.items ≡ length r.script.value.threads
+  as_many =
+      at.stands.as_many ∙ as_many_after (by_log r.script.value r.log.value.threads) (take (sum r.waits.events) (lowest_order r.script.value r.log.value.threads)) (opening_state r.script.value)
+      ∙ length-map r.script.value.threads (λ (c : List Command). [])
 
-  finds_here : (t found : ℕ) → t < length log → FindsOf script log t found → FindsHere log r.threads.items t found
-  finds_here t found within of =
-      let there = some_thread r.threads.items t (omega (arith, replay.as_many)) in
-      let by_demand = subst (λ (d : Demand). Finds d (thread_log_of log t) (last_journal script log t) found) (demand_is t there.0 there.1) of in
-      (there.0, there.1, subst (λ (j : List Event). Finds (demand_of there.0.coming) (thread_log_of log t) j found) (journal_is t there.0 there.1) by_demand)
+  pub few_here : length r.threads.items ≤ 16
+  few_here = omega (arith, as_many, at.agree, few_threads r.log.value.threads r.log.value.valid)
 
-  pub misfit_is_cause : (fault : ReplayFault) → TellsMisfit log r.threads.items fault → HasCause script log fault
+  pub accesses_here : (t : ℕ) (x : ThreadReplay) → slice_get r.threads.items t ≡ Some x → x.log.accesses < 4294967295
+  accesses_here t x there = omega (arith, ap (λ (l : ThreadLog). l.accesses) (at.stands.each t x there).follows, few_accesses r.log.value.threads r.log.value.valid t)
+
+  pub marks_here : (t : ℕ) (x : ThreadReplay) → slice_get r.threads.items t ≡ Some x → x.marks < 2 ^ 32
+  marks_here t x there = omega (arith, (at.stands.each t x there).few_marks, few_marks r.log.value.threads r.log.value.valid t)
+
+  journal_is : (t : ℕ) → last_journal r.script.value r.log.value.threads t ≡ journal_of (plain_state (state_of r)).journals t
+  journal_is t = ap (λ (s : PlainState). journal_of s.journals t) (sym ends)
+
+  demand_is : (t : ℕ) (x : ThreadReplay) → slice_get r.threads.items t ≡ Some x → last_demand r.script.value r.log.value.threads t ≡ demand_of x.up_next
+  demand_is t x there =
+      ap (λ (j : List Event). demanded (commands_of r.script.value t) (configuration_after (commands_of r.script.value t) (starting_configuration r.script.value.fuel) j)) (journal_is t)
+      ∙ (at.stands.each t x there).comes.demands
+
+  finds_of : (t found : ℕ) (x : ThreadReplay) → slice_get r.threads.items t ≡ Some x → FindsIn x found → FindsOf r.script.value r.log.value.threads t found
+  finds_of t found x there finds =
+      same_finds found (sym (demand_is t x there)) (at.stands.each t x there).follows (sym (journal_is t)) (finds (journal_of (plain_state (state_of r)).journals t) (at.stands.each t x there).counts)
+
+  finds_not : (t : ℕ) (x : ThreadReplay) → slice_get r.threads.items t ≡ Some x → FindsNothing x → ¬ IsMisfitThread r.script.value r.log.value.threads t
+  finds_not t x there none misfit =
+      none (journal_of (plain_state (state_of r)).journals t) misfit.0 (at.stands.each t x there).counts
+      (same_finds misfit.0 (demand_is t x there) (sym (at.stands.each t x there).follows) (journal_is t) misfit.1)
+
+  pub misfit_is_cause : (fault : ReplayFault) → TellsMisfit r.threads.items fault → HasCause r.script.value r.log.value.threads fault
   misfit_is_cause (Misfit thread wanted found) tells =
-      let within : thread < length log = omega (arith, slice_get_within r.threads.items thread tells.finds.0 tells.finds.1, replay.as_many) in
+      let within : thread < length r.log.value.threads = omega (arith, slice_get_within r.threads.items thread tells.it tells.is_there, as_many, at.agree) in
       record {
-        agree = same;
+        agree = at.agree;
         within = within;
-        wants = tells.wants;
-        finds = finds_of thread found tells.finds;
-        lowest = λ lower below other. tells.lowest lower below other.0 (finds_here lower other.0 (omega arith) other.1);
+        wants = tells.wants ∙ ap (λ (l : ThreadLog). l.accesses) (at.stands.each thread tells.it tells.is_there).follows;
+        finds = finds_of thread found tells.it tells.is_there tells.finds;
+        lowest = λ lower below.
+            let there = some_thread r.threads.items lower (omega (arith, as_many, at.agree)) in
+            finds_not lower there.0 there.1 (tells.lowest lower there.0 below there.1);
       }
   misfit_is_cause (ThreadsDiffer of_script of_log) tells = absurd tells
   misfit_is_cause (Stuck positions) tells = absurd tells
   misfit_is_cause OutOfMemory tells = absurd tells
 
-  module _ (none : (t found : ℕ) → ¬ FindsHere log r.threads.items t found) where
-    fits : (t : ℕ) → t < length log → ¬ IsMisfitThread script log t
-    fits t within misfit = none t misfit.0 (finds_here t misfit.0 within misfit.1)
+  pub stuck_is_cause : ((t : ℕ) (x : ThreadReplay) → slice_get r.threads.items t ≡ Some x → FindsNothing x)
+      → (positions : List ℕ) → (waits : (t : ℕ) × (t < length r.threads.items) × ¬ IsThroughHere r.threads.items t)
+      → positions ≡ map (λ (x : ThreadReplay). x.accesses + x.marks) r.threads.items → IsStuck r.script.value r.log.value.threads positions
+  stuck_is_cause none positions waits made = record {
+    agree = at.agree;
+    fit = λ t within.
+        let there = some_thread r.threads.items t (omega (arith, as_many, at.agree)) in
+        finds_not t there.0 there.1 (none t there.0 there.1);
+    waits = (
+      waits.0,
+      (let below : waits.0 < length r.log.value.threads = omega (arith, as_many, at.agree, waits.1) in below),
+      λ through. waits.2 (λ x there.
+          sym (next_here r.script.value r.log.value.threads (plain_state (state_of r)) r.threads.items r.heap.items r.waits at.stands waits.0 x there)
+          ∙ ap (λ (s : PlainState). next_of (by_log r.script.value r.log.value.threads) s waits.0) ends ∙ through),
+    );
+    made =
+        made
+        ∙ same_maps (λ (x : ThreadReplay). x.accesses + x.marks) (λ (j : List Event). length j) r.threads.items (plain_state (state_of r)).journals at.stands.as_many
+        (λ t x there.
+        let counts = (at.stands.each t x there).counts in
+        omega (arith, counts.counts_accesses, counts.counts_marks, length_parts (journal_of (plain_state (state_of r)).journals t)))
+        ∙ ap (λ (s : PlainState). map (λ (j : List Event). length j) s.journals) ends;
+  }
 
-    pub stuck_is_cause : (positions : List ℕ) → (waits : (t : ℕ) × (t < length r.threads.items) × ¬ IsThroughHere log r.threads.items t)
-        → positions ≡ map (λ (x : ThreadReplay). length x.journal) r.threads.items → IsStuck script log positions
-    stuck_is_cause positions waits made = record {
-      agree = same;
-      fit = fits;
-      waits = (
-        waits.0,
-        (let below : waits.0 < length log = omega (arith, replay.as_many, waits.1) in below),
-        λ through. waits.2 (λ x at.
-            sym (next_here script log r replay waits.0 x at) ∙ ap (λ (s : PlainState). next_of (by_log script log) s waits.0) ends ∙ through),
-      );
-      made = made ∙ map_journals (λ j. length j) r.threads.items ∙ ap (λ (s : PlainState). map (λ (j : List Event). length j) s.journals) ends;
-    }
-
-  pub through_is_lawful : ((t : ℕ) → IsThroughHere log r.threads.items t) → IsLawful script log
+  pub through_is_lawful : ((t : ℕ) → IsThroughHere r.threads.items t) → IsLawful r.script.value r.log.value.threads
   through_is_lawful through = (
-    same,
+    at.agree,
     (
-      lowest_is_front (by_log script log) (lowest_order script log) (opening_state script) (lowest_order_is_lowest script log same),
+      lowest_is_front (by_log r.script.value r.log.value.threads) (lowest_order r.script.value r.log.value.threads) (opening_state r.script.value)
+          (lowest_order_is_lowest r.script.value r.log.value.threads at.agree),
       λ t within.
-          let as_many = ap (λ (s : PlainState). length s.journals) ends in
-          let there = some_thread r.threads.items t (omega (arith, length_journals r.threads.items)) in
-          ap (λ (s : PlainState). next_of (by_log script log) s t) (sym ends) ∙ next_here script log r replay t there.0 there.1 ∙ through t there.0 there.1,
+          let there = some_thread r.threads.items t (omega (arith, at.stands.as_many, ap (λ (s : PlainState). length s.journals) ends)) in
+          ap (λ (s : PlainState). next_of (by_log r.script.value r.log.value.threads) s t) (sym ends)
+          ∙ next_here r.script.value r.log.value.threads (plain_state (state_of r)) r.threads.items r.heap.items r.waits at.stands t there.0 there.1 ∙ through t there.0 there.1,
     ),
   )
 
   pub outcome_is : (ends_told : List End) (reads : List (List ℕ)) (heap : List ℕ)
-      → ends_told ≡ map (λ (x : ThreadReplay). end_of (demand_of x.coming)) r.threads.items
-      → reads ≡ map (λ (x : ThreadReplay). values_read x.journal) r.threads.items
+      → ends_told ≡ map (λ (x : ThreadReplay). end_of (demand_of x.up_next)) r.threads.items
+      → reads ≡ map (λ (x : ThreadReplay). x.reads.items) r.threads.items
       → heap ≡ r.heap.items
-      → ◌≡◌ {A = Outcome} (record { ends = ends_told; reads = reads; heap = heap }) (execution script log (lowest_order script log))
+      → ◌≡◌ {A = Outcome} (record { ends = ends_told; reads = reads; heap = heap }) (execution r.script.value r.log.value.threads (lowest_order r.script.value r.log.value.threads))
   outcome_is ends_told reads heap e p h =
       same_outcome
-      (e ∙ ends_are script.fuel script.threads r.threads.items replay.as_many (λ t x at. (replay.each t x at).comes.demands))
-      (p ∙ map_journals values_read r.threads.items)
-      h
-      ∙ ap (outcome_of script) ends
+      (e ∙ ends_are r.script.value.fuel r.script.value.threads r.threads.items (plain_state (state_of r)).journals as_many at.stands.as_many (λ t x there. (at.stands.each t x there).comes.demands))
+      (p ∙ same_maps (λ (x : ThreadReplay). x.reads.items) values_read r.threads.items (plain_state (state_of r)).journals at.stands.as_many (λ t x there. (at.stands.each t x there).reads))
+      (h ∙ at.stands.heap_is)
+      ∙ ap (outcome_of r.script.value) ends

@@ -5,10 +5,10 @@ use Rattle.octet_model.specs.declared.command.Command.{Command}
 use Rattle.octet_model.specs.declared.object.Object.{Object}
 use Rattle.octet_model.specs.Machine.{Journals, PlainState, Behavior, step, after}
 use Rattle.octet_model.specs.Orders.{by_log, opening_state, state_after, ends_of, values_read}
-use Rattle.octet_model.proofs.Steps.{by_step}
-use Rattle.octet_model.proofs.Logged.{as_many_after}
+use Rattle.octet_model.proofs.lemmas.Steps.{by_step}
+use Rattle.octet_model.proofs.lemmas.LogsOfJournals.{as_many_after}
 use Rattle.octet_replay.specs.Laws.{ExecutionIsWhole}
-use Rattle.octet_replay.proofs.Following.{same_length}
+use Rattle.octet_replay.proofs.Stepping.{same_length}
 
 length_ends : (fuel : ℕ) (threads : List (List Command)) (journals : Journals) → length journals ≡ length threads → length (ends_of fuel threads journals) ≡ length threads
 length_ends fuel [] journals same = refl

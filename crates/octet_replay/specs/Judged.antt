@@ -3,7 +3,7 @@ use Rattle.std.specs.Prelude.{◌≡◌, ◌≢◌, ℕ, suc, ◌<◌, ◌≤◌
 use Rattle.octet_model.specs.declared.event.Event.{Event}
 use Rattle.octet_model.specs.declared.script.Script.{Script}
 use Rattle.octet_model.specs.declared.log.ThreadLog.{ThreadLog}
-use Rattle.octet_model.specs.Thread.{Demand, ToEnd, demanded, configuration_after, starting_configuration}
+use Rattle.octet_model.specs.Thread.{AccessOrEnd, ToEnd, demanded, configuration_after, starting_configuration}
 use Rattle.octet_model.specs.Machine.{journal_of, PlainState, next_of, Finished}
 use Rattle.octet_model.specs.Journals.{access_count, mark_count}
 use Rattle.octet_model.specs.Orders.{commands_of, thread_log_of, by_log, lowest_order, state_after, IsLawfulOrder}
@@ -22,31 +22,31 @@ abbrev pub last_journal : Script → List ThreadLog → ℕ → List Event
 last_journal script log thread = journal_of (last_state script log).journals thread
 
 -- what the thread demands then
-abbrev pub last_demand : Script → List ThreadLog → ℕ → Demand
+abbrev pub last_demand : Script → List ThreadLog → ℕ → AccessOrEnd
 last_demand script log thread =
     demanded (commands_of script thread) (configuration_after (commands_of script thread) (starting_configuration script.fuel) (last_journal script log thread))
 
-abbrev pub DemandsEnd : Demand → Type 0
+abbrev pub DemandsEnd : AccessOrEnd → Type 0
 DemandsEnd (ToEnd end) = Unit {0}
 DemandsEnd _ = ⊥
 
-abbrev pub DemandsAccess : Demand → Type 0
+abbrev pub DemandsAccess : AccessOrEnd → Type 0
 DemandsAccess (ToEnd end) = ⊥
 DemandsAccess _ = Unit {0}
 
 -- a thread that is at its end too early: it demands its end, and has made fewer accesses than its log says
-pub record EndsEarly (demand : Demand) (log : ThreadLog) (journal : List Event) : Type 0 where
+pub record EndsEarly (demand : AccessOrEnd) (log : ThreadLog) (journal : List Event) : Type 0 where
   pub ends : DemandsEnd demand
   pub fewer : access_count journal < log.accesses
 
 -- a thread that goes on too long: it has made as many accesses as its log says and no mark of it is left, and it demands one more access
-pub record GoesOn (demand : Demand) (log : ThreadLog) (journal : List Event) : Type 0 where
+pub record GoesOn (demand : AccessOrEnd) (log : ThreadLog) (journal : List Event) : Type 0 where
   pub demands : DemandsAccess demand
   pub made : access_count journal ≡ log.accesses
   pub no_mark_left : length log.marks ≤ mark_count journal
 
 -- so many accesses are found of a thread that does not fit its log: those that it made where it ends early, and one more than its log says where it goes on
-abbrev pub Finds : Demand → ThreadLog → List Event → ℕ → Type 0
+abbrev pub Finds : AccessOrEnd → ThreadLog → List Event → ℕ → Type 0
 Finds demand log journal found =
     (EndsEarly demand log journal × (found ≡ access_count journal)) ⊎ (GoesOn demand log journal × (found ≡ suc log.accesses))
 
@@ -83,7 +83,7 @@ pub record IsStuck (script : Script) (log : List ThreadLog) (positions : List �
   pub waits : (thread : ℕ) × (thread < length log) × ¬ IsThrough script log thread
   pub made : positions ≡ map (λ journal. length journal) (last_state script log).journals
 
--- when a replay is refused so. Want of memory alone may come at any time
+-- when a replay is refused so. Out of memory alone may come at any time
 abbrev pub HasCause : Script → List ThreadLog → ReplayFault → Type 0
 HasCause script log (ThreadsDiffer of_script of_log) = IsThreadsDiffer script log of_script of_log
 HasCause script log (Stuck positions) = IsStuck script log positions

@@ -1,6 +1,11 @@
+pub mod Needs
+pub mod ThreadSet
+pub mod WaitingLists
 pub mod Judged
 pub mod Line
-pub mod Coming
+pub mod NextDemand
 pub mod Threads
 pub mod Replayed
+pub mod ReplayState
+pub mod Places
 pub mod Laws

@@ -1,92 +1,95 @@
 -- How far all threads are replayed.
-use Rattle.std.specs.Prelude.{◌≡◌, ℕ, ◌+◌, ◌<◌, ◌≤◌, true, false, List, length, map, Option, Some, None, slice_get, slice_set, sum_by}
+use Rattle.std.specs.Prelude.{◌≡◌, ℕ, ◌<◌, Bool, true, false, List, length, Some, slice_get, slice_index, slice_set}
+use Rattle.std.specs.List.{sum}
 use Rattle.octet_model.specs.declared.event.Event.{Event}
+use Rattle.octet_model.specs.declared.event.Event.TheVariants.{Marked}
+use Rattle.octet_model.specs.declared.event.Mark.TheVariants.{Draw}
 use Rattle.octet_model.specs.declared.script.Script.{Script}
 use Rattle.octet_model.specs.declared.log.ThreadLog.{ThreadLog}
 use Rattle.octet_model.specs.Thread.{starting_configuration}
-use Rattle.octet_model.specs.Machine.{Journals, PlainState, Finished, heap_after, draws_after, is_enabled, after}
-use Rattle.octet_model.specs.Orders.{commands_of, thread_log_of, by_log, event_total, IsLowestFront}
+use Rattle.octet_model.specs.Machine.{Behavior, Journals, journal_of, PlainState, Finished, heap_after, next_of}
+use Rattle.octet_model.specs.Orders.{commands_of, thread_log_of, by_log}
 use Rattle.octet_model.specs.Plays.{operation_of}
 use Rattle.octet_replay.specs.declared.fault.ReplayFault.{ReplayFault}
 use Rattle.octet_replay.specs.declared.fault.ReplayFault.TheVariants.{Misfit}
+use Rattle.octet_replay.specs.declared.need.Need.{Need}
 use Rattle.octet_replay.specs.declared.thread.ThreadReplay.{ThreadReplay}
 use Rattle.octet_replay.specs.declared.state.Replay.{Replay}
-use Rattle.octet_replay.specs.Coming.{demand_of, NamesObject}
-use Rattle.octet_replay.specs.Threads.{next_by_counts, next_event, Grown, IsReplayOf}
-use Rattle.octet_replay.specs.Judged.{last_state, Finds}
+use Rattle.octet_replay.specs.NextDemand.{demand_of, NamesObject}
+use Rattle.octet_replay.specs.Needs.{NeedsAndCounts, after_step}
+use Rattle.octet_replay.specs.ReplayState.{ReplayState, plain_state}
+use Rattle.octet_replay.specs.Threads.{need_of, next_by_counts, Grown, HasCounts, IsReplayOf}
+use Rattle.octet_replay.specs.Judged.{Finds}
 
-abbrev pub journals_of : List ThreadReplay → Journals
-journals_of threads = map (λ t. t.journal) threads
-
--- the state of the plain machine
-abbrev pub plain_state_of : Replay → PlainState
-plain_state_of r = record { heap = r.heap.items; journals = journals_of r.threads.items; draws = r.draws }
+-- what contracts of a replayer see: as many steps were made as the threads have made events
+abbrev pub state_of : Replay → ReplayState
+state_of r = record { script = r.script.value; log = r.log.value; steps = sum r.waits.events }
 
 -- each thread of the script as far as it is replayed
-abbrev pub AreReplaysOf : Script → List ThreadReplay → Type 0
-AreReplaysOf script threads = (thread : ℕ) (t : ThreadReplay) → slice_get threads thread ≡ Some t
-    → IsReplayOf (commands_of script thread) (starting_configuration script.fuel) (length script.objects) t
+abbrev pub AreReplaysOf : Script → List ThreadLog → Journals → List ThreadReplay → Type 0
+AreReplaysOf script log journals threads = (thread : ℕ) (t : ThreadReplay) → slice_get threads thread ≡ Some t
+    → IsReplayOf (commands_of script thread) (starting_configuration script.fuel) (length script.objects) (thread_log_of log thread) (journal_of journals thread) t
 
--- all threads of the script, on a heap of its objects
-pub record IsReplay (script : Script) (r : Replay) : Type 0 where
-  pub as_many : length r.threads.items ≡ length script.threads
-  pub each : AreReplaysOf script r.threads.items
-  pub heap_has : length r.heap.items ≡ length script.objects
+-- each thread waits for what is next for it, and the counts are those of the state
+pub record AwaitsNext (behavior : Behavior) (s : PlainState) (w : NeedsAndCounts) : Type 0 where
+  pub as_many : length w.needs ≡ length s.journals
+  pub counts : length w.events ≡ length s.journals
+  pub needs : (thread : ℕ) (need : Need) → slice_get w.needs thread ≡ Some need → need ≡ need_of (next_of behavior s thread)
+  pub events : (thread : ℕ) → slice_index w.events thread ≡ length (journal_of s.journals thread)
+  pub draws : w.draws ≡ s.draws
 
--- what is coming names objects of the heap
-abbrev pub AllNameObjects : Replay → Type 0
-AllNameObjects r = (thread : ℕ) (t : ThreadReplay) → slice_get r.threads.items thread ≡ Some t → NamesObject (length r.heap.items) t.coming
+-- threads, heap and needs in a state of the plain machine
+pub record StandsAt (script : Script) (log : List ThreadLog) (s : PlainState) (threads : List ThreadReplay) (heap : List ℕ) (w : NeedsAndCounts) : Type 0 where
+  pub as_many : length threads ≡ length s.journals
+  pub each : AreReplaysOf script log s.journals threads
+  pub heap_is : heap ≡ s.heap
+  pub heap_has : length heap ≡ length script.objects
+  pub waits : AwaitsNext (by_log script log) s w
 
--- the event, where it may be made
-abbrev pub where_enabled : PlainState → Option Event → Option Event
-where_enabled s None = None
-where_enabled s (Some event) = elim (is_enabled s (operation_of event)) [ true ↦ Some event | false ↦ None ]
+-- the replay stands after so many steps of the lowest order
+pub record IsAt (r : Replay) : Type 0 where
+  pub agree : length r.script.value.threads ≡ length r.log.value.threads
+  pub stands : StandsAt r.script.value r.log.value.threads (plain_state (state_of r)) r.threads.items r.heap.items r.waits
 
--- the event that the thread may make now, if it may make one
-abbrev pub step_now : List ThreadLog → Replay → ℕ → Option Event
-step_now log r thread =
-    elim (slice_get r.threads.items thread) [
-      | None ↦ None
-      | Some t ↦ where_enabled (plain_state_of r) (next_event (next_by_counts (thread_log_of log thread) t) r.heap.items)
-    ]
+-- what it demands next names objects of the heap
+abbrev pub AllNameObjects : List ThreadReplay → ℕ → Type 0
+AllNameObjects threads objects = (thread : ℕ) (t : ThreadReplay) → slice_get threads thread ≡ Some t → NamesObject objects t.up_next
 
--- the thread is the lowest that may step, and this is the event that it makes
-pub record IsLowestStep (log : List ThreadLog) (r : Replay) (step : ℕ × Event) : Type 0 where
-  pub within : step.0 < length r.threads.items
-  pub steps : step_now log r step.0 ≡ Some step.1
-  pub lowest : (lower : ℕ) → lower < step.0 → step_now log r lower ≡ None
+abbrev pub is_draw : Event → Bool
+is_draw (Marked (Draw number)) = true
+is_draw _ = false
 
 -- after the thread's event
-pub record Stepped (before : Replay) (thread : ℕ) (event : Event) (after : Replay) : Type 0 where
+pub record MakesEvent (before : Replay) (thread : ℕ) (event : Event) (after : Replay) : Type 0 where
   pub was : ThreadReplay
   pub becomes : ThreadReplay
   pub is_there : slice_get before.threads.items thread ≡ Some was
   pub grown : Grown was event becomes
   pub threads : after.threads.items ≡ slice_set before.threads.items thread becomes
   pub heap : after.heap.items ≡ heap_after (operation_of event) before.heap.items
-  pub draws : after.draws ≡ draws_after (operation_of event) before.draws
+  pub waits : after.waits ≡ after_step before.waits thread (is_draw event) (need_of (next_by_counts becomes.log becomes))
+  pub script : after.script ≡ before.script
+  pub log : after.log ≡ before.log
 
--- the rest of the lowest order leads on from here to its last state, and the log has events enough for it
-pub record LeadsOn (script : Script) (log : List ThreadLog) (s : PlainState) : Type 0 where
-  pub rest : List ℕ
-  pub is_lowest : IsLowestFront (by_log script log) s rest
-  pub ends : after (by_log script log) s rest ≡ last_state script log
-  pub enough : sum_by (λ journal. length journal) s.journals + length rest ≤ event_total log
+-- by what it demands next, a thread does not fit its log, and so many accesses are found of it
+abbrev pub FindsIn : ThreadReplay → ℕ → Type 0
+FindsIn t found = (journal : List Event) → HasCounts journal t → Finds (demand_of t.up_next) t.log journal found
 
--- by what is coming, the thread does not fit its log, and so many accesses are found of it
-abbrev pub FindsHere : List ThreadLog → List ThreadReplay → ℕ → ℕ → Type 0
-FindsHere log threads thread found = (t : ThreadReplay) × (slice_get threads thread ≡ Some t) × Finds (demand_of t.coming) (thread_log_of log thread) t.journal found
+abbrev pub FindsNothing : ThreadReplay → Type 0
+FindsNothing t = (journal : List Event) (found : ℕ) → HasCounts journal t → ¬ Finds (demand_of t.up_next) t.log journal found
 
 -- the lowest misfit, as it is told
-pub record IsLowestMisfit (log : List ThreadLog) (threads : List ThreadReplay) (thread wanted found : ℕ) : Type 0 where
-  pub wants : wanted ≡ (thread_log_of log thread).accesses
-  pub finds : FindsHere log threads thread found
-  pub lowest : (lower : ℕ) → lower < thread → (any : ℕ) → ¬ FindsHere log threads lower any
+pub record IsLowestMisfit (threads : List ThreadReplay) (thread wanted found : ℕ) : Type 0 where
+  pub it : ThreadReplay
+  pub is_there : slice_get threads thread ≡ Some it
+  pub wants : wanted ≡ it.log.accesses
+  pub finds : FindsIn it found
+  pub lowest : (lower : ℕ) (t : ThreadReplay) → lower < thread → slice_get threads lower ≡ Some t → FindsNothing t
 
-abbrev pub TellsMisfit : List ThreadLog → List ThreadReplay → ReplayFault → Type 0
-TellsMisfit log threads (Misfit thread wanted found) = IsLowestMisfit log threads thread wanted found
-TellsMisfit log threads _ = ⊥
+abbrev pub TellsMisfit : List ThreadReplay → ReplayFault → Type 0
+TellsMisfit threads (Misfit thread wanted found) = IsLowestMisfit threads thread wanted found
+TellsMisfit threads _ = ⊥
 
 -- a thread is through: nothing is next for it
-abbrev pub IsThroughHere : List ThreadLog → List ThreadReplay → ℕ → Type 0
-IsThroughHere log threads thread = (t : ThreadReplay) → slice_get threads thread ≡ Some t → next_by_counts (thread_log_of log thread) t ≡ Finished
+abbrev pub IsThroughHere : List ThreadReplay → ℕ → Type 0
+IsThroughHere threads thread = (t : ThreadReplay) → slice_get threads thread ≡ Some t → next_by_counts t.log t ≡ Finished

@@ -1,35 +1,56 @@
 -- How far one thread is replayed.
-use Rattle.std.specs.Prelude.{◌≡◌, ℕ, suc, ◌+◌, ◌^◌, ◌<◌, true, false, List, [], ◌∷◌, ◌++◌, length, nat_lt, Option, Some, None, slice_get}
+use Rattle.std.specs.Prelude.{◌≡◌, ℕ, zero, suc, ◌+◌, ◌^◌, ◌<◌, ◌≤◌, true, false, List, [], ◌∷◌, ◌++◌, length, nat_lt, Option, Some, None, slice_get}
+use Rattle.std.specs.Vec.{vec_len, vec_capacity}
 use Rattle.octet_model.specs.declared.command.Command.{Command}
 use Rattle.octet_model.specs.declared.event.Event.{Event}
 use Rattle.octet_model.specs.declared.event.Event.TheVariants.{Read, Write, Marked}
 use Rattle.octet_model.specs.declared.log.ThreadLog.{ThreadLog}
 use Rattle.octet_model.specs.Thread.{Configuration, configuration_after}
-use Rattle.octet_model.specs.Machine.{Next, Wants, event_made}
+use Rattle.octet_model.specs.declared.event.Mark.TheVariants.{Join, Draw, Fence}
+use Rattle.octet_model.specs.Machine.{Next, Wants, Finished, NothingFits, MakeMark, MakeRead, MakeWrite, event_made}
 use Rattle.octet_model.specs.Journals.{access_count, mark_count, gap_after, due_mark, next_access, mark_first}
-use Rattle.octet_interp.specs.Told.{given}
+use Rattle.octet_model.specs.Orders.{values_read}
+use Rattle.octet_interp.specs.Demands.{given}
+use Rattle.octet_replay.specs.declared.need.Need.{Need}
+use Rattle.octet_replay.specs.declared.need.Need.TheVariants.{Free, Events, DrawsAre, DrawsReach, Never}
 use Rattle.octet_replay.specs.declared.thread.ThreadReplay.{ThreadReplay}
-use Rattle.octet_replay.specs.Coming.{demand_of, IsComing, NamesObject}
+use Rattle.octet_replay.specs.NextDemand.{demand_of, IsDemandedNext, NamesObject}
 
 -- the counts are those of the journal
-pub record HasCounts (t : ThreadReplay) : Type 0 where
-  pub counts_marks : t.marks ≡ mark_count t.journal
-  pub counts_accesses : t.accesses ≡ access_count t.journal
-  pub counts_gap : t.gap ≡ gap_after 0 t.journal
+pub record HasCounts (journal : List Event) (t : ThreadReplay) : Type 0 where
+  pub counts_marks : t.marks ≡ mark_count journal
+  pub counts_accesses : t.accesses ≡ access_count journal
+  pub counts_gap : t.gap ≡ gap_after 0 journal
 
--- a thread with these commands, after its journal from the start: its counts are those of the journal, and what is coming is what it demands then
-pub record IsReplayOf (commands : List Command) (start : Configuration) (objects : ℕ) (t : ThreadReplay) : Type 0 where
-  pub counts : HasCounts t
-  pub comes : IsComing commands (configuration_after commands start t.journal) t.coming t.config
+-- a thread with these commands and this log, after a journal from the start: its counts and the values read are those of the journal, and what it demands next is what it demands then
+pub record IsReplayOf (commands : List Command) (start : Configuration) (objects : ℕ) (log : ThreadLog) (journal : List Event) (t : ThreadReplay) : Type 0 where
+  pub counts : HasCounts journal t
+  pub comes : IsDemandedNext commands (configuration_after commands start journal) t.up_next t.config
   pub runs : t.config.commands ≡ commands
   pub has : t.config.objects ≡ objects
-  pub names : NamesObject objects t.coming
+  pub names : NamesObject objects t.up_next
+  pub follows : t.log ≡ log
+  pub reads : t.reads.items ≡ values_read journal
+  pub room : log.accesses ≤ vec_capacity t.reads
+  pub few_accesses : t.accesses ≤ log.accesses
+  pub few_marks : t.marks ≤ length log.marks
 
--- what is next by the log, from the counts and what is coming
+-- what is next by the log, from the counts and what it demands next
 abbrev pub next_by_counts : ThreadLog → ThreadReplay → Next
 next_by_counts log t =
     mark_first (due_mark (slice_get log.marks t.marks) t.gap)
-    (next_access (demand_of t.coming) (nat_lt t.accesses log.accesses) (nat_lt t.marks (length log.marks)))
+    (next_access (demand_of t.up_next) (nat_lt t.accesses log.accesses) (nat_lt t.marks (length log.marks)))
+
+-- what a thread waits for that is to step so
+abbrev pub need_of : Next → Need
+need_of (Wants (MakeMark (Join from upto))) = Events from upto
+need_of (Wants (MakeMark (Draw zero))) = Never
+need_of (Wants (MakeMark (Draw (suc number)))) = DrawsAre number
+need_of (Wants (MakeMark (Fence number))) = DrawsReach number
+need_of (Wants (MakeRead object)) = Free
+need_of (Wants (MakeWrite object value)) = Free
+need_of Finished = Never
+need_of NothingFits = Never
 
 -- the event that is next on this heap, if an operation is next
 abbrev pub next_event : Next → List ℕ → Option Event
@@ -45,7 +66,8 @@ StandsFor (Marked mark) t = Unit {0}
 -- there is room to count the event
 abbrev pub HasRoomFor : Event → ThreadReplay → Type 0
 HasRoomFor (Marked mark) t = suc t.marks < 2 ^ 64
-HasRoomFor _ t = (suc t.accesses < 2 ^ 32) × (suc t.gap < 2 ^ 32)
+HasRoomFor (Read object value) t = (suc t.accesses < 2 ^ 32) × (suc t.gap < 2 ^ 32) × (vec_len t.reads < vec_capacity t.reads)
+HasRoomFor (Write object value) t = (suc t.accesses < 2 ^ 32) × (suc t.gap < 2 ^ 32)
 
 -- a write names one of so many objects
 abbrev pub WritesWithin : ℕ → Event → Type 0
@@ -53,29 +75,32 @@ WritesWithin objects (Write object value) = object < objects
 WritesWithin objects _ = Unit {0}
 
 -- after an access the thread comes to what it demands past it; a mark changes nothing of that
-abbrev pub ComesPast : Event → ThreadReplay → ThreadReplay → Type 0
-ComesPast (Read object value) before after = IsComing before.config.commands (given before.config value).at after.coming after.config
-ComesPast (Write object value) before after = IsComing before.config.commands before.config.at after.coming after.config
-ComesPast (Marked mark) before after = (after.coming ≡ before.coming) × (after.config ≡ before.config)
+abbrev pub IsPastEvent : Event → ThreadReplay → ThreadReplay → Type 0
+IsPastEvent (Read object value) before after = IsDemandedNext before.config.commands (given before.config value).at after.up_next after.config
+IsPastEvent (Write object value) before after = IsDemandedNext before.config.commands before.config.at after.up_next after.config
+IsPastEvent (Marked mark) before after = (after.up_next ≡ before.up_next) × (after.config ≡ before.config)
 
 -- one thread before an event and after it
 pub record Grown (before : ThreadReplay) (event : Event) (after : ThreadReplay) : Type 0 where
-  pub journal : after.journal ≡ before.journal ++ event ∷ []
+  pub log : after.log ≡ before.log
+  pub reads : after.reads.items ≡ before.reads.items ++ values_read (event ∷ [])
+  pub room : vec_capacity after.reads ≡ vec_capacity before.reads
   pub marks : after.marks ≡ before.marks + mark_count (event ∷ [])
   pub accesses : after.accesses ≡ before.accesses + access_count (event ∷ [])
   pub gap : after.gap ≡ gap_after before.gap (event ∷ [])
-  pub comes : ComesPast event before after
+  pub comes : IsPastEvent event before after
   pub runs : after.config.commands ≡ before.config.commands
   pub has : after.config.objects ≡ before.config.objects
-  pub names : NamesObject before.config.objects before.coming → NamesObject before.config.objects after.coming
+  pub names : NamesObject before.config.objects before.up_next → NamesObject before.config.objects after.up_next
 
 -- one thread before an access is counted and after it
 pub record Counted (before after : ThreadReplay) : Type 0 where
-  pub journal : after.journal ≡ before.journal
+  pub log : after.log ≡ before.log
+  pub reads : after.reads ≡ before.reads
   pub marks : after.marks ≡ before.marks
   pub accesses : after.accesses ≡ suc before.accesses
   pub gap : after.gap ≡ suc before.gap
-  pub comes : IsComing before.config.commands before.config.at after.coming after.config
+  pub comes : IsDemandedNext before.config.commands before.config.at after.up_next after.config
   pub runs : after.config.commands ≡ before.config.commands
   pub has : after.config.objects ≡ before.config.objects
-  pub names : NamesObject before.config.objects after.coming
+  pub names : NamesObject before.config.objects after.up_next

@@ -1,19 +1,19 @@
 //! Why a replay is refused.
 ghost use Rattle.std.specs.Prelude.{◌≡◌};
-ghost use Rattle.octet_replay.specs.declared.fault.ReplayFault.TheVariants.{OutOfMemory as Refused};
+ghost use Rattle.octet_replay.specs.declared.fault.ReplayFault.TheVariants.{OutOfMemory as MemoryRefused};
 
 use octet_model::{List, OutOfMemory};
 use std::alloc::{AllocError, AllocFailed};
 use thiserror::Error;
 
-/// Why a log is not replayed. Want of memory alone may come at any time; the others say why the
+/// Why a log is not replayed. Out of memory alone may come at any time; the others say why the
 /// log does not fit the script.
 #[derive(Debug, Drop, Error)]
 pub enum ReplayFault {
     /// The script and the log have these numbers of threads, which differ.
     #[error("{script} threads in the script, {log} in the log")]
     ThreadsDiffer { script: u32, log: u32 },
-    /// No thread may step and some thread is not through. Each thread has made so many events.
+    /// No thread may step and some thread is not through. `positions` are how many events each thread has made.
     #[error("stuck")]
     Stuck { positions: List<u64> },
     /// When no thread may step, this is the lowest thread that ended with fewer accesses than
@@ -26,7 +26,7 @@ pub enum ReplayFault {
 }
 
 impl From<OutOfMemory> for ReplayFault {
-    ghost from_gives = { λ _ e. e ≡ Refused };
+    ghost from_gives = { λ _ e. e ≡ MemoryRefused };
 
     fn from(_: OutOfMemory) -> Self {
         ReplayFault::OutOfMemory
@@ -34,7 +34,7 @@ impl From<OutOfMemory> for ReplayFault {
 }
 
 impl From<AllocError> for ReplayFault {
-    ghost from_gives = { λ _ e. e ≡ Refused };
+    ghost from_gives = { λ _ e. e ≡ MemoryRefused };
 
     fn from(_: AllocError) -> Self {
         ReplayFault::OutOfMemory
@@ -42,7 +42,7 @@ impl From<AllocError> for ReplayFault {
 }
 
 impl<T: Drop> From<AllocFailed<T>> for ReplayFault {
-    ghost from_gives = { λ _ e. e ≡ Refused };
+    ghost from_gives = { λ _ e. e ≡ MemoryRefused };
 
     fn from(_: AllocFailed<T>) -> Self {
         ReplayFault::OutOfMemory

@@ -3,16 +3,27 @@
 //! does not fit the script.
 #![tactic(auto)]
 
+mod ending;
 mod fault;
 mod judge;
 pub mod laws;
 mod line;
+mod need;
 mod order;
+mod replayer;
 mod state;
+mod stepped;
 #[cfg(test)]
 mod tests;
 mod thread;
+mod thread_set;
+mod waiting;
+mod waits;
 
 pub use fault::ReplayFault;
 pub use line::fit_line;
+pub use need::Need;
 pub use order::{journals, replay};
+pub use replayer::Replayer;
+pub use stepped::Stepped;
+pub use waits::Waits;

@@ -7,34 +7,26 @@ ghost use Rattle.octet_replay.specs.Line.{fit_line};
 ghost use Rattle.octet_replay.specs.declared.fault.ReplayFault.TheVariants.{ThreadsDiffer, Stuck, Misfit};
 
 use crate::ReplayFault;
-use octet_model::OutOfMemory;
+use octet_model::{OutOfMemory, push_number};
 use std::alloc::Global;
-
-fn push_number(alloc: Global, line: &mut Vec<u8>, number: u64) -> Result<(), OutOfMemory>
-    ensures { OnOk result (line.new.items ≡ line.old.items ++ decimal number) }
-{
-    let digits = format!(in alloc; "{number}")?;
-    line.extend_from_slice(digits.as_bytes())?;
-    Ok(())
-}
 
 fn threads_line(alloc: Global, of_script: u32, of_log: u32) -> Result<Vec<u8>, OutOfMemory>
     ensures { IfOk result (λ line. line.items ≡ fit_line (ThreadsDiffer of_script of_log)) }
 {
     let mut line = Vec::from_slice(alloc, b"fit: threads ")?;
-    push_number(alloc, &mut line, u64::from(of_script))?;
+    push_number(&mut line, u64::from(of_script))?;
     line.extend_from_slice(b" in the script, ")?;
-    push_number(alloc, &mut line, u64::from(of_log))?;
+    push_number(&mut line, u64::from(of_log))?;
     line.extend_from_slice(b" in the log\n")?;
     Ok(line)
 }
 
-fn push_positions(alloc: Global, line: &mut Vec<u8>, positions: &[u64]) -> Result<(), OutOfMemory>
+fn push_positions(line: &mut Vec<u8>, positions: &[u64]) -> Result<(), OutOfMemory>
     ensures { OnOk result (line.new.items ≡ line.old.items ++ flat_map value_word positions.now) }
 {
     for position in positions {
         line.extend_from_slice(b" ")?;
-        push_number(alloc, line, *position)?;
+        push_number(line, *position)?;
     }
     Ok(())
 }
@@ -43,7 +35,7 @@ fn stuck_line(alloc: Global, positions: &[u64]) -> Result<Vec<u8>, OutOfMemory>
     ensures { IfOk result (λ line. line.items ≡ fit_line (Stuck positions.now)) }
 {
     let mut line = Vec::from_slice(alloc, b"fit: stuck at")?;
-    push_positions(alloc, &mut line, positions)?;
+    push_positions(&mut line, positions)?;
     line.extend_from_slice(b"\n")?;
     Ok(line)
 }
@@ -52,17 +44,17 @@ fn misfit_line(alloc: Global, thread: u8, wanted: u32, found: u32) -> Result<Vec
     ensures { IfOk result (λ line. line.items ≡ fit_line (Misfit thread wanted found)) }
 {
     let mut line = Vec::from_slice(alloc, b"fit: thread ")?;
-    push_number(alloc, &mut line, u64::from(thread))?;
+    push_number(&mut line, u64::from(thread))?;
     line.extend_from_slice(b" wants ")?;
-    push_number(alloc, &mut line, u64::from(wanted))?;
+    push_number(&mut line, u64::from(wanted))?;
     line.extend_from_slice(b" accesses, found ")?;
-    push_number(alloc, &mut line, u64::from(found))?;
+    push_number(&mut line, u64::from(found))?;
     line.extend_from_slice(b"\n")?;
     Ok(line)
 }
 
 /// The line that says how a log does not fit its script: both numbers of threads, the positions
-/// of all threads, or the accesses of the thread that does not fit. Want of memory has no line.
+/// of all threads, or the accesses of the thread that does not fit. Out of memory has no line.
 pub fn fit_line(alloc: Global, fault: &ReplayFault) -> Result<Vec<u8>, OutOfMemory>
     ensures { IfOk result (λ line. line.items ≡ fit_line fault.now) }
 {

@@ -1,123 +1,129 @@
 //! All threads as far as they are replayed.
-ghost use Rattle.std.specs.Prelude.{◌≡◌, ◌<◌, ℕ, Some, None, length, map, IfOk, IfSome, IsNone, IsTrue, OnOk, slice_get};
-ghost use Rattle.octet_model.specs.Machine.{is_enabled, journal_of};
-ghost use Rattle.octet_model.specs.Orders.{opening_state};
+ghost use Rattle.std.specs.Prelude.{◌≡◌, ◌<◌, ◌≤◌, ◌^◌, true, false, Some, length, map, All, IfOk, IsTrue, slice_get, slice_index};
+ghost use Rattle.octet_model.specs.Machine.{heap_after, no_events};
 ghost use Rattle.octet_model.specs.Plays.{operation_of};
-ghost use Rattle.octet_replay.specs.Replayed.{journals_of, plain_state_of, step_now, AllNameObjects, IsLowestStep, IsReplay, Stepped};
-ghost use Rattle.octet_replay.specs.Threads.{HasRoomFor, StandsFor, WritesWithin};
+ghost use Rattle.octet_replay.specs.Needs.{is_ready, NamesThread};
+ghost use Rattle.octet_replay.specs.Replayed.{is_draw, state_of, AreReplaysOf, IsAt, MakesEvent};
+ghost use Rattle.octet_replay.specs.ReplayState.{StepsTo};
+ghost use Rattle.octet_replay.specs.Threads.{need_of, next_by_counts, Grown, HasRoomFor, StandsFor, WritesWithin};
 ghost use Rattle.octet_replay.specs.declared.thread.ThreadReplay.{ThreadReplay};
 
 use crate::thread::ThreadReplay;
-use octet_model::{Event, Log, Mark, Object, OutOfMemory, Script};
+use crate::{Need, Stepped, Waits};
+use octet_model::{Event, List, Log, Mark, OutOfMemory, Script};
 use std::alloc::Global;
+use std::snapshot::Snapshot;
 
-/// The threads as far as they are replayed, the heap, and the number of draws.
-#[derive(Debug, Drop)]
+/// The threads as far as they are replayed, the heap, and what each thread waits for.
+#[derive(Drop)]
 pub(crate) struct Replay {
     pub(crate) threads: Vec<ThreadReplay>,
     pub(crate) heap: Vec<u64>,
-    pub(crate) draws: u64,
+    pub(crate) waits: Waits,
+    pub(crate) script: Snapshot<Script>,
+    pub(crate) log: Snapshot<Log>,
 }
 
-fn starting_heap(alloc: Global, objects: &[Object]) -> Result<Vec<u64>, OutOfMemory>
-    ensures { IfOk result (λ heap. heap.items ≡ map (λ object. object.start) objects.now) }
+fn is_draw(event: Event) -> bool
+    ensures { result ≡ is_draw event }
 {
-    let mut heap = Vec::new(alloc);
-    for object in objects {
-        heap.push(object.start)?;
+    match event {
+        Event::Marked {
+            mark: Mark::Draw { .. },
+        } => true,
+        _ => false,
     }
-    Ok(heap)
+}
+
+// A write changes its object's value.
+fn write(heap: &mut Vec<u64>, event: Event)
+    requires { WritesWithin (length heap.old.items) event }
+    ensures { heap.new.items ≡ heap_after (operation_of event) heap.old.items }
+{
+    if let Event::Write { object, value } = event {
+        heap[object as usize] = value;
+    }
+}
+
+// What each thread waits for.
+fn needs_of(alloc: Global, threads: &[ThreadReplay]) -> Result<List<Need>, OutOfMemory>
+    ensures { IfOk result (λ needs. needs ≡ map (λ t. need_of (next_by_counts t.log t)) threads.now) }
+{
+    let mut needs = List::new(alloc);
+    for thread in threads {
+        needs.push(thread.need())?;
+    }
+    Ok(needs)
+}
+
+// All threads of a script, at their starts.
+fn starting_threads(
+    alloc: Global,
+    script: &Script,
+    log: &Log,
+) -> Result<Vec<ThreadReplay>, OutOfMemory>
+    requires { length script.now.threads ≡ length log.now.threads }
+    ensures as_many { IfOk result (λ threads. length threads.items ≡ length script.now.threads) }
+    ensures each { IfOk result (λ threads. AreReplaysOf script.now log.now.threads (no_events script.now.threads) threads.items) }
+{
+    let mut threads = Vec::new(alloc);
+    for thread in 0..script.threads.len() {
+        let of_log = &log.threads.as_slice()[thread];
+        threads.push(ThreadReplay::new(alloc, script, of_log, thread as u8)?)?;
+    }
+    Ok(threads)
 }
 
 impl Replay {
     /// Before the first event.
-    pub(crate) fn new(alloc: Global, script: &Script) -> Result<Replay, OutOfMemory>
-        ensures replay { IfOk result (λ replay. IsReplay script.now replay) }
-        ensures opens { IfOk result (λ replay. plain_state_of replay ≡ opening_state script.now) }
+    pub(crate) fn new(alloc: Global, script: &Script, log: &Log) -> Result<Replay, OutOfMemory>
+        requires { length script.now.threads ≡ length log.now.threads }
+        ensures opens { IfOk result (λ r. state_of r ≡ record { script = script.now; log = log.now; steps = 0 }) }
+        ensures at { IfOk result (λ r. IsAt r) }
     {
-        let mut threads = Vec::new(alloc);
-        for thread in 0..script.threads.len() {
-            threads.push(ThreadReplay::new(alloc, script, thread as u8)?)?;
-        }
+        let threads = starting_threads(alloc, script, log)?;
+        let needs = needs_of(alloc, &threads)?;
         Ok(Replay {
             threads,
-            heap: starting_heap(alloc, script.objects.as_slice())?,
-            draws: 0,
+            heap: script.starting_heap(alloc)?,
+            waits: Waits::new(alloc, &needs)?,
+            script: Snapshot::of(script),
+            log: Snapshot::of(log),
         })
     }
 
-    // How many events a thread has made.
-    fn events_of(&self, thread: u8) -> u64
-        ensures { result ≡ length (journal_of (journals_of self.now.threads.items) thread) }
-    {
-        match self.threads.get(thread as usize) {
-            Some(replay) => replay.journal.len() as u64,
-            None => 0,
-        }
-    }
-
-    // A Join waits for so many events of its thread, a Draw for its turn, and a Fence for so
-    // many draws.
-    fn may_make(&self, event: Event) -> bool
-        ensures { result ≡ is_enabled (plain_state_of self.now) (operation_of event) }
-    {
-        let Event::Marked { mark } = event else {
-            return true;
-        };
-        match mark {
-            Mark::Join { from, upto } => upto <= self.events_of(from),
-            Mark::Draw { number } => number > self.draws && number - self.draws == 1,
-            Mark::Fence { number } => number <= self.draws,
-        }
-    }
-
-    // The event that a thread may make now, if it may make one.
-    fn step_of(&self, log: &Log, thread: usize) -> Option<Event>
-        requires within { thread < length self.now.threads.items }
-        requires logs { length self.now.threads.items ≡ length log.now.threads }
-        requires objects { AllNameObjects self.now }
-        ensures { result ≡ step_now log.now.threads self.now thread }
-    {
-        let event = self.threads[thread].next_event(&log.threads.as_slice()[thread], &self.heap)?;
-        if self.may_make(event) {
-            Some(event)
-        } else {
-            None
-        }
-    }
-
-    /// The lowest thread that may step, and the event that it makes.
-    pub(crate) fn lowest(&self, log: &Log) -> Option<(usize, Event)>
-        requires logs { length self.now.threads.items ≡ length log.now.threads }
-        requires objects { AllNameObjects self.now }
-        ensures some { IfSome result (IsLowestStep log.now.threads self.now) }
-        ensures none { IsNone result → (thread : ℕ) → step_now log.now.threads self.now thread ≡ None }
-    {
-        for thread in 0..self.threads.len() {
-            if let Some(event) = self.step_of(log, thread) {
-                return Some((thread, event));
-            }
-        }
-        None
-    }
-
-    /// Makes the event of a thread.
-    pub(crate) fn make(&mut self, thread: usize, event: Event) -> Result<(), OutOfMemory>
+    // Makes the event of a thread that may step.
+    fn make(&mut self, thread: u8, event: Event)
         requires within { thread < length self.old.threads.items }
-        requires enabled { IsTrue (is_enabled (plain_state_of self.old) (operation_of event)) }
         requires stands { (t : ThreadReplay) → slice_get self.old.threads.items thread ≡ Some t → StandsFor event t }
         requires room { (t : ThreadReplay) → slice_get self.old.threads.items thread ≡ Some t → HasRoomFor event t }
         requires object { WritesWithin (length self.old.heap.items) event }
-        ensures { OnOk result (Stepped self.old thread event self.new) }
+        requires met { is_ready self.old.waits thread ≡ true }
+        requires names { (t after : ThreadReplay) → slice_get self.old.threads.items thread ≡ Some t → Grown t event after → NamesThread (length self.old.waits.needs) (need_of (next_by_counts after.log after)) }
+        requires events { slice_index self.old.waits.events thread < u64.MAX }
+        requires draws { is_draw event ≡ true → self.old.waits.draws < u64.MAX }
+        ensures { MakesEvent self.old thread event self.new }
     {
-        self.threads[thread].make(event)?;
-        match event {
-            Event::Write { object, value } => self.heap[object as usize] = value,
-            Event::Marked {
-                mark: Mark::Draw { number },
-            } => self.draws = number,
-            _ => {}
-        }
-        Ok(())
+        let it = &mut self.threads[thread as usize];
+        it.make(event);
+        let next = it.need();
+        write(&mut self.heap, event);
+        self.waits.step(thread, is_draw(event), next);
+    }
+
+    /// Makes the next step of the lowest order, if a thread may step.
+    pub(crate) fn step(&mut self) -> Stepped
+        requires { IsAt self.old }
+        ensures steps { StepsTo (state_of self.old) result (state_of self.new) }
+        ensures at { IsAt self.new }
+    {
+        let Some(thread) = self.waits.lowest() else {
+            return Stepped::Halted;
+        };
+        let Some(event) = self.threads[thread as usize].next_event(&self.heap) else {
+            unreachable!()
+        };
+        self.make(thread, event);
+        Stepped::Made { thread, event }
     }
 }

@@ -5,7 +5,7 @@ ghost use Rattle.octet_model.specs.Script.{is_script};
 
 use super::*;
 use octet_model::{
-    Command, Event, Gapped, List, Log, Mark, Name, Object, OutOfMemory, Script, ThreadLog,
+    Command, End, Event, Gapped, List, Log, Mark, Name, Object, OutOfMemory, Script, ThreadLog,
     outcome_text,
 };
 use std::alloc::Global;
@@ -125,7 +125,7 @@ fn said(alloc: Global, script: &Script, log: &Log) -> Result<Vec<u8>, OutOfMemor
 
 const READ_7: &[u8] = b"thread 0 done\nthread 1 done 7\nobject x 7\n";
 
-const BEHIND_THE_WRITE: Gapped = Gapped {
+const AFTER_THE_WRITE: Gapped = Gapped {
     gap: 0,
     mark: Mark::Join { from: 0, upto: 1 },
 };
@@ -143,7 +143,7 @@ fn lawful_orders_are_replayed(rt: HostRuntime) -> Result<(), Fail> {
         b"thread 0 spent 0\nobject x 0\n".as_slice()
     );
     let script = write_and_read(alloc)?;
-    let log = log_of_two(alloc, 1, NO_MARKS, 1, &[BEHIND_THE_WRITE])?;
+    let log = log_of_two(alloc, 1, NO_MARKS, 1, &[AFTER_THE_WRITE])?;
     assert_eq!(rt; said(alloc, &script, &log)?.as_slice(), READ_7);
     let log = log_of_two(alloc, 1, NO_MARKS, 1, NO_MARKS)?;
     assert_eq!(rt; said(alloc, &script, &log)?.as_slice(), READ_7);
@@ -153,11 +153,11 @@ fn lawful_orders_are_replayed(rt: HostRuntime) -> Result<(), Fail> {
 #[test]
 fn stuck_threads_are_refused(rt: HostRuntime) -> Result<(), Fail> {
     let alloc = rt.alloc();
-    let behind_the_read = Gapped {
+    let after_the_read = Gapped {
         gap: 0,
         mark: Mark::Join { from: 1, upto: 1 },
     };
-    let log = log_of_two(alloc, 1, &[behind_the_read], 1, &[BEHIND_THE_WRITE])?;
+    let log = log_of_two(alloc, 1, &[after_the_read], 1, &[AFTER_THE_WRITE])?;
     assert_eq!(rt;
         said(alloc, &write_and_read(alloc)?, &log)?.as_slice(),
         b"fit: stuck at 0 0\n".as_slice()
@@ -283,13 +283,71 @@ fn journals_have_marks_and_values(rt: HostRuntime) -> Result<(), Fail> {
     Ok(())
 }
 
+fn made(thread: u8, event: Event) -> Stepped {
+    Stepped::Made { thread, event }
+}
+
+#[test]
+fn replayer_gives_the_events_one_by_one(rt: HostRuntime) -> Result<(), Fail> {
+    let alloc = rt.alloc();
+    let mut replayer = Replayer::new(alloc, &shared_reads(alloc)?, &shared_log(alloc)?)?;
+    let read_9 = Event::Read {
+        object: 0,
+        value: 9,
+    };
+    let steps = [
+        made(1, marked(Mark::Join { from: 0, upto: 0 })),
+        made(1, read_9),
+        made(2, marked(Mark::Join { from: 1, upto: 1 })),
+        made(2, marked(Mark::Draw { number: 1 })),
+        made(1, marked(Mark::Fence { number: 1 })),
+        made(1, read_9),
+        made(2, read_9),
+        Stepped::Halted,
+        Stepped::Halted,
+    ];
+    for step in steps {
+        assert_eq!(rt; replayer.step(), step);
+    }
+    replayer.run();
+    let outcome = replayer.end(alloc)?;
+    assert_eq!(rt; outcome.ends.as_slice(), [End::Done; 3].as_slice());
+    for (thread, values) in [
+        (0, [].as_slice()),
+        (1, [9, 9].as_slice()),
+        (2, [9].as_slice()),
+    ] {
+        assert_eq!(rt;
+            outcome.reads.get(thread).map(|reads| reads.as_slice()),
+            Some(values)
+        );
+    }
+    assert_eq!(rt; outcome.heap.as_slice(), [9].as_slice());
+    Ok(())
+}
+
+#[test]
+fn waits_follow_what_is_counted(rt: HostRuntime) -> Result<(), Fail> {
+    let alloc = rt.alloc();
+    let mut needs = List::new(alloc);
+    needs.push(Need::Events { of: 1, count: 1 })?;
+    needs.push(Need::Free)?;
+    let mut waits = Waits::new(alloc, &needs)?;
+    assert_eq!(rt; waits.lowest(), Some(1));
+    waits.step(1, false, Need::Never);
+    assert_eq!(rt; waits.lowest(), Some(0));
+    waits.step(0, false, Need::Never);
+    assert_eq!(rt; waits.lowest(), None);
+    Ok(())
+}
+
 fn repeated(alloc: Global, mark: Gapped, count: usize) -> Result<List<Gapped>, OutOfMemory>
     ensures { IfOk result (λ marks. marks ≡ replicate count mark) }
 {
     Ok(List::from_vec(vec![in alloc; mark; count]?))
 }
 
-// Two threads, the second with so many marks that wait for nothing.
+// Two threads, the second with marks that wait for nothing.
 fn log_of_many_marks(alloc: Global, count: usize) -> Result<Log, OutOfMemory>
     requires { count < 2 ^ 31 }
 {

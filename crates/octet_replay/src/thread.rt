@@ -1,49 +1,52 @@
 //! One thread as far as it is replayed.
 ghost use Rattle.std.specs.Prelude.{◌≡◌, ◌<◌, ◌^◌, suc, [], false, length, IfOk, OnOk, slice_get};
 ghost use Rattle.octet_model.specs.Journals.{due_mark};
+ghost use Rattle.octet_model.specs.Machine.{Wants, MakeMark};
 ghost use Rattle.octet_model.specs.Orders.{commands_of};
 ghost use Rattle.octet_model.specs.Thread.{starting_configuration};
-ghost use Rattle.octet_replay.specs.Coming.{IsComing, NamesObject};
-ghost use Rattle.octet_replay.specs.Threads.{next_by_counts, next_event, Counted, Grown, HasRoomFor, IsReplayOf, StandsFor};
+ghost use Rattle.octet_replay.specs.NextDemand.{IsDemandedNext, NamesObject};
+ghost use Rattle.octet_replay.specs.Threads.{need_of, next_by_counts, next_event, Counted, Grown, HasRoomFor, IsReplayOf, StandsFor};
 
+use crate::Need;
 use octet_interp::{Config, Demand};
-use octet_model::{End, Event, List, Mark, OutOfMemory, Script, ThreadLog};
+use octet_model::{End, Event, Mark, OutOfMemory, Script, ThreadLog};
 use std::alloc::Global;
 
 /// What a thread demands next: an access, or its end.
 #[derive(Clone, Copy, Debug, PartialEq, Eq)]
-pub(crate) enum Coming {
+pub(crate) enum NextDemand {
     Read { object: u16 },
     Write { object: u16, value: u64 },
     Ended { end: End },
 }
 
-/// One thread of a script as far as it is replayed: the events that it made, its marks, its
-/// accesses and its accesses since the last mark among them, and what it demands next.
+/// One thread of a script as far as it is replayed: what it demands next, its log, how many marks,
+/// accesses and accesses since the last mark it made, and the values that it read.
 #[derive(Debug, Drop)]
 pub(crate) struct ThreadReplay {
     pub(crate) config: Config,
-    pub(crate) coming: Coming,
-    pub(crate) journal: List<Event>,
+    pub(crate) up_next: NextDemand,
+    pub(crate) log: ThreadLog,
     pub(crate) marks: usize,
     pub(crate) accesses: u32,
     pub(crate) gap: u32,
+    pub(crate) reads: Vec<u64>,
 }
 
 // Asks a thread for its next access, or its end.
-fn ask(config: &mut Config) -> Coming
+fn ask(config: &mut Config) -> NextDemand
     requires { config.old.waits ≡ false }
-    ensures coming { IsComing config.old.commands config.old.at result config.new }
+    ensures up_next { IsDemandedNext config.old.commands config.old.at result config.new }
     ensures names { NamesObject config.old.objects result }
     ensures commands { config.new.commands ≡ config.old.commands }
     ensures objects { config.new.objects ≡ config.old.objects }
 {
     loop {
         match config.next() {
-            Demand::Read { object } => return Coming::Read { object },
-            Demand::Write { object, value } => return Coming::Write { object, value },
+            Demand::Read { object } => return NextDemand::Read { object },
+            Demand::Write { object, value } => return NextDemand::Write { object, value },
             Demand::Safe | Demand::Pause => {}
-            Demand::Ended { end } => return Coming::Ended { end },
+            Demand::Ended { end } => return NextDemand::Ended { end },
         }
     }
 }
@@ -60,47 +63,86 @@ fn due_mark(log: &ThreadLog, marks: usize, gap: u32) -> Option<Mark>
     }
 }
 
+// A Join waits for so many events of its thread, a Draw for its turn, a Fence for so many draws.
+fn need_of_mark(mark: Mark) -> Need
+    ensures { result ≡ need_of (Wants (MakeMark mark)) }
+{
+    match mark {
+        Mark::Join { from, upto } => Need::Events {
+            of: from,
+            count: upto,
+        },
+        Mark::Draw { number } => {
+            if number == 0 {
+                return Need::Never;
+            }
+            Need::DrawsAre { count: number - 1 }
+        }
+        Mark::Fence { number } => Need::DrawsReach { count: number },
+    }
+}
+
 impl ThreadReplay {
-    /// A thread at its start.
+    /// A thread at its start, with room for all values that its log lets it read.
     pub(crate) fn new(
         alloc: Global,
         script: &Script,
+        log: &ThreadLog,
         thread: u8,
     ) -> Result<ThreadReplay, OutOfMemory>
         requires { thread < length script.now.threads }
-        ensures journal { IfOk result (λ replay. replay.journal ≡ []) }
-        ensures replay { IfOk result (λ replay. IsReplayOf (commands_of script.now thread) (starting_configuration script.now.fuel) (length script.now.objects) replay) }
+        ensures { IfOk result (λ replay. IsReplayOf (commands_of script.now thread) (starting_configuration script.now.fuel) (length script.now.objects) log.now [] replay) }
     {
         let mut config = Config::new(alloc, script, thread)?;
-        let coming = ask(&mut config);
+        let up_next = ask(&mut config);
         Ok(ThreadReplay {
             config,
-            coming,
-            journal: List::new(alloc),
+            up_next,
+            log: ThreadLog {
+                accesses: log.accesses,
+                marks: log.marks.try_clone(alloc)?,
+            },
             marks: 0,
             accesses: 0,
             gap: 0,
+            reads: Vec::with_capacity(alloc, log.accesses as usize)?,
         })
     }
 
     /// The event that is next by the log, where a read would take its value from the heap now.
-    pub(crate) fn next_event(&self, log: &ThreadLog, heap: &[u64]) -> Option<Event>
-        requires { NamesObject (length heap.now) self.now.coming }
-        ensures { result ≡ next_event (next_by_counts log.now self.now) heap.now }
+    pub(crate) fn next_event(&self, heap: &[u64]) -> Option<Event>
+        requires { NamesObject (length heap.now) self.now.up_next }
+        ensures { result ≡ next_event (next_by_counts self.now.log self.now) heap.now }
     {
-        if let Some(mark) = due_mark(log, self.marks, self.gap) {
+        if let Some(mark) = due_mark(&self.log, self.marks, self.gap) {
             return Some(Event::Marked { mark });
         }
-        if self.accesses >= log.accesses {
+        if self.accesses >= self.log.accesses {
             return None;
         }
-        match self.coming {
-            Coming::Read { object } => Some(Event::Read {
+        match self.up_next {
+            NextDemand::Read { object } => Some(Event::Read {
                 object,
                 value: heap[object as usize],
             }),
-            Coming::Write { object, value } => Some(Event::Write { object, value }),
-            Coming::Ended { .. } => None,
+            NextDemand::Write { object, value } => Some(Event::Write { object, value }),
+            NextDemand::Ended { .. } => None,
+        }
+    }
+
+    /// What the thread waits for before its next step.
+    pub(crate) fn need(&self) -> Need
+        ensures { result ≡ need_of (next_by_counts self.now.log self.now) }
+    {
+        if let Some(mark) = due_mark(&self.log, self.marks, self.gap) {
+            return need_of_mark(mark);
+        }
+        if self.accesses >= self.log.accesses {
+            return Need::Never;
+        }
+        match self.up_next {
+            NextDemand::Read { .. } | NextDemand::Write { .. } => Need::Free,
+            NextDemand::Ended { .. } => Need::Never,
         }
     }
 
@@ -113,18 +155,18 @@ impl ThreadReplay {
     {
         self.accesses += 1;
         self.gap += 1;
-        self.coming = ask(&mut self.config);
+        self.up_next = ask(&mut self.config);
     }
 
     /// Makes an event.
-    pub(crate) fn make(&mut self, event: Event) -> Result<(), OutOfMemory>
+    pub(crate) fn make(&mut self, event: Event)
         requires stands { StandsFor event self.old }
         requires room { HasRoomFor event self.old }
-        ensures { OnOk result (Grown self.old event self.new) }
+        ensures { Grown self.old event self.new }
     {
-        self.journal.push(event)?;
         match event {
             Event::Read { value, .. } => {
+                self.reads.push_reserved(value);
                 self.config.give(value);
                 self.count_access();
             }
@@ -134,6 +176,5 @@ impl ThreadReplay {
                 self.gap = 0;
             }
         }
-        Ok(())
     }
 }

@@ -1,12 +1,17 @@
-use Rattle.octet_clock.proofs.Verifying.{places_of, whole_of, verified}
+use Rattle.std.proofs.Common.{◌≡◌, ap, ◌∙◌, subst}
+use Rattle.octet_model.specs.declared.script.Script.{Script}
+use Rattle.octet_model.specs.declared.log.Log.{Log}
+use Rattle.octet_replay.specs.Judged.{IsLawful}
+use Rattle.octet_replay.specs.ReplayState.{ReplayState}
+use Rattle.octet_clock.proofs.Verifying.{verified}
 use Rattle.octet_clock.proofs.verified.verify.Goals as goal
-
-pub check-requires-clause-places : goal.check-requires-clause-places
-check-requires-clause-places c = places_of c.args.script.now c.args.log.now.threads c.in_ok-journals.ensures.lawful c.in_ok-journals.journals c.in_ok-journals.ensures.journals c.args.log.now.valid
-
-pub check-requires-clause-whole : goal.check-requires-clause-whole
-check-requires-clause-whole c = whole_of c.args.script.now c.args.log.now.threads c.in_ok-journals.ensures.lawful c.in_ok-journals.journals c.in_ok-journals.ensures.journals
 
 pub returns-clause-verdict : goal.returns-clause-verdict
 returns-clause-verdict c =
-    verified c.args.script.now c.args.log.now.threads c.in_ok-journals.ensures.lawful c.in_ok-journals.journals c.in_ok-journals.ensures.journals c.in_ok-check.field-0 c.in_ok-check.ensures
+    let opens = c.in_ok-replayer.ensures.opens in
+    let judged = c.in_ok-verdict.ensures in
+    let is_script : c.run.new.self.script ≡ c.args.script.now = c.run.ensures.script ∙ judged.script ∙ ap (λ (r : ReplayState). r.script) opens in
+    let is_log : c.run.new.self.log ≡ c.args.log.now = c.run.ensures.log ∙ judged.log ∙ ap (λ (r : ReplayState). r.log) opens in
+    let of_script = subst (λ (script : Script). IsLawful script c.run.new.self.log.threads) is_script c.in_ok-end.ensures.lawful in
+    let lawful = subst (λ (log : Log). IsLawful c.args.script.now log.threads) is_log of_script in
+    verified c.args.script.now c.args.log.now c.in_ok-replayer.replayer c.judge.new.replayer opens c.in_ok-verdict.verdict judged lawful

@@ -3,4 +3,4 @@ use Rattle.octet_replay.specs.Replayed.{IsThroughHere}
 use Rattle.octet_replay.proofs.judge.are_through.Given as goal
 
 abbrev pub invariant-loop-thread : goal.invariant-loop-thread
-invariant-loop-thread l = (lower : ℕ) → lower < l.thread → IsThroughHere l.log.threads l.threads lower
+invariant-loop-thread l = (lower : ℕ) → lower < l.thread → IsThroughHere l.threads lower

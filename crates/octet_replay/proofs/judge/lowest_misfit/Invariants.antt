@@ -1,6 +1,7 @@
-use Rattle.std.proofs.Common.{◌<◌, ℕ}
-use Rattle.octet_replay.specs.Replayed.{FindsHere}
+use Rattle.std.proofs.Common.{◌≡◌, ◌<◌, ℕ, slice_get, Some}
+use Rattle.octet_replay.specs.declared.thread.ThreadReplay.{ThreadReplay}
+use Rattle.octet_replay.specs.Replayed.{FindsNothing}
 use Rattle.octet_replay.proofs.judge.lowest_misfit.Given as goal
 
 abbrev pub invariant-loop-thread : goal.invariant-loop-thread
-invariant-loop-thread l = (lower : ℕ) → lower < l.thread → (any : ℕ) → ¬ FindsHere l.log.threads l.threads lower any
+invariant-loop-thread l = (lower : ℕ) (t : ThreadReplay) → lower < l.thread → slice_get l.threads lower ≡ Some t → FindsNothing t

@@ -1,5 +1,5 @@
-use Rattle.std.proofs.Common.{◌≡◌, length, map, take}
+use Rattle.std.proofs.Common.{◌≡◌, ◌+◌, map, take}
 use Rattle.octet_replay.proofs.judge.positions_of.Given as goal
 
-abbrev pub invariant-loop-replay : goal.invariant-loop-replay
-invariant-loop-replay l = l.positions ≡ map (λ t. length t.journal) (take l.replay-index l.threads)
+abbrev pub invariant-loop-thread : goal.invariant-loop-thread
+invariant-loop-thread l = l.positions ≡ map (λ t. t.accesses + t.marks) (take l.thread-index l.threads)

@@ -1,0 +1,21 @@
+use Rattle.std.proofs.Common.{Some, refl, sym, ap, ◌∙◌}
+use Rattle.std.proofs.lemmas.Option.{slice_get-get_or}
+use Rattle.octet_replay.specs.declared.thread.ThreadReplay.{ThreadReplay}
+use Rattle.octet_replay.specs.Needs.{after_step}
+use Rattle.octet_replay.proofs.state.Replay.make.Goals as goal
+
+pub returns : goal.returns
+returns c =
+    let r = c.args.self.now in
+    let was = c.index_mut-it.result.now in
+    record {
+      was = was;
+      becomes = c.make.new.self;
+      is_there = slice_get-get_or r.threads.items c.args.thread was c.requires.within ∙ ap (λ (t : ThreadReplay). Some t) (sym c.index_mut-it.ensures.value);
+      grown = c.make.ensures;
+      threads = refl;
+      heap = c.write.ensures;
+      waits = c.step.ensures ∙ (λ i. after_step r.waits c.args.thread (c.is_draw.ensures i) (c.need-next.ensures i));
+      script = refl;
+      log = refl;
+    }

@@ -1,0 +1,48 @@
+-- How far a replayer has followed the lowest order, and what its next step is.
+use Rattle.std.specs.Prelude.{◌≡◌, ℕ, suc, ◌<◌, List, length, take, slice_index, IsTrue, IsFalse}
+use Rattle.octet_model.specs.declared.event.Event.{Event}
+use Rattle.octet_model.specs.declared.script.Script.{Script}
+use Rattle.octet_model.specs.declared.log.Log.{Log}
+use Rattle.octet_model.specs.declared.log.ThreadLog.{ThreadLog}
+use Rattle.octet_model.specs.Machine.{PlainState, may_step, appended}
+use Rattle.octet_model.specs.Orders.{by_log, lowest_order, state_after}
+use Rattle.octet_replay.specs.declared.fault.ReplayFault.{ReplayFault}
+use Rattle.octet_replay.specs.declared.fault.ReplayFault.TheVariants.{ThreadsDiffer, OutOfMemory}
+use Rattle.octet_replay.specs.declared.stepped.Stepped.{Stepped}
+use Rattle.octet_replay.specs.declared.stepped.Stepped.TheVariants.{Made, Halted}
+use Rattle.octet_replay.specs.Judged.{IsThreadsDiffer}
+
+-- a script, a log, and how many steps of their lowest order were made
+pub record ReplayState : Type 0 where
+  pub script : Script
+  pub log : Log
+  pub steps : ℕ
+
+-- the plain machine's state after the first so many steps of the lowest order
+abbrev pub state_at : Script → List ThreadLog → ℕ → PlainState
+state_at script log steps = state_after script log (take steps (lowest_order script log))
+
+abbrev pub plain_state : ReplayState → PlainState
+plain_state r = state_at r.script r.log.threads r.steps
+
+-- no thread may step
+abbrev pub HasHalted : ReplayState → Type 0
+HasHalted r = (thread : ℕ) → IsFalse (may_step (by_log r.script r.log.threads) (plain_state r) thread)
+
+-- the next step of the lowest order is of the thread, which may step, and makes the event
+pub record IsNextStep (r : ReplayState) (thread : ℕ) (event : Event) : Type 0 where
+  pub within : r.steps < length (lowest_order r.script r.log.threads)
+  pub is_of : slice_index (lowest_order r.script r.log.threads) r.steps ≡ thread
+  pub may : IsTrue (may_step (by_log r.script r.log.threads) (plain_state r) thread)
+  pub makes : (state_at r.script r.log.threads (suc r.steps)).journals ≡ appended (plain_state r).journals thread event
+
+-- one step more, or nothing where no thread may step
+abbrev pub StepsTo : ReplayState → Stepped → ReplayState → Type 0
+StepsTo before (Made thread event) after = IsNextStep before thread event × (after ≡ record before { steps = suc before.steps })
+StepsTo before Halted after = HasHalted before × (after ≡ before)
+
+-- why no replay is begun: the numbers of threads differ. Out of memory alone may come at any time
+abbrev pub IsNotBegun : Script → List ThreadLog → ReplayFault → Type 0
+IsNotBegun script log (ThreadsDiffer of_script of_log) = IsThreadsDiffer script log of_script of_log
+IsNotBegun script log OutOfMemory = Unit {0}
+IsNotBegun script log _ = ⊥

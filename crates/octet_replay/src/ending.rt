@@ -1,0 +1,78 @@
+//! What a replay comes to at the end of the lowest order.
+ghost use Rattle.std.specs.Prelude.{◌≡◌, length, map, IfOk, IfErr};
+ghost use Rattle.octet_model.specs.Orders.{end_of, execution, lowest_order};
+ghost use Rattle.octet_replay.specs.NextDemand.{demand_of};
+ghost use Rattle.octet_replay.specs.Judged.{HasCause, IsLawful};
+ghost use Rattle.octet_replay.specs.Replayed.{state_of, IsAt};
+ghost use Rattle.octet_replay.specs.ReplayState.{HasHalted};
+
+use crate::ReplayFault;
+use crate::judge::{are_through, lowest_misfit, positions_of};
+use crate::state::Replay;
+use crate::thread::{NextDemand, ThreadReplay};
+use octet_model::{End, List, OutOfMemory, Outcome};
+use std::alloc::Global;
+
+fn end_of(thread: &ThreadReplay) -> End
+    ensures { result ≡ end_of (demand_of thread.now.up_next) }
+{
+    match thread.up_next {
+        NextDemand::Ended { end } => end,
+        _ => End::Spent,
+    }
+}
+
+fn ends_of(alloc: Global, threads: &[ThreadReplay]) -> Result<List<End>, OutOfMemory>
+    ensures { IfOk result (λ ends. ends ≡ map (λ t. end_of (demand_of t.up_next)) threads.now) }
+{
+    let mut ends = List::new(alloc);
+    for thread in threads {
+        ends.push(end_of(thread))?;
+    }
+    Ok(ends)
+}
+
+// The values that each thread read.
+fn reads_of(alloc: Global, threads: Vec<ThreadReplay>) -> Result<List<List<u64>>, OutOfMemory>
+    ensures { IfOk result (λ reads. reads ≡ map (λ t. t.reads.items) threads.items) }
+{
+    let mut reads = List::new(alloc);
+    for thread in threads {
+        reads.push(List::from_vec(thread.reads))?;
+    }
+    Ok(reads)
+}
+
+// Why the lowest order is not lawful, if it is not.
+fn refusal(alloc: Global, replay: &Replay) -> Result<(), ReplayFault>
+    requires at { IsAt replay.now }
+    requires halted { HasHalted (state_of replay.now) }
+    ensures lawful { IfOk result (λ _. IsLawful replay.now.script.value replay.now.log.value.threads) }
+    ensures refused { IfErr result (HasCause replay.now.script.value replay.now.log.value.threads) }
+{
+    if let Some(fault) = lowest_misfit(replay.threads.as_slice()) {
+        return Err(fault);
+    }
+    if !are_through(replay.threads.as_slice()) {
+        let positions = positions_of(alloc, replay.threads.as_slice())?;
+        return Err(ReplayFault::Stuck { positions });
+    }
+    Ok(())
+}
+
+/// The outcome of a lawful lowest order, or why it is not lawful.
+pub(crate) fn end(alloc: Global, replay: Replay) -> Result<Outcome, ReplayFault>
+    requires at { IsAt replay }
+    requires halted { HasHalted (state_of replay) }
+    ensures lawful { IfOk result (λ _. IsLawful replay.script.value replay.log.value.threads) }
+    ensures outcome { IfOk result (λ outcome. outcome ≡ execution replay.script.value replay.log.value.threads (lowest_order replay.script.value replay.log.value.threads)) }
+    ensures refused { IfErr result (HasCause replay.script.value replay.log.value.threads) }
+{
+    refusal(alloc, &replay)?;
+    let ends = ends_of(alloc, replay.threads.as_slice())?;
+    Ok(Outcome {
+        ends,
+        reads: reads_of(alloc, replay.threads)?,
+        heap: List::from_vec(replay.heap),
+    })
+}

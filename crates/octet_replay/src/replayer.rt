@@ -1,0 +1,78 @@
+//! A replay that is stepped by its caller.
+ghost use Rattle.std.specs.Prelude.{◌≡◌, length, IfOk, IfErr};
+ghost use Rattle.octet_model.specs.Orders.{execution, lowest_order};
+ghost use Rattle.octet_replay.specs.Judged.{HasCause, IsLawful};
+ghost use Rattle.octet_replay.specs.ReplayState.{HasHalted, IsNotBegun, StepsTo};
+
+use crate::ending::end;
+use crate::state::Replay;
+use crate::{ReplayFault, Stepped};
+use octet_model::{Log, Outcome, Script};
+use std::alloc::Global;
+use std::marker::Model;
+
+/// A replay of a log in the lowest order, step by step: always the lowest thread steps that may.
+/// Seen as the script, the log, and how many steps were made.
+#[derive(Drop)]
+pub struct Replayer {
+    replay: Replay,
+}
+
+impl Model for Replayer {
+    ghost use Rattle.octet_replay.specs.ReplayState.{ReplayState};
+
+    ghost Value = { ReplayState };
+
+    ghost use Rattle.octet_replay.specs.Replayed.{state_of, IsAt};
+
+    ghost view = { λ r. state_of r.replay };
+
+    ghost invariant = { λ r. IsAt r.replay };
+}
+
+impl Replayer {
+    /// Before the first step. Copies what it needs, and takes the room for all values that can be
+    /// read. Refuses a log that has not as many threads as the script.
+    pub fn new(alloc: Global, script: &Script, log: &Log) -> Result<Replayer, ReplayFault>
+        ensures opens { IfOk result (λ replayer. replayer ≡ record { script = script.now; log = log.now; steps = 0 }) }
+        ensures agree { IfOk result (λ _. length script.now.threads ≡ length log.now.threads) }
+        ensures refused { IfErr result (IsNotBegun script.now log.now.threads) }
+    {
+        let (of_script, of_log) = (script.threads.len(), log.threads.len());
+        if of_script != of_log {
+            return Err(ReplayFault::ThreadsDiffer {
+                script: of_script as u32,
+                log: of_log as u32,
+            });
+        }
+        let replay = Replay::new(alloc, script, log)?;
+        Ok(Replayer { replay })
+    }
+
+    /// Makes the next step of the lowest order, and gives its event. Where no thread may step
+    /// nothing changes. Takes no memory.
+    pub fn step(&mut self) -> Stepped
+        ensures { StepsTo self.old result self.new }
+    {
+        self.replay.step()
+    }
+
+    /// Steps on until no thread may step. Takes no memory.
+    pub fn run(&mut self)
+        ensures halted { HasHalted self.new }
+        ensures script { self.new.script ≡ self.old.script }
+        ensures log { self.new.log ≡ self.old.log }
+    {
+        while let Stepped::Made { .. } = self.step() {}
+    }
+
+    /// What the lowest order comes to, at its end: the outcome where it is lawful, else why not.
+    pub fn end(self, alloc: Global) -> Result<Outcome, ReplayFault>
+        requires { HasHalted self }
+        ensures lawful { IfOk result (λ _. IsLawful self.script self.log.threads) }
+        ensures outcome { IfOk result (λ outcome. outcome ≡ execution self.script self.log.threads (lowest_order self.script self.log.threads)) }
+        ensures refused { IfErr result (HasCause self.script self.log.threads) }
+    {
+        end(alloc, self.replay)
+    }
+}

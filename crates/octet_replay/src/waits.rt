@@ -1,0 +1,231 @@
+//! Which threads may step, and what the others wait for.
+ghost use Rattle.std.specs.Prelude.{◌≡◌, ◌≢◌, ◌<◌, ◌≤◌, ◌+◌, ℕ, suc, true, false, replicate, length, slice_get, slice_set, slice_index, Some, All, IfOk, IfSome, IsNone};
+ghost use Rattle.octet_replay.specs.Needs.{after_step, is_met, is_ready, no_counts, IsLowestReady, NamesThread};
+ghost use Rattle.octet_replay.specs.ThreadSet.{has};
+ghost use Rattle.octet_replay.specs.WaitingLists.{counts_of, with_draw, with_event, ArePlacedBut, IsListed, IsPlaced, IsSized, Keeps};
+
+use crate::Need;
+use crate::thread_set::ThreadSet;
+use crate::waiting::WaitingList;
+use octet_model::{List, OutOfMemory};
+use std::alloc::Global;
+use std::marker::Model;
+
+/// The counts, the threads whose needs are met, and lists of the others: one at each thread whose
+/// events are waited for, and one at the draws.
+#[derive(Debug, Drop)]
+struct Lists {
+    needs: Vec<Need>,
+    events: Vec<u64>,
+    draws: u64,
+    ready: ThreadSet,
+    at_events: Vec<WaitingList>,
+    at_draws: WaitingList,
+}
+
+impl Lists {
+    fn is_met(&self, need: Need) -> bool
+        requires { NamesThread (length self.now.events.items) need }
+        ensures { result ≡ is_met self.now.events.items self.now.draws need }
+    {
+        match need {
+            Need::Free => true,
+            Need::Events { of, count } => self.events[of as usize] >= count,
+            Need::DrawsAre { count } => count == self.draws,
+            Need::DrawsReach { count } => self.draws >= count,
+            Need::Never => false,
+        }
+    }
+
+    // Puts a thread on the list of the count at which its need changes, if that can come.
+    fn enlist(&mut self, thread: u8, need: Need)
+        requires thread { thread < 16 }
+        requires events { NamesThread (length self.old.events.items) need }
+        requires lists { NamesThread (length self.old.at_events.items) need }
+        ensures listed { IsListed self.new thread need }
+        ensures others { (other : ℕ) (its : Need) → IsListed self.old other its → IsListed self.new other its }
+        ensures kept { Keeps (counts_of self.old) self.old self.new }
+        ensures ready { self.new.ready ≡ self.old.ready }
+    {
+        match need {
+            Need::Free | Need::Never => {}
+            Need::Events { of, count } => {
+                if self.events[of as usize] < count {
+                    self.at_events[of as usize].add(thread, count);
+                }
+            }
+            Need::DrawsAre { count } => {
+                if self.draws == count {
+                    self.at_draws.add(thread, count.saturating_add(1));
+                } else if self.draws < count {
+                    self.at_draws.add(thread, count);
+                }
+            }
+            Need::DrawsReach { count } => {
+                if self.draws < count {
+                    self.at_draws.add(thread, count);
+                }
+            }
+        }
+    }
+
+    // Puts a thread where its need says: among those that may step, or not, and on a list.
+    fn place(&mut self, thread: u8)
+        requires { IsSized self.old }
+        ensures placed { thread < length self.old.needs.items → IsPlaced self.new thread }
+        ensures others { (other : ℕ) → IsPlaced self.old other → IsPlaced self.new other }
+        ensures sized { IsSized self.new }
+        ensures kept { Keeps (counts_of self.old) self.old self.new }
+    {
+        if thread as usize >= self.needs.len() {
+            return;
+        }
+        let need = self.needs[thread as usize];
+        if self.is_met(need) {
+            self.ready.insert(thread);
+        } else {
+            self.ready.remove(thread);
+        }
+        self.enlist(thread, need);
+    }
+
+    fn place_all(&mut self, mut threads: ThreadSet)
+        requires { IsSized self.old }
+        ensures placed { (thread : ℕ) → has threads thread ≡ true → thread < length self.old.needs.items → IsPlaced self.new thread }
+        ensures others { (other : ℕ) → IsPlaced self.old other → IsPlaced self.new other }
+        ensures sized { IsSized self.new }
+        ensures kept { Keeps (counts_of self.old) self.old self.new }
+    {
+        while let Some(thread) = threads.lowest() {
+            threads.remove(thread);
+            self.place(thread);
+        }
+    }
+
+    // Counts an event of a thread, and places the threads that waited for it.
+    fn count_event(&mut self, thread: u8)
+        requires sized { IsSized self.old }
+        requires within { thread < length self.old.needs.items }
+        requires room { slice_index self.old.events.items thread < u64.MAX }
+        requires placed { ArePlacedBut self.old thread }
+        ensures sized { IsSized self.new }
+        ensures kept { Keeps (with_event (counts_of self.old) thread) self.old self.new }
+        ensures placed { ArePlacedBut self.new thread }
+    {
+        let count = self.events[thread as usize] + 1;
+        self.events[thread as usize] = count;
+        let due = self.at_events[thread as usize].take_due(count);
+        self.place_all(due);
+    }
+
+    // Counts a draw, and places the threads whose needs it changes.
+    fn count_draw(&mut self)
+        requires sized { IsSized self.old }
+        requires room { self.old.draws < u64.MAX }
+        ensures sized { IsSized self.new }
+        ensures kept { Keeps (with_draw (counts_of self.old)) self.old self.new }
+        ensures placed { (but : ℕ) → ArePlacedBut self.old but → ArePlacedBut self.new but }
+    {
+        self.draws += 1;
+        let due = self.at_draws.take_due(self.draws);
+        self.place_all(due);
+    }
+
+    // Counts an event of a thread, which is a draw or not, and gives the thread its next need.
+    fn step(&mut self, thread: u8, draw: bool, next: Need)
+        requires sized { IsSized self.old }
+        requires within { thread < length self.old.needs.items }
+        requires names { NamesThread (length self.old.needs.items) next }
+        requires events { slice_index self.old.events.items thread < u64.MAX }
+        requires draws { draw ≡ true → self.old.draws < u64.MAX }
+        requires placed { (any : ℕ) → IsPlaced self.old any }
+        ensures sized { IsSized self.new }
+        ensures kept { Keeps (after_step (counts_of self.old) thread draw next) self.old self.new }
+        ensures placed { (any : ℕ) → IsPlaced self.new any }
+    {
+        self.needs[thread as usize] = next;
+        self.count_event(thread);
+        if draw {
+            self.count_draw();
+        }
+        self.place(thread);
+    }
+}
+
+/// Which threads may step, by what each waits for. Seen as one need for each thread, how many
+/// events each has made, and how many draws were made.
+///
+/// A thread whose need is not met stands on a list at the thread whose events it waits for, or at
+/// the draws, so that a step looks only at the threads that wait for what it counts.
+#[derive(Debug, Drop)]
+pub struct Waits {
+    lists: Lists,
+}
+
+impl Model for Waits {
+    ghost use Rattle.octet_replay.specs.Needs.{NeedsAndCounts};
+
+    ghost Value = { NeedsAndCounts };
+
+    ghost use Rattle.octet_replay.specs.WaitingLists.{counts_of, AreKept};
+
+    ghost view = { λ w. counts_of w.lists };
+
+    ghost invariant = { λ w. AreKept w.lists };
+}
+
+// No thread stands anywhere.
+fn empty_lists(alloc: Global, needs: &List<Need>) -> Result<Lists, OutOfMemory>
+    requires few { length needs.now ≤ 16 }
+    requires names { All (NamesThread (length needs.now)) needs.now }
+    ensures counts { IfOk result (λ lists. counts_of lists ≡ no_counts needs.now) }
+    ensures sized { IfOk result (λ lists. IsSized lists) }
+    ensures ready { IfOk result (λ lists. (thread : ℕ) → has lists.ready thread ≡ false) }
+{
+    let threads = needs.len();
+    Ok(Lists {
+        needs: Vec::from_slice(alloc, needs.as_slice())?,
+        events: vec![in alloc; 0; threads]?,
+        draws: 0,
+        ready: ThreadSet::empty(),
+        at_events: vec![in alloc; WaitingList::new(); threads]?,
+        at_draws: WaitingList::new(),
+    })
+}
+
+impl Waits {
+    /// Before the first event, of one to sixteen threads, whose needs name these. Takes all the
+    /// memory that is ever needed.
+    pub fn new(alloc: Global, needs: &List<Need>) -> Result<Waits, OutOfMemory>
+        requires some { 1 ≤ length needs.now }
+        requires few { length needs.now ≤ 16 }
+        requires names { All (NamesThread (length needs.now)) needs.now }
+        ensures { IfOk result (λ waits. waits ≡ no_counts needs.now) }
+    {
+        let mut lists = empty_lists(alloc, needs)?;
+        for thread in 0..needs.len() {
+            lists.place(thread as u8);
+        }
+        Ok(Waits { lists })
+    }
+
+    /// The lowest thread whose need is met, found without looking at the others. Takes no memory.
+    pub fn lowest(&self) -> Option<u8>
+        ensures some { IfSome result (IsLowestReady self.now) }
+        ensures none { IsNone result → (thread : ℕ) → is_ready self.now thread ≡ false }
+    {
+        self.lists.ready.lowest()
+    }
+
+    /// Counts an event of a thread whose need is met, and a draw where it is one, and gives the
+    /// thread its next need. Takes no memory.
+    pub fn step(&mut self, thread: u8, draw: bool, next: Need)
+        requires met { is_ready self.old thread ≡ true }
+        requires names { NamesThread (length self.old.needs) next }
+        requires events { slice_index self.old.events thread < u64.MAX }
+        requires draws { draw ≡ true → self.old.draws < u64.MAX }
+        ensures { self.new ≡ after_step self.old thread draw next }
+    {
+        self.lists.step(thread, draw, next);
+    }
+}
