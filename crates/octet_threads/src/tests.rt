@@ -5,9 +5,7 @@ ghost use Rattle.octet_model.specs.Script.{is_thread};
 
 use crate::{run, run_locked};
 use octet_base::{Gate, OpenGate};
-use octet_model::{
-    Command, DEFAULT_FUEL, List, Name, Object, OutOfMemory, Recorded, Script,
-};
+use octet_model::{Command, DEFAULT_FUEL, List, Name, Object, OutOfMemory, Recorded, Script};
 use std::alloc::Global;
 use std::sync::Wait;
 use std::sync::atomic::{AtomicBool, AtomicU32, Ordering};

@@ -34,15 +34,21 @@ fn work<R: Threads + Wait + Sync, G: Gate>(rt: &R, shared: &Mutex<Machine>, gate
                 gate.pass(rt, thread, access);
                 passed = Some(access);
             }
-            Some(Found::Took {
-                turned: Turned::Moved,
-            }) => backoff.reset(),
-            Some(Found::Took {
-                turned: Turned::Waits { .. },
-            }) => backoff.snooze(),
-            Some(Found::Took {
-                turned: Turned::Ended,
-            })
+            Some(
+                Found::Took {
+                    turned: Turned::Moved,
+                },
+            ) => backoff.reset(),
+            Some(
+                Found::Took {
+                    turned: Turned::Waits { .. },
+                },
+            ) => backoff.snooze(),
+            Some(
+                Found::Took {
+                    turned: Turned::Ended,
+                },
+            )
             | None => break,
         }
     }
