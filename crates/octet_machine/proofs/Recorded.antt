@@ -119,4 +119,3 @@ module _ (m : MachineState) (r : IsRunning m) (ended : have_ended m ≡ true) wh
       let told : ends ≡ ends_of m.script.fuel m.script.threads js =
       ends_told ∙ ends_are m.script.fuel m.script.threads js m.runners as_many (r.runners ∙ r.threads) end_at in
       λ i. record { ends = told i; reads = reads_told i; heap = heap_told i }
-

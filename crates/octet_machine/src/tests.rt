@@ -284,12 +284,36 @@ fn words_show_why_a_thread_waits(rt: HostRuntime) -> Result<(), Fail> {
     };
     let asked = Why::Unanswered { by: 0, word: 2 };
     for (script, picks, turned) in [
-        (races(alloc)?, [1, 2, 1, 1, 2].as_slice(), Turned::Waits { why: held }),
-        (races(alloc)?, [1, 2, 1, 2, 1, 2].as_slice(), Turned::Waits { why: changed }),
-        (crosses(alloc)?, [0, 1, 1, 1, 1].as_slice(), Turned::Waits { why: asked }),
-        (crosses(alloc)?, [0, 1, 1, 1, 1, 1, 1].as_slice(), Turned::Waits { why: asked }),
-        (writes_and_reads(alloc)?, [0, 0, 0, 0].as_slice(), Turned::Moved),
-        (writes_and_reads(alloc)?, [0, 0, 0, 0, 0].as_slice(), Turned::Ended),
+        (
+            races(alloc)?,
+            [1, 2, 1, 1, 2].as_slice(),
+            Turned::Waits { why: held },
+        ),
+        (
+            races(alloc)?,
+            [1, 2, 1, 2, 1, 2].as_slice(),
+            Turned::Waits { why: changed },
+        ),
+        (
+            crosses(alloc)?,
+            [0, 1, 1, 1, 1].as_slice(),
+            Turned::Waits { why: asked },
+        ),
+        (
+            crosses(alloc)?,
+            [0, 1, 1, 1, 1, 1, 1].as_slice(),
+            Turned::Waits { why: asked },
+        ),
+        (
+            writes_and_reads(alloc)?,
+            [0, 0, 0, 0].as_slice(),
+            Turned::Moved,
+        ),
+        (
+            writes_and_reads(alloc)?,
+            [0, 0, 0, 0, 0].as_slice(),
+            Turned::Ended,
+        ),
     ] {
         assert_eq!(rt; last_of_turns(alloc, &script, picks)?, turned);
     }
