@@ -10,7 +10,6 @@ use Rattle.octet_model.specs.Orders.{starting_heap}
 use Rattle.octet_interp.specs.declared.demand.Demand.{Demand}
 use Rattle.octet_interp.specs.declared.demand.Demand.TheVariants as demand
 use Rattle.octet_interp.specs.Demands.{ThreadState, starting_thread, next_demand, after_demand, given}
-use Rattle.octet_state.specs.declared.act.Mode.{Mode}
 use Rattle.octet_state.specs.declared.act.Mode.TheVariants.{Read, Write}
 use Rattle.octet_state.specs.declared.phase.Phase.{Phase}
 use Rattle.octet_state.specs.declared.phase.Phase.TheVariants.{Idle, Pass}

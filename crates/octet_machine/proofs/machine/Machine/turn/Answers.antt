@@ -1,4 +1,4 @@
-use Rattle.std.proofs.Common.{◌≡◌, ℕ, ◌<◌, length, Bool, false, get_or, sym, subst}
+use Rattle.std.proofs.Common.{◌≡◌, ℕ, ◌<◌, length, false, get_or, sym, subst}
 use Rattle.std.specs.Option.{is_some}
 use Rattle.octet_machine.specs.declared.run.Run.{Run}
 use Rattle.octet_machine.specs.declared.run.Runner.{Runner}
