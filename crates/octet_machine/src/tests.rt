@@ -1,5 +1,5 @@
 //! Worked runs, each by its picks and then by rounds until all threads have ended.
-ghost use Rattle.std.specs.Prelude.{◌≡◌, ◌≤◌, ◌∷◌, [], length, map, replicate, codes, IfOk, IsTrue};
+ghost use Rattle.std.specs.Prelude.{◌≡◌, ◌≤◌, ◌∷◌, [], length, map, codes, IfOk, IsTrue};
 ghost use Rattle.std.specs.List.{list_all};
 ghost use Rattle.octet_model.specs.Script.{is_thread};
 
@@ -32,20 +32,16 @@ fn two_objects(alloc: Global, x: u64, y: u64) -> Result<List<Object>, OutOfMemor
     Ok(objects)
 }
 
-// A thread of these commands, and then so many threads that are alike.
-fn one_and_others(
+fn two_threads(
     alloc: Global,
     first: &[Command],
-    others: u8,
-    other: &[Command],
+    second: &[Command],
 ) -> Result<List<List<Command>>, OutOfMemory>
-    ensures { IfOk result (λ threads. threads ≡ first.now ∷ replicate others other.now) }
+    ensures { IfOk result (λ threads. threads ≡ first.now ∷ second.now ∷ []) }
 {
     let mut threads = List::new(alloc);
     threads.push(List::from_vec(Vec::from_slice(alloc, first)?))?;
-    for _made in 0..others {
-        threads.push(List::from_vec(Vec::from_slice(alloc, other)?))?;
-    }
+    threads.push(List::from_vec(Vec::from_slice(alloc, second)?))?;
     Ok(threads)
 }
 
@@ -99,7 +95,7 @@ fn writes_and_reads(alloc: Global) -> Result<Script, OutOfMemory> {
         Command::Write { object: 0, from: 0 },
     ];
     let read_x = [Command::Read { to: 0, object: 0 }];
-    let threads = one_and_others(alloc, &write_x, 1, &read_x)?;
+    let threads = two_threads(alloc, &write_x, &read_x)?;
     Ok(script_with_x(one_object(alloc, 5)?, threads))
 }
 
@@ -125,19 +121,8 @@ fn crosses(alloc: Global) -> Result<Script, OutOfMemory> {
         Command::Write { object: 1, from: 0 },
         Command::Write { object: 0, from: 0 },
     ];
-    let threads = one_and_others(alloc, &write_y, 1, &write_both)?;
+    let threads = two_threads(alloc, &write_y, &write_both)?;
     Ok(script_with_x_and_y(two_objects(alloc, 0, 0)?, threads))
-}
-
-// Thread 0 writes x, and fifteen others read it.
-fn asks_fifteen(alloc: Global) -> Result<Script, OutOfMemory> {
-    let write_x = [
-        Command::Set { to: 0, number: 9 },
-        Command::Write { object: 0, from: 0 },
-    ];
-    let read_x = [Command::Read { to: 0, object: 0 }];
-    let threads = one_and_others(alloc, &write_x, 15, &read_x)?;
-    Ok(script_with_x(one_object(alloc, 1)?, threads))
 }
 
 // Thread 1 takes x while thread 0 pauses.
@@ -152,7 +137,7 @@ fn pauses(alloc: Global) -> Result<Script, OutOfMemory> {
         Command::Set { to: 0, number: 2 },
         Command::Write { object: 0, from: 0 },
     ];
-    let threads = one_and_others(alloc, &write_twice, 1, &write_once)?;
+    let threads = two_threads(alloc, &write_twice, &write_once)?;
     Ok(script_with_x(one_object(alloc, 0)?, threads))
 }
 
@@ -168,15 +153,6 @@ fn races(alloc: Global) -> Result<Script, OutOfMemory> {
     ];
     let threads = three_threads(alloc, &[], &write_one, &write_two)?;
     Ok(script_with_x(one_object(alloc, 0)?, threads))
-}
-
-// Seven picks each of threads 1 and 2, and then five of each other reader.
-fn picks_of_readers(alloc: Global) -> Result<Vec<u8>, OutOfMemory> {
-    let mut picks = Vec::from_slice(alloc, &[1, 1, 1, 1, 1, 1, 1, 2, 2, 2, 2, 2, 2, 2])?;
-    for reader in 3u8..16 {
-        picks.extend_from_slice(&[reader, reader, reader, reader, reader])?;
-    }
-    Ok(picks)
 }
 
 // The marks of a thread, each with its gap.
@@ -216,7 +192,6 @@ fn played_text<R: Wait>(
 #[test]
 fn runs_by_picks_and_then_by_rounds(rt: HostRuntime) -> Result<(), Fail> {
     let alloc = rt.alloc();
-    let by_readers = picks_of_readers(alloc)?;
     for (script, picks, expected) in [
         (
             writes_and_reads(alloc)?,
@@ -239,11 +214,6 @@ fn runs_by_picks_and_then_by_rounds(rt: HostRuntime) -> Result<(), Fail> {
             "1 [0 join 1 2]\n2 [0 join 0 0] [1 join 0 0]\nthread 0 done\nthread 1 done\nobject x 2\nobject y 1\n",
         ),
         (
-            asks_fifteen(alloc)?,
-            by_readers.as_slice(),
-            "1 [0 join 1 2] [0 join 2 3] [0 join 3 2] [0 join 4 2] [0 join 5 2] [0 join 6 2] [0 join 7 2] [0 join 8 2] [0 join 9 2] [0 join 10 2] [0 join 11 2] [0 join 12 2] [0 join 13 2] [0 join 14 2] [0 join 15 2]\n1 [0 join 0 0]\n1 [0 join 1 1] [0 draw 1]\n1 [0 fence 1]\n1 [0 fence 1]\n1 [0 fence 1]\n1 [0 fence 1]\n1 [0 fence 1]\n1 [0 fence 1]\n1 [0 fence 1]\n1 [0 fence 1]\n1 [0 fence 1]\n1 [0 fence 1]\n1 [0 fence 1]\n1 [0 fence 1]\n1 [0 fence 1]\nthread 0 done\nthread 1 done 1\nthread 2 done 1\nthread 3 done 1\nthread 4 done 1\nthread 5 done 1\nthread 6 done 1\nthread 7 done 1\nthread 8 done 1\nthread 9 done 1\nthread 10 done 1\nthread 11 done 1\nthread 12 done 1\nthread 13 done 1\nthread 14 done 1\nthread 15 done 1\nobject x 9\n",
-        ),
-        (
             pauses(alloc)?,
             [0, 0, 0, 0, 1, 1, 1, 1, 1, 1, 0, 0, 0, 0, 1, 0, 0].as_slice(),
             "2 [1 join 1 2]\n1 [0 join 0 1]\nthread 0 done\nthread 1 done\nobject x 1\n",
@@ -263,10 +233,9 @@ fn runs_by_picks_and_then_by_rounds(rt: HostRuntime) -> Result<(), Fail> {
 // What the last of these turns comes to.
 fn last_of_turns(alloc: Global, script: &Script, picks: &[u8]) -> Result<Turned, OutOfMemory> {
     let mut machine = Machine::new(alloc, script)?;
-    let threads = machine.threads();
     let mut last = Turned::Moved;
     for pick in picks {
-        last = machine.turn(pick % threads);
+        last = machine.turn(pick % machine.threads());
     }
     Ok(last)
 }
