@@ -7,4 +7,4 @@ use Rattle.octet_top.proofs.recording.record.Goals as goal
 pub returns-in_ok-picks_of-in-Turns : goal.returns-in_ok-picks_of-in-Turns
 returns-in_ok-picks_of-in-Turns g c =
     recorded_by_picks (shown_task c.args.task) (map digit_value c.in-Turns.picks.now) c.deref.result.now c.args.script.now c.play.result
-        (ap shown_task c.in-Turns.is) (c.deref.ensures.value ∙ c.in_ok-picks_of-in-Turns.ensures) c.play.ensures.played c.play.ensures.faithful
+    (ap shown_task c.in-Turns.is) (c.deref.ensures.value ∙ c.in_ok-picks_of-in-Turns.ensures) c.play.ensures.played c.play.ensures.faithful
