@@ -37,6 +37,19 @@ pub(crate) fn desk_with(
     Ok(desk)
 }
 
+/// A desk with the script as `S` and the log as `L`.
+pub(crate) fn desk_with_log(
+    alloc: Global,
+    script: &[u8],
+    log: &[u8],
+) -> Result<MemoryDesk, OutOfMemory>
+    ensures { IfOk result (λ desk. (⟦<MemoryDesk as Desk>⟧.state desk).begun ≡ None) }
+{
+    let mut desk = desk_with(alloc, script, &[])?;
+    desk.put(alloc, "L", log)?;
+    Ok(desk)
+}
+
 pub(crate) fn words_of(alloc: Global, line: &str) -> Result<Vec<String>, AllocError> {
     let mut words = Vec::new(alloc);
     for word in line.split_whitespace() {
@@ -206,14 +219,17 @@ fn runs_by_turns(rt: HostRuntime) -> Result<(), Failed> {
         ),
     ] {
         let mut desk = desk_with(alloc, script, &[])?;
-        for line in [words, "replay S L", "verify S L"] {
-            let answer = serve(&rt, alloc, &words_of(alloc, line)?, &mut desk, &OpenGate);
-            assert_eq!(rt; answer, Status::Done.code(), "{line}");
-        }
-        let all_said = format!(in alloc; "{said}{said}ordered\n")?;
+        let answer = serve(&rt, alloc, &words_of(alloc, words)?, &mut desk, &OpenGate);
+        assert_eq!(rt; answer, Status::Done.code(), "{words}");
         let log = bytes_of(alloc, log)?;
-        assert_eq!(rt; desk.said(), all_said.as_bytes(), "{words}");
+        assert_eq!(rt; desk.said(), said.as_bytes(), "{words}");
         assert_eq!(rt; desk.file("L"), Some(log.as_slice()), "{words}");
+        for (line, said) in [("replay S L", said), ("verify S L", "ordered\n")] {
+            let mut desk = desk_with_log(alloc, script, log.as_slice())?;
+            let answer = serve(&rt, alloc, &words_of(alloc, line)?, &mut desk, &OpenGate);
+            assert_eq!(rt; answer, Status::Done.code(), "{words}, {line}");
+            assert_eq!(rt; desk.said(), said.as_bytes(), "{words}, {line}");
+        }
     }
     Ok(())
 }

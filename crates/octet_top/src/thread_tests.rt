@@ -1,5 +1,5 @@
 //! Runs by threads beside each other, through the top call.
-use crate::tests::{desk_with, words_of};
+use crate::tests::{desk_with, desk_with_log, words_of};
 use crate::{Status, serve};
 use octet_base::{Gate, OpenGate};
 use octet_model::OutOfMemory;
@@ -121,17 +121,19 @@ fn contended_runs_repeat(rt: HostRuntime) -> Result<(), Failed> {
         let mut desk = desk_with(alloc, script.as_slice(), &[])?;
         let answer = serve(&rt, alloc, &words_of(alloc, line)?, &mut desk, &OpenGate);
         assert_eq!(rt; answer, Status::Done.code(), "{line}");
-        let mut wanted = Vec::from_slice(alloc, desk.said())?;
-        let once = Vec::from_slice(alloc, desk.said())?;
-        wanted.extend_from_slice(once.as_slice())?;
-        wanted.extend_from_slice(b"ordered\n")?;
-        for again in ["replay S L", "verify S L"] {
+        let said = Vec::from_slice(alloc, desk.said())?;
+        let log = Vec::from_slice(alloc, desk.file("L").unwrap_or(&[]))?;
+        for (again, wanted) in [
+            ("replay S L", said.as_slice()),
+            ("verify S L", b"ordered\n".as_slice()),
+        ] {
+            let mut desk = desk_with_log(alloc, script.as_slice(), log.as_slice())?;
             let answer = serve(&rt, alloc, &words_of(alloc, again)?, &mut desk, &OpenGate);
-            assert_eq!(rt; answer, Status::Done.code(), "{again}");
+            assert_eq!(rt; answer, Status::Done.code(), "{line}, {again}");
+            assert_eq!(rt; desk.said(), wanted, "{line}, {again}");
         }
-        assert_eq!(rt; desk.said(), wanted.as_slice(), "{line}");
         if script.len() == flag.len() {
-            assert!(rt; second_reads_last(once.as_slice(), " 42"), "{line}");
+            assert!(rt; second_reads_last(said.as_slice(), " 42"), "{line}");
         }
     }
     Ok(())
