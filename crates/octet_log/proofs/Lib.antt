@@ -8,3 +8,4 @@ pub mod Whole
 pub mod Cuts
 pub mod Refused
 pub mod lemmas
+mod Groups
