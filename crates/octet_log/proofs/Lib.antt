@@ -9,3 +9,4 @@ pub mod Cuts
 pub mod Refused
 pub mod lemmas
 mod Groups
+mod WholePieces

@@ -6,10 +6,7 @@ use Rattle.octet_log.specs.declared.cause.LogCause.{LogCause}
 use Rattle.octet_log.specs.declared.cause.LogFault.{LogFault}
 use Rattle.octet_log.specs.declared.cause.LogFault.TheVariants as faults
 use Rattle.octet_log.specs.Decoding.{◌>>=◌, Fails, each_at, thread_at}
-
--- what was read before, and what is still read
-abbrev pub with_front : {A : Type 0} → List A → Result (List A × List ℕ) LogCause → Result (List A × List ℕ) LogCause
-with_front front read = read >>= λ x. Ok (front ++ x.0, x.1)
+use Rattle.octet_log.specs.Loading.{with_front}
 
 -- the log of the thread whose number stands in front of the accesses before it
 abbrev pub read_next : ℕ → ℕ → ℕ × ℕ → List ℕ → Result (ThreadLog × List ℕ) LogCause

@@ -2,6 +2,7 @@
 ghost use Rattle.std.specs.Prelude.{◌≡◌};
 ghost use Rattle.octet_log.specs.declared.cause.LogFault.TheVariants.{OutOfMemory};
 
+use octet_model::OutOfMemory;
 use std::alloc::{AllocError, AllocFailed};
 use thiserror::Error;
 
@@ -64,6 +65,14 @@ impl<T: Drop> From<AllocFailed<T>> for LogFault {
     ghost from_gives = { λ _ e. e ≡ OutOfMemory };
 
     fn from(_: AllocFailed<T>) -> Self {
+        LogFault::OutOfMemory
+    }
+}
+
+impl From<OutOfMemory> for LogFault {
+    ghost from_gives = { λ _ e. e ≡ OutOfMemory };
+
+    fn from(_: OutOfMemory) -> Self {
         LogFault::OutOfMemory
     }
 }

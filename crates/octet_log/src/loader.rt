@@ -164,9 +164,7 @@ fn read_second(
         return Err(LogCause::BadThreads.into());
     }
     let (digest, rest) = read_digest(total, rest)?;
-    let Ok(mut logs) = empty_logs(alloc, threads) else {
-        return Err(LogFault::OutOfMemory);
-    };
+    let mut logs = empty_logs(alloc, threads)?;
     let rest = read_pieces(total, threads, &mut logs, rest)?;
     let rest = read_tail(total, threads, &mut logs, rest)?;
     if !rest.is_empty() {

@@ -122,9 +122,7 @@ fn read_marks<'a>(
     let mut rest = bytes;
     for _ in 0..count {
         let (gapped, after) = read_mark(total, threads, thread, rest)?;
-        if marks.push(gapped).is_err() {
-            return Err(LogFault::OutOfMemory);
-        }
+        marks.push(gapped)?;
         rest = after;
     }
     Ok(rest)

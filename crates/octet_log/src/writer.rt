@@ -52,7 +52,8 @@ fn push_piece(out: &mut Vec<u8>, thread: u8, marks: &[Gapped]) -> Result<(), Out
 }
 
 fn push_head(out: &mut Vec<u8>, threads: u8, digest: &Digest) -> Result<(), OutOfMemory>
-    ensures { OnOk result (out.new.items ≡ out.old.items ++ head_bytes threads digest.now.bytes) }
+    ensures bytes { OnOk result (out.new.items ≡ out.old.items ++ head_bytes threads digest.now.bytes) }
+    ensures length { length digest.now.bytes ≡ 32 }
 {
     out.extend_from_slice(b"OCTL\x02")?;
     out.push(threads)?;
@@ -115,6 +116,16 @@ fn push_pieces(out: &mut Vec<u8>, logs: &[ThreadLog]) -> Result<(), OutOfMemory>
     Ok(())
 }
 
+fn push_log(out: &mut Vec<u8>, log: &Log, digest: &Digest) -> Result<(), OutOfMemory>
+    ensures bytes { OnOk result (out.new.items ≡ out.old.items ++ pieced_bytes digest.now.bytes (whole_pieces 0 log.now.threads) log.now.threads) }
+    ensures length { length digest.now.bytes ≡ 32 }
+{
+    let logs = log.threads.as_slice();
+    push_head(out, logs.len() as u8, digest)?;
+    push_pieces(out, logs)?;
+    push_tail(out, logs)
+}
+
 /// A log in version 2: the head, one piece for each thread that has marks, in order, and the tail.
 /// It has at most 4,793,490 marks.
 pub fn encode_v2(alloc: Global, log: &Log, digest: &Digest) -> Result<Vec<u8>, OutOfMemory>
@@ -126,9 +137,6 @@ pub fn encode_v2(alloc: Global, log: &Log, digest: &Digest) -> Result<Vec<u8>, O
     ensures spells { IfOk result (λ bytes. IsSpelling bytes.items (Some digest.now.bytes) log.now.threads) }
 {
     let mut out = Vec::new(alloc);
-    let logs = log.threads.as_slice();
-    push_head(&mut out, logs.len() as u8, digest)?;
-    push_pieces(&mut out, logs)?;
-    push_tail(&mut out, logs)?;
+    push_log(&mut out, log, digest)?;
     Ok(out)
 }
