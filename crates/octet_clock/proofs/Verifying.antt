@@ -12,12 +12,11 @@ use Rattle.octet_model.specs.HappensBefore.{IsOrdered}
 use Rattle.octet_model.specs.Orders.{by_log, opening_state, starting_heap, journals_after, lowest_order, outcome_of, IsLawfulOrder}
 use Rattle.octet_model.proofs.lemmas.Fronts.{one_end, front_leads_on}
 use Rattle.octet_model.proofs.lemmas.LogsOfJournals.{as_many_after}
-use Rattle.octet_model.proofs.lemmas.LowestFronts.{lowest_is_front, lowest_order_is_lowest}
 use Rattle.octet_replay.specs.Places.{FitInPlaces}
 use Rattle.octet_replay.specs.ReplayState as replayed
 use Rattle.octet_replay.specs.ReplayState.{ReplayState, HasHalted, plain_state, state_at}
-use Rattle.octet_replay.proofs.Places.{have_places}
-use Rattle.octet_replay.proofs.Stepping.{all_made}
+use Rattle.octet_replay.proofs.lemmas.Halting.{all_steps_made}
+use Rattle.octet_replay.proofs.lemmas.Places.{lowest_order_fits_in_places}
 use Rattle.octet_clock.specs.declared.verdict.Verdict.{Verdict}
 use Rattle.octet_clock.specs.declared.verdict.Verdict.TheVariants.{Ordered, Unordered}
 use Rattle.octet_clock.specs.Play.{made_by}
@@ -44,10 +43,7 @@ as_many_journals script log agree =
 -- the next step of a replay is the next of a play of the journals that its order comes to
 module _ (r : ReplayState) (agree : length r.script.threads ≡ length r.log.threads) (t : ℕ) (event : Event) (next : replayed.IsNextStep r t event) where
   places : FitInPlaces (journals_after r.script r.log.threads (lowest_order r.script r.log.threads))
-  places =
-      have_places r.script r.log.threads (lowest_order r.script r.log.threads) agree
-      (lowest_is_front (by_log r.script r.log.threads) (lowest_order r.script r.log.threads) (opening_state r.script) (lowest_order_is_lowest r.script r.log.threads agree))
-      r.log.valid
+  places = lowest_order_fits_in_places r.script r.log.threads agree r.log.valid
 
   there : t < length (plain_state r).journals
   there = ltb-true t (length (plain_state r).journals) (and_parts _ (may_proceed (plain_state r) (next_of (by_log r.script r.log.threads) (plain_state r) t)) next.may).0
@@ -95,7 +91,7 @@ module _ (script : Script) (log : Log) (before after : ReplayState) (opens : bef
   judged_all Ordered agree j =
       let after_is : after ≡ record { script = script; log = log; steps = after.steps } = λ i. record { script = j.script i; log = j.log i; steps = after.steps } in
       let halted : HasHalted (record { script = script; log = log; steps = after.steps }) = subst (λ (r : ReplayState). HasHalted r) after_is (j.halted refl) in
-      let made = all_made (by_log script log.threads) after.steps (lowest_order script log.threads) (opening_state script) (lowest_order_is_lowest script log.threads agree) halted in
+      let made = all_steps_made (record { script = script; log = log; steps = after.steps }) agree halted in
       λ step lt. j.judged step (omega (arith, made))
 
   pub verified : (verdict : Verdict) → IsJudged before after verdict → IsLawfulOrder script log.threads (lowest_order script log.threads) → IsVerified script log.threads verdict

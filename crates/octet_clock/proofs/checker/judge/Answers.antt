@@ -1,7 +1,7 @@
 use Rattle.std.proofs.Common.{ℕ, refl, sym, ap, ◌∙◌, subst, arith}
 use Rattle.octet_model.specs.Orders.{journals_after, lowest_order}
 use Rattle.octet_replay.specs.ReplayState.{ReplayState}
-use Rattle.octet_replay.proofs.Collecting.{halted_after}
+use Rattle.octet_replay.proofs.lemmas.Halting.{halted_after}
 use Rattle.octet_clock.specs.Checker.{Holds}
 use Rattle.octet_clock.specs.Verdict.{JudgedUpTo}
 use Rattle.octet_clock.proofs.Verifying.{as_many_journals, next_in_play, room_in_play, thread_in_play}
