@@ -1,7 +1,6 @@
 //! Picks: hexadecimal digits, each of which gives a thread a turn.
 ghost use Rattle.std.specs.Prelude.{◌≡◌, map, IfOk};
-ghost use Rattle.std.specs.List.{list_all};
-ghost use Rattle.std.specs.Char.{digit_value, is_ascii_hexdigit};
+ghost use Rattle.std.specs.Char.{digit_value};
 ghost use Rattle.octet_top.specs.Picks.{are_picks};
 
 use octet_model::{MAX_PICKS, OutOfMemory};
@@ -24,18 +23,9 @@ pub(crate) fn are_picks(word: &str) -> bool
     ensures { result ≡ are_picks word.now }
 {
     let digits = word.as_bytes();
-    !digits.is_empty() && digits.len() <= MAX_PICKS && are_hexadecimal(digits)
-}
-
-fn are_hexadecimal(digits: &[u8]) -> bool
-    ensures { result ≡ list_all is_ascii_hexdigit digits.now }
-{
-    for digit in digits {
-        if !digit.is_ascii_hexdigit() {
-            return false;
-        }
-    }
-    true
+    !digits.is_empty()
+        && digits.len() <= MAX_PICKS
+        && digits.iter().all(|digit| digit.is_ascii_hexdigit())
 }
 
 /// The values of the digits.
