@@ -10,3 +10,4 @@ pub mod Refused
 pub mod lemmas
 mod Groups
 mod WholePieces
+mod PieceLoops
