@@ -11,3 +11,5 @@ pub mod lemmas
 mod Groups
 mod WholePieces
 mod PieceLoops
+mod PieceMarks
+mod PieceLists
