@@ -10,3 +10,6 @@ pub mod Refused
 pub mod lemmas
 mod Groups
 mod WholePieces
+mod PieceLoops
+mod PieceMarks
+mod PieceLists

@@ -19,7 +19,7 @@ next_thread (thread, before) log = (suc thread, before + log.accesses)
 abbrev pub threads_from : ℕ → ℕ → ℕ → ℕ → ℕ → List ℕ → Result (List ThreadLog × List ℕ) LogCause
 threads_from total threads count thread before bytes = each_at count (read_next total threads) next_thread (thread, before) bytes
 
-regroup : {A : Type 0} (front : List A) (n : A) (read : Result (List A × List ℕ) LogCause) → with_front front (read >>= λ x. Ok (n ∷ x.0, x.1)) ≡ with_front (front ++ n ∷ []) read
+pub regroup : {A : Type 0} (front : List A) (n : A) (read : Result (List A × List ℕ) LogCause) → with_front front (read >>= λ x. Ok (n ∷ x.0, x.1)) ≡ with_front (front ++ n ∷ []) read
 regroup front n (Ok x) = ap (λ ns. Ok (ns, x.1)) (simp append_assoc)
 regroup front n (Err f) = refl
 

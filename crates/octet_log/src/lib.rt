@@ -22,7 +22,8 @@ pub use hashing::digest;
 pub use laws::{
     bad_head_is_refused, bad_mark_is_refused, byte_after_log_is_trailing, bytes_spell_one_log,
     cut_input_is_refused, decoding_accepts_spellings_alone, field_has_one_spelling,
-    front_of_log_is_cut, no_log_is_a_prefix, short_number_has_one_spelling,
+    front_of_log_is_cut, loading_accepts_spellings_alone, no_log_is_a_prefix,
+    no_spelling_is_a_prefix, short_number_has_one_spelling, spellings_spell_one_log,
     too_many_accesses_are_refused,
 };
 pub use limits::MAX_MARKS;
