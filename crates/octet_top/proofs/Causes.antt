@@ -1,5 +1,5 @@
 -- From what is served to the cause of its status.
-use Rattle.std.proofs.Common.{◌≡◌, ◌≢◌, ◌∙◌, ◌⊎◌, ℕ, List, [], ◌∷◌, Option, None, Some, Result, Ok, Err, Bool, true, false, inl, inr, ap, sym, refl, subst, get_or}
+use Rattle.std.proofs.Common.{◌≡◌, ◌≢◌, ◌∙◌, ◌⊎◌, ℕ, List, [], ◌∷◌, Option, None, Some, Result, Ok, Err, Bool, true, false, inl, inr, ap, sym, refl, subst, get_or, arith}
 use Rattle.octet_base.specs.Desk.{Contents, DeskState, Rose, IsCounted, IsWriteAnswer}
 use Rattle.octet_base.specs.declared.fault.DeskFault.{DeskFault}
 use Rattle.octet_base.specs.declared.fault.DeskFault.TheVariants as fault
@@ -122,7 +122,7 @@ pub has_cause : (words : List (List ℕ)) (before after : DeskState) (code : ℕ
 has_cause words before after code served status is = by (ended words before after code served)
   where
     comes : (other : Status) → code ≡ code_of other → IsCause words before after other → IsCause words before after status
-    comes other comes cause = subst (IsCause words before after) (sym (same_status status other (sym is ∙ comes))) cause
+    comes other is' cause = subst (IsCause words before after) (sym (same_status status other (sym is ∙ is'))) cause
 
     by : Ending words before after code → IsCause words before after status
     by (Whole answer (inl (answers, same)) is' counts left) = comes answer.status is' (own_cause words before after answer answer.status answers refl

@@ -20,6 +20,27 @@ use Rattle.octet_top.proofs.Rows.{IsDone, Refuses, is_refusal, answers_row, requ
 use Rattle.octet_top.proofs.Due.{script_single, log_single, pair_single, comes}
 use Rattle.octet_top.proofs.Left.{get-other}
 
+-- files of other names stay
+other_of_written : (files : List (List ℕ × List ℕ)) (base : Files) (name : List ℕ) → ¬ IsOneOf name (map (λ file. file.0) files) → get (written files base) name ≡ get base name
+other_of_written [] base name other = refl
+other_of_written (file ∷ files) base name other = other_of_written files (insert base file.0 file.1) name (λ one. other (inr one)) ∙ get-other base file.0 file.1 name (λ is. other (inl is))
+
+other_of_part : (files : List (List ℕ × List ℕ)) (base now : Files) (name : List ℕ) → ¬ IsOneOf name (map (λ file. file.0) files) → ArePartlyWritten files base now → get now name ≡ get base name
+other_of_part [] base now name other never = absurd never
+other_of_part (file ∷ files) base now name other (inl (inl is)) = ap (λ (fs : Files). get fs name) is
+other_of_part (file ∷ files) base now name other (inl (inr (n, is))) = ap (λ (fs : Files). get fs name) is ∙ get-other base file.0 (take n file.1) name (λ same. other (inl same))
+other_of_part (file ∷ files) base now name other (inr part) = other_of_part files (insert base file.0 file.1) now name (λ one. other (inr one)) part ∙ get-other base file.0 file.1 name (λ is. other (inl is))
+
+other_of_left : (answer : Answer) (contents contents' : Contents) (code : ℕ) (name : List ℕ) → ¬ IsOneOf name (map (λ file. file.0) answer.files) → IsDelivered answer contents contents' code → get contents'.files name ≡ get contents.files name
+other_of_left answer contents contents' code name other (inl (whole, is)) = ap (λ (fs : Files). get fs name) whole.files ∙ other_of_written answer.files contents.files name other
+other_of_left answer contents contents' code name other (inr (inl (part, said), is)) = other_of_part answer.files contents.files contents'.files name other part
+other_of_left answer contents contents' code name other (inr (inr (files, said), is)) = ap (λ (fs : Files). get fs name) files ∙ other_of_written answer.files contents.files name other
+
+-- a given answer writes the files of the request, or none
+names_given : (words : List (List ℕ)) (contents : Contents) (before after : ℕ) (answer : Answer) → IsGivenAnswer words contents before after answer → IsDone (outputs_in (request_in words)) answer ⊎ Refuses answer
+names_given words contents before after answer (inl answers) = answers_row (request_in words) (Some contents) answer answers
+names_given words contents before after answer (inr (is, rose)) = inr (record { status = ap (λ (a : Answer). is_refusal a.status) is; files = ap (λ (a : Answer). a.files) is })
+
 module _ (words : List (List ℕ)) (before after : DeskState) (code : ℕ) (served : IsServed (request_in words) before after code) where
   pub status : IsStatus code
   status = by (ended words before after code served)
@@ -53,40 +74,18 @@ module _ (words : List (List ℕ)) (before after : DeskState) (code : ℕ) (serv
         | inr (answer, found, short) ↦ inr (answer, given answer found, inr (short, inr is))
       ]
 
--- files of other names stay
-other_of_written : (files : List (List ℕ × List ℕ)) (base : Files) (name : List ℕ) → ¬ IsOneOf name (map (λ file. file.0) files) → get (written files base) name ≡ get base name
-other_of_written [] base name other = refl
-other_of_written (file ∷ files) base name other = other_of_written files (insert base file.0 file.1) name (λ one. other (inr one)) ∙ get-other base file.0 file.1 name (λ is. other (inl is))
-
-other_of_part : (files : List (List ℕ × List ℕ)) (base now : Files) (name : List ℕ) → ¬ IsOneOf name (map (λ file. file.0) files) → ArePartlyWritten files base now → get now name ≡ get base name
-other_of_part [] base now name other never = absurd never
-other_of_part (file ∷ files) base now name other (inl (inl is)) = ap (λ (fs : Files). get fs name) is
-other_of_part (file ∷ files) base now name other (inl (inr (n, is))) = ap (λ (fs : Files). get fs name) is ∙ get-other base file.0 (take n file.1) name (λ same. other (inl same))
-other_of_part (file ∷ files) base now name other (inr part) = other_of_part files (insert base file.0 file.1) now name (λ one. other (inr one)) part ∙ get-other base file.0 file.1 name (λ is. other (inl is))
-
-other_of_left : (answer : Answer) (contents contents' : Contents) (code : ℕ) (name : List ℕ) → ¬ IsOneOf name (map (λ file. file.0) answer.files) → IsDelivered answer contents contents' code → get contents'.files name ≡ get contents.files name
-other_of_left answer contents contents' code name other (inl (whole, is)) = ap (λ (fs : Files). get fs name) whole.files ∙ other_of_written answer.files contents.files name other
-other_of_left answer contents contents' code name other (inr (inl (part, said), is)) = other_of_part answer.files contents.files contents'.files name other part
-other_of_left answer contents contents' code name other (inr (inr (files, said), is)) = ap (λ (fs : Files). get fs name) files ∙ other_of_written answer.files contents.files name other
-
--- a given answer writes the files of the request, or none
-names_given : (words : List (List ℕ)) (contents : Contents) (before after : ℕ) (answer : Answer) → IsGivenAnswer words contents before after answer → IsDone (outputs_in (request_in words)) answer ⊎ Refuses answer
-names_given words contents before after answer (inl answers) = answers_row (request_in words) (Some contents) answer answers
-names_given words contents before after answer (inr (is, rose)) = inr (record { status = ap (λ (a : Answer). is_refusal a.status) is; files = ap (λ (a : Answer). a.files) is })
-
-module _ (words : List (List ℕ)) (before after : DeskState) (code : ℕ) (left : Leaves words before after code) where
-  keeps_others : KeepsOthers words before after
-  keeps_others contents contents' name tells tells' other = elim (left contents contents' tells tells') [
-    | inl untouched ↦ ap (λ (fs : Files). get fs name) untouched.files
+  pub others : KeepsOthers words before after
+  others contents contents' name tells tells' other = elim (leaves contents contents' tells tells') [
+    | inl nothing ↦ ap (λ (fs : Files). get fs name) nothing.files
     | inr (answer, given, delivered) ↦ other_of_left answer contents contents' code name (elim (names_given words contents _ _ answer given) [
       | inl whole ↦ λ one. other (subst (IsOneOf name) whole.files one)
       | inr refused ↦ λ one. subst (λ (fs : List (List ℕ × List ℕ)). IsOneOf name (map (λ file. file.0) fs)) refused.files one
     ]) delivered
   ]
 
-  keeps_files : KeepsFiles before after code
-  keeps_files contents contents' tells tells' done write memory = elim (left contents contents' tells tells') [
-    | inl untouched ↦ untouched.files
+  pub untouched : KeepsFiles before after code
+  untouched contents contents' tells tells' done write memory = elim (leaves contents contents' tells tells') [
+    | inl nothing ↦ nothing.files
     | inr (answer, given, inr (short, inl is)) ↦ absurd (write is)
     | inr (answer, given, inr (short, inr is)) ↦ absurd (memory is)
     | inr (answer, given, inl (whole, is)) ↦ elim (names_given words contents _ _ answer given) [
@@ -94,12 +93,6 @@ module _ (words : List (List ℕ)) (before after : DeskState) (code : ℕ) (left
       | inr refused ↦ whole.files ∙ ap (λ (fs : List (List ℕ × List ℕ)). written fs contents.files) refused.files
     ]
   ]
-
-pub others : (words : List (List ℕ)) (before after : DeskState) (code : ℕ) → IsServed (request_in words) before after code → KeepsOthers words before after
-others words before after code served = keeps_others words before after code (leaves words before after code served)
-
-pub untouched : (words : List (List ℕ)) (before after : DeskState) (code : ℕ) → IsServed (request_in words) before after code → KeepsFiles before after code
-untouched words before after code served = keeps_files words before after code (leaves words before after code served)
 
 -- where all files are as they should be, each answer is done
 met_done : (request : Request) (contents : Contents) (answer : Answer) → HasFiles request contents → RequestAnswers request (Some contents) answer → answer.status ≡ exit.Done

@@ -1,6 +1,7 @@
 //! Picks: hexadecimal digits, each of which gives a thread a turn.
 ghost use Rattle.std.specs.Prelude.{◌≡◌, map, IfOk};
-ghost use Rattle.std.specs.Char.{digit_value};
+ghost use Rattle.std.specs.List.{list_all};
+ghost use Rattle.std.specs.Char.{digit_value, is_ascii_hexdigit};
 ghost use Rattle.octet_top.specs.Picks.{are_picks};
 
 use octet_model::{MAX_PICKS, OutOfMemory};
@@ -23,9 +24,13 @@ pub(crate) fn are_picks(word: &str) -> bool
     ensures { result ≡ are_picks word.now }
 {
     let digits = word.as_bytes();
-    !digits.is_empty()
-        && digits.len() <= MAX_PICKS
-        && digits.iter().all(|digit| digit.is_ascii_hexdigit())
+    !digits.is_empty() && digits.len() <= MAX_PICKS && are_hexadecimal(digits)
+}
+
+fn are_hexadecimal(digits: &[u8]) -> bool
+    ensures { result ≡ list_all is_ascii_hexdigit digits.now }
+{
+    digits.iter().all(|digit| digit.is_ascii_hexdigit())
 }
 
 /// The values of the digits.
