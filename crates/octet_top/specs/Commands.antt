@@ -1,7 +1,9 @@
 -- The commands' answers, each by what was read.
-use Rattle.std.specs.Prelude.{ℕ, ◌≡◌, ◌≢◌, ◌⊎◌, List, Option, None, Some, Result, Ok, Err}
+use Rattle.std.specs.Prelude.{ℕ, ◌≡◌, ◌≢◌, ◌≤◌, ◌⊎◌, List, length, codes, Option, None, Some, Result, Ok, Err}
+use Rattle.sha2.specs.Sha256.{sha256}
 use Rattle.octet_base.specs.Desk.{Contents}
 use Rattle.octet_model.specs.declared.script.Script.{Script}
+use Rattle.octet_model.specs.declared.limits.TheConstants.{MAX_LOG_FILE}
 use Rattle.octet_model.specs.declared.log.Log.{Log}
 use Rattle.octet_model.specs.declared.log.ThreadLog.{ThreadLog}
 use Rattle.octet_model.specs.declared.outcome.Outcome.{Outcome}
@@ -9,8 +11,12 @@ use Rattle.octet_model.specs.Texts.{log_bytes, outcome_text}
 use Rattle.octet_model.specs.Orders.{execution, journals_after, lowest_order, IsFaithful}
 use Rattle.octet_script.specs.Spelling.{canonical_text}
 use Rattle.octet_log.specs.Texts.{log_text}
+use Rattle.octet_log.specs.declared.loader.Loaded.{Loaded}
+use Rattle.octet_log.specs.Pieces.{IsSpelling, whole_pieces, pieced_bytes}
+use Rattle.octet_replay.specs.declared.fit.FitFault.{FitFault}
+use Rattle.octet_replay.specs.Fit.{IsOfScript, IsOfAnother}
 use Rattle.octet_replay.specs.declared.fault.ReplayFault.{ReplayFault}
-use Rattle.octet_replay.specs.declared.fault.ReplayFault.TheVariants.{OutOfMemory}
+use Rattle.octet_replay.specs.declared.fault.ReplayFault.TheVariants.{ThreadsDiffer, OutOfMemory}
 use Rattle.octet_replay.specs.Judged.{HasCause, IsLawful}
 use Rattle.octet_clock.specs.declared.verdict.Verdict.{Verdict}
 use Rattle.octet_clock.specs.Verified.{IsVerified}
@@ -24,16 +30,28 @@ use Rattle.octet_top.specs.declared.request.LogTask.{LogTask}
 use Rattle.octet_top.specs.declared.request.LogTask.TheVariants.{Show}
 use Rattle.octet_top.specs.declared.request.PairTask.{PairTask}
 use Rattle.octet_top.specs.declared.request.PairTask.TheVariants.{Replay, Verify, Profile}
-use Rattle.octet_top.specs.Answer.{Answer, says, writes_file, writes_both, not_a_command, does_not_fit, verdict_said, summary}
+use Rattle.octet_top.specs.Answer.{Answer, says, writes_file, writes_both, not_a_command, wrong_script, does_not_fit, verdict_said, summary}
 use Rattle.octet_machine.specs.Turns.{IsPlayed}
-use Rattle.octet_top.specs.Request.{Way, AsTheyCome, ByPicks, Request, OfScript, OfLog, OfPair, Run, Gen, request_in}
+use Rattle.octet_top.specs.Request.{Way, AsTheyCome, BehindLock, ByPicks, Request, OfScript, OfLog, OfPair, Convert, Run, Gen, request_in}
 use Rattle.octet_top.specs.Profile.{profile_text}
 use Rattle.octet_top.specs.Inputs.{IsScriptRead, IsLogRead, IsPairRead}
 
 -- what each way to run a script records of it
 abbrev pub Records : Way → Script → Log → Outcome → Type 0
 Records AsTheyCome script log outcome = IsFaithful script log.threads outcome
+Records BehindLock script log outcome = IsFaithful script log.threads outcome
 Records (ByPicks picks) script log outcome = IsFaithful script log.threads outcome × IsPlayed script picks (record { log = log; outcome = outcome })
+
+-- the digest that is written with the log: that of the script's text, where its threads come beside each other
+abbrev pub digest_kept : Way → List ℕ → Option (List ℕ)
+digest_kept AsTheyCome text = Some (sha256 text)
+digest_kept BehindLock text = None
+digest_kept (ByPicks picks) text = None
+
+-- bytes that spell a log, with that digest or in version 1, no more of them than a log's file may have
+pub record IsLogFile (bytes : List ℕ) (digest : Option (List ℕ)) (logs : List ThreadLog) : Type 0 where
+  pub spelled : IsSpelling bytes digest logs
+  pub within_limit : length bytes ≤ MAX_LOG_FILE
 
 -- the generated script of a number, and a log and an outcome that are a faithful recording of it: the script's canonical text and then the log's bytes are written, and the summary is said
 abbrev pub IsGeneration : ℕ → List ℕ → List ℕ → Answer → Type 0
@@ -47,29 +65,54 @@ Fitting Next script log answer =
     ((fault : ReplayFault) × (fault ≢ OutOfMemory) × HasCause script log fault × (answer ≡ does_not_fit fault))
     ⊎ (IsLawful script log × Next answer)
 
+-- the log is of another script, and both digests are said; or it is not, with which the command goes on
+abbrev pub Matching : (Answer → Type 0) → Pair → Answer → Type 0
+Matching Next pair answer =
+    ((fault : FitFault) × IsOfAnother pair.source.text pair.loaded.digest fault × (answer ≡ wrong_script fault))
+    ⊎ (IsOfScript pair.source.text pair.loaded.digest × Next answer)
+
 -- the answer of each task on a script
 abbrev pub ScriptAnswers : ScriptTask → Source → Answer → Type 0
 ScriptAnswers Tidy source answer = answer ≡ says Done (canonical_text source.script)
 
 -- of each on a log
-abbrev pub LogAnswers : LogTask → Log → Answer → Type 0
-LogAnswers Show log answer = answer ≡ says Done (log_text log.threads)
+abbrev pub LogAnswers : LogTask → Loaded → Answer → Type 0
+LogAnswers Show loaded answer = answer ≡ says Done (log_text loaded.log.threads)
 
 -- what each on a script and a log says where the log fits, of the lowest order: its outcome, the verdict on its journals, or the counts over them
 abbrev pub PairSays : PairTask → Pair → Answer → Type 0
-PairSays Replay pair answer = answer ≡ says Done (outcome_text pair.source.script (execution pair.source.script pair.log.threads (lowest_order pair.source.script pair.log.threads)))
-PairSays Verify pair answer = (verdict : Verdict) × IsVerified pair.source.script pair.log.threads verdict × (answer ≡ verdict_said verdict)
-PairSays Profile pair answer = answer ≡ says Done (profile_text pair.wanted (journals_after pair.source.script pair.log.threads (lowest_order pair.source.script pair.log.threads)))
+PairSays Replay pair answer = answer ≡ says Done (outcome_text pair.source.script (execution pair.source.script pair.loaded.log.threads (lowest_order pair.source.script pair.loaded.log.threads)))
+PairSays Verify pair answer = (verdict : Verdict) × IsVerified pair.source.script pair.loaded.log.threads verdict × (answer ≡ verdict_said verdict)
+PairSays Profile pair answer = answer ≡ says Done (profile_text pair.wanted (journals_after pair.source.script pair.loaded.log.threads (lowest_order pair.source.script pair.loaded.log.threads)))
 
--- and its answer
+-- and its answer, by the log alone, or by its digest first
+abbrev pub PairReplays : PairTask → Pair → Answer → Type 0
+PairReplays task pair answer = Fitting (PairSays task pair) pair.source.script pair.loaded.log.threads answer
+
 abbrev pub PairAnswers : PairTask → Pair → Answer → Type 0
-PairAnswers task pair answer = Fitting (PairSays task pair) pair.source.script pair.log.threads answer
+PairAnswers task pair answer = Matching (PairReplays task pair) pair answer
 
--- the answer of each way to run a script: a log and an outcome are recorded, the log's bytes are written, and the outcome is said
+-- a log in version 2, with the digest of a script's text: one piece for each thread that has marks
+abbrev pub second_bytes : List ℕ → List ThreadLog → List ℕ
+second_bytes text logs = pieced_bytes (sha256 text) (whole_pieces 0 logs) logs
+
+-- script and log have different numbers of threads, and both are said; or they have not, and the log is written in version 2
+abbrev pub Converts : List ℕ → Pair → Answer → Type 0
+Converts out pair answer =
+    ((of_script of_log : ℕ) × HasCause pair.source.script pair.loaded.log.threads (ThreadsDiffer of_script of_log) × (answer ≡ does_not_fit (ThreadsDiffer of_script of_log)))
+    ⊎ ((length pair.source.script.threads ≡ length pair.loaded.log.threads)
+      × IsLogFile (second_bytes pair.source.text pair.loaded.log.threads) (Some (sha256 pair.source.text)) pair.loaded.log.threads
+      × (answer ≡ writes_file out (second_bytes pair.source.text pair.loaded.log.threads) (codes "converted\n")))
+
+-- the answer of a conversion
+abbrev pub ConvertAnswers : List ℕ → Pair → Answer → Type 0
+ConvertAnswers out pair answer = Matching (Converts out pair) pair answer
+
+-- the answer of each way to run a script: a log and an outcome are recorded, bytes that spell the log are written, and the outcome is said
 abbrev pub RunAnswers : Way → List ℕ → Source → Answer → Type 0
 RunAnswers way log_name source answer =
-    (log : Log) × (outcome : Outcome) × Records way source.script log outcome
-    × (answer ≡ writes_file log_name (log_bytes log.threads) (outcome_text source.script outcome))
+    (log : Log) × (outcome : Outcome) × (bytes : List ℕ) × Records way source.script log outcome × IsLogFile bytes (digest_kept way source.text) log.threads
+    × (answer ≡ writes_file log_name bytes (outcome_text source.script outcome))
 
 -- reading is refused, or the command answers by what was read
 abbrev pub Answering : {T : Type 0} → (Result T Answer → Type 0) → (T → Answer → Type 0) → Answer → Type 0
@@ -80,6 +123,7 @@ abbrev pub RequestAnswers : Request → Option Contents → Answer → Type 0
 RequestAnswers (OfScript task script) contents answer = Answering (IsScriptRead script contents) (ScriptAnswers task) answer
 RequestAnswers (OfLog task log) contents answer = Answering (IsLogRead log contents) (LogAnswers task) answer
 RequestAnswers (OfPair task script log object) contents answer = Answering (IsPairRead script log object contents) (PairAnswers task) answer
+RequestAnswers (Convert script log out) contents answer = Answering (IsPairRead script log None contents) (ConvertAnswers out) answer
 RequestAnswers (Run way script log) contents answer = Answering (IsScriptRead script contents) (RunAnswers way log) answer
 RequestAnswers (Gen number script log) contents answer = IsGeneration number script log answer
 

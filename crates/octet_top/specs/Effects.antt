@@ -4,13 +4,14 @@ use Rattle.std.specs.FinMap.{get}
 use Rattle.octet_base.specs.Desk.{Contents, DeskState, Rose}
 use Rattle.octet_model.specs.Orders.{IsFaithful}
 use Rattle.octet_model.specs.declared.outcome.Outcome.{Outcome}
-use Rattle.octet_model.specs.declared.log.Log.{Log}
+use Rattle.octet_log.specs.declared.loader.Loaded.{Loaded}
+use Rattle.octet_replay.specs.Fit.{IsOfScript}
 use Rattle.octet_top.specs.declared.inputs.Source.{Source}
 use Rattle.octet_top.specs.declared.inputs.Pair.{Pair}
 use Rattle.octet_top.specs.declared.reply.Status.{Status}
 use Rattle.octet_top.specs.declared.reply.Status.TheVariants.{Done, Read, Write, Memory}
 use Rattle.octet_top.specs.Answer.{Answer, code_of, read_failed}
-use Rattle.octet_top.specs.Request.{Request, OfScript, OfLog, OfPair, Run, Gen, request_in, outputs_in}
+use Rattle.octet_top.specs.Request.{Request, OfScript, OfLog, OfPair, Convert, Run, Gen, request_in, outputs_in}
 use Rattle.octet_top.specs.Inputs.{IsScriptRead, IsLogRead, IsPairRead}
 use Rattle.octet_top.specs.Commands.{IsAnswer}
 use Rattle.octet_top.specs.Outputs.{IsWhole, IsCutShort}
@@ -60,12 +61,17 @@ abbrev pub KeepsFiles : DeskState → DeskState → ℕ → Type 0
 KeepsFiles before after code =
     (contents contents' : Contents) → before.contents ≡ Some contents → after.contents ≡ Some contents' → code ≢ code_of Done → code ≢ code_of Write → code ≢ code_of Memory → contents'.files ≡ contents.files
 
--- all that a request takes is there as it should be: a log, beside its script, is of a faithful recording of it
+-- a script that has the object that is named, and a log that is of it, of a faithful recording
+abbrev pub HasPair : List ℕ → List ℕ → Option (List ℕ) → Contents → Type 0
+HasPair script log object contents =
+    (pair : Pair) × (outcome : Outcome) × IsPairRead script log object (Some contents) (Ok pair) × IsOfScript pair.source.text pair.loaded.digest × IsFaithful pair.source.script pair.loaded.log.threads outcome
+
+-- all that a request takes is there as it should be
 abbrev pub HasFiles : Request → Contents → Type 0
 HasFiles (OfScript task script) contents = (source : Source) × IsScriptRead script (Some contents) (Ok source)
-HasFiles (OfLog task log) contents = (read : Log) × IsLogRead log (Some contents) (Ok read)
-HasFiles (OfPair task script log object) contents =
-    (pair : Pair) × (outcome : Outcome) × IsPairRead script log object (Some contents) (Ok pair) × IsFaithful pair.source.script pair.log.threads outcome
+HasFiles (OfLog task log) contents = (read : Loaded) × IsLogRead log (Some contents) (Ok read)
+HasFiles (OfPair task script log object) contents = HasPair script log object contents
+HasFiles (Convert script log out) contents = HasPair script log None contents
 HasFiles (Run task script log) contents = (source : Source) × IsScriptRead script (Some contents) (Ok source)
 HasFiles (Gen number script log) contents = Unit {0}
 

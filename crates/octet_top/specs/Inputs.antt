@@ -11,10 +11,11 @@ use Rattle.octet_script.specs.declared.cause.ScriptCause.{ScriptCause}
 use Rattle.octet_script.specs.declared.cause.ScriptFault.TheVariants as faults
 use Rattle.octet_script.specs.Spelling.{Spells}
 use Rattle.octet_script.specs.Parsing as script
-use Rattle.octet_model.specs.declared.log.Log.{Log}
-use Rattle.octet_model.specs.Texts.{log_bytes}
 use Rattle.octet_log.specs.declared.cause.LogCause.{LogCause}
-use Rattle.octet_log.specs.Decoding as log
+use Rattle.octet_log.specs.declared.loader.Loaded.{Loaded}
+use Rattle.octet_log.specs.Pieces.{IsSpelling}
+use Rattle.octet_log.specs.Readings.{reading_of}
+use Rattle.octet_log.specs.Loading as log
 use Rattle.octet_top.specs.declared.inputs.Source.{Source}
 use Rattle.octet_top.specs.declared.inputs.Pair.{Pair}
 use Rattle.octet_model.specs.declared.list.OutOfMemory.{OutOfMemory as NoMemory}
@@ -42,10 +43,10 @@ abbrev pub IsParsed : List ℕ → Result Source Answer → Type 0
 IsParsed text (Ok source) = (source.text ≡ text) × Spells text source.script
 IsParsed text (Err answer) = (line : ℕ) × (cause : ScriptCause) × (script.parsed text ≡ Err (faults.Refused line cause)) × (answer ≡ script_refused line cause)
 
--- the bytes are those of a log, or their first refusal is said
-abbrev pub IsDecoded : List ℕ → Result Log Answer → Type 0
-IsDecoded bytes (Ok log) = bytes ≡ log_bytes log.threads
-IsDecoded bytes (Err answer) = (cause : LogCause) × (log.decoded bytes ≡ Err cause) × (answer ≡ log_refused cause)
+-- the bytes spell a log, with its digest where they have one, or their first refusal is said
+abbrev pub IsDecoded : List ℕ → Result Loaded Answer → Type 0
+IsDecoded bytes (Ok loaded) = IsSpelling bytes (reading_of loaded).digest (reading_of loaded).logs
+IsDecoded bytes (Err answer) = (cause : LogCause) × (log.loaded bytes ≡ Err cause) × (answer ≡ log_refused cause)
 
 -- the script has the object that is named, if one is; or it has not
 abbrev pub IsChosen : Script → Option (List ℕ) → Result (Option ℕ) Answer → Type 0
@@ -57,7 +58,7 @@ abbrev pub IsScriptRead : List ℕ → Option Contents → Result Source Answer 
 IsScriptRead name contents = IsTaken name MAX_SCRIPT_FILE contents >>= IsParsed
 
 -- a log
-abbrev pub IsLogRead : List ℕ → Option Contents → Result Log Answer → Type 0
+abbrev pub IsLogRead : List ℕ → Option Contents → Result Loaded Answer → Type 0
 IsLogRead name contents = IsTaken name MAX_LOG_FILE contents >>= IsDecoded
 
 -- a script that has the object that is named
@@ -71,7 +72,7 @@ PassesScript name object contents = (chosen : Source × Option ℕ) × IsScriptC
 -- and then a log
 abbrev pub IsPairRead : List ℕ → List ℕ → Option (List ℕ) → Option Contents → Result Pair Answer → Type 0
 IsPairRead script_name log_name object contents =
-    IsScriptChosen script_name object contents >>= λ chosen. IsLogRead log_name contents >>= λ log read. read ≡ Ok (record { source = chosen.0; wanted = chosen.1; log = log })
+    IsScriptChosen script_name object contents >>= λ chosen. IsLogRead log_name contents >>= λ loaded read. read ≡ Ok (record { source = chosen.0; wanted = chosen.1; loaded = loaded })
 
 -- a refusal, if there was memory for its line
 abbrev pub stop_of : Result Reply NoMemory → Stop

@@ -1,7 +1,8 @@
 -- What the top call promises of each command.
 use Rattle.octet_model.specs.declared.limits.TheConstants.{MAX_LOG_FILE}
-use Rattle.std.specs.Prelude.{ℕ, ◌≡◌, ◌≤◌, ◌++◌, List, length, Some, ◌≢◌, Option, None, Ok}
+use Rattle.std.specs.Prelude.{ℕ, ◌≡◌, ◌≤◌, ◌++◌, List, length, codes, Some, ◌≢◌, Option, None, Ok}
 use Rattle.std.specs.FinMap.{get}
+use Rattle.sha2.specs.Sha256.{sha256}
 use Rattle.octet_base.specs.Desk.{Contents, DeskState}
 use Rattle.octet_model.specs.declared.script.Script.{Script}
 use Rattle.octet_model.specs.declared.log.Log.{Log}
@@ -10,28 +11,32 @@ use Rattle.octet_model.specs.Texts.{log_bytes, outcome_text}
 use Rattle.octet_model.specs.HappensBefore.{IsOrdered}
 use Rattle.octet_model.specs.Orders.{journals_after, lowest_order, IsFaithful}
 use Rattle.octet_script.specs.Spelling.{Spells, canonical_text}
+use Rattle.octet_log.specs.Pieces.{IsSpelling}
+use Rattle.octet_replay.specs.Fit.{IsOfScript}
 use Rattle.octet_replay.specs.Judged.{IsLawful}
 use Rattle.octet_clock.specs.Verified.{HasOneOutcome}
 use Rattle.octet_gen.specs.Generated.{IsGenerated}
-use Rattle.octet_top.specs.Request.{Way, Run, request_in, OfPair, Gen}
+use Rattle.octet_top.specs.Request.{Way, Run, request_in, OfPair, Convert, Gen}
 use Rattle.octet_top.specs.declared.reply.Status.TheVariants.{Done}
 use Rattle.std.specs.List.{sum_by}
 use Rattle.octet_top.specs.declared.inputs.Pair.{Pair}
 use Rattle.octet_top.specs.declared.request.PairTask.TheVariants.{Replay, Verify}
 use Rattle.octet_top.specs.Answer.{summary, code_of}
 use Rattle.octet_top.specs.Inputs.{IsPairRead}
-use Rattle.octet_top.specs.Commands.{Records}
+use Rattle.octet_top.specs.Commands.{Records, digest_kept, second_bytes}
 
--- the file of the script, as it was, spells a script; that of the log, as it is, has the bytes of a log, no more than a log's file may have; what was said grew by the text of an outcome; and the three are a faithful recording, of the run that was asked for
+-- the file of the script, as it was, spells a script; that of the log, as it is, has bytes that spell a log, no more than a log's file may have: of threads that come beside each other in version 2, with the digest of the script's text; what was said grew by the text of an outcome; and the three are a faithful recording, of the run that was asked for
 pub record IsFaithfulRun (way : Way) (script_name log_name : List ℕ) (before after : Contents) : Type 0 where
   pub text : List ℕ
   pub script : Script
   pub log : Log
   pub outcome : Outcome
+  pub bytes : List ℕ
   pub taken : get before.files script_name ≡ Some text
   pub spelled : Spells text script
-  pub written : get after.files log_name ≡ Some (log_bytes log.threads)
-  pub within_limit : length (log_bytes log.threads) ≤ MAX_LOG_FILE
+  pub written : get after.files log_name ≡ Some bytes
+  pub held : IsSpelling bytes (digest_kept way text) log.threads
+  pub within_limit : length bytes ≤ MAX_LOG_FILE
   pub contents : after.said ≡ before.said ++ outcome_text script outcome
   pub faithful : IsFaithful script log.threads outcome
   pub recorded : Records way script log outcome
@@ -42,13 +47,14 @@ RunsFaithfully words before after code =
     (way : Way) (script_name log_name : List ℕ) (contents contents' : Contents) → request_in words ≡ Some (Run way script_name log_name) → code ≡ code_of Done → before.contents ≡ Some contents → after.contents ≡ Some contents'
     → IsFaithfulRun way script_name log_name contents contents'
 
--- a script and a log were taken; the lowest order of the log is lawful, its journals are ordered, and all lawful orders have one outcome
+-- a script and a log of it were taken; the lowest order of the log is lawful, its journals are ordered, and all lawful orders have one outcome
 pub record IsOrderedPair (script_name log_name : List ℕ) (contents : Option Contents) : Type 0 where
   pub pair : Pair
   pub read : IsPairRead script_name log_name None contents (Ok pair)
-  pub lawful : IsLawful pair.source.script pair.log.threads
-  pub ordered : IsOrdered (journals_after pair.source.script pair.log.threads (lowest_order pair.source.script pair.log.threads))
-  pub one_outcome : HasOneOutcome pair.source.script pair.log.threads
+  pub of_script : IsOfScript pair.source.text pair.loaded.digest
+  pub lawful : IsLawful pair.source.script pair.loaded.log.threads
+  pub ordered : IsOrdered (journals_after pair.source.script pair.loaded.log.threads (lowest_order pair.source.script pair.loaded.log.threads))
+  pub one_outcome : HasOneOutcome pair.source.script pair.loaded.log.threads
 
 -- where the words are those of `verify` and the status is 0
 abbrev pub VerifiesOrdered : List (List ℕ) → DeskState → ℕ → Type 0
@@ -58,7 +64,24 @@ VerifiesOrdered words before code = (script_name log_name : List ℕ) → reques
 abbrev pub RepeatsRecordings : List (List ℕ) → DeskState → DeskState → ℕ → Type 0
 RepeatsRecordings words before after code =
     (script_name log_name : List ℕ) (contents contents' : Contents) (pair : Pair) (outcome : Outcome) → request_in words ≡ Some (OfPair Replay script_name log_name None) → code ≡ code_of Done → before.contents ≡ Some contents → after.contents ≡ Some contents'
-    → IsPairRead script_name log_name None (Some contents) (Ok pair) → IsFaithful pair.source.script pair.log.threads outcome → contents'.said ≡ contents.said ++ outcome_text pair.source.script outcome
+    → IsPairRead script_name log_name None (Some contents) (Ok pair) → IsFaithful pair.source.script pair.loaded.log.threads outcome → contents'.said ≡ contents.said ++ outcome_text pair.source.script outcome
+
+-- a script and a log of it were taken, of as many threads; the file that is written has the log in version 2, with the digest of the script's text, and no more bytes than a log's file may have
+pub record IsConversion (script_name log_name out_name : List ℕ) (before after : Contents) : Type 0 where
+  pub pair : Pair
+  pub read : IsPairRead script_name log_name None (Some before) (Ok pair)
+  pub of_script : IsOfScript pair.source.text pair.loaded.digest
+  pub threads : length pair.source.script.threads ≡ length pair.loaded.log.threads
+  pub written : get after.files out_name ≡ Some (second_bytes pair.source.text pair.loaded.log.threads)
+  pub held : IsSpelling (second_bytes pair.source.text pair.loaded.log.threads) (Some (sha256 pair.source.text)) pair.loaded.log.threads
+  pub within_limit : length (second_bytes pair.source.text pair.loaded.log.threads) ≤ MAX_LOG_FILE
+  pub contents : after.said ≡ before.said ++ codes "converted\n"
+
+-- where the words are those of `convert`, all was done, and the desk tells its contents
+abbrev pub ConvertsLogs : List (List ℕ) → DeskState → DeskState → ℕ → Type 0
+ConvertsLogs words before after code =
+    (script_name log_name out_name : List ℕ) (contents contents' : Contents) → request_in words ≡ Some (Convert script_name log_name out_name) → code ≡ code_of Done → before.contents ≡ Some contents → after.contents ≡ Some contents'
+    → IsConversion script_name log_name out_name contents contents'
 
 -- the files of the generated script and of its log, which are a faithful recording; of equal names the log's bytes stay. The log is within its limit and has as many accesses as the summary says
 pub record IsGeneratedRun (number : ℕ) (script_name log_name : List ℕ) (before after : Contents) : Type 0 where

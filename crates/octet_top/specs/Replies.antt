@@ -8,7 +8,7 @@ use Rattle.octet_top.specs.declared.inputs.Stop.TheVariants as stop
 use Rattle.octet_top.specs.declared.reply.Reply.{Reply}
 use Rattle.octet_top.specs.declared.reply.Status.TheVariants.{Done}
 use Rattle.octet_top.specs.Answer.{Answer, answer_of, read_failed}
-use Rattle.octet_top.specs.Request.{Request, OfScript, OfLog, OfPair, Run, Gen}
+use Rattle.octet_top.specs.Request.{Request, OfScript, OfLog, OfPair, Convert, Run, Gen}
 use Rattle.octet_top.specs.Inputs.{TakesOne, TakesBoth}
 use Rattle.octet_top.specs.Commands.{Answers}
 
@@ -33,6 +33,7 @@ TakesFiles None Short before after = after ≡ before
 TakesFiles (Some (OfScript task script)) Short before after = TakesOne script MAX_SCRIPT_FILE Short before after
 TakesFiles (Some (OfLog task log)) Short before after = TakesOne log MAX_LOG_FILE Short before after
 TakesFiles (Some (OfPair task script log object)) Short before after = TakesBoth script log object Short before after
+TakesFiles (Some (Convert script log out)) Short before after = TakesBoth script log None Short before after
 TakesFiles (Some (Run task script log)) Short before after = TakesOne script MAX_SCRIPT_FILE Short before after
 TakesFiles (Some (Gen number script log)) Short before after = after ≡ before
 

@@ -24,9 +24,10 @@ use Rattle.octet_top.specs.declared.request.Running.TheVariants as running
 abbrev pub texts : List (String Global) → List (List ℕ)
 texts words = map (λ word. string_bytes word) words
 
--- a way to run a script: as its threads come, or by picks
+-- a way to run a script: as its threads come, beside each other or behind one lock, or by picks
 pub data Way : Type 0 where
   AsTheyCome : Way
+  BehindLock : Way
   ByPicks : (picks : List ℕ) → Way
 
 -- a task, with the names of its files
@@ -34,6 +35,7 @@ pub data Request : Type 0 where
   OfScript : (task : ScriptTask) (script : List ℕ) → Request
   OfLog : (task : LogTask) (log : List ℕ) → Request
   OfPair : (task : PairTask) (script log : List ℕ) (object : Option (List ℕ)) → Request
+  Convert : (script log out : List ℕ) → Request
   Run : (way : Way) (script log : List ℕ) → Request
   Gen : (number : ℕ) (script log : List ℕ) → Request
 
@@ -50,19 +52,21 @@ reading_of_three word script log =
     else (if bytes_eq word (codes "profile") then Some (OfPair Profile script log None) else None))
 
 abbrev pub reading_of_four : List ℕ → List ℕ → List ℕ → List ℕ → Option Request
-reading_of_four word script log object = if bytes_eq word (codes "profile") then Some (OfPair Profile script log (Some object)) else None
+reading_of_four word script log last =
+    if bytes_eq word (codes "profile") then Some (OfPair Profile script log (Some last))
+    else (if bytes_eq word (codes "convert") then Some (Convert script log last) else None)
 
 abbrev pub reading_in : List (List ℕ) → Option Request
 reading_in (word ∷ file ∷ []) = reading_of_two word file
 reading_in (word ∷ script ∷ log ∷ []) = reading_of_three word script log
-reading_in (word ∷ script ∷ log ∷ object ∷ []) = reading_of_four word script log object
+reading_in (word ∷ script ∷ log ∷ last ∷ []) = reading_of_four word script log last
 reading_in _ = None
 
 -- what three and four words ask for that runs a script
 abbrev pub running_of_three : List ℕ → List ℕ → List ℕ → Option Request
 running_of_three word script log =
     if bytes_eq word (codes "run") then Some (Run AsTheyCome script log)
-    else (if bytes_eq word (codes "locked") then Some (Run AsTheyCome script log) else None)
+    else (if bytes_eq word (codes "locked") then Some (Run BehindLock script log) else None)
 
 abbrev pub running_of_four : List ℕ → List ℕ → List ℕ → List ℕ → Option Request
 running_of_four word first second third =
@@ -85,6 +89,7 @@ request_in words = or_else (running_in words) (reading_in words)
 
 -- the files that it writes, in order
 abbrev pub outputs_of : Request → List (List ℕ)
+outputs_of (Convert script log out) = out ∷ []
 outputs_of (Run way script log) = log ∷ []
 outputs_of (Gen number script log) = script ∷ log ∷ []
 outputs_of _ = []
@@ -102,10 +107,11 @@ abbrev pub shown_reading : Reading → Request
 shown_reading (reading.OfScript task script) = OfScript task script.now
 shown_reading (reading.OfLog task log) = OfLog task log.now
 shown_reading (reading.OfPair task script log object) = OfPair task script.now log.now (name_in object)
+shown_reading (reading.Convert script log out) = Convert script.now log.now out.now
 
 abbrev pub shown_task : RunTask → Way
 shown_task run.Run = AsTheyCome
-shown_task run.Locked = AsTheyCome
+shown_task run.Locked = BehindLock
 shown_task (run.Turns picks) = ByPicks (map digit_value picks.now)
 
 abbrev pub shown_running : Running → Request

@@ -6,13 +6,14 @@ ghost use Rattle.octet_top.specs.declared.request.ScriptTask.TheVariants.{Tidy};
 ghost use Rattle.octet_top.specs.declared.request.LogTask.TheVariants.{Show};
 ghost use Rattle.octet_top.specs.declared.request.PairTask.TheVariants.{Replay, Verify};
 ghost use Rattle.octet_top.specs.Answer.{answer_of, verdict_said};
-ghost use Rattle.octet_top.specs.Commands.{ScriptAnswers, LogAnswers, PairAnswers};
+ghost use Rattle.octet_top.specs.Commands.{ScriptAnswers, LogAnswers, PairReplays};
 
 use crate::inputs::{Pair, Source};
 use crate::refusal::does_not_fit;
 use crate::reply::{Reply, Status};
 use octet_clock::Verdict;
-use octet_model::{Log, OutOfMemory, Place, outcome_text};
+use octet_log::Loaded;
+use octet_model::{OutOfMemory, Place, outcome_text};
 use octet_replay::ReplayFault;
 use octet_script::print;
 use std::alloc::Global;
@@ -26,18 +27,18 @@ pub(crate) fn tidy(alloc: Global, source: &Source) -> Result<Reply, OutOfMemory>
 }
 
 /// The log's text is said.
-pub(crate) fn show(alloc: Global, log: &Log) -> Result<Reply, OutOfMemory>
-    ensures { IfOk result (λ reply. LogAnswers Show log.now (answer_of reply)) }
+pub(crate) fn show(alloc: Global, loaded: &Loaded) -> Result<Reply, OutOfMemory>
+    ensures { IfOk result (λ reply. LogAnswers Show loaded.now (answer_of reply)) }
 {
-    let text = octet_log::show(alloc, log)?;
+    let text = octet_log::show(alloc, &loaded.log)?;
     Ok(Reply::saying(alloc, Status::Done, text))
 }
 
 /// The outcome of the log's lowest order is said.
 pub(crate) fn replay(alloc: Global, pair: &Pair) -> Result<Reply, OutOfMemory>
-    ensures { IfOk result (λ reply. PairAnswers Replay pair.now (answer_of reply)) }
+    ensures { IfOk result (λ reply. PairReplays Replay pair.now (answer_of reply)) }
 {
-    let outcome = match octet_replay::replay(alloc, &pair.source.script, &pair.log) {
+    let outcome = match octet_replay::replay(alloc, &pair.source.script, &pair.loaded.log) {
         Ok(outcome) => outcome,
         Err(ReplayFault::OutOfMemory) => return Err(OutOfMemory),
         Err(fault) => return does_not_fit(alloc, &fault),
@@ -48,9 +49,9 @@ pub(crate) fn replay(alloc: Global, pair: &Pair) -> Result<Reply, OutOfMemory>
 
 /// Whether the log orders all conflicts is said.
 pub(crate) fn verify(alloc: Global, pair: &Pair) -> Result<Reply, OutOfMemory>
-    ensures { IfOk result (λ reply. PairAnswers Verify pair.now (answer_of reply)) }
+    ensures { IfOk result (λ reply. PairReplays Verify pair.now (answer_of reply)) }
 {
-    let verdict = match octet_clock::verify(alloc, &pair.source.script, &pair.log) {
+    let verdict = match octet_clock::verify(alloc, &pair.source.script, &pair.loaded.log) {
         Ok(verdict) => verdict,
         Err(ReplayFault::OutOfMemory) => return Err(OutOfMemory),
         Err(fault) => return does_not_fit(alloc, &fault),

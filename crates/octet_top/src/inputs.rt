@@ -7,8 +7,8 @@ ghost use Rattle.octet_top.specs.Profile.{object_named};
 use crate::refusal::{log_refused, no_such_object, read_failed, script_refused, too_long};
 use crate::reply::Reply;
 use octet_base::{Desk, DeskFault};
-use octet_log::{LogFault, decode};
-use octet_model::{List, Log, MAX_LOG_FILE, MAX_SCRIPT_FILE, OutOfMemory, Script};
+use octet_log::{Loaded, LogFault, decode};
+use octet_model::{List, MAX_LOG_FILE, MAX_SCRIPT_FILE, OutOfMemory, Script};
 use octet_script::{ScriptFault, parse};
 use std::alloc::Global;
 
@@ -24,7 +24,7 @@ pub(crate) struct Source {
 pub(crate) struct Pair {
     pub(crate) source: Source,
     pub(crate) wanted: Option<usize>,
-    pub(crate) log: Log,
+    pub(crate) loaded: Loaded,
 }
 
 /// Why reading ended early.
@@ -72,12 +72,12 @@ fn parse_text(alloc: Global, text: List<u8>) -> Result<Source, Stop>
     }
 }
 
-fn decode_bytes(alloc: Global, bytes: &[u8]) -> Result<Log, Stop>
+fn decode_bytes(alloc: Global, bytes: &[u8]) -> Result<Loaded, Stop>
     requires { length bytes.now ≤ MAX_LOG_FILE }
     ensures { Comes (IsDecoded bytes.now) result }
 {
     match decode(alloc, bytes) {
-        Ok(log) => Ok(log),
+        Ok(loaded) => Ok(loaded),
         Err(LogFault::OutOfMemory) => Err(Stop::OutOfMemory),
         Err(LogFault::Refused { cause }) => Err(stop_with(log_refused(alloc, cause))),
     }
@@ -95,7 +95,7 @@ pub(crate) fn read_script<D: Desk>(alloc: Global, desk: &mut D, name: &str) -> R
 }
 
 /// Takes a file and reads it as a log.
-pub(crate) fn read_log<D: Desk>(alloc: Global, desk: &mut D, name: &str) -> Result<Log, Stop>
+pub(crate) fn read_log<D: Desk>(alloc: Global, desk: &mut D, name: &str) -> Result<Loaded, Stop>
     ensures ends { Ends (IsLogRead name.now (D.state desk.old).contents) (D.state desk.old).take_faults result (D.state desk.new).take_faults }
     ensures calls { TakesOne name.now MAX_LOG_FILE (WasRefused result) (D.state desk.old) (D.state desk.new) }
 {
@@ -160,10 +160,10 @@ pub(crate) fn read_pair<D: Desk>(
 {
     match read_chosen(alloc, desk, script_name, object_name) {
         Ok((source, wanted)) => match read_log(alloc, desk, log_name) {
-            Ok(log) => Ok(Pair {
+            Ok(loaded) => Ok(Pair {
                 source,
                 wanted,
-                log,
+                loaded,
             }),
             Err(stop) => Err(stop),
         },

@@ -2,6 +2,7 @@
 #![tactic(auto)]
 
 mod commands;
+mod convert;
 mod deliver;
 #[cfg(test)]
 mod hostile_tests;

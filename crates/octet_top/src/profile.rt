@@ -4,7 +4,7 @@ ghost use Rattle.octet_watch.specs.Tally.{all_events};
 ghost use Rattle.octet_top.specs.declared.request.PairTask.TheVariants.{Profile};
 ghost use Rattle.octet_top.specs.Answer.{answer_of};
 ghost use Rattle.octet_top.specs.Profile.{class_of, class_count, counts, counts_text};
-ghost use Rattle.octet_top.specs.Commands.{PairAnswers};
+ghost use Rattle.octet_top.specs.Commands.{PairReplays};
 
 use crate::inputs::Pair;
 use crate::refusal::does_not_fit;
@@ -16,9 +16,9 @@ use std::alloc::Global;
 
 /// How many events of each class the journals of the log's lowest order have is said.
 pub(crate) fn profile(alloc: Global, pair: &Pair) -> Result<Reply, OutOfMemory>
-    ensures { IfOk result (λ reply. PairAnswers Profile pair.now (answer_of reply)) }
+    ensures { IfOk result (λ reply. PairReplays Profile pair.now (answer_of reply)) }
 {
-    let journals = match journals(alloc, &pair.source.script, &pair.log) {
+    let journals = match journals(alloc, &pair.source.script, &pair.loaded.log) {
         Ok(journals) => journals,
         Err(ReplayFault::OutOfMemory) => return Err(OutOfMemory),
         Err(fault) => return does_not_fit(alloc, &fault),

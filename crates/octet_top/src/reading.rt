@@ -1,18 +1,21 @@
 //! Requests that start no thread: from the files to a reply, before any of it is written or said.
 ghost use Rattle.std.specs.Prelude.{◌≡◌, IfOk, Some};
 ghost use Rattle.octet_top.specs.Answer.{answer_of};
-ghost use Rattle.octet_top.specs.Request.{shown_reading, name_in, OfScript, OfLog, OfPair};
-ghost use Rattle.octet_top.specs.Commands.{ScriptAnswers, LogAnswers, PairAnswers};
+ghost use Rattle.octet_top.specs.Request.{shown_reading, name_in, OfScript, OfLog, OfPair, Convert};
+ghost use Rattle.octet_top.specs.Commands.{ScriptAnswers, LogAnswers, PairReplays, PairAnswers};
 ghost use Rattle.octet_top.specs.Replies.{Replies};
 
 use crate::commands::{replay, show, tidy, verify};
 use crate::inputs::{Pair, Source, read_log, read_pair, read_script};
+use crate::convert::convert;
 use crate::profile::profile;
-use crate::refusal::refused;
+use crate::refusal::{refused, wrong_script};
 use crate::reply::Reply;
 use crate::request::{LogTask, PairTask, Reading, ScriptTask};
 use octet_base::Desk;
-use octet_model::{Log, OutOfMemory};
+use octet_log::Loaded;
+use octet_model::OutOfMemory;
+use octet_replay::fit;
 use std::alloc::Global;
 
 fn answer_script(alloc: Global, task: ScriptTask, source: &Source) -> Result<Reply, OutOfMemory>
@@ -23,16 +26,25 @@ fn answer_script(alloc: Global, task: ScriptTask, source: &Source) -> Result<Rep
     }
 }
 
-fn answer_log(alloc: Global, task: LogTask, log: &Log) -> Result<Reply, OutOfMemory>
-    ensures { IfOk result (λ reply. LogAnswers task log.now (answer_of reply)) }
+fn answer_log(alloc: Global, task: LogTask, loaded: &Loaded) -> Result<Reply, OutOfMemory>
+    ensures { IfOk result (λ reply. LogAnswers task loaded.now (answer_of reply)) }
 {
     match task {
-        LogTask::Show => show(alloc, log),
+        LogTask::Show => show(alloc, loaded),
     }
 }
 
 fn answer_pair(alloc: Global, task: PairTask, pair: &Pair) -> Result<Reply, OutOfMemory>
     ensures { IfOk result (λ reply. PairAnswers task pair.now (answer_of reply)) }
+{
+    match fit(pair.source.text.as_slice(), &pair.loaded) {
+        Ok(()) => replay_pair(alloc, task, pair),
+        Err(fault) => wrong_script(alloc, &fault),
+    }
+}
+
+fn replay_pair(alloc: Global, task: PairTask, pair: &Pair) -> Result<Reply, OutOfMemory>
+    ensures { IfOk result (λ reply. PairReplays task pair.now (answer_of reply)) }
 {
     match task {
         PairTask::Replay => replay(alloc, pair),
@@ -64,7 +76,7 @@ fn of_log<D: Desk>(
     ensures { Replies (Some (OfLog task log.now)) (D.state desk.old) result (D.state desk.new) }
 {
     match read_log(alloc, desk, log) {
-        Ok(log) => answer_log(alloc, task, &log),
+        Ok(loaded) => answer_log(alloc, task, &loaded),
         Err(stop) => refused(stop),
     }
 }
@@ -81,6 +93,21 @@ fn of_pair<D: Desk>(
 {
     match read_pair(alloc, desk, script, log, object) {
         Ok(pair) => answer_pair(alloc, task, &pair),
+        Err(stop) => refused(stop),
+    }
+}
+
+fn of_conversion<D: Desk>(
+    alloc: Global,
+    desk: &mut D,
+    script: &str,
+    log: &str,
+    out: &str,
+) -> Result<Reply, OutOfMemory>
+    ensures { Replies (Some (Convert script.now log.now out.now)) (D.state desk.old) result (D.state desk.new) }
+{
+    match read_pair(alloc, desk, script, log, None) {
+        Ok(pair) => convert(alloc, &pair, out),
         Err(stop) => refused(stop),
     }
 }
@@ -102,5 +129,6 @@ pub(crate) fn read<D: Desk>(
             log,
             object,
         } => of_pair(alloc, desk, task, script, log, object),
+        Reading::Convert { script, log, out } => of_conversion(alloc, desk, script, log, out),
     }
 }

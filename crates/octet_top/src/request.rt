@@ -55,6 +55,12 @@ pub(crate) enum Reading<'a> {
         log: &'a str,
         object: Option<&'a str>,
     },
+    /// Of a script, a log, and the file that is written.
+    Convert {
+        script: &'a str,
+        log: &'a str,
+        out: &'a str,
+    },
 }
 
 /// What words ask for that runs a script, and so may wait.
@@ -80,11 +86,11 @@ pub(crate) fn reading_of(words: &[String]) -> Option<Reading<'_>>
     match words {
         [word, file] => reading_of_two(word.as_str(), file.as_str()),
         [word, script, log] => reading_of_three(word.as_str(), script.as_str(), log.as_str()),
-        [word, script, log, object] => reading_of_four(
+        [word, script, log, last] => reading_of_four(
             word.as_str(),
             script.as_str(),
             log.as_str(),
-            object.as_str(),
+            last.as_str(),
         ),
         _ => None,
     }
@@ -127,16 +133,21 @@ fn reading_of_four<'a>(
     word: &str,
     script: &'a str,
     log: &'a str,
-    object: &'a str,
+    last: &'a str,
 ) -> Option<Reading<'a>>
-    ensures { option_map shown_reading result ≡ reading_of_four word.now script.now log.now object.now }
+    ensures { option_map shown_reading result ≡ reading_of_four word.now script.now log.now last.now }
 {
     match word {
         "profile" => Some(Reading::OfPair {
             task: PairTask::Profile,
             script,
             log,
-            object: Some(object),
+            object: Some(last),
+        }),
+        "convert" => Some(Reading::Convert {
+            script,
+            log,
+            out: last,
         }),
         _ => None,
     }

@@ -1,9 +1,13 @@
 //! Requests that run a script: `run SCRIPT LOG`, `locked SCRIPT LOG`, `turns SCRIPT LOG PICKS`
 //! and `gen NUMBER SCRIPT LOG`.
-ghost use Rattle.std.specs.Prelude.{◌≡◌, IfOk, Some};
+ghost use Rattle.std.specs.Prelude.{◌≡◌, ◌≤◌, length, IfOk, Some};
+ghost use Rattle.octet_model.specs.Texts.{log_bytes};
+ghost use Rattle.octet_model.specs.declared.limits.TheConstants.{MAX_LOG_FILE};
+ghost use Rattle.octet_log.specs.Pieces.{marks_in};
+ghost use Rattle.octet_log.specs.declared.limits.TheConstants.{MAX_MARKS};
 ghost use Rattle.octet_top.specs.Answer.{answer_of, file_of};
 ghost use Rattle.octet_top.specs.Request.{shown_running, shown_task, Run};
-ghost use Rattle.octet_top.specs.Commands.{RunAnswers, IsGeneration};
+ghost use Rattle.octet_top.specs.Commands.{RunAnswers, IsGeneration, IsLogFile, digest_kept};
 ghost use Rattle.octet_top.specs.Replies.{Replies};
 
 use crate::inputs::{Source, read_script};
@@ -13,8 +17,8 @@ use crate::reply::{Output, Reply};
 use crate::request::{RunTask, Running};
 use octet_base::{Desk, Gate};
 use octet_gen::make;
-use octet_log::encode_v1;
-use octet_model::{List, OutOfMemory, outcome_text};
+use octet_log::{digest, encode_v1, encode_v2};
+use octet_model::{List, Log, OutOfMemory, outcome_text};
 use octet_script::print;
 use std::alloc::Global;
 use std::sync::Wait;
@@ -75,8 +79,27 @@ fn run_source<R: Threads + Wait + Sync, G: Gate>(
 {
     let recorded = record(rt, alloc, task, &source.script, gate)?;
     let text = outcome_text(alloc, &source.script, &recorded.outcome)?;
-    let bytes = encode_v1(alloc, &recorded.log)?;
+    let bytes = file_bytes(alloc, task, source.text.as_slice(), &recorded.log)?;
     Reply::writing(alloc, log_name, bytes, text)
+}
+
+/// The log's bytes: in version 2, with the digest of the script's text, where the threads came
+/// beside each other, and else in version 1.
+fn file_bytes(
+    alloc: Global,
+    task: RunTask<'_>,
+    text: &[u8],
+    log: &Log,
+) -> Result<Vec<u8>, OutOfMemory>
+    requires few { marks_in log.now.threads ≤ MAX_MARKS }
+    requires short { length (log_bytes log.now.threads) ≤ MAX_LOG_FILE }
+    ensures { IfOk result (λ bytes. IsLogFile bytes.items (digest_kept (shown_task task) text.now) log.now.threads) }
+{
+    match task {
+        RunTask::Run => encode_v2(alloc, log, &digest(text)),
+        RunTask::Locked => encode_v1(alloc, log),
+        RunTask::Turns { .. } => encode_v1(alloc, log),
+    }
 }
 
 /// The number's script is run: its canonical text and then the log's bytes are written, and the
