@@ -3,8 +3,8 @@ use Rattle.std.specs.Prelude.{ℕ, ◌≡◌, ◌≢◌, List, ◌++◌, codes, 
 use Rattle.hex.specs.Hex.{encode_lower}
 use Rattle.sha2.specs.Sha256.{sha256}
 use Rattle.octet_log.specs.declared.loader.Digest.{Digest}
-use Rattle.octet_replay.specs.declared.fit.FitFault.{FitFault}
-use Rattle.octet_replay.specs.declared.fit.FitFault.TheVariants.{WrongScript}
+use Rattle.octet_replay.specs.declared.fitting.FitFault.{FitFault}
+use Rattle.octet_replay.specs.declared.fitting.FitFault.TheVariants.{WrongScript}
 
 -- a log without a digest may be of any script, and one with a digest is of the script whose text has it
 abbrev pub IsOfScript : List ℕ → Option Digest → Type 0

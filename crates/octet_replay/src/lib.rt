@@ -5,7 +5,7 @@
 
 mod ending;
 mod fault;
-mod fit;
+mod fitting;
 mod judge;
 pub mod laws;
 mod line;
@@ -22,7 +22,7 @@ mod waiting;
 mod waits;
 
 pub use fault::ReplayFault;
-pub use fit::{FitFault, fit, wrong_script_line};
+pub use fitting::{FitFault, fit, wrong_script_line};
 pub use line::fit_line;
 pub use need::Need;
 pub use order::{journals, replay};
