@@ -13,3 +13,5 @@ mod WholePieces
 mod PieceLoops
 mod PieceMarks
 mod PieceLists
+mod Second
+mod Spelled
