@@ -15,3 +15,5 @@ mod PieceMarks
 mod PieceLists
 mod Second
 mod Spelled
+mod Sizes
+mod Words

@@ -44,9 +44,9 @@ shorts_of threads thread before [] good = tt
 shorts_of threads thread before (piece ∷ pieces) good =
     short_both threads thread (cond (eqb thread piece.thread) piece.marks []) (marks_of thread pieces)
     (elim (eqb thread piece.thread) as (λ v. eqb thread piece.thread ≡ v → GoodShorts threads thread (cond v piece.marks [])) [
-        | true ↦ λ own. subst (λ (t : ℕ). GoodShorts threads t piece.marks) (sym (eqb-true thread piece.thread own)) good.0.good
-        | false ↦ λ other. tt
-      ] refl)
+      | true ↦ λ own. subst (λ (t : ℕ). GoodShorts threads t piece.marks) (sym (eqb-true thread piece.thread own)) good.0.good
+      | false ↦ λ other. tt
+    ] refl)
     (shorts_of threads thread (before + length piece.marks) pieces good.1)
 
 are_good : (threads before : ℕ) (pieces : List Piece) → GoodPieces threads before pieces → ArePieces threads pieces
@@ -90,9 +90,10 @@ shorts_all threads thread (m ∷ marks) good = and_both (is_mark threads thread 
 all_shorts : (threads thread : ℕ) (marks : List Gapped) → list_all (λ m. is_mark threads thread m.mark) marks ≡ true → sum_by (λ m. m.gap) marks ≤ 262144 → GoodShorts threads thread marks
 all_shorts threads thread [] all sum = tt
 all_shorts threads thread (m ∷ marks) all sum =
-    let more : m.gap + sum_by (λ m. m.gap) marks ≤ 262144 = omega (arith, sum, sum_by-cons (λ (g : Gapped). g.gap) m marks) in
-    (record { mark = and_first (is_mark threads thread m.mark) (list_all (λ m. is_mark threads thread m.mark) marks) all; gap = omega (arith, more) },
-      all_shorts threads thread marks (and_second (is_mark threads thread m.mark) (list_all (λ m. is_mark threads thread m.mark) marks) all) (omega (arith, more)))
+    let more : m.gap + sum_by (λ m. m.gap) marks ≤ 262144 = omega (arith, sum, sum_by-cons (λ (g : Gapped). g.gap) m marks) in (
+      record { mark = and_first (is_mark threads thread m.mark) (list_all (λ m. is_mark threads thread m.mark) marks) all; gap = omega (arith, more) },
+      all_shorts threads thread marks (and_second (is_mark threads thread m.mark) (list_all (λ m. is_mark threads thread m.mark) marks) all) (omega (arith, more)),
+    )
 
 threads_valid : (threads first before placed : ℕ) (pieces : List Piece) (logs ys : List ThreadLog) → HaveAccesses before logs ys → HaveMarks first pieces ys → GoodPieces threads placed pieces → marks_in ys ≤ 4793490 → are_thread_logs threads first ys ≡ true
 threads_valid threads first before placed pieces [] [] accesses have good few = refl
@@ -104,8 +105,8 @@ threads_valid threads first before placed pieces (log ∷ logs) (y ∷ ys) acces
     let shorts : GoodShorts threads first y.marks = subst (GoodShorts threads first) have.0 (shorts_of threads first placed pieces good) in
     and_both (is_thread_log threads first y) (are_thread_logs threads (suc first) ys)
     (and_both (ltb (length y.marks) (2 ^ 31) && leb gaps y.accesses) (list_all (λ m. is_mark threads first m.mark) y.marks)
-      (and_both (ltb (length y.marks) (2 ^ 31)) (leb gaps y.accesses) (lt-ltb (length y.marks) (2 ^ 31) (omega (arith, sum))) (le-leb gaps y.accesses accesses.2))
-      (shorts_all threads first y.marks shorts))
+    (and_both (ltb (length y.marks) (2 ^ 31)) (leb gaps y.accesses) (lt-ltb (length y.marks) (2 ^ 31) (omega (arith, sum))) (le-leb gaps y.accesses accesses.2))
+    (shorts_all threads first y.marks shorts))
     (threads_valid threads (suc first) (before + y.accesses) placed pieces logs ys accesses.3 have.1 good (omega (arith, sum)))
 
 -- what bytes behind the version 2 are, where they are read as a log
@@ -140,8 +141,8 @@ second_is threads bytes digest pieces logs allowed whole good accesses parts =
       valid =
           and_both ((leb 1 (length logs) && leb (length logs) 16) && leb (sum_by (λ log. log.accesses) logs) 262144) (are_thread_logs (length logs) 0 logs)
           (and_both (leb 1 (length logs) && leb (length logs) 16) (leb (sum_by (λ log. log.accesses) logs) 262144)
-            (subst (λ (n : ℕ). (leb 1 n && leb n 16) ≡ true) (sym have.1) allowed)
-            (le-leb (sum_by (λ log. log.accesses) logs) 262144 sum))
+          (subst (λ (n : ℕ). (leb 1 n && leb n 16) ≡ true) (sym have.1) allowed)
+          (le-leb (sum_by (λ log. log.accesses) logs) 262144 sum))
           (subst (λ (n : ℕ). are_thread_logs n 0 logs ≡ true) (sym have.1) valid);
     }
 
@@ -204,10 +205,11 @@ good_pieces : (threads before : ℕ) (pieces : List Piece) → ArePieces threads
 good_pieces threads before [] are shorts few = tt
 good_pieces threads before (piece ∷ pieces) are shorts few =
     let own = short_split threads piece.thread (cond (eqb piece.thread piece.thread) piece.marks []) (marks_of piece.thread pieces) (shorts piece.thread are.0.thread) in
-    let marks : GoodShorts threads piece.thread piece.marks = subst (λ (b : Bool). GoodShorts threads piece.thread (cond b piece.marks [])) (eqb_same piece.thread) own.0 in
-    (record { thread_is = are.0.thread; some_mark = are.0.some_mark; few = omega (arith, few); good = marks },
+    let marks : GoodShorts threads piece.thread piece.marks = subst (λ (b : Bool). GoodShorts threads piece.thread (cond b piece.marks [])) (eqb_same piece.thread) own.0 in (
+      record { thread_is = are.0.thread; some_mark = are.0.some_mark; few = omega (arith, few); good = marks },
       good_pieces threads (before + length piece.marks) pieces are.1
-      (λ thread small. (short_split threads thread (cond (eqb thread piece.thread) piece.marks []) (marks_of thread pieces) (shorts thread small)).1) (omega (arith, few)))
+          (λ thread small. (short_split threads thread (cond (eqb thread piece.thread) piece.marks []) (marks_of thread pieces) (shorts thread small)).1) (omega (arith, few)),
+    )
 
 accesses_from : (threads first before : ℕ) (pieces : List Piece) (ys : List ThreadLog) → HaveMarks first pieces ys → are_thread_logs threads first ys ≡ true → before + sum_by (λ log. log.accesses) ys ≤ 262144 → HaveAccesses before (with_pieces first pieces (no_marks (length ys))) ys
 accesses_from threads first before pieces [] have valid sum = tt
