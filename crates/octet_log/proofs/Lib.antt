@@ -13,3 +13,7 @@ mod WholePieces
 mod PieceLoops
 mod PieceMarks
 mod PieceLists
+mod Second
+mod Spelled
+mod Sizes
+mod Words

@@ -1,5 +1,5 @@
 -- A log in version 2 is within the limit of a log's file.
-use Rattle.std.proofs.Common.{◌≡◌, ℕ, zero, suc, ◌+◌, ◌*◌, ◌/◌, ◌%◌, ◌≤◌, ◌&&◌, Bool, true, false, cond, ltb, leb, eqb, List, [], ◌∷◌, ◌++◌, length, length-append, refl, ap, ◌∙◌, arith}
+use Rattle.std.proofs.Common.{◌≡◌, ℕ, zero, suc, ◌+◌, ◌*◌, ◌/◌, ◌%◌, ◌^◌, ◌≤◌, ◌&&◌, Bool, true, false, cond, ltb, leb, eqb, List, [], ◌∷◌, ◌++◌, length, length-append, refl, ap, ◌∙◌, arith}
 use Rattle.std.specs.List.{flat_map, sum_by, list_all}
 use Rattle.std.specs.Int.{to_be_bytes, w32}
 use Rattle.std.proofs.lemmas.Bool.{leb-true, le-ltb, ltb-false}
@@ -9,8 +9,9 @@ use Rattle.octet_model.specs.declared.event.Mark.{Mark}
 use Rattle.octet_model.specs.declared.event.Mark.TheVariants.{Join, Draw, Fence}
 use Rattle.octet_model.specs.declared.log.Gapped.{Gapped}
 use Rattle.octet_model.specs.declared.log.ThreadLog.{ThreadLog}
-use Rattle.octet_model.specs.declared.limits.TheConstants.{MAX_LOG_FILE}
+use Rattle.octet_model.specs.declared.limits.TheConstants.{MAX_ACCESSES, MAX_LOG_FILE, MAX_THREADS}
 use Rattle.octet_model.specs.Log.{is_mark, is_thread_log, are_thread_logs, is_log}
+use Rattle.octet_model.specs.Texts.{mark_bytes, bytes_of_mark, thread_bytes, log_bytes}
 use Rattle.octet_model.specs.Validity.{IsValidLog}
 use Rattle.octet_model.proofs.lemmas.Validity.{valid_log}
 use Rattle.octet_log.specs.declared.limits.TheConstants.{MAX_MARKS}
@@ -79,7 +80,7 @@ piece_short thread log =
 pieces_short : (first : ℕ) (logs : List ThreadLog) → length (flat_map piece_bytes (whole_pieces first logs)) ≤ 11 * length logs + (13 * marks_in logs + gaps_in logs)
 pieces_short first [] = omega arith
 pieces_short first (log ∷ logs) =
-    let own = cond (eqb (length log.marks) 0) [] (record { thread = first; marks = log.marks } ∷ []) in
+    let own : List Piece = cond (eqb (length log.marks) 0) [] (record { thread = first; marks = log.marks } ∷ []) in
     omega (
       arith,
       ap (λ (l : List ℕ). length l) (flat_map-append piece_bytes own (whole_pieces (suc first) logs)),
@@ -113,10 +114,12 @@ gaps_within : (threads first : ℕ) (logs : List ThreadLog) → are_thread_logs 
 gaps_within threads first [] valid = omega arith
 gaps_within threads first (log ∷ logs) valid =
     let each = both_hold (is_thread_log threads first log) (are_thread_logs threads (suc first) logs) valid in
-    let own = both_hold (leb (sum_by (λ (m : Gapped). m.gap) log.marks) log.accesses) _ (both_hold _ _ each.0).1 in
+    let few : Bool = ltb (length log.marks) (2 ^ 31) in
+    let fit : Bool = leb (sum_by (λ (m : Gapped). m.gap) log.marks) log.accesses in
+    let own = both_hold few fit (both_hold (few && fit) (list_all (λ (m : Gapped). is_mark threads first m.mark) log.marks) each.0).0 in
     omega (
       arith,
-      leb-true (sum_by (λ (m : Gapped). m.gap) log.marks) log.accesses own.0,
+      leb-true (sum_by (λ (m : Gapped). m.gap) log.marks) log.accesses own.1,
       gaps_within threads (suc first) logs each.1,
       sum_by-cons (λ (l : ThreadLog). l.accesses) log logs,
       sum_by-cons (λ (l : ThreadLog). sum_by (λ (m : Gapped). m.gap) l.marks) log logs,
@@ -125,7 +128,7 @@ gaps_within threads first (log ∷ logs) valid =
 pub second_is_short : (digest : List ℕ) (logs : List ThreadLog) → length digest ≡ 32 → is_log logs ≡ true → marks_in logs ≤ MAX_MARKS → length (pieced_bytes digest (whole_pieces 0 logs) logs) ≤ MAX_LOG_FILE
 second_is_short digest logs whole valid few =
     let limits : IsValidLog logs = valid_log logs valid in
-    let each : are_thread_logs (length logs) 0 logs ≡ true = (both_hold _ _ (both_hold _ _ (both_hold _ _ valid).1).1).1 in
+    let each : are_thread_logs (length logs) 0 logs ≡ true = (both_hold (leb 1 (length logs) && leb (length logs) MAX_THREADS && leb (sum_by (λ (log : ThreadLog). log.accesses) logs) MAX_ACCESSES) (are_thread_logs (length logs) 0 logs) valid).1 in
     omega (
       arith,
       length-append (flat_map piece_bytes (whole_pieces 0 logs)) (tail_bytes logs),
@@ -138,3 +141,40 @@ second_is_short digest logs whole valid few =
       whole,
       few,
     )
+
+-- a log within that limit in version 1 has no more marks than version 2 allows: each has fourteen bytes there
+mark_wide : (gapped : Gapped) → length (mark_bytes gapped) ≡ 14
+mark_wide gapped = of_mark gapped.mark
+  where
+    of_mark : (mark : Mark) → length (bytes_of_mark gapped.gap mark) ≡ 14
+    of_mark (Join from upto) = refl
+    of_mark (Draw number) = refl
+    of_mark (Fence number) = refl
+
+marks_wide : (marks : List Gapped) → length (flat_map mark_bytes marks) ≡ 14 * length marks
+marks_wide [] = refl
+marks_wide (m ∷ marks) = omega (arith, ap (λ (l : List ℕ). length l) (flat_map-cons mark_bytes m marks), length-append (mark_bytes m) (flat_map mark_bytes marks), mark_wide m, marks_wide marks)
+
+thread_wide : (log : ThreadLog) → 14 * length log.marks ≤ length (thread_bytes log)
+thread_wide log =
+    omega (
+      arith,
+      length-append (to_be_bytes w32 log.accesses) (to_be_bytes w32 (length log.marks) ++ flat_map mark_bytes log.marks),
+      length-append (to_be_bytes w32 (length log.marks)) (flat_map mark_bytes log.marks),
+      marks_wide log.marks,
+    )
+
+threads_wide : (logs : List ThreadLog) → 14 * marks_in logs ≤ length (flat_map thread_bytes logs)
+threads_wide [] = omega arith
+threads_wide (log ∷ logs) =
+    omega (
+      arith,
+      ap (λ (l : List ℕ). length l) (flat_map-cons thread_bytes log logs),
+      length-append (thread_bytes log) (flat_map thread_bytes logs),
+      thread_wide log,
+      threads_wide logs,
+      sum_by-cons (λ (l : ThreadLog). length l.marks) log logs,
+    )
+
+pub first_has_few : (logs : List ThreadLog) → length (log_bytes logs) ≤ MAX_LOG_FILE → marks_in logs ≤ MAX_MARKS
+first_has_few logs short = omega (arith, threads_wide logs, short)
