@@ -1,6 +1,7 @@
 //! Whether a log is of the script that it is taken with.
 ghost use Rattle.std.specs.Prelude.{◌≡◌, IfOk};
 ghost use Rattle.octet_replay.specs.Fit.{IsFitted, wrong_script_line};
+ghost use Rattle.octet_replay.specs.declared.fitting.FitFault.TheVariants.{WrongScript};
 
 use octet_log::{Digest, Loaded, digest};
 use octet_model::OutOfMemory;
@@ -31,13 +32,20 @@ pub fn fit(text: &[u8], loaded: &Loaded) -> Result<(), FitFault>
     }
 }
 
+fn digests_line(alloc: Global, script: &Digest, log: &Digest) -> Result<Vec<u8>, OutOfMemory>
+    ensures { IfOk result (λ line. line.items ≡ wrong_script_line (WrongScript script.now log.now)) }
+{
+    let of_script = hex::encode(alloc, script.bytes)?;
+    let of_log = hex::encode(alloc, log.bytes)?;
+    let line = format!(in alloc; "fit: digest {of_script} of the script, {of_log} of the log\n")?;
+    Ok(line.into_bytes())
+}
+
 /// The line that says that a log is of another script, with both digests in hexadecimal digits.
 pub fn wrong_script_line(alloc: Global, fault: &FitFault) -> Result<Vec<u8>, OutOfMemory>
     ensures { IfOk result (λ line. line.items ≡ wrong_script_line fault.now) }
 {
-    let FitFault::WrongScript { script, log } = fault;
-    let script = hex::encode(alloc, script.bytes)?;
-    let log = hex::encode(alloc, log.bytes)?;
-    let line = format!(in alloc; "fit: digest {script} of the script, {log} of the log\n")?;
-    Ok(line.into_bytes())
+    match fault {
+        FitFault::WrongScript { script, log } => digests_line(alloc, script, log),
+    }
 }
