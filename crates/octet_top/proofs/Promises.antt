@@ -1,5 +1,5 @@
 -- From what is served to the promises of each command.
-use Rattle.std.proofs.Common.{◌≡◌, ◌∙◌, ◌++◌, ℕ, List, Some, Ok, inl, inr, ap, sym, subst, arith, Option, None, refl, ◌≢◌, length, Bool, true, false, cond}
+use Rattle.std.proofs.Common.{◌≡◌, ◌∙◌, ◌++◌, ℕ, List, Some, Ok, inl, inr, ap, sym, subst, arith, Option, None, refl, length}
 use Rattle.std.specs.FinMap.{get, insert}
 use Rattle.octet_base.specs.Desk.{Files, Contents, DeskState}
 use Rattle.octet_model.specs.Texts.{log_bytes, outcome_text}

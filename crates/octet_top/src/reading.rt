@@ -41,6 +41,7 @@ fn answer_pair(alloc: Global, task: PairTask, pair: &Pair) -> Result<Reply, OutO
     }
 }
 
+#[tactic(auto, using(crate::proofs::Found::script_stops))]
 fn of_script<D: Desk>(
     alloc: Global,
     desk: &mut D,
@@ -55,6 +56,7 @@ fn of_script<D: Desk>(
     }
 }
 
+#[tactic(auto, using(crate::proofs::Found::log_stops))]
 fn of_log<D: Desk>(
     alloc: Global,
     desk: &mut D,

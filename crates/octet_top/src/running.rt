@@ -45,6 +45,7 @@ pub(crate) fn run<R: Threads + Wait + Sync, D: Desk, G: Gate>(
     }
 }
 
+#[tactic(auto, using(crate::proofs::Found::run_stops))]
 fn run_script<R: Threads + Wait + Sync, D: Desk, G: Gate>(
     rt: &R,
     alloc: Global,
