@@ -2,10 +2,14 @@
 //! that all of them share.
 #![tactic(auto)]
 
+mod gate;
 mod locked;
+mod run;
 mod step;
 #[cfg(test)]
 mod tests;
 mod worker;
 
-pub use locked::{run, run_locked};
+pub use gate::HeapGate;
+pub use locked::run_locked;
+pub use run::run;

@@ -3,8 +3,9 @@ ghost use Rattle.std.specs.Prelude.{◌≡◌, ◌≤◌, ◌∷◌, [], length,
 ghost use Rattle.std.specs.List.{list_all};
 ghost use Rattle.octet_model.specs.Script.{is_thread};
 
-use crate::{run, run_locked};
+use crate::{HeapGate, run, run_locked};
 use octet_base::{Gate, OpenGate};
+use octet_heap::Worker;
 use octet_model::{Command, DEFAULT_FUEL, List, Name, Object, OutOfMemory, Recorded, Script};
 use std::alloc::Global;
 use std::sync::Wait;
@@ -46,6 +47,10 @@ impl Gate for InOrder {
             self.count(&self.second, access);
         }
     }
+}
+
+impl HeapGate for InOrder {
+    fn note(&self, _thread: u8, _worker: &Worker) {}
 }
 
 fn two_objects(alloc: Global, x: u64, y: u64) -> Result<List<Object>, OutOfMemory>
