@@ -2,6 +2,7 @@
 //! that all of them share.
 #![tactic(auto)]
 
+mod carry;
 mod gate;
 mod locked;
 mod run;
@@ -10,6 +11,7 @@ mod step;
 mod tests;
 mod worker;
 
+pub use carry::carry;
 pub use gate::HeapGate;
 pub use locked::run_locked;
 pub use run::run;
