@@ -1,7 +1,7 @@
 -- What a clause says of a worker that carries out the demands of its thread.
 use Rattle.std.specs.Prelude.{◌≡◌, ◌<◌, true, None}
 use Rattle.octet_model.specs.Journals.{access_count}
-use Rattle.octet_model.specs.Thread.{Configuration}
+use Rattle.octet_model.specs.Thread.{Configuration, starting_configuration}
 use Rattle.octet_interp.specs.declared.demand.Demand.{Demand}
 use Rattle.octet_interp.specs.declared.demand.Demand.TheVariants.{Ended}
 use Rattle.octet_interp.specs.Demands.{ThreadState, next_demand}
@@ -33,3 +33,7 @@ TellsAgain _ state = Unit {0}
 -- from whatever start the worker's journal fitted the thread and left it where it stood, it does so still
 abbrev pub KeepsUp : Worker → ThreadState → Worker → ThreadState → Type 0
 KeepsUp worker state worker_after state_after = (start : Configuration) → IsJournalOf start (seat_of worker).journal state → IsJournalOf start (seat_of worker_after).journal state_after
+
+-- where the worker's thread starts, which has its heap's fuel
+abbrev pub start_of : Worker → Configuration
+start_of worker = starting_configuration worker.recorder.fuel

@@ -2,16 +2,19 @@
 //! that all of them share.
 #![tactic(auto)]
 
-mod carry;
+mod carrying;
 mod gate;
 mod locked;
-mod run;
+mod recording;
+mod runner;
+mod running;
+mod runs;
 mod step;
 #[cfg(test)]
 mod tests;
 mod worker;
 
-pub use carry::carry;
+pub use carrying::carry;
 pub use gate::HeapGate;
 pub use locked::run_locked;
-pub use run::run;
+pub use running::run;
