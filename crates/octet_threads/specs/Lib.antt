@@ -1,4 +1,3 @@
-pub mod Step
 pub mod Tasks
 pub mod Carrying
 pub mod Runners

@@ -14,6 +14,6 @@ use octet_interp::Config;
 pub(crate) struct Runner {
     pub(crate) worker: Worker,
     pub(crate) config: Config,
-    ghost fits: { IsJournalOf (start_of worker) (seat_of worker).journal config },
+    ghost fits: { ∥ IsJournalOf (start_of worker) (seat_of worker).journal config ∥₁ },
     ghost idle: { config.waits ≡ false },
 }
