@@ -4,11 +4,17 @@
 
 mod carrying;
 mod gate;
+mod locked;
 mod recording;
 mod runner;
 mod running;
 mod runs;
+mod step;
+#[cfg(test)]
+mod tests;
+mod worker;
 
 pub use carrying::carry;
 pub use gate::HeapGate;
+pub use locked::run_locked;
 pub use running::run;

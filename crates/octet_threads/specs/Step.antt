@@ -1,0 +1,30 @@
+-- What a worker does while it has the machine: a turn of its thread, but for an access for which the gate was not passed.
+use Rattle.std.specs.Prelude.{ℕ, ◌==◌, if◌then◌else◌, Option, Some, None}
+use Rattle.octet_machine.specs.declared.turned.Turned.{Turned}
+use Rattle.octet_machine.specs.Machine.{MachineState, wanted, turned, after_turn}
+use Rattle.octet_threads.specs.declared.step.Found.{Found}
+use Rattle.octet_threads.specs.declared.step.Found.TheVariants.{AtGate, Took}
+
+-- of the access that a thread wants, the number, unless the gate was last passed for it
+abbrev pub not_passed : Option ℕ → Option ℕ → Option ℕ
+not_passed (Some access) (Some passed) = if access == passed then None else Some access
+not_passed wanted _ = wanted
+
+-- the access that is still to pass the gate
+abbrev pub at_gate : MachineState → ℕ → Option ℕ → Option ℕ
+at_gate m thread passed = not_passed (wanted m thread) passed
+
+abbrev pub found_by : Option ℕ → Turned → Found
+found_by (Some access) turned = AtGate access
+found_by None turned = Took turned
+
+abbrev pub found : MachineState → ℕ → Option ℕ → Found
+found m thread passed = found_by (at_gate m thread passed) (turned m thread)
+
+abbrev pub after_by : Option ℕ → MachineState → MachineState → MachineState
+after_by (Some access) before after = before
+after_by None before after = after
+
+-- nothing changes before the gate; else the thread takes its turn
+abbrev pub after_found : MachineState → ℕ → Option ℕ → MachineState
+after_found m thread passed = after_by (at_gate m thread passed) m (after_turn m thread)

@@ -1,0 +1,48 @@
+//! Runs of the script by threads that share one machine behind one lock.
+ghost use Rattle.std.specs.Prelude.{◌≡◌, length, IfOk};
+ghost use Rattle.octet_model.specs.Orders.{IsFaithful};
+
+use crate::worker::run_workers;
+use octet_base::Gate;
+use octet_machine::{Machine, take_rounds};
+use octet_model::{OutOfMemory, Recorded, Script};
+use std::alloc::Global;
+use std::sync::{Mutex, Wait};
+use std::thread::Threads;
+
+// The machine itself where it is one of the script, else a fresh one. Of a machine that comes
+// from under a lock nothing is known but that it is sound.
+fn machine_of(alloc: Global, script: &Script, machine: Machine) -> Result<Machine, OutOfMemory>
+    ensures script { IfOk result (λ own. own.script ≡ script.now) }
+    ensures same { machine.script ≡ script.now → IfOk result (λ own. own ≡ machine) }
+{
+    if machine.is_of(script) {
+        return Ok(machine);
+    }
+    Machine::new(alloc, script)
+}
+
+/// Runs the script by a worker for each of its threads, all beside each other, and answers the
+/// log and the outcome, which are a faithful recording. A worker takes one turn of its thread at
+/// a time, on a machine that all workers share behind one lock. Once before each access it passes
+/// the gate, without the lock. After a turn that shows that its thread has to wait, it backs off.
+/// May wait: nothing says that the workers come to an end.
+pub fn run_locked<R: Threads + Wait + Sync, G: Gate>(
+    rt: &R,
+    alloc: Global,
+    script: &Script,
+    gate: &G,
+) -> Result<Recorded, OutOfMemory>
+    ensures faithful { IfOk result (λ r. IsFaithful script.now r.log.threads r.outcome) }
+    ensures ends { IfOk result (λ r. length r.outcome.ends ≡ length script.now.threads) }
+    ensures reads { IfOk result (λ r. length r.outcome.reads ≡ length script.now.threads) }
+    ensures heap { IfOk result (λ r. length r.outcome.heap ≡ length script.now.objects) }
+{
+    let machine = Machine::new(alloc, script)?;
+    let threads = machine.threads();
+    let shared = Mutex::new(machine);
+    run_workers(rt, &shared, gate, 0, threads);
+    let mut machine = machine_of(alloc, script, shared.into_inner())?;
+    take_rounds(rt, &mut machine);
+    machine.finish(alloc)
+}

@@ -1,0 +1,31 @@
+//! What a worker does while it has the machine.
+ghost use Rattle.std.specs.Prelude.{◌≡◌, ◌<◌, length};
+ghost use Rattle.octet_threads.specs.Step.{found, after_found};
+
+use octet_machine::{Machine, Turned};
+
+/// What a worker finds while it has the machine.
+#[derive(Clone, Copy, Debug, PartialEq, Eq)]
+pub(crate) enum Found {
+    /// The thread is about to make the access of this number, for which the gate was not passed.
+    AtGate { access: u32 },
+    /// The thread took a turn.
+    Took { turned: Turned },
+}
+
+/// Takes one turn of the thread, unless the gate is to be passed before it. It was last passed
+/// for the access of the number `passed`, if it was passed at all.
+pub(crate) fn step(machine: &mut Machine, thread: u8, passed: Option<u32>) -> Found
+    requires { thread < length machine.old.runners }
+    ensures found { result ≡ found machine.old thread passed }
+    ensures state { machine.new ≡ after_found machine.old thread passed }
+{
+    if let Some(access) = machine.wants(thread) {
+        if passed != Some(access) {
+            return Found::AtGate { access };
+        }
+    }
+    Found::Took {
+        turned: machine.turn(thread),
+    }
+}

@@ -1,0 +1,165 @@
+//! Scripts run by threads beside each other.
+ghost use Rattle.std.specs.Prelude.{◌≡◌, ◌≤◌, ◌∷◌, [], length, map, codes, IfOk, IsTrue};
+ghost use Rattle.std.specs.List.{list_all};
+ghost use Rattle.octet_model.specs.Script.{is_thread};
+
+use crate::{HeapGate, run, run_locked};
+use octet_base::{Gate, OpenGate};
+use octet_heap::Worker;
+use octet_model::{Command, DEFAULT_FUEL, List, Name, Object, OutOfMemory, Recorded, Script};
+use std::alloc::Global;
+use std::sync::Wait;
+use std::sync::atomic::{AtomicBool, AtomicU32, Ordering};
+use std::test::Fail;
+use std::thread::Threads;
+
+// Notes whether each of two threads passes once for each of its accesses, in order.
+#[derive(Drop)]
+struct InOrder {
+    first: AtomicU32,
+    second: AtomicU32,
+    went_wrong: AtomicBool,
+}
+
+impl InOrder {
+    fn new() -> InOrder {
+        InOrder {
+            first: AtomicU32::new(0),
+            second: AtomicU32::new(0),
+            went_wrong: AtomicBool::new(false),
+        }
+    }
+
+    // Only the thread itself counts on.
+    fn count(&self, passed: &AtomicU32, access: u32) {
+        if passed.load(Ordering::SeqCst) != access {
+            self.went_wrong.store(true, Ordering::SeqCst);
+        }
+        passed.store(access.saturating_add(1), Ordering::SeqCst);
+    }
+}
+
+impl Gate for InOrder {
+    fn pass<R: Threads + Wait + Sync>(&self, _rt: &R, thread: u8, access: u32) {
+        if thread == 0 {
+            self.count(&self.first, access);
+        } else {
+            self.count(&self.second, access);
+        }
+    }
+}
+
+impl HeapGate for InOrder {
+    fn note(&self, _thread: u8, _worker: &Worker) {}
+}
+
+fn two_objects(alloc: Global, x: u64, y: u64) -> Result<List<Object>, OutOfMemory>
+    ensures names { IfOk result (λ objects. map (λ o. o.name) objects ≡ codes "x" ∷ codes "y" ∷ []) }
+    ensures length { IfOk result (λ objects. length objects ≡ 2) }
+{
+    let mut objects = List::new(alloc);
+    let name = Name::new(alloc, b"x")?;
+    objects.push(Object { name, start: x })?;
+    let name = Name::new(alloc, b"y")?;
+    objects.push(Object { name, start: y })?;
+    Ok(objects)
+}
+
+fn two_threads(
+    alloc: Global,
+    first: &[Command],
+    second: &[Command],
+) -> Result<List<List<Command>>, OutOfMemory>
+    ensures { IfOk result (λ threads. threads ≡ first.now ∷ second.now ∷ []) }
+{
+    let mut threads = List::new(alloc);
+    threads.push(List::from_vec(Vec::from_slice(alloc, first)?))?;
+    threads.push(List::from_vec(Vec::from_slice(alloc, second)?))?;
+    Ok(threads)
+}
+
+fn script_with_x_and_y(objects: List<Object>, threads: List<List<Command>>) -> Script
+    requires names { map (λ o. o.name) objects ≡ codes "x" ∷ codes "y" ∷ [] }
+    requires two { length objects ≡ 2 }
+    requires threads { length threads ≡ 2 }
+    requires valid { IsTrue (list_all (is_thread 2) threads) }
+{
+    Script {
+        fuel: DEFAULT_FUEL,
+        objects,
+        threads,
+    }
+}
+
+// Each thread writes x a hundred times.
+fn writes_in_contention(alloc: Global) -> Result<Script, OutOfMemory> {
+    let writes = [
+        Command::Set { to: 0, number: 100 },
+        Command::Set { to: 1, number: 1 },
+        Command::Loop { test: 0 },
+        Command::Write { object: 0, from: 0 },
+        Command::Safe,
+        Command::Sub {
+            to: 0,
+            left: 0,
+            right: 1,
+        },
+        Command::Close,
+    ];
+    let threads = two_threads(alloc, &writes, &writes)?;
+    Ok(script_with_x_and_y(two_objects(alloc, 0, 0)?, threads))
+}
+
+// Thread 1 reads what nobody has touched.
+fn reads_untouched(alloc: Global) -> Result<Script, OutOfMemory> {
+    let read_y = [Command::Read { to: 0, object: 1 }];
+    let threads = two_threads(alloc, &[], &read_y)?;
+    Ok(script_with_x_and_y(two_objects(alloc, 0, 3)?, threads))
+}
+
+// A line for each thread with its accesses and its marks, one for each thread with what it read,
+// and then the ends and the heap.
+fn text_of(alloc: Global, recorded: &Recorded) -> Result<Vec<u8>, OutOfMemory> {
+    let mut text = Vec::new(alloc);
+    for thread in recorded.log.threads.as_slice() {
+        let line = format!(in alloc; "{} {:?}\n", thread.accesses, thread.marks.as_slice())?;
+        text.extend_from_slice(line.as_bytes())?;
+    }
+    for values in recorded.outcome.reads.as_slice() {
+        let line = format!(in alloc; "{:?}\n", values.as_slice())?;
+        text.extend_from_slice(line.as_bytes())?;
+    }
+    let line = format!(in alloc;
+        "{:?} {:?}",
+        recorded.outcome.ends.as_slice(),
+        recorded.outcome.heap.as_slice()
+    )?;
+    text.extend_from_slice(line.as_bytes())?;
+    Ok(text)
+}
+
+#[test]
+fn reads_untouched_whatever_the_schedule(rt: HostRuntime) -> Result<(), Fail> {
+    let alloc = rt.alloc();
+    let script = reads_untouched(alloc)?;
+    let expected =
+        "0 []\n1 [Gapped { gap: 0, mark: Join { from: 0, upto: 0 } }]\n[]\n[3]\n[Done, Done] [0, 3]";
+    let recorded = run(&rt, alloc, &script, &OpenGate)?;
+    assert_eq!(rt; text_of(alloc, &recorded)?.as_slice(), expected.as_bytes());
+    let recorded = run_locked(&rt, alloc, &script, &OpenGate)?;
+    assert_eq!(rt; text_of(alloc, &recorded)?.as_slice(), expected.as_bytes());
+    Ok(())
+}
+
+#[test]
+fn each_access_passes_the_gate_once(rt: HostRuntime) -> Result<(), Fail> {
+    let alloc = rt.alloc();
+    let script = writes_in_contention(alloc)?;
+    let gate = InOrder::new();
+    let recorded = run(&rt, alloc, &script, &gate)?;
+    assert!(rt; !gate.went_wrong.load(Ordering::SeqCst));
+    assert_eq!(rt; gate.first.load(Ordering::SeqCst), 100);
+    assert_eq!(rt; gate.second.load(Ordering::SeqCst), 100);
+    assert_eq!(rt; recorded.outcome.heap.as_slice(), [1u64, 0].as_slice());
+    Ok(())
+}
