@@ -1,5 +1,5 @@
 -- A worker does a task step by step.
-use Rattle.std.proofs.Common.{◌≡◌, ◌≢◌, ◌∙◌, ℕ, Bool, true, false, List, [], ◌∷◌, ◌++◌, sym, refl, ap, subst, append_assoc, append-nil}
+use Rattle.std.proofs.Common.{◌≡◌, ◌∙◌, ℕ, Bool, true, false, List, [], ◌∷◌, ◌++◌, sym, refl, ap, subst, append_assoc, append-nil}
 use Rattle.std.specs.Prelude.{◌==◌, not, if◌then◌else◌}
 use Rattle.octet_model.specs.declared.outcome.End.{End}
 use Rattle.octet_interp.specs.declared.demand.Demand.TheVariants as demand
@@ -14,7 +14,7 @@ use Rattle.octet_rule.specs.Views.{SeatView, Taken, stepped_by}
 use Rattle.octet_rule.specs.Rule.{Steps}
 use Rattle.octet_safe.specs.Replies.{AnswersOr, PassesSafePoint}
 use Rattle.octet_heap.specs.Polls.{after_steps}
-use Rattle.octet_threads.specs.Tasks.{Task, task_of, next_step, ends_safe_point, IsNext, GoesBy, Does}
+use Rattle.octet_threads.specs.Tasks.{Task, task_of, next_step, IsNext, GoesBy, Does}
 
 -- the thread has taken its steps so far, none of which does the task
 pub record HasGone (task : Task) (v w : SeatView) : Type 0 where

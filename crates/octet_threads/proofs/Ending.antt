@@ -1,5 +1,5 @@
 -- Runners whose threads have all ended leave a faithful recording.
-use Rattle.std.proofs.Common.{◌≡◌, ℕ, zero, suc, ◌+◌, ◌<◌, ◌≤◌, inl, inr, List, [], ◌∷◌, length, get_or, map, All, IsTrue, slice_index_or, refl, sym, ap, ◌∙◌, subst, arith}
+use Rattle.std.proofs.Common.{◌≡◌, ℕ, zero, suc, ◌<◌, ◌≤◌, inl, inr, List, [], ◌∷◌, length, get_or, map, All, IsTrue, slice_index_or, refl, sym, ap, ◌∙◌, subst, arith}
 use Rattle.std.proofs.lemmas.Bool.{cases_lt}
 use Rattle.std.proofs.lemmas.List.{length-map, get_or_past}
 use Rattle.std.proofs.lemmas.List.Elements.{All-get_or}
@@ -8,20 +8,19 @@ use Rattle.octet_model.specs.declared.command.Command.{Command}
 use Rattle.octet_model.specs.declared.event.Event.{Event}
 use Rattle.octet_model.specs.declared.outcome.End.{End}
 use Rattle.octet_model.specs.declared.outcome.End.TheVariants.{Spent}
-use Rattle.octet_model.specs.declared.outcome.Outcome.{Outcome}
 use Rattle.octet_model.specs.declared.script.Script.{Script}
 use Rattle.octet_model.specs.Log.{is_log}
 use Rattle.octet_model.specs.Thread.{Configuration, demanded, configuration_after, starting_configuration, FitsToEnd}
 use Rattle.octet_model.specs.Machine.{Journals, journal_of}
 use Rattle.octet_model.specs.Journals.{access_count, log_of}
-use Rattle.octet_model.specs.Orders.{commands_of, starting_heap, end_of, ends_of, values_read, FitsScript, IsFaithful}
+use Rattle.octet_model.specs.Orders.{commands_of, end_of, ends_of, values_read, FitsScript, IsFaithful}
 use Rattle.octet_interp.specs.declared.demand.Demand.{Demand}
 use Rattle.octet_interp.specs.declared.demand.Demand.TheVariants as demand
 use Rattle.octet_interp.specs.Demands.{ThreadState, next_demand, after_demand}
 use Rattle.octet_interp.specs.Laws.{IsJournalOf, IsJournalPast}
 use Rattle.octet_interp.proofs.Journaled.{keep_up}
 use Rattle.octet_rule.specs.declared.words.Seat.{Seat}
-use Rattle.octet_rule.specs.Seats.{view, threads_of, starts_of}
+use Rattle.octet_rule.specs.Seats.{view, threads_of}
 use Rattle.octet_heap.specs.declared.closed.Closed.{Closed}
 use Rattle.octet_heap.specs.declared.heap.Heap.{Heap}
 use Rattle.octet_heap.specs.declared.worker.Worker.{Worker}

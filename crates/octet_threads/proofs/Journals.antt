@@ -1,5 +1,5 @@
 -- A worker's journal keeps up with its thread.
-use Rattle.std.proofs.Common.{◌≡◌, ◌∙◌, ℕ, Bool, true, false, List, [], ◌∷◌, ◌++◌, map, sym, refl, ap, subst, append_assoc, append-nil}
+use Rattle.std.proofs.Common.{◌≡◌, ◌∙◌, ℕ, false, List, [], ◌∷◌, ◌++◌, map, sym, refl, ap, subst, append_assoc, append-nil}
 use Rattle.octet_model.specs.declared.command.Command.{Command}
 use Rattle.octet_model.specs.declared.command.Command.TheVariants.{Read, Write}
 use Rattle.octet_model.specs.declared.event.Mark.{Mark}

@@ -1,5 +1,5 @@
 -- The runners of a heap's new workers.
-use Rattle.std.proofs.Common.{◌≡◌, ◌∙◌, ℕ, zero, suc, ◌+◌, ◌<◌, List, [], ◌∷◌, ◌++◌, length, All, get_or, slice_index_or, refl, sym, ap, arith, subst, length-append}
+use Rattle.std.proofs.Common.{◌≡◌, ◌∙◌, ℕ, zero, suc, ◌+◌, ◌<◌, List, [], ◌∷◌, ◌++◌, length, slice_index_or, sym, arith, subst}
 use Rattle.std.specs.List.{AllZip}
 use Rattle.std.proofs.lemmas.List.Elements.{AllZip-get_or, length_all_zip}
 use Rattle.octet_model.specs.declared.script.Script.{Script}
@@ -16,10 +16,11 @@ AreNew heap thread (worker ∷ workers) = IsNew heap thread worker × AreNew hea
 
 pub are_new : (heap : Heap) (first : ℕ) (workers : List Worker) → ((thread : ℕ) (none : Worker) → thread < length workers → IsNew heap (first + thread) (slice_index_or workers thread none)) → AreNew heap first workers
 are_new heap first [] each = tt
-are_new heap first (w ∷ workers) each =
-    (subst (λ (t : ℕ). IsNew heap t w) (omega arith) (each 0 w (omega arith)),
-    are_new heap (first + 1) workers (λ t none lt. let same : first + suc t ≡ (first + 1) + t = omega arith in
-    subst (λ (n : ℕ). IsNew heap n (slice_index_or workers t none)) same (each (suc t) none (omega (arith, lt)))))
+are_new heap first (w ∷ workers) each = (
+  subst (λ (t : ℕ). IsNew heap t w) (omega arith) (each 0 w (omega arith)),
+  are_new heap (first + 1) workers (λ t none lt. let same : first + suc t ≡ (first + 1) + t = omega arith in
+      subst (λ (n : ℕ). IsNew heap n (slice_index_or workers t none)) same (each (suc t) none (omega (arith, lt)))),
+)
 
 -- what holds of each element holds with one more
 pub each_more : {X : Type 0} (P : ℕ → X → Type 0) (xs : List X) (x : X) → ((t : ℕ) (none : X) → t < length xs → P t (slice_index_or xs t none)) → P (length xs) x

@@ -1,5 +1,5 @@
 -- Polls, one after another, make an access.
-use Rattle.std.proofs.Common.{◌≡◌, ◌≢◌, ◌∙◌, ℕ, Bool, true, false, List, [], ◌∷◌, ◌++◌, map, Option, Some, None, sym, refl, ap, subst, append_assoc, append-nil}
+use Rattle.std.proofs.Common.{◌≡◌, ◌≢◌, ◌∙◌, ℕ, true, false, List, [], ◌∷◌, ◌++◌, map, Option, Some, None, sym, refl, ap, append_assoc, append-nil}
 use Rattle.octet_model.specs.declared.event.Mark.{Mark}
 use Rattle.octet_model.specs.declared.event.Event.{Event}
 use Rattle.octet_model.specs.declared.event.Event.TheVariants.{Marked}
@@ -16,8 +16,8 @@ use Rattle.octet_heap.specs.Polls as heap
 use Rattle.octet_heap.specs.Polls.{answer_by, answer_to, after_steps, PaysBy}
 use Rattle.octet_heap.specs.Workers.{IsPoll}
 use Rattle.octet_heap.specs.Growth.{access_made, AddsAccess}
-use Rattle.octet_threads.specs.Tasks.{Task, access_task, is_on_cell, IsNext, GoesBy, Does}
-use Rattle.octet_threads.proofs.Doing.{HasGone, after_more, goes_more, gone_and_done}
+use Rattle.octet_threads.specs.Tasks.{access_task, is_on_cell, IsNext, GoesBy, Does}
+use Rattle.octet_threads.proofs.Doing.{HasGone, goes_more}
 
 -- a step by which a poll goes on is none on the cell
 goes_off_cell : (why : Option Why) (k : Kind) (word : ℕ) → answer_by why k word ≡ None → is_on_cell k word ≡ false

@@ -1,5 +1,5 @@
 -- Facts that have at most one proof.
-use Rattle.std.proofs.Common.{◌≡◌, ℕ, List, [], ◌∷◌}
+use Rattle.std.proofs.Common.{List, [], ◌∷◌}
 use Rattle.std.proofs.Props.{props}
 use Rattle.std.specs.Coded.{×_prop, Unit-prop}
 use Rattle.octet_model.specs.declared.command.Command.{Command}

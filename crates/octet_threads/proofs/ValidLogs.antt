@@ -12,7 +12,7 @@ use Rattle.octet_model.specs.declared.log.ThreadLog.{ThreadLog}
 use Rattle.octet_model.specs.declared.script.Script.{Script}
 use Rattle.octet_model.specs.Log.{is_mark, is_thread_log, are_thread_logs, is_log}
 use Rattle.octet_model.specs.Machine.{Journals, journal_of}
-use Rattle.octet_model.specs.Journals.{access_count, mark_count, gapped_marks, log_of, log_of_journal}
+use Rattle.octet_model.specs.Journals.{access_count, gapped_marks, log_of, log_of_journal}
 use Rattle.octet_model.proofs.lemmas.Splits.{length-gapped_marks, length_parts}
 use Rattle.octet_model.proofs.lemmas.Validity.{valid_script}
 use Rattle.octet_state.specs.State.{ProtocolState}

@@ -1,5 +1,5 @@
 -- Runners: workers with the threads that they run.
-use Rattle.std.specs.Prelude.{◌≡◌, ℕ, ◌<◌, List, All, length, slice_index_or}
+use Rattle.std.specs.Prelude.{◌≡◌, ℕ, ◌<◌, List, length, slice_index_or}
 use Rattle.octet_model.specs.declared.outcome.End.{End}
 use Rattle.octet_model.specs.declared.outcome.End.TheVariants.{Spent}
 use Rattle.octet_model.specs.declared.script.Script.{Script}

@@ -1,6 +1,6 @@
 use Rattle.std.proofs.Common.{rules, ◌≡◌, ◌∙◌, sym, subst}
 use Rattle.octet_interp.specs.declared.demand.Demand.{Demand}
-use Rattle.octet_interp.specs.declared.demand.Demand.TheVariants.{Read, Write, Safe, Pause, Ended}
+use Rattle.octet_interp.specs.declared.demand.Demand.TheVariants.{Read, Write}
 use Rattle.octet_interp.specs.Demands.{ThreadState, next_demand, after_demand, given}
 use Rattle.octet_interp.specs.Laws.{IsJournalOf}
 use Rattle.octet_heap.specs.Workers.{seat_of}
@@ -34,7 +34,7 @@ returns-in-Safe-clause-journal g c = λ start kept.
 pub returns-in-Pause-clause-steps : goal.returns-in-Pause-clause-steps
 returns-in-Pause-clause-steps g c =
     let done = pauses (seat_of c.args.worker.now) (seat_of c.block.new.worker) (seat_of c.unblock.new.worker) c.block.ensures.step.0 c.unblock.ensures.step.0
-        c.requires.own.owes_nothing c.requires.idle.0 c.block.ensures.step.1 c.unblock.ensures.step.1 in
+    c.requires.own.owes_nothing c.requires.idle.0 c.block.ensures.step.1 c.unblock.ensures.step.1 in
     subst (λ (d : Demand). Does (task_of d) (seat_of c.args.worker.now) (seat_of c.unblock.new.worker)) (sym c.in-Pause.is) done
 
 pub returns-in-Pause-clause-journal : goal.returns-in-Pause-clause-journal

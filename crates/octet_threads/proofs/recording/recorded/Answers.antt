@@ -1,11 +1,11 @@
-use Rattle.std.proofs.Common.{◌≡◌, ◌∙◌, List, length, sym, ap, subst}
+use Rattle.std.proofs.Common.{◌≡◌, ◌∙◌, List, sym, ap, subst}
 use Rattle.octet_model.specs.declared.outcome.End.{End}
 use Rattle.octet_model.specs.Orders.{IsFaithful}
 use Rattle.octet_heap.specs.declared.worker.Worker.{Worker}
 use Rattle.octet_heap.specs.Seated.{EachRests}
 use Rattle.octet_heap.specs.Closings.{IsClosed}
 use Rattle.octet_threads.specs.declared.runner.Runner.{Runner}
-use Rattle.octet_threads.proofs.Ending.{ends_in, workers_in, each_rests, valid, faithful, as_many, many_ends, many_reads, many_cells}
+use Rattle.octet_threads.proofs.Ending.{ends_in, each_rests, valid, faithful}
 use Rattle.octet_threads.proofs.recording.recorded.Goals as goal
 
 pub close-requires-clause-still : goal.close-requires-clause-still
