@@ -13,11 +13,13 @@ use std::sync::atomic::{AtomicBool, AtomicU32, Ordering};
 use std::test::Fail;
 use std::thread::Threads;
 
-// Notes whether each of two threads passes once for each of its accesses, in order.
+// Notes whether each of two threads passes once for each of its accesses, in order, and whether
+// its worker, where it has one, is then shown before it has made the access.
 #[derive(Drop)]
 struct InOrder {
     first: AtomicU32,
     second: AtomicU32,
+    shown: AtomicU32,
     went_wrong: AtomicBool,
 }
 
@@ -26,7 +28,16 @@ impl InOrder {
         InOrder {
             first: AtomicU32::new(0),
             second: AtomicU32::new(0),
+            shown: AtomicU32::new(0),
             went_wrong: AtomicBool::new(false),
+        }
+    }
+
+    fn passed(&self, thread: u8) -> &AtomicU32 {
+        if thread == 0 {
+            &self.first
+        } else {
+            &self.second
         }
     }
 
@@ -41,16 +52,18 @@ impl InOrder {
 
 impl Gate for InOrder {
     fn pass<R: Threads + Wait + Sync>(&self, _rt: &R, thread: u8, access: u32) {
-        if thread == 0 {
-            self.count(&self.first, access);
-        } else {
-            self.count(&self.second, access);
-        }
+        self.count(self.passed(thread), access);
     }
 }
 
 impl HeapGate for InOrder {
-    fn note(&self, _thread: u8, _worker: &Worker) {}
+    fn note(&self, thread: u8, worker: &Worker) {
+        let passed = self.passed(thread).load(Ordering::SeqCst);
+        if worker.accesses().saturating_add(1) != passed {
+            self.went_wrong.store(true, Ordering::SeqCst);
+        }
+        self.shown.fetch_add(1, Ordering::SeqCst);
+    }
 }
 
 fn two_objects(alloc: Global, x: u64, y: u64) -> Result<List<Object>, OutOfMemory>
@@ -155,11 +168,18 @@ fn reads_untouched_whatever_the_schedule(rt: HostRuntime) -> Result<(), Fail> {
 fn each_access_passes_the_gate_once(rt: HostRuntime) -> Result<(), Fail> {
     let alloc = rt.alloc();
     let script = writes_in_contention(alloc)?;
-    let gate = InOrder::new();
-    let recorded = run(&rt, alloc, &script, &gate)?;
-    assert!(rt; !gate.went_wrong.load(Ordering::SeqCst));
-    assert_eq!(rt; gate.first.load(Ordering::SeqCst), 100);
-    assert_eq!(rt; gate.second.load(Ordering::SeqCst), 100);
-    assert_eq!(rt; recorded.outcome.heap.as_slice(), [1u64, 0].as_slice());
+    for (on_heap, shown) in [(true, 200), (false, 0)] {
+        let gate = InOrder::new();
+        let recorded = if on_heap {
+            run(&rt, alloc, &script, &gate)?
+        } else {
+            run_locked(&rt, alloc, &script, &gate)?
+        };
+        assert!(rt; !gate.went_wrong.load(Ordering::SeqCst));
+        assert_eq!(rt; gate.first.load(Ordering::SeqCst), 100);
+        assert_eq!(rt; gate.second.load(Ordering::SeqCst), 100);
+        assert_eq!(rt; gate.shown.load(Ordering::SeqCst), shown);
+        assert_eq!(rt; recorded.outcome.heap.as_slice(), [1u64, 0].as_slice());
+    }
     Ok(())
 }
