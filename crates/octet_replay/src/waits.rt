@@ -1,5 +1,6 @@
 //! Which threads may step, and what the others wait for.
 ghost use Rattle.std.specs.Prelude.{◌≡◌, ◌≢◌, ◌<◌, ◌≤◌, ◌+◌, ℕ, suc, true, false, replicate, length, slice_get, slice_set, slice_index, Some, All, IfOk, IfSome, IsNone};
+ghost use Rattle.octet_model.specs.declared.limits.TheConstants.{MAX_THREADS};
 ghost use Rattle.octet_replay.specs.Needs.{after_step, is_met, is_ready, no_counts, IsLowestReady, NamesThread};
 ghost use Rattle.octet_replay.specs.ThreadSet.{has};
 ghost use Rattle.octet_replay.specs.WaitingLists.{counts_of, with_draw, with_event, ArePlacedBut, IsListed, IsPlaced, IsSized, Keeps};
@@ -39,7 +40,7 @@ impl Lists {
 
     // Puts a thread on the list of the count at which its need changes, if that can come.
     fn enlist(&mut self, thread: u8, need: Need)
-        requires thread { thread < 16 }
+        requires thread { thread < MAX_THREADS }
         requires events { NamesThread (length self.old.events.items) need }
         requires lists { NamesThread (length self.old.at_events.items) need }
         ensures listed { IsListed self.new thread need }
@@ -70,6 +71,7 @@ impl Lists {
     }
 
     // Puts a thread where its need says: among those that may step, or not, and on a list.
+    #[inline(always)]
     fn place(&mut self, thread: u8)
         requires { IsSized self.old }
         ensures placed { thread < length self.old.needs.items → IsPlaced self.new thread }
@@ -132,6 +134,7 @@ impl Lists {
     }
 
     // Counts an event of a thread, which is a draw or not, and gives the thread its next need.
+    #[inline(always)]
     fn step(&mut self, thread: u8, draw: bool, next: Need)
         requires sized { IsSized self.old }
         requires within { thread < length self.old.needs.items }
@@ -176,7 +179,7 @@ impl Model for Waits {
 
 // No thread stands anywhere.
 fn empty_lists(alloc: Global, needs: &List<Need>) -> Result<Lists, OutOfMemory>
-    requires few { length needs.now ≤ 16 }
+    requires few { length needs.now ≤ MAX_THREADS }
     requires names { All (NamesThread (length needs.now)) needs.now }
     ensures counts { IfOk result (λ lists. counts_of lists ≡ no_counts needs.now) }
     ensures sized { IfOk result (λ lists. IsSized lists) }
@@ -198,7 +201,7 @@ impl Waits {
     /// memory that is ever needed.
     pub fn new(alloc: Global, needs: &List<Need>) -> Result<Waits, OutOfMemory>
         requires some { 1 ≤ length needs.now }
-        requires few { length needs.now ≤ 16 }
+        requires few { length needs.now ≤ MAX_THREADS }
         requires names { All (NamesThread (length needs.now)) needs.now }
         ensures { IfOk result (λ waits. waits ≡ no_counts needs.now) }
     {
@@ -219,6 +222,7 @@ impl Waits {
 
     /// Counts an event of a thread whose need is met, and a draw where it is one, and gives the
     /// thread its next need. Takes no memory.
+    #[inline(always)]
     pub fn step(&mut self, thread: u8, draw: bool, next: Need)
         requires met { is_ready self.old thread ≡ true }
         requires names { NamesThread (length self.old.needs) next }
