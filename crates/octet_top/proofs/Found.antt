@@ -1,5 +1,5 @@
 -- From what was read to the reply.
-use Rattle.std.proofs.Common.{◌≡◌, ◌≢◌, ◌∙◌, ℕ, List, Option, Some, Result, Ok, Err, IfOk, inl, inr, ap, refl, sym}
+use Rattle.std.proofs.Common.{◌≡◌, ◌∙◌, ℕ, List, Option, Some, Result, Ok, Err, IfOk, inl, inr, ap, refl, sym}
 use Rattle.octet_base.specs.Desk.{Contents, DeskState}
 use Rattle.octet_model.specs.declared.list.OutOfMemory.{OutOfMemory as NoMemory}
 use Rattle.octet_top.specs.declared.inputs.Pair.{Pair}
@@ -9,12 +9,17 @@ use Rattle.octet_top.specs.declared.reply.Reply.{Reply}
 use Rattle.octet_top.specs.declared.reply.Status.TheVariants.{Done, Read}
 use Rattle.octet_top.specs.declared.request.PairTask.{PairTask}
 use Rattle.octet_top.specs.Answer.{Answer, answer_of}
-use Rattle.octet_top.specs.Request.{Request, OfPair, Gen}
-use Rattle.octet_top.specs.Inputs.{IsPairRead, Ends, WasRefused, TakesOne, TakesBoth}
-use Rattle.octet_top.specs.Commands.{Answering, Answers, RequestAnswers, PairAnswers, IsGeneration}
+use Rattle.octet_model.specs.declared.log.Log.{Log}
+use Rattle.octet_model.specs.declared.limits.TheConstants.{MAX_LOG_FILE, MAX_SCRIPT_FILE}
+use Rattle.octet_top.specs.declared.inputs.Source.{Source}
+use Rattle.octet_top.specs.declared.request.ScriptTask.{ScriptTask}
+use Rattle.octet_top.specs.declared.request.LogTask.{LogTask}
+use Rattle.octet_top.specs.Request.{Way, Request, OfScript, OfLog, OfPair, Run, Gen}
+use Rattle.octet_top.specs.Inputs.{IsScriptRead, IsLogRead, IsPairRead, Ends, WasRefused, TakesOne, TakesBoth}
+use Rattle.octet_top.specs.Commands.{Answering, Answers, ScriptAnswers, LogAnswers, RunAnswers, RequestAnswers, PairAnswers, IsGeneration}
 use Rattle.octet_top.specs.Replies.{Finds, Replies, IsNoSuccess, TakesFiles, refusal_of}
 use Rattle.octet_top.proofs.Steps.{as_short, both_as_short, one_keeps, both_keep}
-use Rattle.octet_top.proofs.Rows.{Refuses, not_done, pair_refused}
+use Rattle.octet_top.proofs.Rows.{Refuses, not_done, script_refused, log_refused, pair_refused}
 
 found_done : {T : Type 0} (Reading : Result T Answer → Type 0) (Reply' : T → Answer → Type 0) (input : T) (before after : ℕ) (result : Result Reply NoMemory)
     → Reading (Ok input) → after ≡ before → IfOk result (λ reply. Reply' input (answer_of reply)) → Finds (Answering Reading Reply') before result after
@@ -59,6 +64,31 @@ module _ (request : Request) (name : List ℕ) (limit : ℕ) (T : Type 0) (Readi
     begun = (one_keeps name limit (Unit {0}) before after calls).0;
     write_faults = (one_keeps name limit (Unit {0}) before after calls).1;
   }
+
+-- tasks on a script, tasks on a log, and runs of a script
+module _ (task : ScriptTask) (script : List ℕ) where
+  pub script_read : (before after : DeskState) (input : Source) (result : Result Reply NoMemory) → Ends (IsScriptRead script before.contents) before.take_faults (Ok input) after.take_faults → TakesOne script MAX_SCRIPT_FILE (WasRefused {T = Source} {E = Stop} (Ok input)) before after
+      → IfOk result (λ reply. ScriptAnswers task input (answer_of reply)) → Replies (Some (OfScript task script)) before result after
+  script_read = one_read (OfScript task script) script MAX_SCRIPT_FILE Source (IsScriptRead script) (ScriptAnswers task) (λ short before after calls. calls) (λ contents answer answers. answers) (script_refused script)
+
+  pub script_stops : (before after : DeskState) (stop : Stop) → Ends (IsScriptRead script before.contents) before.take_faults (Err stop) after.take_faults → TakesOne script MAX_SCRIPT_FILE (WasRefused {T = Source} (Err stop)) before after → Replies (Some (OfScript task script)) before (refusal_of stop) after
+  script_stops = one_stops (OfScript task script) script MAX_SCRIPT_FILE Source (IsScriptRead script) (ScriptAnswers task) (λ short before after calls. calls) (λ contents answer answers. answers) (script_refused script)
+
+module _ (task : LogTask) (log : List ℕ) where
+  pub log_read : (before after : DeskState) (input : Log) (result : Result Reply NoMemory) → Ends (IsLogRead log before.contents) before.take_faults (Ok input) after.take_faults → TakesOne log MAX_LOG_FILE (WasRefused {T = Log} {E = Stop} (Ok input)) before after
+      → IfOk result (λ reply. LogAnswers task input (answer_of reply)) → Replies (Some (OfLog task log)) before result after
+  log_read = one_read (OfLog task log) log MAX_LOG_FILE Log (IsLogRead log) (LogAnswers task) (λ short before after calls. calls) (λ contents answer answers. answers) (log_refused log)
+
+  pub log_stops : (before after : DeskState) (stop : Stop) → Ends (IsLogRead log before.contents) before.take_faults (Err stop) after.take_faults → TakesOne log MAX_LOG_FILE (WasRefused {T = Log} (Err stop)) before after → Replies (Some (OfLog task log)) before (refusal_of stop) after
+  log_stops = one_stops (OfLog task log) log MAX_LOG_FILE Log (IsLogRead log) (LogAnswers task) (λ short before after calls. calls) (λ contents answer answers. answers) (log_refused log)
+
+module _ (way : Way) (script log : List ℕ) where
+  pub run_read : (before after : DeskState) (input : Source) (result : Result Reply NoMemory) → Ends (IsScriptRead script before.contents) before.take_faults (Ok input) after.take_faults → TakesOne script MAX_SCRIPT_FILE (WasRefused {T = Source} {E = Stop} (Ok input)) before after
+      → IfOk result (λ reply. RunAnswers way log input (answer_of reply)) → Replies (Some (Run way script log)) before result after
+  run_read = one_read (Run way script log) script MAX_SCRIPT_FILE Source (IsScriptRead script) (RunAnswers way log) (λ short before after calls. calls) (λ contents answer answers. answers) (script_refused script)
+
+  pub run_stops : (before after : DeskState) (stop : Stop) → Ends (IsScriptRead script before.contents) before.take_faults (Err stop) after.take_faults → TakesOne script MAX_SCRIPT_FILE (WasRefused {T = Source} (Err stop)) before after → Replies (Some (Run way script log)) before (refusal_of stop) after
+  run_stops = one_stops (Run way script log) script MAX_SCRIPT_FILE Source (IsScriptRead script) (RunAnswers way log) (λ short before after calls. calls) (λ contents answer answers. answers) (script_refused script)
 
 -- one that takes a script and a log
 module _ (task : PairTask) (script log : List ℕ) (object : Option (List ℕ)) where

@@ -1,8 +1,7 @@
 -- What reading the files of a request comes to, step by step. A step ends with a value, or with the answer that refuses.
 use Rattle.octet_model.specs.declared.limits.TheConstants.{MAX_LOG_FILE, MAX_SCRIPT_FILE}
-use Rattle.std.specs.Prelude.{ℕ, ◌≡◌, ◌≤◌, ◌<◌, ◌⊎◌, ◌++◌, List, [], ◌∷◌, length, Option, None, Some, Result, Ok, Err, IfSome, IsSomeAnd}
+use Rattle.std.specs.Prelude.{ℕ, ◌≡◌, ◌≤◌, ◌<◌, ◌⊎◌, List, length, Option, None, Some, Result, Ok, Err, IfSome, IsSomeAnd}
 use Rattle.std.specs.FinMap.{get}
-use Rattle.std.specs.Option.{option_map}
 use Rattle.octet_base.specs.Desk.{Contents, DeskState, Takes, Rose}
 use Rattle.octet_base.specs.declared.fault.DeskFault.{DeskFault}
 use Rattle.std.specs.Global.{Vec}

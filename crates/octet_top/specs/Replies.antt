@@ -1,7 +1,7 @@
 -- How a reply is found: what it answers, and which calls of the desk that takes.
 use Rattle.octet_model.specs.declared.limits.TheConstants.{MAX_LOG_FILE, MAX_SCRIPT_FILE}
-use Rattle.std.specs.Prelude.{ℕ, ◌≡◌, ◌≢◌, ◌⊎◌, List, [], take, Option, None, Some, Result, Ok, Err}
-use Rattle.octet_base.specs.Desk.{Contents, DeskState, Rose}
+use Rattle.std.specs.Prelude.{ℕ, ◌≡◌, ◌≢◌, ◌⊎◌, Option, None, Some, Result, Ok, Err}
+use Rattle.octet_base.specs.Desk.{DeskState, Rose}
 use Rattle.octet_model.specs.declared.list.OutOfMemory.{OutOfMemory}
 use Rattle.octet_top.specs.declared.inputs.Stop.{Stop}
 use Rattle.octet_top.specs.declared.inputs.Stop.TheVariants as stop

@@ -5,6 +5,8 @@ mod commands;
 mod convert;
 mod deliver;
 #[cfg(test)]
+mod heap_tests;
+#[cfg(test)]
 mod hostile_tests;
 mod inputs;
 mod picks;

@@ -17,15 +17,16 @@ use crate::refusal::not_a_command;
 use crate::reply::Reply;
 use crate::request::{Running, reading_of, running_of};
 use crate::running::run;
-use octet_base::{Desk, Gate};
+use octet_base::Desk;
 use octet_model::OutOfMemory;
+use octet_threads::HeapGate;
 use std::alloc::Global;
 use std::sync::Wait;
 use std::thread::Threads;
 
 /// Does what the words of a command line say, over the desk, and answers the exit status. The
 /// words are those after the program's name.
-pub fn serve<R: Threads + Wait + Sync, D: Desk, G: Gate>(
+pub fn serve<R: Threads + Wait + Sync, D: Desk, G: HeapGate>(
     rt: &R,
     alloc: Global,
     words: &[String],
@@ -73,7 +74,7 @@ pub fn serve<R: Threads + Wait + Sync, D: Desk, G: Gate>(
     serve_words(rt, alloc, words, desk, gate)
 }
 
-fn serve_words<R: Threads + Wait + Sync, D: Desk, G: Gate>(
+fn serve_words<R: Threads + Wait + Sync, D: Desk, G: HeapGate>(
     rt: &R,
     alloc: Global,
     words: &[String],
@@ -108,7 +109,7 @@ fn reply_alone<D: Desk>(alloc: Global, words: &[String], desk: &mut D) -> Result
     }
 }
 
-fn serve_running<R: Threads + Wait + Sync, D: Desk, G: Gate>(
+fn serve_running<R: Threads + Wait + Sync, D: Desk, G: HeapGate>(
     rt: &R,
     alloc: Global,
     running: Running<'_>,

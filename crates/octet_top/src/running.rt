@@ -15,11 +15,12 @@ use crate::recording::record;
 use crate::refusal::refused;
 use crate::reply::{Output, Reply};
 use crate::request::{RunTask, Running};
-use octet_base::{Desk, Gate};
+use octet_base::Desk;
 use octet_gen::make;
 use octet_log::{digest, encode_v1, encode_v2};
 use octet_model::{List, Log, OutOfMemory, outcome_text};
 use octet_script::print;
+use octet_threads::HeapGate;
 use std::alloc::Global;
 use std::sync::Wait;
 use std::thread::Threads;
@@ -28,7 +29,7 @@ use std::thread::Threads;
 const SUMMARY: &[u8] = b"threads 8\nobjects 64\naccesses 160000\n";
 
 /// The reply to a run: the script's file is taken, and nothing is written or said yet.
-pub(crate) fn run<R: Threads + Wait + Sync, D: Desk, G: Gate>(
+pub(crate) fn run<R: Threads + Wait + Sync, D: Desk, G: HeapGate>(
     rt: &R,
     alloc: Global,
     running: Running<'_>,
@@ -49,7 +50,8 @@ pub(crate) fn run<R: Threads + Wait + Sync, D: Desk, G: Gate>(
     }
 }
 
-fn run_script<R: Threads + Wait + Sync, D: Desk, G: Gate>(
+#[tactic(auto, using(crate::proofs::Found::run_stops))]
+fn run_script<R: Threads + Wait + Sync, D: Desk, G: HeapGate>(
     rt: &R,
     alloc: Global,
     desk: &mut D,
@@ -67,7 +69,7 @@ fn run_script<R: Threads + Wait + Sync, D: Desk, G: Gate>(
 }
 
 /// The script is run: the log's bytes are written, and the outcome is said.
-fn run_source<R: Threads + Wait + Sync, G: Gate>(
+fn run_source<R: Threads + Wait + Sync, G: HeapGate>(
     rt: &R,
     alloc: Global,
     gate: &G,
@@ -104,7 +106,7 @@ fn file_bytes(
 
 /// The number's script is run: its canonical text and then the log's bytes are written, and the
 /// summary is said.
-fn generate<R: Threads + Wait + Sync, G: Gate>(
+fn generate<R: Threads + Wait + Sync, G: HeapGate>(
     rt: &R,
     alloc: Global,
     gate: &G,
