@@ -9,21 +9,27 @@ use Rattle.octet_model.specs.Log.{is_log}
 use Rattle.octet_model.specs.declared.script.Script.{Script}
 use Rattle.octet_model.specs.declared.log.Log.{Log}
 use Rattle.octet_script.proofs.lemmas.Grammar.{spells_parsed, one_script}
-use Rattle.octet_log.specs.Decoding as log
-use Rattle.octet_log.proofs.lemmas.Spellings.{spelling_decoded, one_log}
+use Rattle.std.specs.Option.{option_map}
+use Rattle.octet_log.specs.declared.loader.Digest.{Digest}
+use Rattle.octet_log.specs.declared.loader.Loaded.{Loaded}
+use Rattle.octet_log.specs.Readings.{reading_of}
+use Rattle.octet_log.proofs.lemmas.Readings.{spelling_read, one_reading}
+use Rattle.octet_replay.specs.declared.fitting.FitFault.{FitFault}
+use Rattle.octet_replay.specs.declared.fitting.FitFault.TheVariants.{WrongScript}
+use Rattle.octet_replay.specs.Fit.{IsOfScript, IsOfAnother}
 use Rattle.octet_replay.proofs.lemmas.OneAnswer.{not_refused}
 use Rattle.octet_top.specs.declared.inputs.Pair.{Pair}
 use Rattle.octet_top.specs.declared.request.PairTask.{PairTask}
 use Rattle.octet_top.specs.declared.reply.Status.{Status}
 use Rattle.octet_top.specs.declared.reply.Status.TheVariants as exit
 use Rattle.octet_top.specs.Answer.{Answer, code_of, not_a_command, read_failed, too_long, script_refused, log_refused}
-use Rattle.octet_top.specs.Request.{Request, OfScript, OfLog, OfPair, Run, Gen, request_in}
+use Rattle.octet_top.specs.Request.{Request, OfScript, OfLog, OfPair, Convert, Run, Gen, request_in}
 use Rattle.octet_top.specs.Inputs.{◌>>=◌, IsTaken, IsParsed, IsDecoded, IsChosen, IsScriptRead, IsLogRead, IsScriptChosen, IsPairRead}
 use Rattle.octet_top.specs.Delivery.{IsServed}
 use Rattle.octet_top.specs.Causes.{IsDue, NoneFailed}
 use Rattle.octet_top.proofs.Causes.{Ending, Whole, CutShort, Lacking, ended}
 use Rattle.octet_top.proofs.Rows.{PairRow, script_row, log_row, pair_row, run_row}
-use Rattle.octet_top.specs.Commands.{Answering, Answers, RequestAnswers, IsAnswer, ScriptAnswers, LogAnswers, PairAnswers, RunAnswers}
+use Rattle.octet_top.specs.Commands.{Answering, Answers, RequestAnswers, IsAnswer, ScriptAnswers, LogAnswers, Matching, PairReplays, PairAnswers, Converts, ConvertAnswers, RunAnswers}
 
 -- a step ends in one way
 pub record Single {A : Type 0} (Step : Result A Answer → Type 0) : Type 0 where
@@ -86,10 +92,19 @@ parsed_single text = record {
 same_log : (a b : Log) → a.threads ≡ b.threads → a ≡ b
 same_log a b e = λ i. record { threads = e i; valid = prop→path_p (λ j. IsTrue (is_log (e j))) (hlevel props) a.valid b.valid i }
 
+same_digest : (a b : Option Digest) → option_map (λ d. d.bytes) a ≡ option_map (λ d. d.bytes) b → a ≡ b
+same_digest None None e = refl
+same_digest None (Some b) e = absurd cc
+same_digest (Some a) None e = absurd cc
+same_digest (Some a) (Some b) e = let same : a.bytes ≡ b.bytes = cc in λ i. Some (record { bytes = same i })
+
 decoded_single : (bytes : List ℕ) → Single (IsDecoded bytes)
 decoded_single bytes = record {
-  one = λ x y p q. same_log x y (one_log x.threads y.threads x.valid y.valid (sym p ∙ q));
-  never = λ x a p q. (let judged = sym q.1 ∙ ap log.decoded p ∙ spelling_decoded x.threads x.valid in cc);
+  one = λ x y p q. (let both = one_reading bytes x.log.threads y.log.threads (reading_of x).digest (reading_of y).digest x.log.valid y.log.valid p q in
+    let log : x.log ≡ y.log = same_log x.log y.log both.0 in
+    let digest : x.digest ≡ y.digest = same_digest x.digest y.digest both.1 in
+    λ i. record { log = log i; digest = digest i });
+  never = λ x a p q. (let judged = sym q.1 ∙ spelling_read bytes (reading_of x).digest x.log.threads x.log.valid p in cc);
   same = λ a b p q. both a b (log_refused q.0) (p.2 ∙ (let judged = sym p.1 ∙ q.1 in cc)) q.2;
 }
 
@@ -134,18 +149,38 @@ pair_same task pair a b (inl p) (inr q) = absurd (q.3 (p.1 q.2))
 pair_same task pair a b (inr p) (inl q) = absurd (p.3 (q.1 p.2))
 pair_same task pair a b (inr p) (inr q) = p.1 ∙ sym q.1
 
-pair_status : (task : PairTask) (pair : Pair) (a b : Answer) → PairAnswers task pair a → PairAnswers task pair b → a.status ≡ b.status
-pair_status task pair a b (inl p) (inl q) = as_said a b _ _ p.3 q.3 refl
-pair_status task pair a b (inl p) (inr (lawful, says)) = absurd (not_refused pair.source.script pair.log.threads p.0 lawful p.1 p.2)
-pair_status task pair a b (inr (lawful, says)) (inl q) = absurd (not_refused pair.source.script pair.log.threads q.0 lawful q.1 q.2)
-pair_status task pair a b (inr (lawful, says)) (inr (lawful', says')) = pair_same task pair a b (pair_row task pair a says) (pair_row task pair b says')
+replays_status : (task : PairTask) (pair : Pair) (a b : Answer) → PairReplays task pair a → PairReplays task pair b → a.status ≡ b.status
+replays_status task pair a b (inl p) (inl q) = as_said a b _ _ p.3 q.3 refl
+replays_status task pair a b (inl p) (inr (lawful, says)) = absurd (not_refused pair.source.script pair.loaded.log.threads p.0 lawful p.1 p.2)
+replays_status task pair a b (inr (lawful, says)) (inl q) = absurd (not_refused pair.source.script pair.loaded.log.threads q.0 lawful q.1 q.2)
+replays_status task pair a b (inr (lawful, says)) (inr (lawful', says')) = pair_same task pair a b (pair_row task pair a says) (pair_row task pair b says')
+
+-- a conversion has one status
+converts_status : (out : List ℕ) (pair : Pair) (a b : Answer) → Converts out pair a → Converts out pair b → a.status ≡ b.status
+converts_status out pair a b (inl p) (inl q) = as_said a b _ _ p.3 q.3 refl
+converts_status out pair a b (inl p) (inr q) = absurd (p.2.differ (p.2.script_has ∙ q.0 ∙ sym p.2.log_has))
+converts_status out pair a b (inr p) (inl q) = absurd (q.2.differ (q.2.script_has ∙ p.0 ∙ sym q.2.log_has))
+converts_status out pair a b (inr p) (inr q) = as_said a b _ _ p.2 q.2 refl
+
+-- a log is not of its script and of another
+pub not_of_another : (text : List ℕ) (digest : Option Digest) (fault : FitFault) → IsOfScript text digest → ¬ IsOfAnother text digest fault
+not_of_another text None (WrongScript script log) own (is, digest, other) = absurd cc
+not_of_another text (Some d) (WrongScript script log) own (is, digest, other) = let same : d ≡ log = cc in other (ap (λ (x : Digest). x.bytes) (sym same) ∙ own)
+
+matching_status : (pair : Pair) (Next : Answer → Type 0) → ((a b : Answer) → Next a → Next b → a.status ≡ b.status) → (a b : Answer) → Matching Next pair a → Matching Next pair b → a.status ≡ b.status
+matching_status pair Next same a b (inl p) (inl q) = as_said a b _ _ p.2 q.2 refl
+matching_status pair Next same a b (inl p) (inr q) = absurd (not_of_another pair.source.text pair.loaded.digest p.0 q.0 p.1)
+matching_status pair Next same a b (inr p) (inl q) = absurd (not_of_another pair.source.text pair.loaded.digest q.0 p.0 q.1)
+matching_status pair Next same a b (inr p) (inr q) = same a b p.1 q.1
 
 request_status : (t : Contents) (request : Request) (a b : Answer) → RequestAnswers request (Some t) a → RequestAnswers request (Some t) b → a.status ≡ b.status
 request_status t (OfScript task script) a b =
     one_status (IsScriptRead script (Some t)) (ScriptAnswers task) (script_single t script) (λ source x y p q. (script_row task source x p).status ∙ sym (script_row task source y q).status) a b
 request_status t (OfLog task log) a b =
     one_status (IsLogRead log (Some t)) (LogAnswers task) (log_single t log) (λ read x y p q. (log_row task read x p).status ∙ sym (log_row task read y q).status) a b
-request_status t (OfPair task script log object) a b = one_status (IsPairRead script log object (Some t)) (PairAnswers task) (pair_single t script log object) (pair_status task) a b
+request_status t (OfPair task script log object) a b = one_status (IsPairRead script log object (Some t)) (PairAnswers task) (pair_single t script log object) (λ pair. matching_status pair (PairReplays task pair) (replays_status task pair)) a b
+request_status t (Convert script log out) a b =
+    one_status (IsPairRead script log None (Some t)) (ConvertAnswers out) (pair_single t script log None) (λ pair. matching_status pair (Converts out pair) (converts_status out pair)) a b
 request_status t (Run task script log) a b =
     one_status (IsScriptRead script (Some t)) (RunAnswers task log) (script_single t script) (λ source x y p q. (run_row task log source x p).status ∙ sym (run_row task log source y q).status) a b
 request_status t (Gen number script log) a b = λ p q. as_said a b _ _ p.5 q.5 refl

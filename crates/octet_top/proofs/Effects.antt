@@ -7,15 +7,15 @@ use Rattle.octet_replay.proofs.lemmas.OneAnswer.{faithful, not_refused}
 use Rattle.octet_top.specs.declared.inputs.Pair.{Pair}
 use Rattle.octet_top.specs.declared.reply.Status.TheVariants as exit
 use Rattle.octet_top.specs.Answer.{Answer, code_of}
-use Rattle.octet_top.specs.Request.{Request, OfScript, OfLog, OfPair, Run, Gen, request_in, outputs_in}
-use Rattle.octet_top.specs.Commands.{Answers, RequestAnswers, PairAnswers, IsAnswer}
+use Rattle.octet_top.specs.Request.{Request, OfScript, OfLog, OfPair, Convert, Run, Gen, request_in, outputs_in}
+use Rattle.octet_top.specs.Commands.{Answers, RequestAnswers, PairAnswers, ConvertAnswers, IsAnswer}
 use Rattle.octet_top.specs.Delivery.{IsServed}
 use Rattle.octet_top.specs.Outputs.{written, ArePartlyWritten}
 use Rattle.octet_top.specs.Causes.{NoneFailed}
 use Rattle.octet_top.specs.Effects.{IsStatus, CountsFailures, IsUntouched, IsDelivered, IsGivenAnswer, Leaves, IsOneOf, KeepsOthers, KeepsFiles, HasFiles, IsWellMet}
 use Rattle.octet_top.proofs.Causes.{Ending, Whole, CutShort, Lacking, IsFound, ended}
 use Rattle.octet_top.proofs.Rows.{IsDone, Refuses, is_refusal, answers_row, request_row, script_row, log_row, pair_row, run_row}
-use Rattle.octet_top.proofs.Due.{script_single, log_single, pair_single, comes}
+use Rattle.octet_top.proofs.Due.{script_single, log_single, pair_single, not_of_another, comes}
 use Rattle.octet_top.proofs.Left.{get-other}
 
 -- files of other names stay
@@ -98,16 +98,25 @@ met_done (OfScript task script) contents answer (source, read) (inl refused) = a
 met_done (OfScript task script) contents answer (source, read) (inr (other, is, answers)) = (script_row task other answer answers).status
 met_done (OfLog task log) contents answer (read, there) (inl refused) = absurd ((log_single contents log).never read answer there refused)
 met_done (OfLog task log) contents answer (read, there) (inr (other, is, answers)) = (log_row task other answer answers).status
-met_done (OfPair task script log object) contents answer (pair, outcome, read, recording) (inl refused) = absurd ((pair_single contents script log object).never pair answer read refused)
-met_done (OfPair task script log object) contents answer (pair, outcome, read, recording) (inr (other, is, answers)) =
-    fits answers (subst (λ (p : Pair). IsFaithful p.source.script p.log.threads outcome) (sym ((pair_single contents script log object).one other pair is read)) recording)
+met_done (OfPair task script log object) contents answer (pair, outcome, read, own, recording) (inl refused) = absurd ((pair_single contents script log object).never pair answer read refused)
+met_done (OfPair task script log object) contents answer (pair, outcome, read, own, recording) (inr (other, is, answers)) =
+    fits (subst (λ (p : Pair). PairAnswers task p answer) ((pair_single contents script log object).one other pair is read) answers)
   where
-    fits : PairAnswers task other answer → IsFaithful other.source.script other.log.threads outcome → answer.status ≡ exit.Done
-    fits (inl (fault, memory, cause, is)) recording = absurd (not_refused other.source.script other.log.threads fault (faithful other.source.script other.log.threads outcome recording).0 memory cause)
-    fits (inr (lawful, says)) recording = elim (pair_row task other answer says) [
+    fits : PairAnswers task pair answer → answer.status ≡ exit.Done
+    fits (inl (fault, another, is)) = absurd (not_of_another pair.source.text pair.loaded.digest fault own another)
+    fits (inr (mine, inl (fault, memory, cause, is))) = absurd (not_refused pair.source.script pair.loaded.log.threads fault (faithful pair.source.script pair.loaded.log.threads outcome recording).0 memory cause)
+    fits (inr (mine, inr (lawful, says))) = elim (pair_row task pair answer says) [
       | inl row ↦ row.0.status
-      | inr row ↦ absurd (row.3 (recording.ordered (lowest_order other.source.script other.log.threads) (faithful other.source.script other.log.threads outcome recording).0))
+      | inr row ↦ absurd (row.3 (recording.ordered (lowest_order pair.source.script pair.loaded.log.threads) (faithful pair.source.script pair.loaded.log.threads outcome recording).0))
     ]
+met_done (Convert script log out) contents answer (pair, outcome, read, own, recording) (inl refused) = absurd ((pair_single contents script log None).never pair answer read refused)
+met_done (Convert script log out) contents answer (pair, outcome, read, own, recording) (inr (other, is, answers)) =
+    fits (subst (λ (p : Pair). ConvertAnswers out p answer) ((pair_single contents script log None).one other pair is read) answers)
+  where
+    fits : ConvertAnswers out pair answer → answer.status ≡ exit.Done
+    fits (inl (fault, another, is)) = absurd (not_of_another pair.source.text pair.loaded.digest fault own another)
+    fits (inr (mine, inl (of_script, of_log, differ, is))) = absurd (differ.differ (differ.script_has ∙ recording.is_lawful.0 ∙ sym differ.log_has))
+    fits (inr (mine, inr (threads, file, is))) = ap (λ (a : Answer). a.status) is
 met_done (Run task script log) contents answer (source, read) (inl refused) = absurd ((script_single contents script).never source answer read refused)
 met_done (Run task script log) contents answer (source, read) (inr (other, is, answers)) = (run_row task log other answer answers).status
 met_done (Gen number script log) contents answer met answers = elim (request_row (Gen number script log) (Some contents) answer answers) [ inl row ↦ row.status | inr refused ↦ ap (λ (a : Answer). a.status) answers.5 ]

@@ -1,5 +1,5 @@
 -- From what was read to the reply.
-use Rattle.std.proofs.Common.{◌≡◌, ◌∙◌, ℕ, List, Option, Some, Result, Ok, Err, IfOk, inl, inr, ap, refl, sym}
+use Rattle.std.proofs.Common.{◌≡◌, ◌∙◌, ℕ, List, Option, None, Some, Result, Ok, Err, IfOk, inl, inr, ap, refl, sym}
 use Rattle.octet_base.specs.Desk.{Contents, DeskState}
 use Rattle.octet_model.specs.declared.list.OutOfMemory.{OutOfMemory as NoMemory}
 use Rattle.octet_top.specs.declared.inputs.Pair.{Pair}
@@ -9,14 +9,14 @@ use Rattle.octet_top.specs.declared.reply.Reply.{Reply}
 use Rattle.octet_top.specs.declared.reply.Status.TheVariants.{Done, Read}
 use Rattle.octet_top.specs.declared.request.PairTask.{PairTask}
 use Rattle.octet_top.specs.Answer.{Answer, answer_of}
-use Rattle.octet_model.specs.declared.log.Log.{Log}
+use Rattle.octet_log.specs.declared.loader.Loaded.{Loaded}
 use Rattle.octet_model.specs.declared.limits.TheConstants.{MAX_LOG_FILE, MAX_SCRIPT_FILE}
 use Rattle.octet_top.specs.declared.inputs.Source.{Source}
 use Rattle.octet_top.specs.declared.request.ScriptTask.{ScriptTask}
 use Rattle.octet_top.specs.declared.request.LogTask.{LogTask}
-use Rattle.octet_top.specs.Request.{Way, Request, OfScript, OfLog, OfPair, Run, Gen}
+use Rattle.octet_top.specs.Request.{Way, Request, OfScript, OfLog, OfPair, Convert, Run, Gen}
 use Rattle.octet_top.specs.Inputs.{IsScriptRead, IsLogRead, IsPairRead, Ends, WasRefused, TakesOne, TakesBoth}
-use Rattle.octet_top.specs.Commands.{Answering, Answers, ScriptAnswers, LogAnswers, RunAnswers, RequestAnswers, PairAnswers, IsGeneration}
+use Rattle.octet_top.specs.Commands.{Answering, Answers, ScriptAnswers, LogAnswers, RunAnswers, RequestAnswers, PairAnswers, ConvertAnswers, IsGeneration}
 use Rattle.octet_top.specs.Replies.{Finds, Replies, IsNoSuccess, TakesFiles, refusal_of}
 use Rattle.octet_top.proofs.Steps.{as_short, both_as_short, one_keeps, both_keep}
 use Rattle.octet_top.proofs.Rows.{Refuses, not_done, script_refused, log_refused, pair_refused}
@@ -75,12 +75,12 @@ module _ (task : ScriptTask) (script : List ℕ) where
   script_stops = one_stops (OfScript task script) script MAX_SCRIPT_FILE Source (IsScriptRead script) (ScriptAnswers task) (λ short before after calls. calls) (λ contents answer answers. answers) (script_refused script)
 
 module _ (task : LogTask) (log : List ℕ) where
-  pub log_read : (before after : DeskState) (input : Log) (result : Result Reply NoMemory) → Ends (IsLogRead log before.contents) before.take_faults (Ok input) after.take_faults → TakesOne log MAX_LOG_FILE (WasRefused {T = Log} {E = Stop} (Ok input)) before after
+  pub log_read : (before after : DeskState) (input : Loaded) (result : Result Reply NoMemory) → Ends (IsLogRead log before.contents) before.take_faults (Ok input) after.take_faults → TakesOne log MAX_LOG_FILE (WasRefused {T = Loaded} {E = Stop} (Ok input)) before after
       → IfOk result (λ reply. LogAnswers task input (answer_of reply)) → Replies (Some (OfLog task log)) before result after
-  log_read = one_read (OfLog task log) log MAX_LOG_FILE Log (IsLogRead log) (LogAnswers task) (λ short before after calls. calls) (λ contents answer answers. answers) (log_refused log)
+  log_read = one_read (OfLog task log) log MAX_LOG_FILE Loaded (IsLogRead log) (LogAnswers task) (λ short before after calls. calls) (λ contents answer answers. answers) (log_refused log)
 
-  pub log_stops : (before after : DeskState) (stop : Stop) → Ends (IsLogRead log before.contents) before.take_faults (Err stop) after.take_faults → TakesOne log MAX_LOG_FILE (WasRefused {T = Log} (Err stop)) before after → Replies (Some (OfLog task log)) before (refusal_of stop) after
-  log_stops = one_stops (OfLog task log) log MAX_LOG_FILE Log (IsLogRead log) (LogAnswers task) (λ short before after calls. calls) (λ contents answer answers. answers) (log_refused log)
+  pub log_stops : (before after : DeskState) (stop : Stop) → Ends (IsLogRead log before.contents) before.take_faults (Err stop) after.take_faults → TakesOne log MAX_LOG_FILE (WasRefused {T = Loaded} (Err stop)) before after → Replies (Some (OfLog task log)) before (refusal_of stop) after
+  log_stops = one_stops (OfLog task log) log MAX_LOG_FILE Loaded (IsLogRead log) (LogAnswers task) (λ short before after calls. calls) (λ contents answer answers. answers) (log_refused log)
 
 module _ (way : Way) (script log : List ℕ) where
   pub run_read : (before after : DeskState) (input : Source) (result : Result Reply NoMemory) → Ends (IsScriptRead script before.contents) before.take_faults (Ok input) after.take_faults → TakesOne script MAX_SCRIPT_FILE (WasRefused {T = Source} {E = Stop} (Ok input)) before after
@@ -90,26 +90,46 @@ module _ (way : Way) (script log : List ℕ) where
   pub run_stops : (before after : DeskState) (stop : Stop) → Ends (IsScriptRead script before.contents) before.take_faults (Err stop) after.take_faults → TakesOne script MAX_SCRIPT_FILE (WasRefused {T = Source} (Err stop)) before after → Replies (Some (Run way script log)) before (refusal_of stop) after
   run_stops = one_stops (Run way script log) script MAX_SCRIPT_FILE Source (IsScriptRead script) (RunAnswers way log) (λ short before after calls. calls) (λ contents answer answers. answers) (script_refused script)
 
--- one that takes a script and a log
-module _ (task : PairTask) (script log : List ℕ) (object : Option (List ℕ)) where
-  pub both_read : (before after : DeskState) (pair : Pair) (result : Result Reply NoMemory) → Ends (IsPairRead script log object before.contents) before.take_faults (Ok pair) after.take_faults
-      → TakesBoth script log object (WasRefused {T = Pair} {E = Stop} (Ok pair)) before after → IfOk result (λ reply. PairAnswers task pair (answer_of reply)) → Replies (Some (OfPair task script log object)) before result after
-  both_read before after pair result ends calls answers = record {
-    found = found_done (IsPairRead script log object before.contents) (PairAnswers task) pair _ _ result ends.0 ends.1 answers;
-    calls = both_as_short script log object ⊥ (IsNoSuccess result) before after (λ never. absurd never) calls;
+-- a request that takes a script and a log
+module _ (request : Request) (script log : List ℕ) (object : Option (List ℕ)) (Reply' : Pair → Answer → Type 0)
+    (takes : (Short : Type 0) (before after : DeskState) → TakesBoth script log object Short before after → TakesFiles (Some request) Short before after)
+    (answers_it : (contents : Option Contents) (answer : Answer) → Answering (IsPairRead script log object contents) Reply' answer → RequestAnswers request contents answer) where
+  two_read : (before after : DeskState) (pair : Pair) (result : Result Reply NoMemory) → Ends (IsPairRead script log object before.contents) before.take_faults (Ok pair) after.take_faults
+      → TakesBoth script log object (WasRefused {T = Pair} {E = Stop} (Ok pair)) before after → IfOk result (λ reply. Reply' pair (answer_of reply)) → Replies (Some request) before result after
+  two_read before after pair result ends calls answers = record {
+    found = as_found (Answering (IsPairRead script log object before.contents) Reply') (RequestAnswers request before.contents) (answers_it before.contents) _ _ result (found_done (IsPairRead script log object before.contents) Reply' pair _ _ result ends.0 ends.1 answers);
+    calls = takes (IsNoSuccess result) before after (both_as_short script log object ⊥ (IsNoSuccess result) before after (λ never. absurd never) calls);
     begun = (both_keep script log object ⊥ before after calls).0;
     write_faults = (both_keep script log object ⊥ before after calls).1;
   }
 
-  pub both_stop : (before after : DeskState) (stop : Stop) → Ends (IsPairRead script log object before.contents) before.take_faults (Err stop) after.take_faults
-      → TakesBoth script log object (WasRefused {T = Pair} (Err stop)) before after → Replies (Some (OfPair task script log object)) before (refusal_of stop) after
-  both_stop before after stop ends calls = record {
-    found = found_refused (IsPairRead script log object before.contents) (PairAnswers task) _ _ stop ends;
-    calls = both_as_short script log object (Unit {0}) (IsNoSuccess (refusal_of stop)) before after
-        (λ refused. is_short (IsPairRead script log object before.contents) (pair_refused script log object before.contents) _ _ stop ends) calls;
+  two_stop : (before after : DeskState) (stop : Stop) → Ends (IsPairRead script log object before.contents) before.take_faults (Err stop) after.take_faults
+      → TakesBoth script log object (WasRefused {T = Pair} (Err stop)) before after → Replies (Some request) before (refusal_of stop) after
+  two_stop before after stop ends calls = record {
+    found = as_found (Answering (IsPairRead script log object before.contents) Reply') (RequestAnswers request before.contents) (answers_it before.contents) _ _ (refusal_of stop) (found_refused (IsPairRead script log object before.contents) Reply' _ _ stop ends);
+    calls = takes (IsNoSuccess (refusal_of stop)) before after (both_as_short script log object (Unit {0}) (IsNoSuccess (refusal_of stop)) before after
+        (λ refused. is_short (IsPairRead script log object before.contents) (pair_refused script log object before.contents) _ _ stop ends) calls);
     begun = (both_keep script log object (Unit {0}) before after calls).0;
     write_faults = (both_keep script log object (Unit {0}) before after calls).1;
   }
+
+module _ (task : PairTask) (script log : List ℕ) (object : Option (List ℕ)) where
+  pub both_read : (before after : DeskState) (pair : Pair) (result : Result Reply NoMemory) → Ends (IsPairRead script log object before.contents) before.take_faults (Ok pair) after.take_faults
+      → TakesBoth script log object (WasRefused {T = Pair} {E = Stop} (Ok pair)) before after → IfOk result (λ reply. PairAnswers task pair (answer_of reply)) → Replies (Some (OfPair task script log object)) before result after
+  both_read = two_read (OfPair task script log object) script log object (PairAnswers task) (λ short before after calls. calls) (λ contents answer answers. answers)
+
+  pub both_stop : (before after : DeskState) (stop : Stop) → Ends (IsPairRead script log object before.contents) before.take_faults (Err stop) after.take_faults
+      → TakesBoth script log object (WasRefused {T = Pair} (Err stop)) before after → Replies (Some (OfPair task script log object)) before (refusal_of stop) after
+  both_stop = two_stop (OfPair task script log object) script log object (PairAnswers task) (λ short before after calls. calls) (λ contents answer answers. answers)
+
+module _ (script log out : List ℕ) where
+  pub conversion_read : (before after : DeskState) (pair : Pair) (result : Result Reply NoMemory) → Ends (IsPairRead script log None before.contents) before.take_faults (Ok pair) after.take_faults
+      → TakesBoth script log None (WasRefused {T = Pair} {E = Stop} (Ok pair)) before after → IfOk result (λ reply. ConvertAnswers out pair (answer_of reply)) → Replies (Some (Convert script log out)) before result after
+  conversion_read = two_read (Convert script log out) script log None (ConvertAnswers out) (λ short before after calls. calls) (λ contents answer answers. answers)
+
+  pub conversion_stop : (before after : DeskState) (stop : Stop) → Ends (IsPairRead script log None before.contents) before.take_faults (Err stop) after.take_faults
+      → TakesBoth script log None (WasRefused {T = Pair} (Err stop)) before after → Replies (Some (Convert script log out)) before (refusal_of stop) after
+  conversion_stop = two_stop (Convert script log out) script log None (ConvertAnswers out) (λ short before after calls. calls) (λ contents answer answers. answers)
 
 -- a reply that no file is taken for
 pub generated_reply : (number : ℕ) (script log : List ℕ) (before : DeskState) (result : Result Reply NoMemory)

@@ -17,8 +17,8 @@ use Rattle.octet_base.specs.declared.call.Call.{Call}
 use Rattle.octet_base.specs.declared.fault.DeskFault.{DeskFault}
 use Rattle.octet_base.specs.declared.call.Call.TheVariants as call
 use Rattle.octet_top.specs.Answer.{Answer}
-use Rattle.octet_top.specs.Request.{Request, OfScript, OfLog, OfPair, Run, Gen}
-use Rattle.octet_top.specs.Inputs.{TakesOne}
+use Rattle.octet_top.specs.Request.{Request, OfScript, OfLog, OfPair, Convert, Run, Gen}
+use Rattle.octet_top.specs.Inputs.{TakesOne, TakesBoth}
 use Rattle.octet_top.specs.Replies.{TakesFiles}
 use Rattle.octet_top.specs.Delivery.{Act, Add, Finish, Say, Makes, IsRefused, pieces, pieces_within, file_acts, acts_of}
 use Rattle.octet_top.specs.Outputs.{written, ArePartlyWritten, IsLeft}
@@ -84,13 +84,17 @@ held_called result made files said before after holds (inr (memory, is)) =
 one_held : (name : List ℕ) (limit : ℕ) (Short : Type 0) (files : Files) (said : List ℕ) (before after : DeskState) → Holds files said before → TakesOne name limit Short before after → Holds files said after
 one_held name limit Short files said before after holds (taken, takes, well) = held_called taken _ files said before after holds takes.contents
 
+both_held : (script log : List ℕ) (object : Option (List ℕ)) (Short : Type 0) (files : Files) (said : List ℕ) (before after : DeskState) → Holds files said before → TakesBoth script log object Short before after → Holds files said after
+both_held script log object Short files said before after holds (inl (bytes, mid, takes, passes, next)) =
+    one_held log MAX_LOG_FILE Short files said mid after (held_called {T = Vec ℕ} (Ok bytes) _ files said before mid holds takes.contents) next
+both_held script log object Short files said before after holds (inr (short, (taken, takes))) = held_called taken _ files said before after holds takes.contents
+
 pub taken_held : (request : Option Request) (Short : Type 0) (files : Files) (said : List ℕ) (before after : DeskState) → Holds files said before → TakesFiles request Short before after → Holds files said after
 taken_held None Short files said before after holds same = rw same holds
 taken_held (Some (OfScript task script)) Short files said before after holds takes = one_held script MAX_SCRIPT_FILE Short files said before after holds takes
 taken_held (Some (OfLog task log)) Short files said before after holds takes = one_held log MAX_LOG_FILE Short files said before after holds takes
-taken_held (Some (OfPair task script log object)) Short files said before after holds (inl (bytes, mid, takes, passes, next)) =
-    one_held log MAX_LOG_FILE Short files said mid after (held_called {T = Vec ℕ} (Ok bytes) _ files said before mid holds takes.contents) next
-taken_held (Some (OfPair task script log object)) Short files said before after holds (inr (short, (taken, takes))) = held_called taken _ files said before after holds takes.contents
+taken_held (Some (OfPair task script log object)) Short files said before after holds takes = both_held script log object Short files said before after holds takes
+taken_held (Some (Convert script log out)) Short files said before after holds takes = both_held script log None Short files said before after holds takes
 taken_held (Some (Run task script log)) Short files said before after holds takes = one_held script MAX_SCRIPT_FILE Short files said before after holds takes
 taken_held (Some (Gen number script log)) Short files said before after holds same = rw same holds
 

@@ -1,13 +1,17 @@
 -- A log in version 2 is within the limit of a log's file.
-use Rattle.std.proofs.Common.{◌≡◌, ℕ, zero, suc, ◌+◌, ◌*◌, ◌/◌, ◌%◌, ◌^◌, ◌≤◌, ◌&&◌, Bool, true, false, cond, ltb, leb, eqb, List, [], ◌∷◌, ◌++◌, length, length-append, refl, ap, ◌∙◌, arith}
+use Rattle.std.proofs.Common.{◌≡◌, ℕ, zero, suc, ◌+◌, ◌*◌, ◌/◌, ◌%◌, ◌^◌, ◌≤◌, ◌&&◌, Bool, true, false, cond, ltb, leb, eqb, List, [], ◌∷◌, ◌++◌, length, length-append, Option, None, Some, Result, Ok, Err, IfOk, refl, ap, sym, subst, ◌∙◌, arith}
 use Rattle.std.specs.List.{flat_map, sum_by, list_all}
 use Rattle.std.specs.Int.{to_be_bytes, w32}
+use Rattle.std.specs.Global.{Vec}
+use Rattle.sha2.specs.Sha256.{sha256}
 use Rattle.std.proofs.lemmas.Bool.{leb-true, le-ltb, ltb-false}
 use Rattle.std.proofs.lemmas.List.Sums.{sum_by-cons}
 use Rattle.std.proofs.lemmas.List.Concat.{flat_map-cons, flat_map-append}
 use Rattle.octet_model.specs.declared.event.Mark.{Mark}
 use Rattle.octet_model.specs.declared.event.Mark.TheVariants.{Join, Draw, Fence}
 use Rattle.octet_model.specs.declared.log.Gapped.{Gapped}
+use Rattle.octet_model.specs.declared.list.OutOfMemory.{OutOfMemory}
+use Rattle.octet_model.specs.declared.log.Log.{Log}
 use Rattle.octet_model.specs.declared.log.ThreadLog.{ThreadLog}
 use Rattle.octet_model.specs.declared.limits.TheConstants.{MAX_ACCESSES, MAX_LOG_FILE, MAX_THREADS}
 use Rattle.octet_model.specs.Log.{is_mark, is_thread_log, are_thread_logs, is_log}
@@ -16,7 +20,10 @@ use Rattle.octet_model.specs.Validity.{IsValidLog}
 use Rattle.octet_model.proofs.lemmas.Validity.{valid_log}
 use Rattle.octet_log.specs.declared.limits.TheConstants.{MAX_MARKS}
 use Rattle.octet_log.specs.Short.{groups, short_bytes}
-use Rattle.octet_log.specs.Pieces.{Piece, short_mark_of, short_mark_bytes, marks_bytes, piece_bytes, tail_bytes, marks_in, whole_pieces, pieced_bytes}
+use Rattle.octet_log.specs.Pieces.{Piece, short_mark_of, short_mark_bytes, marks_bytes, piece_bytes, tail_bytes, marks_in, whole_pieces, pieced_bytes, IsSpelling}
+use Rattle.octet_log.specs.declared.loader.Digest.{Digest}
+use Rattle.octet_top.specs.Request.{Way, AsTheyCome}
+use Rattle.octet_top.specs.Commands.{IsLogFile, digest_kept, second_bytes}
 
 -- a short number has at most ten bytes, and a small one few
 groups_few : (more number : ℕ) → length (groups more number) ≤ suc more
@@ -178,3 +185,31 @@ threads_wide (log ∷ logs) =
 
 pub first_has_few : (logs : List ThreadLog) → length (log_bytes logs) ≤ MAX_LOG_FILE → marks_in logs ≤ MAX_MARKS
 first_has_few logs short = omega (arith, threads_wide logs, short)
+
+-- a log that is written in version 2, with the digest of a text
+module _ (text digest : List ℕ) (log : Log) (bytes : List ℕ) (of_text : digest ≡ sha256 text) (few : marks_in log.threads ≤ MAX_MARKS) (whole : bytes ≡ pieced_bytes digest (whole_pieces 0 log.threads) log.threads) (spells : IsSpelling bytes (Some digest) log.threads) where
+  pub is_second : bytes ≡ second_bytes text log.threads
+  is_second = whole ∙ ap (λ (d : List ℕ). pieced_bytes d (whole_pieces 0 log.threads) log.threads) of_text
+
+  pub second_written : IsLogFile bytes (Some (sha256 text)) log.threads
+  second_written = record {
+    spelled = subst (λ (d : List ℕ). IsSpelling bytes (Some d) log.threads) of_text spells;
+    within_limit = omega (arith, ap (λ (l : List ℕ). length l) whole, second_is_short digest log.threads spells.whole log.valid few);
+  }
+
+  pub second_file : IsLogFile (second_bytes text log.threads) (Some (sha256 text)) log.threads
+  second_file = subst (λ (b : List ℕ). IsLogFile b (Some (sha256 text)) log.threads) is_second second_written
+
+-- what each way to run a script writes
+pub second_by : (way : Way) (text : List ℕ) (digest : Digest) (log : Log) (result : Result (Vec ℕ) OutOfMemory) → way ≡ AsTheyCome → digest.bytes ≡ sha256 text → marks_in log.threads ≤ MAX_MARKS
+    → IfOk result (λ bytes. bytes.items ≡ pieced_bytes digest.bytes (whole_pieces 0 log.threads) log.threads) → IfOk result (λ bytes. IsSpelling bytes.items (Some digest.bytes) log.threads)
+    → IfOk result (λ bytes. IsLogFile bytes.items (digest_kept way text) log.threads)
+second_by way text digest log (Ok bytes) is of_text few whole spells =
+    subst (λ (w : Way). IsLogFile bytes.items (digest_kept w text) log.threads) (sym is) (second_written text digest.bytes log bytes.items of_text few whole spells)
+second_by way text digest log (Err none) is of_text few whole spells = tt
+
+pub first_by : (way : Way) (text : List ℕ) (log : Log) (result : Result (Vec ℕ) OutOfMemory) → digest_kept way text ≡ None → length (log_bytes log.threads) ≤ MAX_LOG_FILE
+    → IfOk result (λ bytes. bytes.items ≡ log_bytes log.threads) → IfOk result (λ bytes. IsLogFile bytes.items (digest_kept way text) log.threads)
+first_by way text log (Ok bytes) none short is =
+    subst (λ (d : Option (List ℕ)). IsLogFile bytes.items d log.threads) (sym none) (record { spelled = is; within_limit = omega (arith, ap (λ (l : List ℕ). length l) is, short) })
+first_by way text log (Err refused) none short is = tt

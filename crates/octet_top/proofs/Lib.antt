@@ -1,3 +1,4 @@
+pub mod Lengths
 pub mod Recorded
 pub mod Steps
 pub mod Counted

@@ -1,16 +1,17 @@
 -- From what is served to the promises of each command.
-use Rattle.std.proofs.Common.{◌≡◌, ◌∙◌, ◌++◌, ℕ, List, Some, Ok, inl, inr, ap, sym, subst, arith, Option, None, refl, length}
+use Rattle.std.proofs.Common.{◌≡◌, ◌∙◌, ◌++◌, ℕ, List, Some, Ok, inl, inr, ap, sym, subst, arith, Option, None, refl, length, codes}
 use Rattle.std.specs.FinMap.{get, insert}
 use Rattle.octet_base.specs.Desk.{Files, Contents, DeskState}
 use Rattle.octet_model.specs.Texts.{log_bytes, outcome_text}
 use Rattle.octet_model.proofs.lemmas.LogLength.{faithful_log_is_short}
 use Rattle.octet_top.specs.declared.reply.Status.TheVariants.{Done, Read}
 use Rattle.octet_top.specs.Answer.{Answer, code_of, writes_file, writes_both, summary}
-use Rattle.octet_top.specs.Request.{Way, Run, request_in, OfPair, Gen}
-use Rattle.octet_top.specs.Commands.{Answers, RequestAnswers}
+use Rattle.octet_top.specs.Request.{Way, Run, request_in, OfPair, Convert, Gen}
+use Rattle.octet_log.specs.Pieces.{IsSpelling}
+use Rattle.octet_top.specs.Commands.{Answers, RequestAnswers, digest_kept, second_bytes}
 use Rattle.octet_top.specs.Delivery.{IsServed}
 use Rattle.octet_top.specs.Outputs.{IsWhole}
-use Rattle.octet_top.specs.Promises.{IsFaithfulRun, RunsFaithfully, IsOrderedPair, VerifiesOrdered, RepeatsRecordings, IsGeneratedRun, GeneratesFaithfully}
+use Rattle.octet_top.specs.Promises.{IsFaithfulRun, RunsFaithfully, IsOrderedPair, VerifiesOrdered, RepeatsRecordings, IsConversion, ConvertsLogs, IsGeneratedRun, GeneratesFaithfully}
 use Rattle.octet_top.proofs.Recorded.{recorded_faithfully}
 use Rattle.octet_top.proofs.Causes.{same_status, has_cause}
 use Rattle.octet_top.proofs.Effects.{leaves}
@@ -54,20 +55,21 @@ at_success words before after code contents contents' left done tells tells' = e
 -- a run
 recorded : (way : Way) (script log : List ℕ) (contents contents' : Contents) (answer : Answer) → RequestAnswers (Run way script log) (Some contents) answer → answer.status ≡ Done → IsWhole answer contents contents' → IsFaithfulRun way script log contents contents'
 recorded way script log contents contents' answer (inl refused) done given = absurd (not_done answer (script_refused script (Some contents) answer refused) done)
-recorded way script log contents contents' answer (inr (source, (text, taken, parsed), (logged, outcome, records, is))) done given =
-    let faithful = recorded_faithfully way source.script logged outcome records in
-    let said : IsWhole (writes_file log (log_bytes logged.threads) (outcome_text source.script outcome)) contents contents' = subst (λ (a : Answer). IsWhole a contents contents') is given in
+recorded way script log contents contents' answer (inr (source, (text, taken, parsed), (logged, outcome, bytes, records, file, is))) done given =
+    let said : IsWhole (writes_file log bytes (outcome_text source.script outcome)) contents contents' = subst (λ (a : Answer). IsWhole a contents contents') is given in
     record {
       text = text;
       script = source.script;
       log = logged;
       outcome = outcome;
+      bytes = bytes;
       taken = taken.0;
       spelled = parsed.1;
-      written = ap (λ (fs : Files). get fs log) said.files ∙ get-inserted contents.files log (log_bytes logged.threads);
-      within_limit = omega (arith, faithful_log_is_short source.script logged.threads outcome faithful logged.valid);
+      written = ap (λ (fs : Files). get fs log) said.files ∙ get-inserted contents.files log bytes;
+      held = subst (λ (t : List ℕ). IsSpelling bytes (digest_kept way t) logged.threads) parsed.0 file.spelled;
+      within_limit = file.within_limit;
       contents = said.said;
-      faithful = faithful;
+      faithful = recorded_faithfully way source.script logged outcome records;
       recorded = records;
     }
 
@@ -79,10 +81,11 @@ headline words before after code served way script log contents contents' asked 
 -- a check
 verified : (script log : List ℕ) (contents : Option Contents) (answer : Answer) → RequestAnswers (OfPair Verify script log None) contents answer → answer.status ≡ Done → IsOrderedPair script log contents
 verified script log contents answer (inl refused) done = absurd (not_done answer (pair_refused script log None contents answer refused) done)
-verified script log contents answer (inr (pair, read, inl (fault, memory, cause, is))) done = absurd (let both : Done ≡ _ = sym done ∙ ap (λ (a : Answer). a.status) is in cc)
-verified script log contents answer (inr (pair, read, inr (lawful, (verdict.Ordered, checked, is)))) done =
-    record { pair = pair; read = read; lawful = lawful; ordered = checked.told.ordered.0 refl; one_outcome = checked.one_outcome refl }
-verified script log contents answer (inr (pair, read, inr (lawful, (verdict.Unordered first second, checked, is)))) done = absurd (let both : Done ≡ _ = sym done ∙ ap (λ (a : Answer). a.status) is in cc)
+verified script log contents answer (inr (pair, read, inl (fault, another, is))) done = absurd (let both : Done ≡ _ = sym done ∙ ap (λ (a : Answer). a.status) is in cc)
+verified script log contents answer (inr (pair, read, inr (own, inl (fault, memory, cause, is)))) done = absurd (let both : Done ≡ _ = sym done ∙ ap (λ (a : Answer). a.status) is in cc)
+verified script log contents answer (inr (pair, read, inr (own, inr (lawful, (verdict.Ordered, checked, is))))) done =
+    record { pair = pair; read = read; of_script = own; lawful = lawful; ordered = checked.told.ordered.0 refl; one_outcome = checked.one_outcome refl }
+verified script log contents answer (inr (pair, read, inr (own, inr (lawful, (verdict.Unordered first second, checked, is))))) done = absurd (let both : Done ≡ _ = sym done ∙ ap (λ (a : Answer). a.status) is in cc)
 
 pub ordered : (words : List (List ℕ)) (before after : DeskState) (code : ℕ) → IsServed (request_in words) before after code → VerifiesOrdered words before code
 ordered words before after code served script log asked zero =
@@ -91,19 +94,44 @@ ordered words before after code served script log asked zero =
 
 -- a replay
 replayed : (script log : List ℕ) (contents contents' : Contents) (pair : Pair) (outcome : Outcome) (answer : Answer) → RequestAnswers (OfPair Replay script log None) (Some contents) answer → answer.status ≡ Done → IsWhole answer contents contents'
-    → IsPairRead script log None (Some contents) (Ok pair) → IsFaithful pair.source.script pair.log.threads outcome → contents'.said ≡ contents.said ++ outcome_text pair.source.script outcome
+    → IsPairRead script log None (Some contents) (Ok pair) → IsFaithful pair.source.script pair.loaded.log.threads outcome → contents'.said ≡ contents.said ++ outcome_text pair.source.script outcome
 replayed script log contents contents' pair outcome answer (inl refused) done given there recording = absurd (not_done answer (pair_refused script log None (Some contents) answer refused) done)
-replayed script log contents contents' pair outcome answer (inr (other, read, inl (fault, memory, cause, is))) done given there recording = absurd (let both : Done ≡ _ = sym done ∙ ap (λ (a : Answer). a.status) is in cc)
-replayed script log contents contents' pair outcome answer (inr (other, read, inr (lawful, is))) done given there recording =
+replayed script log contents contents' pair outcome answer (inr (other, read, inl (fault, another, is))) done given there recording = absurd (let both : Done ≡ _ = sym done ∙ ap (λ (a : Answer). a.status) is in cc)
+replayed script log contents contents' pair outcome answer (inr (other, read, inr (own, inl (fault, memory, cause, is)))) done given there recording = absurd (let both : Done ≡ _ = sym done ∙ ap (λ (a : Answer). a.status) is in cc)
+replayed script log contents contents' pair outcome answer (inr (other, read, inr (own, inr (lawful, is)))) done given there recording =
     let same : other ≡ pair = (pair_single contents script log None).one other pair read there in
     given.said ∙ ap (λ (a : Answer). contents.said ++ a.text) is
-    ∙ ap (λ (f : Pair). contents.said ++ outcome_text f.source.script (execution f.source.script f.log.threads (lowest_order f.source.script f.log.threads))) same
-    ∙ ap (λ (o : Outcome). contents.said ++ outcome_text pair.source.script o) (faithful pair.source.script pair.log.threads outcome recording).1
+    ∙ ap (λ (f : Pair). contents.said ++ outcome_text f.source.script (execution f.source.script f.loaded.log.threads (lowest_order f.source.script f.loaded.log.threads))) same
+    ∙ ap (λ (o : Outcome). contents.said ++ outcome_text pair.source.script o) (faithful pair.source.script pair.loaded.log.threads outcome recording).1
 
 pub repeats : (words : List (List ℕ)) (before after : DeskState) (code : ℕ) → IsServed (request_in words) before after code → RepeatsRecordings words before after code
 repeats words before after code served script log contents contents' pair outcome asked zero tells tells' there recording =
     let success = at_success words before after code contents contents' (leaves words before after code served) zero tells tells' in
     replayed script log contents contents' pair outcome success.answer (subst (λ request. Answers request (Some contents) success.answer) asked success.answers) success.done success.given there recording
+
+-- a conversion
+converted : (script log out : List ℕ) (contents contents' : Contents) (answer : Answer) → RequestAnswers (Convert script log out) (Some contents) answer → answer.status ≡ Done → IsWhole answer contents contents' → IsConversion script log out contents contents'
+converted script log out contents contents' answer (inl refused) done given = absurd (not_done answer (pair_refused script log None (Some contents) answer refused) done)
+converted script log out contents contents' answer (inr (pair, read, inl (fault, another, is))) done given = absurd (let both : Done ≡ _ = sym done ∙ ap (λ (a : Answer). a.status) is in cc)
+converted script log out contents contents' answer (inr (pair, read, inr (own, inl (of_script, of_log, differ, is)))) done given = absurd (let both : Done ≡ _ = sym done ∙ ap (λ (a : Answer). a.status) is in cc)
+converted script log out contents contents' answer (inr (pair, read, inr (own, inr (threads, file, is)))) done given =
+    let bytes = second_bytes pair.source.text pair.loaded.log.threads in
+    let said : IsWhole (writes_file out bytes (codes "converted\n")) contents contents' = subst (λ (a : Answer). IsWhole a contents contents') is given in
+    record {
+      pair = pair;
+      read = read;
+      of_script = own;
+      threads = threads;
+      written = ap (λ (fs : Files). get fs out) said.files ∙ get-inserted contents.files out bytes;
+      held = file.spelled;
+      within_limit = file.within_limit;
+      contents = said.said;
+    }
+
+pub converts : (words : List (List ℕ)) (before after : DeskState) (code : ℕ) → IsServed (request_in words) before after code → ConvertsLogs words before after code
+converts words before after code served script log out contents contents' asked zero tells tells' =
+    let success = at_success words before after code contents contents' (leaves words before after code served) zero tells tells' in
+    converted script log out contents contents' success.answer (subst (λ request. Answers request (Some contents) success.answer) asked success.answers) success.done success.given
 
 -- the journals of a lawful order have the log, and those of a generated script as many accesses as it is made for
 accesses_of : (number : ℕ) (script : Script) (log : List ThreadLog) (outcome : Outcome) → IsGenerated number script → IsFaithful script log outcome → sum_by (λ thread. thread.accesses) log ≡ 160000

@@ -1,20 +1,27 @@
 -- What each way to run a script records is faithful, and a whole outcome of it.
-use Rattle.std.proofs.Common.{◌≡◌, ℕ, List, Result, Ok, Err, IfOk, sym, subst}
+use Rattle.std.proofs.Common.{◌≡◌, ◌≤◌, ℕ, List, length, Result, Ok, Err, IfOk, arith, sym, subst}
 use Rattle.octet_model.specs.declared.list.OutOfMemory.{OutOfMemory}
 use Rattle.octet_model.specs.declared.script.Script.{Script}
 use Rattle.octet_model.specs.declared.log.Log.{Log}
 use Rattle.octet_model.specs.declared.outcome.Outcome.{Outcome}
 use Rattle.octet_model.specs.declared.outcome.Recorded.{Recorded}
+use Rattle.octet_model.specs.declared.limits.TheConstants.{MAX_LOG_FILE}
+use Rattle.octet_model.specs.Texts.{log_bytes}
 use Rattle.octet_model.specs.Orders.{IsFaithful}
+use Rattle.octet_model.proofs.lemmas.LogLength.{faithful_log_is_short}
 use Rattle.octet_machine.specs.Turns.{IsPlayed}
 use Rattle.octet_replay.specs.Laws.{IsWholeOutcome}
 use Rattle.octet_replay.proofs.lemmas.WholeOutcomes.{whole}
-use Rattle.octet_top.specs.Request.{Way, AsTheyCome, ByPicks}
+use Rattle.octet_top.specs.Request.{Way, AsTheyCome, BehindLock, ByPicks}
 use Rattle.octet_top.specs.Commands.{Records}
 
 pub recorded_faithfully : (way : Way) (script : Script) (log : Log) (outcome : Outcome) → Records way script log outcome → IsFaithful script log.threads outcome
 recorded_faithfully AsTheyCome script log outcome recorded = recorded
+recorded_faithfully BehindLock script log outcome recorded = recorded
 recorded_faithfully (ByPicks picks) script log outcome recorded = recorded.0
+
+pub recorded_short : (way : Way) (script : Script) (log : Log) (outcome : Outcome) → Records way script log outcome → length (log_bytes log.threads) ≤ MAX_LOG_FILE
+recorded_short way script log outcome recorded = omega (arith, faithful_log_is_short script log.threads outcome (recorded_faithfully way script log outcome recorded) log.valid)
 
 pub recorded_whole : (way : Way) (script : Script) (log : Log) (outcome : Outcome) → Records way script log outcome → IsWholeOutcome script outcome
 recorded_whole way script log outcome recorded =

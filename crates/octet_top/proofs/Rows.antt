@@ -15,9 +15,9 @@ use Rattle.octet_top.specs.declared.request.PairTask.{PairTask}
 use Rattle.octet_top.specs.declared.request.PairTask.TheVariants.{Replay, Verify, Profile}
 use Rattle.octet_top.specs.declared.reply.Status.{Status}
 use Rattle.octet_top.specs.declared.reply.Status.TheVariants as exit
-use Rattle.octet_model.specs.declared.log.Log.{Log}
+use Rattle.octet_log.specs.declared.loader.Loaded.{Loaded}
 use Rattle.octet_top.specs.Answer.{Answer}
-use Rattle.octet_top.specs.Request.{Way, Request, OfScript, OfLog, OfPair, Run, Gen, outputs_of, outputs_in}
+use Rattle.octet_top.specs.Request.{Way, Request, OfScript, OfLog, OfPair, Convert, Run, Gen, outputs_of, outputs_in}
 use Rattle.octet_top.specs.Inputs.{IsTaken, IsScriptRead, IsLogRead, IsScriptChosen, IsPairRead}
 use Rattle.octet_top.specs.Commands.{Answers, RequestAnswers, ScriptAnswers, LogAnswers, PairSays, RunAnswers}
 
@@ -74,15 +74,15 @@ pair_refused script log object contents answer (inr (chosen, is, inr (read, know
 pub script_row : (task : ScriptTask) (source : Source) (answer : Answer) → ScriptAnswers task source answer → IsDone [] answer
 script_row Tidy source answer is = done [] answer _ is refl refl
 
-pub log_row : (task : LogTask) (log : Log) (answer : Answer) → LogAnswers task log answer → IsDone [] answer
-log_row Show log answer is = done [] answer _ is refl refl
+pub log_row : (task : LogTask) (loaded : Loaded) (answer : Answer) → LogAnswers task loaded answer → IsDone [] answer
+log_row Show loaded answer is = done [] answer _ is refl refl
 
 pub run_row : (way : Way) (log : List ℕ) (source : Source) (answer : Answer) → RunAnswers way log source answer → IsDone (log ∷ []) answer
-run_row way log source answer (recorded, outcome, records, is) = done (log ∷ []) answer _ is refl refl
+run_row way log source answer (recorded, outcome, bytes, records, file, is) = done (log ∷ []) answer _ is refl refl
 
 -- the journals of the lowest order are ordered
 abbrev pub HasOrderedJournals : Pair → Type 0
-HasOrderedJournals pair = IsOrdered (journals_after pair.source.script pair.log.threads (lowest_order pair.source.script pair.log.threads))
+HasOrderedJournals pair = IsOrdered (journals_after pair.source.script pair.loaded.log.threads (lowest_order pair.source.script pair.loaded.log.threads))
 
 -- where the log fits, all is done, and of a log that is checked the journals are ordered; or they are not, and that refuses
 abbrev pub PairRow : PairTask → Pair → Answer → Type 0
@@ -104,8 +104,13 @@ request_row (OfScript task script) contents answer (inr (source, read, is)) = in
 request_row (OfLog task log) contents answer (inl read) = inr (log_refused log contents answer read)
 request_row (OfLog task log) contents answer (inr (read, is-read, is)) = inl (log_row task read answer is)
 request_row (OfPair task script log object) contents answer (inl read) = inr (pair_refused script log object contents answer read)
-request_row (OfPair task script log object) contents answer (inr (pair, read, inl (fault, memory, cause, is))) = inr (refuses answer _ is refl refl)
-request_row (OfPair task script log object) contents answer (inr (pair, read, inr (lawful, says))) = elim (pair_row task pair answer says) [ inl row ↦ inl row.0 | inr row ↦ inr row.0 ]
+request_row (OfPair task script log object) contents answer (inr (pair, read, inl (fault, other, is))) = inr (refuses answer _ is refl refl)
+request_row (OfPair task script log object) contents answer (inr (pair, read, inr (own, inl (fault, memory, cause, is)))) = inr (refuses answer _ is refl refl)
+request_row (OfPair task script log object) contents answer (inr (pair, read, inr (own, inr (lawful, says)))) = elim (pair_row task pair answer says) [ inl row ↦ inl row.0 | inr row ↦ inr row.0 ]
+request_row (Convert script log out) contents answer (inl read) = inr (pair_refused script log None contents answer read)
+request_row (Convert script log out) contents answer (inr (pair, read, inl (fault, other, is))) = inr (refuses answer _ is refl refl)
+request_row (Convert script log out) contents answer (inr (pair, read, inr (own, inl (of_script, of_log, differ, is)))) = inr (refuses answer _ is refl refl)
+request_row (Convert script log out) contents answer (inr (pair, read, inr (own, inr (threads, file, is)))) = inl (done (out ∷ []) answer _ is refl refl)
 request_row (Run task script log) contents answer (inl read) = inr (script_refused script contents answer read)
 request_row (Run task script log) contents answer (inr (source, read, is)) = inl (run_row task log source answer is)
 request_row (Gen number script log) contents answer (made, recorded, outcome, generated, faithful, is) = inl (done (script ∷ log ∷ []) answer _ is refl refl)

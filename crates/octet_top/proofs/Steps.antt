@@ -4,7 +4,7 @@ use Rattle.std.proofs.Common.{◌≡◌, ◌∙◌, ℕ, List, Option, None, Som
 use Rattle.std.specs.Global.{Vec}
 use Rattle.octet_base.specs.Desk.{Contents, DeskState, Takes, IsCalled, with_call}
 use Rattle.octet_base.specs.declared.call.Call.TheVariants.{Take}
-use Rattle.octet_model.specs.declared.log.Log.{Log}
+use Rattle.octet_log.specs.declared.loader.Loaded.{Loaded}
 use Rattle.octet_top.specs.declared.inputs.Stop.{Stop}
 use Rattle.octet_top.specs.declared.inputs.Stop.TheVariants.{Refused, OutOfMemory}
 use Rattle.octet_top.specs.Answer.{Answer, answer_of}
@@ -34,18 +34,18 @@ module _ {A B : Type 0} (first : Result A Answer → Type 0) (next : A → Resul
   ends_next before mid after x (Err OutOfMemory) (is, same) comes = tt
 
 -- taking a file changes no file
-pub log_ends_before : (name script : List ℕ) (bytes : Vec ℕ) (before mid : DeskState) (faults after : ℕ) (result : Result Log Stop) → Takes script MAX_SCRIPT_FILE before (Ok bytes) mid
+pub log_ends_before : (name script : List ℕ) (bytes : Vec ℕ) (before mid : DeskState) (faults after : ℕ) (result : Result Loaded Stop) → Takes script MAX_SCRIPT_FILE before (Ok bytes) mid
     → Ends (IsLogRead name mid.contents) faults result after → Ends (IsLogRead name before.contents) faults result after
 log_ends_before name script bytes before mid faults after result takes = by takes.contents
   where
-    same : (contents : Option Contents) (read : Result Log Answer) → IsLogRead name (with_call (Take script MAX_SCRIPT_FILE) contents) read → IsLogRead name contents read
-    same None (Ok log) read = read
+    same : (contents : Option Contents) (read : Result Loaded Answer) → IsLogRead name (with_call (Take script MAX_SCRIPT_FILE) contents) read → IsLogRead name contents read
+    same None (Ok loaded) read = read
     same None (Err answer) read = read
-    same (Some t) (Ok log) read = read
+    same (Some t) (Ok loaded) read = read
     same (Some t) (Err answer) read = read
 
-    changed : (result : Result Log Stop) → Ends (IsLogRead name (with_call (Take script MAX_SCRIPT_FILE) before.contents)) faults result after → Ends (IsLogRead name before.contents) faults result after
-    changed (Ok log) (read, is) = (same before.contents (Ok log) read, is)
+    changed : (result : Result Loaded Stop) → Ends (IsLogRead name (with_call (Take script MAX_SCRIPT_FILE) before.contents)) faults result after → Ends (IsLogRead name before.contents) faults result after
+    changed (Ok loaded) (read, is) = (same before.contents (Ok loaded) read, is)
     changed (Err (Refused reply)) (inl (read, is)) = inl (same before.contents (Err (answer_of reply)) read, is)
     changed (Err (Refused reply)) (inr failed) = inr failed
     changed (Err OutOfMemory) ends = tt

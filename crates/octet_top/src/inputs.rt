@@ -1,5 +1,7 @@
 //! Takes the files of a request from the desk and reads them, or refuses where that fails.
-ghost use Rattle.std.specs.Prelude.{◌≡◌, ◌≤◌, length};
+ghost use Rattle.std.specs.Prelude.{◌≡◌, ◌≤◌, length, IfOk};
+ghost use Rattle.octet_log.specs.Pieces.{marks_in};
+ghost use Rattle.octet_log.specs.declared.limits.TheConstants.{MAX_MARKS};
 ghost use Rattle.octet_top.specs.Request.{name_in};
 ghost use Rattle.octet_top.specs.Inputs.{Comes, Ends, IsTaken, IsParsed, IsDecoded, IsScriptRead, IsLogRead, IsChosen, IsScriptChosen, IsPairRead, TakesOne, TakesBoth, WasRefused, stop_of};
 ghost use Rattle.octet_top.specs.Profile.{object_named};
@@ -74,7 +76,8 @@ fn parse_text(alloc: Global, text: List<u8>) -> Result<Source, Stop>
 
 fn decode_bytes(alloc: Global, bytes: &[u8]) -> Result<Loaded, Stop>
     requires { length bytes.now ≤ MAX_LOG_FILE }
-    ensures { Comes (IsDecoded bytes.now) result }
+    ensures comes { Comes (IsDecoded bytes.now) result }
+    ensures few { IfOk result (λ loaded. marks_in loaded.log.threads ≤ MAX_MARKS) }
 {
     match decode(alloc, bytes) {
         Ok(loaded) => Ok(loaded),
@@ -98,6 +101,7 @@ pub(crate) fn read_script<D: Desk>(alloc: Global, desk: &mut D, name: &str) -> R
 pub(crate) fn read_log<D: Desk>(alloc: Global, desk: &mut D, name: &str) -> Result<Loaded, Stop>
     ensures ends { Ends (IsLogRead name.now (D.state desk.old).contents) (D.state desk.old).take_faults result (D.state desk.new).take_faults }
     ensures calls { TakesOne name.now MAX_LOG_FILE (WasRefused result) (D.state desk.old) (D.state desk.new) }
+    ensures few { IfOk result (λ loaded. marks_in loaded.log.threads ≤ MAX_MARKS) }
 {
     match take_file(alloc, desk, name, MAX_LOG_FILE) {
         Ok(bytes) => decode_bytes(alloc, bytes.as_slice()),
@@ -157,6 +161,7 @@ pub(crate) fn read_pair<D: Desk>(
 ) -> Result<Pair, Stop>
     ensures ends { Ends (IsPairRead script_name.now log_name.now (name_in object_name.entry) (D.state desk.old).contents) (D.state desk.old).take_faults result (D.state desk.new).take_faults }
     ensures calls { TakesBoth script_name.now log_name.now (name_in object_name.entry) (WasRefused result) (D.state desk.old) (D.state desk.new) }
+    ensures few { IfOk result (λ pair. marks_in pair.loaded.log.threads ≤ MAX_MARKS) }
 {
     match read_chosen(alloc, desk, script_name, object_name) {
         Ok((source, wanted)) => match read_log(alloc, desk, log_name) {

@@ -9,7 +9,7 @@ ghost use Rattle.octet_top.specs.Causes.{IsCause, IsDue, NoneFailed};
 ghost use Rattle.octet_top.specs.Effects.{IsStatus, Leaves, KeepsOthers, KeepsFiles, CountsFailures, IsWellMet};
 ghost use Rattle.octet_top.specs.Replies.{Replies};
 ghost use Rattle.octet_top.specs.Delivery.{IsServed};
-ghost use Rattle.octet_top.specs.Promises.{RunsFaithfully, VerifiesOrdered, RepeatsRecordings, GeneratesFaithfully};
+ghost use Rattle.octet_top.specs.Promises.{RunsFaithfully, VerifiesOrdered, RepeatsRecordings, ConvertsLogs, GeneratesFaithfully};
 
 use crate::deliver::deliver;
 use crate::reading::read;
@@ -46,6 +46,9 @@ pub fn serve<R: Threads + Wait + Sync, D: Desk, G: HeapGate>(
 
     // A replay of a recording says what was recorded.
     ensures repeats { RepeatsRecordings (texts words.now) (D.state desk.old) (D.state desk.new) result }
+
+    // Status 0 of `convert` comes with the log in version 2, with the digest of the script's text.
+    ensures converted { ConvertsLogs (texts words.now) (D.state desk.old) (D.state desk.new) result }
 
     // Whatever status comes, its cause holds.
     ensures cause { (status : Status) → result ≡ code_of status → IsCause (texts words.now) (D.state desk.old) (D.state desk.new) status }

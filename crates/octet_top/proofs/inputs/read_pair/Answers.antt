@@ -1,6 +1,6 @@
 use Rattle.octet_model.specs.declared.limits.TheConstants.{MAX_SCRIPT_FILE}
 use Rattle.std.proofs.Common.{◌≡◌, ◌∙◌, ℕ, Option, Ok, Err, Result, refl, inl, inr}
-use Rattle.octet_model.specs.declared.log.Log.{Log}
+use Rattle.octet_log.specs.declared.loader.Loaded.{Loaded}
 use Rattle.octet_top.specs.declared.inputs.Source.{Source}
 use Rattle.octet_top.specs.declared.inputs.Pair.{Pair}
 use Rattle.octet_top.specs.Answer.{Answer}
@@ -15,7 +15,7 @@ returns-in-Ok-read_log-clause-ends g c =
     let mid = g.D.Desk.state c.read_chosen.new.desk in
     let chosen : Source × Option ℕ = (c.in-Ok.source, c.in-Ok.wanted) in
     let took = was_taken c.args.script_name.now MAX_SCRIPT_FILE chosen before mid c.in-Ok.ensures.calls in
-    let log = c.in-Ok-read_log.log in (
+    let log = c.in-Ok-read_log.loaded in (
       (chosen, c.in-Ok.ensures.ends.0, (log, (log_ends_before c.args.log_name.now c.args.script_name.now took.0 before mid _ _ (Ok log) took.1 c.in-Ok-read_log.ensures.ends).0, refl)),
       c.in-Ok-read_log.ensures.ends.1 ∙ c.in-Ok.ensures.ends.1,
     )
@@ -35,8 +35,8 @@ returns-in-Err-read_log-clause-ends g c =
     let log_name = c.args.log_name.now in
     let chosen : Source × Option ℕ = (c.in-Ok.source, c.in-Ok.wanted) in
     let took = was_taken c.args.script_name.now MAX_SCRIPT_FILE chosen before mid c.in-Ok.ensures.calls in
-    let Next : Source × Option ℕ → Result Pair Answer → Type 0 = λ chosen. IsLogRead log_name before.contents >>= λ log read. read ≡ Ok (record { source = chosen.0; wanted = chosen.1; log = log }) in
-    let Last : Log → Result Pair Answer → Type 0 = λ log read. read ≡ Ok (record { source = chosen.0; wanted = chosen.1; log = log }) in
+    let Next : Source × Option ℕ → Result Pair Answer → Type 0 = λ chosen. IsLogRead log_name before.contents >>= λ loaded read. read ≡ Ok (record { source = chosen.0; wanted = chosen.1; loaded = loaded }) in
+    let Last : Loaded → Result Pair Answer → Type 0 = λ loaded read. read ≡ Ok (record { source = chosen.0; wanted = chosen.1; loaded = loaded }) in
     ends_next (IsScriptChosen c.args.script_name.now (name_in c.args.object_name) before.contents) Next before.take_faults mid.take_faults after.take_faults chosen (Err stop) c.in-Ok.ensures.ends
     (ends_stop (IsLogRead log_name before.contents) Last mid.take_faults after.take_faults stop
     (log_ends_before log_name c.args.script_name.now took.0 before mid mid.take_faults after.take_faults (Err stop) took.1 c.in-Err-read_log.ensures.ends))

@@ -14,6 +14,7 @@ returns g c =
       ordered = promise.ordered words _ _ _ served;
       generated = promise.generated words _ _ _ served;
       repeats = promise.repeats words _ _ _ served;
+      converted = promise.converts words _ _ _ served;
       cause = has_cause words _ _ _ served;
       due = comes_as_due words _ _ _ served;
       one_due = one_due words;

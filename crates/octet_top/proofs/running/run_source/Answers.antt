@@ -3,7 +3,8 @@ use Rattle.std.proofs.lemmas.Result.{IfOk-weaker}
 use Rattle.octet_top.specs.Answer.{answer_of, writes_file}
 use Rattle.octet_top.specs.Request.{shown_task}
 use Rattle.octet_top.specs.Commands.{RunAnswers}
-use Rattle.octet_top.proofs.Recorded.{recorded_whole}
+use Rattle.octet_top.proofs.Lengths.{first_has_few}
+use Rattle.octet_top.proofs.Recorded.{recorded_short, recorded_whole}
 use Rattle.octet_top.proofs.running.run_source.Goals as goal
 
 pub outcome_text-requires-clause-ends : goal.outcome_text-requires-clause-ends
@@ -15,6 +16,12 @@ outcome_text-requires-clause-reads g c = (recorded_whole _ _ _ _ c.in_ok-recorde
 pub outcome_text-requires-clause-heap : goal.outcome_text-requires-clause-heap
 outcome_text-requires-clause-heap g c = (recorded_whole _ _ _ _ c.in_ok-recorded.ensures).heap
 
+pub file_bytes-requires-clause-short : goal.file_bytes-requires-clause-short
+file_bytes-requires-clause-short g c = recorded_short _ _ _ _ c.in_ok-recorded.ensures
+
+pub file_bytes-requires-clause-few : goal.file_bytes-requires-clause-few
+file_bytes-requires-clause-few g c = first_has_few _ (recorded_short _ _ _ _ c.in_ok-recorded.ensures)
+
 pub returns : goal.returns
 returns g c =
     let name = c.args.log_name.now in
@@ -23,7 +30,9 @@ returns g c =
     (λ reply is. (
       c.in_ok-recorded.recorded.log,
       c.in_ok-recorded.recorded.outcome,
+      c.in_ok-bytes.bytes.items,
       c.in_ok-recorded.ensures,
-      is ∙ ap (λ b. writes_file name b c.in_ok-text.text.items) c.in_ok-bytes.ensures ∙ ap (writes_file name _) c.in_ok-text.ensures,
+      c.in_ok-bytes.ensures,
+      is ∙ ap (writes_file name _) c.in_ok-text.ensures,
     ))
     c.writing.ensures
