@@ -9,7 +9,7 @@ use crate::commands::{replay, show, tidy, verify};
 use crate::inputs::{Pair, Source, read_log, read_pair, read_script};
 use crate::convert::convert;
 use crate::profile::profile;
-use crate::refusal::{refused, wrong_script};
+use crate::refusal::wrong_script;
 use crate::reply::Reply;
 use crate::request::{LogTask, PairTask, Reading, ScriptTask};
 use octet_base::Desk;
@@ -64,7 +64,7 @@ fn of_script<D: Desk>(
 {
     match read_script(alloc, desk, script) {
         Ok(source) => answer_script(alloc, task, &source),
-        Err(stop) => refused(stop),
+        Err(stop) => stop,
     }
 }
 
@@ -79,7 +79,7 @@ fn of_log<D: Desk>(
 {
     match read_log(alloc, desk, log) {
         Ok(loaded) => answer_log(alloc, task, &loaded),
-        Err(stop) => refused(stop),
+        Err(stop) => stop,
     }
 }
 
@@ -95,7 +95,7 @@ fn of_pair<D: Desk>(
 {
     match read_pair(alloc, desk, script, log, object) {
         Ok(pair) => answer_pair(alloc, task, &pair),
-        Err(stop) => refused(stop),
+        Err(stop) => stop,
     }
 }
 
@@ -110,7 +110,7 @@ fn of_conversion<D: Desk>(
 {
     match read_pair(alloc, desk, script, log, None) {
         Ok(pair) => convert(alloc, &pair, out),
-        Err(stop) => refused(stop),
+        Err(stop) => stop,
     }
 }
 

@@ -12,7 +12,6 @@ ghost use Rattle.octet_top.specs.Replies.{Replies};
 
 use crate::inputs::{Source, read_script};
 use crate::recording::record;
-use crate::refusal::refused;
 use crate::reply::{Output, Reply};
 use crate::request::{RunTask, Running};
 use octet_base::Desk;
@@ -64,7 +63,7 @@ fn run_script<R: Threads + Wait + Sync, D: Desk, G: HeapGate>(
 {
     match read_script(alloc, desk, script) {
         Ok(source) => run_source(rt, alloc, gate, task, &source, log),
-        Err(stop) => refused(stop),
+        Err(stop) => stop,
     }
 }
 
