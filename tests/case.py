@@ -1,6 +1,7 @@
 """What a case is, and how scripts and logs are written in the tests."""
 
 from dataclasses import dataclass, field
+from hashlib import sha256
 
 
 @dataclass
@@ -27,13 +28,42 @@ def script(line):
 
 
 def log(*threads):
-    """The bytes of a log. A thread is its accesses and then its marks, each (kind, gap, thread, number)."""
+    """The bytes of a log in version 1. A thread is its accesses and then its marks, each (kind, gap, thread, number)."""
     out = b"OCTL\x01" + bytes([len(threads)])
     for accesses, *marks in threads:
         out += accesses.to_bytes(4, "big") + len(marks).to_bytes(4, "big")
         for kind, gap, thread, number in marks:
             out += bytes([kind]) + gap.to_bytes(4, "big") + bytes([thread]) + number.to_bytes(8, "big")
     return out
+
+
+def second(content, *threads):
+    """The bytes of a log in version 2, with the digest of a script and a piece for each thread that has marks."""
+    out = b"OCTL\x02" + bytes([len(threads)]) + sha256(content).digest()
+    for number, (_, *marks) in enumerate(threads):
+        if marks:
+            out += piece(number, *marks)
+    return out + tail(*[accesses for accesses, *_ in threads])
+
+
+def piece(number, *marks):
+    out = bytes([number]) + short(len(marks))
+    for kind, gap, thread, upto in marks:
+        out += bytes([kind]) + short(gap) + (bytes([thread]) if kind == 1 else b"") + short(upto)
+    return out
+
+
+def tail(*accesses):
+    return b"\xff" + b"".join(map(short, accesses))
+
+
+def short(number):
+    """A number in groups of 7 bits, the lowest first; bit 7 is set in every byte but the last."""
+    out = b""
+    while number >= 128:
+        out += bytes([number % 128 + 128])
+        number //= 128
+    return out + bytes([number])
 
 
 def join(gap, thread, upto):

@@ -4,8 +4,9 @@ Expected values come from docs/FORMATS.md or are worked out by hand, never from 
 """
 
 import pathlib
+from hashlib import sha256
 
-from case import Case, draw, fence, join, log, script, text
+from case import Case, draw, fence, join, log, piece, script, second, short, tail, text
 
 EXAMPLES = pathlib.Path(__file__).resolve().parent.parent / "examples"
 
@@ -14,8 +15,10 @@ def example(name):
     return (EXAMPLES / name).read_bytes()
 
 
-def runs(name, content, said, written):
-    return Case(f"run: {name}", ["run", "S", "L"], {"S": content}, said, 0, {"L": written})
+def runs(command, name, content, said, *threads):
+    """A run: its log is in version 2 with the script's digest, and behind one lock in version 1."""
+    written = second(content, *threads) if command == "run" else log(*threads)
+    return Case(f"{command}: {name}", [command, "S", "L"], {"S": content}, said, 0, {"L": written})
 
 
 def tidied(name, content, *lines):
@@ -49,59 +52,73 @@ def recorded(name, content, log_bytes, said):
 ONE = script("object x 5 / thread / read r0 x")
 HANDOVER = example("handover.octet")
 
-# Scripts that leave the same log in whatever order their threads run. The first log is written out.
-RUNS = [
-    runs("one thread", ONE, text("thread 0 done 5", "object x 5"), bytes.fromhex("4f43544c01010000000100000000")),
-    runs("a loop of writes", example("countdown.octet"), text("thread 0 done", "object x 1"), log((1000,))),
-    runs("a thread that is spent", example("spent.octet"), text("thread 0 spent 0", "object x 0"), log((1,))),
-    runs(
+# Scripts that leave the same log in whatever order their threads run: name, script, what is said, threads of the log.
+SAME_RUNS = [
+    ("one thread", ONE, text("thread 0 done 5", "object x 5"), (1,)),
+    ("a loop of writes", example("countdown.octet"), text("thread 0 done", "object x 1"), (1000,)),
+    ("a thread that is spent", example("spent.octet"), text("thread 0 spent 0", "object x 0"), (1,)),
+    (
         "a first reader joins thread 0",
         script("object y 3 / thread / thread / read r0 y"),
         text("thread 0 done", "thread 1 done 3", "object y 3"),
-        log((0,), (1, join(0, 0, 0))),
+        (0,), (1, join(0, 0, 0)),
     ),
-    runs(
+    (
         "an owner's further accesses need no mark",
         script("object y 3 / thread / thread / read r0 y / write y r0 / read r0 y"),
         text("thread 0 done", "thread 1 done 3 3", "object y 3"),
-        log((0,), (3, join(0, 0, 0))),
+        (0,), (3, join(0, 0, 0)),
     ),
-    runs(
+    (
         "sixteen threads that do nothing",
         text(*["thread"] * 16),
         text(*[f"thread {t} done" for t in range(16)]),
-        log(*[(0,)] * 16),
+        *[(0,)] * 16,
     ),
-    runs(
+    (
         "the last command takes the last fuel",
         script("fuel 2 / object x 0 / thread / set r0 1 / write x r0"),
         text("thread 0 done", "object x 1"),
-        log((1,)),
+        (1,),
     ),
-    runs(
+    (
         "sums and products past 64 bits",
         script(
             "object a 0 / object b 0 / object c 0 / thread / set r0 18446744073709551615 / set r1 2 / add r2 r0 r1"
             " / write a r2 / sub r2 r1 r0 / write b r2 / mul r2 r0 r1 / write c r2"
         ),
         text("thread 0 done", "object a 1", "object b 3", "object c 18446744073709551614"),
-        log((3,)),
+        (3,),
     ),
-    runs(
+    (
         "ninety thousand nested branches",
         text("thread", *["if r0"] * 90_000, *["end"] * 90_000),
         text("thread 0 done"),
-        log((0,)),
+        (0,),
+    ),
+]  # fmt: skip
+ONE_SAID = text("thread 0 done 5", "object x 5")
+RUNS = [
+    *[runs("run", *each) for each in SAME_RUNS],
+    Case("run: over the script's own file", ["run", "S", "S"], {"S": ONE}, ONE_SAID, 0, {"S": second(ONE, (1,))}),
+    # Two logs that are written out but for their digests.
+    Case(
+        "run: 40 bytes", ["run", "S", "L"], {"S": ONE}, ONE_SAID, 0,
+        {"L": bytes.fromhex("4f43544c0201") + sha256(ONE).digest() + bytes.fromhex("ff01")},
     ),
     Case(
-        "run: over the script's own file",
-        ["run", "S", "S"],
-        {"S": ONE},
-        text("thread 0 done 5", "object x 5"),
-        0,
-        {"S": log((1,))},
+        "run: 41 bytes", ["run", "S", "L"], {"S": example("countdown.octet")}, text("thread 0 done", "object x 1"), 0,
+        {"L": bytes.fromhex("4f43544c0201") + sha256(example("countdown.octet")).digest() + bytes.fromhex("ffe807")},
     ),
-]
+]  # fmt: skip
+LOCKED = [
+    *[runs("locked", *each) for each in SAME_RUNS],
+    Case("locked: over the script's own file", ["locked", "S", "S"], {"S": ONE}, ONE_SAID, 0, {"S": log((1,))}),
+    Case(
+        "locked: 14 bytes", ["locked", "S", "L"], {"S": ONE}, ONE_SAID, 0,
+        {"L": bytes.fromhex("4f43544c01010000000100000000")},
+    ),
+]  # fmt: skip
 
 EVERY_COMMAND = [
     "fuel 9", "object a 18446744073709551615", "thread", "set r0 1", "copy r1 r0", "add r2 r0 r1", "sub r3 r0 r1",
@@ -379,7 +396,7 @@ LOG_REFUSALS = (
         log_refused("1, other letters", b"OCTl" + ONE, "1 no magic"),
         log_refused("1, a script", ONE, "1 no magic"),
         log_refused("2, none", b"OCTL\x00\x01", "2 bad version"),
-        log_refused("2, a later one, before the threads", b"OCTL\x02\x00", "2 bad version"),
+        log_refused("2, a later one, before the threads", b"OCTL\x03\x00", "2 bad version"),
         log_refused("3, none", b"OCTL\x01\x00", "3 bad threads"),
         log_refused("3, seventeen", b"OCTL\x01\x11", "3 bad threads"),
         log_refused("4, without its last byte", HANDOVER_LOG[:-1], "4 cut short at 35"),
@@ -406,6 +423,105 @@ LOG_REFUSALS = (
         judged("verify", "a log that is refused", HANDOVER, b"", text("log: 1 no magic"), 3),
     ]
 )
+
+# Version 2: a log of the hand-over, and one with all kinds of marks, converted from version 1.
+HANDOVER_SECOND = second(HANDOVER, (1,), (1, join(0, 0, 1)))
+SHARED_SECOND = second(SHARED, (0,), (2, join(0, 0, 0), fence(1, 1)), (1, join(0, 1, 1), draw(0, 1)))
+SHARED_SAID = text("thread 0 done", "thread 1 done 9 9", "thread 2 done 9", "object x 9")
+# Each mark of thread 1 in a piece of its own, with one of thread 2 between them.
+SHARED_PIECES = (
+    SHARED_SECOND[:38] + piece(1, join(0, 0, 0)) + piece(2, join(0, 1, 1)) + piece(1, fence(1, 1)) + piece(2, draw(0, 1))
+    + tail(0, 2, 1)
+)  # fmt: skip
+HEAD = HANDOVER_SECOND[:38]
+BLANK = HANDOVER + b" "
+OTHER_SCRIPT = text(f"fit: digest {sha256(BLANK).hexdigest()} of the script, {sha256(HANDOVER).hexdigest()} of the log")
+MOST = short(2**64 - 1)
+
+
+def converted(name, content, recorded, written):
+    files = {"S": content, "L": recorded}
+    return Case(f"convert: {name}", ["convert", "S", "L", "O"], files, text("converted"), 0, {"O": written})
+
+
+def second_refused(name, content, line):
+    return log_refused(f"version 2: {name}", content, line)
+
+
+SECOND = [
+    converted("the hand-over", HANDOVER, HANDOVER_LOG, HANDOVER_SECOND),
+    converted("all kinds of marks", SHARED, SHARED_LOG, SHARED_SECOND),
+    converted("to itself", SHARED, SHARED_SECOND, SHARED_SECOND),
+    converted("of many pieces", SHARED, SHARED_PIECES, SHARED_SECOND),
+    converted("a log that fits in nothing but its threads", HANDOVER, HANDOVER_STUCK, second(HANDOVER, (1, join(0, 1, 1)), (1, join(0, 0, 1)))),
+    Case(
+        "convert: the bytes", ["convert", "S", "L", "O"], {"S": HANDOVER, "L": HANDOVER_LOG}, text("converted"), 0,
+        {"O": HEAD + bytes.fromhex("010101000001ff0101")},
+    ),
+    Case(
+        "convert: over its own log", ["convert", "S", "L", "L"], {"S": HANDOVER, "L": HANDOVER_LOG}, text("converted"), 0,
+        {"L": HANDOVER_SECOND},
+    ),
+    judged("convert", "no third file", HANDOVER, HANDOVER_LOG, text("words: not a command"), 1),
+    *recorded("version 2", HANDOVER, HANDOVER_SECOND, HANDOVER_SAID),
+    *recorded("version 2, all kinds of marks", SHARED, SHARED_SECOND, SHARED_SAID),
+    *recorded("version 2, many pieces", SHARED, SHARED_PIECES, SHARED_SAID),
+    profiled("version 2", ["x"], text("read 3", "write 0", "other 4"), recorded=SHARED_SECOND),
+    shown(
+        "version 2, many pieces", SHARED_PIECES,
+        text(
+            "threads 3", "thread 0 accesses 0 marks 0", "thread 1 accesses 2 marks 2", "gap 0 join 0 0",
+            "gap 1 fence 1", "thread 2 accesses 1 marks 2", "gap 0 join 1 1", "gap 0 draw 1",
+        ),
+    ),
+    shown(
+        "version 2, the highest numbers",
+        HEAD + piece(0, draw(1, 2**64 - 1), join(0, 1, 2**64 - 1)) + tail(0x3FFFF, 1),
+        text(
+            "threads 2", "thread 0 accesses 262143 marks 2", f"gap 1 draw {2**64 - 1}", f"gap 0 join 1 {2**64 - 1}",
+            "thread 1 accesses 1 marks 0",
+        ),
+    ),
+    # A log of another script: one blank more makes it another.
+    *[
+        Case(f"{' '.join(words)}: another script", [*words[:1], "S", "L", *words[1:]], {"S": BLANK, "L": HANDOVER_SECOND}, OTHER_SCRIPT, 4)
+        for words in [["replay"], ["verify"], ["profile"], ["profile", "x"], ["convert", "O"]]
+    ],
+    Case(
+        "replay: a log of another script, with other threads", ["replay", "S", "L"], {"S": ONE, "L": HANDOVER_SECOND},
+        text(f"fit: digest {sha256(ONE).hexdigest()} of the script, {sha256(HANDOVER).hexdigest()} of the log"), 4,
+    ),
+    Case(
+        "convert: two threads in the log", ["convert", "S", "L", "O"], {"S": ONE, "L": HANDOVER_LOG},
+        text("fit: threads 1 in the script, 2 in the log"), 4,
+    ),
+    Case("convert: a log that is refused", ["convert", "S", "L", "O"], {"S": ONE, "L": b""}, text("log: 1 no magic"), 3),
+    Case("convert: no log", ["convert", "S", "L", "O"], {"S": ONE}, text("read: failed"), 5),
+    *[second_refused(f"the first {size} bytes", SHARED_SECOND[:size], f"4 cut short at {size}") for size in range(4, 60)],
+    second_refused("no threads", b"OCTL\x02\x00", "3 bad threads"),
+    second_refused("seventeen", b"OCTL\x02\x11", "3 bad threads"),
+    second_refused("no kind, before the cut", HEAD + b"\x01\x01\x00", "5 bad mark at 40"),
+    second_refused("a fourth kind", HEAD + b"\x01\x01\x04", "5 bad mark at 40"),
+    second_refused("a gap over the limit, before its thread", HEAD + b"\x01\x01\x01" + short(262_145), "5 bad mark at 40"),
+    second_refused("a join of its own thread", HEAD + b"\x01\x01\x01\x00\x01", "5 bad mark at 40"),
+    second_refused("a join of no thread", HEAD + b"\x01\x01\x01\x00\x02", "5 bad mark at 40"),
+    second_refused("a second mark that is bad", HEAD + b"\x01\x02\x01\x00\x00\x01\x02\x00\x00", "5 bad mark at 44"),
+    second_refused("too many accesses, before the gaps", HEAD + piece(0, draw(9, 1)) + tail(262_145), "6 too many accesses"),
+    second_refused("too many accesses in sum", HEAD + tail(262_144, 1), "6 too many accesses"),
+    second_refused("one byte more", HANDOVER_SECOND + b"\0", "7 trailing at 47"),
+    second_refused("a number that is not shortest", HEAD + bytes.fromhex("010101000001ff018100"), "8 bad number at 46"),
+    second_refused("a count that is not shortest", HEAD + b"\x01\x80\x00", "8 bad number at 39"),
+    second_refused("65 bits", HEAD + b"\x01\x01\x02\x00" + MOST[:-1] + b"\x02", "8 bad number at 42"),
+    second_refused("a tenth byte that goes on", HEAD + b"\x01\x01\x02\x00" + b"\x80" * 10, "8 bad number at 42"),
+    second_refused("nine bytes that go on", HEAD + b"\x01\x01\x02\x00" + b"\x80" * 9, "4 cut short at 51"),
+    second_refused("a piece of no thread", HEAD + bytes.fromhex("020101000001ff0101"), "9 bad piece at 38"),
+    second_refused("a piece of no marks", HEAD + bytes.fromhex("010001000001ff0101"), "9 bad piece at 38"),
+    second_refused("gaps over the accesses", HEAD + bytes.fromhex("010101020001ff0101"), "10 gaps over accesses of thread 1"),
+    second_refused("as many marks as a number says", HEAD + b"\x01" + MOST, "11 too many marks"),
+    second_refused("one mark too many", HEAD + piece(0, draw(0, 1)) + b"\x01" + short(4_793_490), "11 too many marks"),
+    second_refused("not one mark too many", HEAD + piece(0, draw(0, 1)) + b"\x01" + short(4_793_489), "4 cut short at 48"),
+    second_refused("version 3", b"OCTL\x03" + HANDOVER_SECOND[5:], "2 bad version"),
+]  # fmt: skip
 
 NO_COMMAND = text("words: not a command")
 FAULTS = [
@@ -435,4 +551,4 @@ FAULTS = [
     Case("read: no such file", ["tidy", "S"], {}, text("read: failed"), 5),
 ]  # fmt: skip
 
-CASES = RUNS + TIDY + REFUSED + PREFIXES + LOGS + STORY + PROFILES + MISFITS + LOG_REFUSALS + FAULTS
+CASES = RUNS + TIDY + REFUSED + PREFIXES + LOGS + STORY + PROFILES + MISFITS + LOG_REFUSALS + SECOND + FAULTS

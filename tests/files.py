@@ -12,7 +12,7 @@ import signal
 import subprocess
 import tempfile
 
-from case import join, log, script, text
+from case import join, log, script, second, short, tail, text
 
 TOP = pathlib.Path(__file__).resolve().parent.parent
 LAUNCHER = TOP / "bin" / "octet"
@@ -21,7 +21,7 @@ SECONDS = 60
 
 ONE = script("object x 5 / thread / read r0 x")
 ONE_SAID = text("thread 0 done 5", "object x 5")
-ONE_LOG = log((1,))
+ONE_LOG, ONE_RUN = log((1,)), second(ONE, (1,))
 FAILED = text("read: failed")
 SCRIPT_LIMIT, LOG_LIMIT = 1_048_576, 67_108_864
 
@@ -60,7 +60,7 @@ def full_output():
         return first(
             differs("tidy", octet(["tidy", "S"], folder, stdout=full), (6, b"")),
             differs("run", octet(["run", "S", "L"], folder, stdout=full), (6, b"")),
-            differs("the log", pathlib.Path(folder, "L").read_bytes(), ONE_LOG),
+            differs("the log", pathlib.Path(folder, "L").read_bytes(), ONE_RUN),
             differs("a refusal", octet(["tidy"], folder, stdout=full), (6, b"")),
         )
 
@@ -71,7 +71,7 @@ def closed_output():
         return first(
             differs("tidy", called([*close, "tidy", "S"], folder), (6, b"")),
             differs("run", called([*close, "run", "S", "L"], folder), (6, b"")),
-            differs("the log", pathlib.Path(folder, "L").read_bytes(), ONE_LOG),
+            differs("the log", pathlib.Path(folder, "L").read_bytes(), ONE_RUN),
             differs("the script", pathlib.Path(folder, "S").read_bytes(), ONE),
         )
 
@@ -221,7 +221,9 @@ def log_of_the_limit():
     mark = log((0,), (0, join(0, 0, 0)))[-14:]
     most = head[:-4] + marks.to_bytes(4, "big") + mark * marks
     said = text(*[f"thread {t} done" for t in range(4)], "thread 4 done 5", "object x 5")
-    with folder_with(S=script("object x 5" + " / thread" * 5 + " / read r0 x"), L=most, M=most + b"\0") as folder:
+    content = script("object x 5" + " / thread" * 5 + " / read r0 x")
+    converted = second(content, *[(0,)] * 5)[:38] + b"\x04" + short(marks) + b"\x01\0\0\0" * marks + tail(0, 0, 0, 0, 1)
+    with folder_with(S=content, L=most, M=most + b"\0") as folder:
         long = text(f"long: M over {LOG_LIMIT} bytes")
         return first(
             differs("its length", len(most), LOG_LIMIT),
@@ -229,6 +231,10 @@ def log_of_the_limit():
             differs("verify", octet(["verify", "S", "L"], folder), (0, text("ordered"))),
             differs("one byte more", octet(["replay", "S", "M"], folder), (8, long)),
             differs("show, one byte more", octet(["show", "M"], folder), (8, long)),
+            differs("convert, one byte more", octet(["convert", "S", "M", "O"], folder), (8, long)),
+            differs("convert", octet(["convert", "S", "L", "O"], folder), (0, text("converted"))),
+            differs("what is converted", pathlib.Path(folder, "O").read_bytes() == converted, True),
+            differs("replay of it", octet(["replay", "S", "O"], folder), (0, said)),
         )
 
 
@@ -239,7 +245,7 @@ def odd_names():
         pathlib.Path(folder, "c d").write_bytes(long)
         return first(
             differs("a blank", octet(["run", "a b", "l m"], folder), (0, ONE_SAID)),
-            differs("the log", pathlib.Path(folder, "l m").read_bytes(), ONE_LOG),
+            differs("the log", pathlib.Path(folder, "l m").read_bytes(), ONE_RUN),
             differs("a blank in a line", octet(["tidy", "c d"], folder), (8, text(f"long: c d over {SCRIPT_LIMIT} bytes"))),
             differs("a leading -", octet(["replay", "-x", "l m"], folder), (0, ONE_SAID)),
             differs("UTF-8", octet(["replay", "ü", "l m"], folder), (0, ONE_SAID)),
@@ -253,9 +259,9 @@ def one_file_by_two_names():
     with folder_with(S=ONE, T=ONE) as folder:
         return first(
             differs("one name", octet(["run", "S", "S"], folder), (0, ONE_SAID)),
-            differs("its file", pathlib.Path(folder, "S").read_bytes(), ONE_LOG),
+            differs("its file", pathlib.Path(folder, "S").read_bytes(), ONE_RUN),
             differs("two names", octet(["run", "T", "./T"], folder), (0, ONE_SAID)),
-            differs("their file", pathlib.Path(folder, "T").read_bytes(), ONE_LOG),
+            differs("their file", pathlib.Path(folder, "T").read_bytes(), ONE_RUN),
         )
 
 

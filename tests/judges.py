@@ -4,11 +4,11 @@ Each judge gives a status and what is said. Beside them stand scripts and logs t
 little: each keeps most of its form, so that it comes far before something is wrong with it.
 """
 
-import random
 import re
+from hashlib import sha256
 
 import paths
-from case import draw, fence, join, log, text
+from case import draw, fence, join, log, piece, second, tail, text
 from machine import Running, read_script
 
 # A command's arguments: R a register, N a number, O an object, and D a name that is declared.
@@ -123,7 +123,10 @@ def read_log(content):
         return int.from_bytes(field(size), "big")
 
     try:
-        if number(1) != 1:
+        version = number(1)
+        if version == 2:
+            return read_second(content)
+        if version != 1:
             return "2 bad version"
         count = number(1)
         if not 1 <= count <= 16:
@@ -146,6 +149,124 @@ def read_log(content):
     except Cut:
         return f"4 cut short at {len(content)}"
     return threads if at == len(content) else f"7 trailing at {at}"
+
+
+class Refused(Exception):
+    """The line that refuses a log."""
+
+
+class Second:
+    """A log of version 2, read field by field."""
+
+    def __init__(self, content):
+        self.content, self.at = content, 5
+
+    def byte(self):
+        if self.at == len(self.content):
+            raise Cut
+        self.at += 1
+        return self.content[self.at - 1]
+
+    def short(self):
+        """A number in groups of 7 bits, the lowest first, in its one spelling."""
+        place, number = self.at, 0
+        for group in range(10):
+            byte = self.byte()
+            number += byte % 128 * 128**group
+            if byte < 128:
+                if (group > 0 and byte == 0) or number >= 2**64:
+                    raise Refused(f"8 bad number at {place}")
+                return number
+        raise Refused(f"8 bad number at {place}")
+
+    def mark(self, thread, count):
+        bad = Refused(f"5 bad mark at {self.at}")
+        kind, other = self.byte(), 0
+        if not 1 <= kind <= 3:
+            raise bad
+        gap = self.short()
+        if gap > 262_144:
+            raise bad
+        if kind == paths.JOIN:
+            other = self.byte()
+            if other >= count or other == thread:
+                raise bad
+        number = self.short()
+        if kind != paths.JOIN and number == 0:
+            raise bad
+        return kind, gap, other, number
+
+    def threads(self):
+        count = self.byte()
+        if not 1 <= count <= 16:
+            raise Refused("3 bad threads")
+        for _ in range(32):
+            self.byte()
+        marks, many = [[] for _ in range(count)], 0
+        while (thread := self.byte()) != 0xFF:
+            bad = Refused(f"9 bad piece at {self.at - 1}")
+            if thread >= count:
+                raise bad
+            size = self.short()
+            many += size
+            if size == 0:
+                raise bad
+            if many > 4_793_490:
+                raise Refused("11 too many marks")
+            marks[thread] += [self.mark(thread, count) for _ in range(size)]
+        accesses = []
+        for thread in range(count):
+            accesses.append(self.short())
+            if sum(accesses) > 262_144:
+                raise Refused("6 too many accesses")
+            if sum(gap for _, gap, _, _ in marks[thread]) > accesses[-1]:
+                raise Refused(f"10 gaps over accesses of thread {thread}")
+        if self.at < len(self.content):
+            raise Refused(f"7 trailing at {self.at}")
+        return list(zip(accesses, marks))
+
+
+def read_second(content):
+    try:
+        return Second(content).threads()
+    except Cut:
+        return f"4 cut short at {len(content)}"
+    except Refused as refusal:
+        return str(refusal)
+
+
+def another_script(content, log_content):
+    """What `replay`, `verify` and `convert` owe where a good log has the digest of another script; else None."""
+    own = sha256(content).digest()
+    if log_content[4] == 1 or log_content[6:38] == own:
+        return None
+    return 4, text(f"fit: digest {own.hex()} of the script, {log_content[6:38].hex()} of the log")
+
+
+def converted(content, log_content):
+    """What `convert` owes to a script that is whole and good: status, what is said, and the file."""
+    logs = read_log(log_content)
+    if isinstance(logs, str):
+        return 3, text(f"log: {logs}"), None
+    if (other := another_script(content, log_content)) is not None:
+        return *other, None
+    _, _, commands = read_script(content)
+    if len(commands) != len(logs):
+        return 4, text(f"fit: threads {len(commands)} in the script, {len(logs)} in the log"), None
+    return 0, text("converted"), second(content, *[(accesses, *marks) for accesses, marks in logs])
+
+
+def in_pieces(dice, content, log_content):
+    """A good log in version 2, with the digest of the script, its marks in pieces as they come."""
+    logs = read_log(log_content)
+    out = second(content, *[(0,)] * len(logs))[:38]
+    left = [list(marks) for _, marks in logs]
+    while any(left):
+        thread = dice.choice([thread for thread, marks in enumerate(left) if marks])
+        size = dice.randint(1, len(left[thread]))
+        out += piece(thread, *left[thread][:size])
+        del left[thread][:size]
+    return out + tail(*[accesses for accesses, _ in logs])
 
 
 def is_mark(mark, thread, count):
@@ -226,6 +347,8 @@ def replayed(content, log_content):
     logs = read_log(log_content)
     if isinstance(logs, str):
         return [(3, text(f"log: {logs}"))] * 2
+    if (other := another_script(content, log_content)) is not None:
+        return [other] * 2
     fuel, heap, commands = read_script(content)
     if len(commands) != len(logs):
         return [(4, text(f"fit: threads {len(commands)} in the script, {len(logs)} in the log"))] * 2

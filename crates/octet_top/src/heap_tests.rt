@@ -113,7 +113,8 @@ fn run_uses_the_shared_heap(rt: HostRuntime) -> Result<(), Failed> {
     assert_eq!(rt; answer, Status::Done.code());
     let bytes = desk.file("L").unwrap_or(&[]);
     assert!(rt; bytes.len() <= MAX_LOG_FILE as usize);
-    let log = decode(alloc, bytes).expect(&rt, "a log");
+    let loaded = decode(alloc, bytes).expect(&rt, "a log");
+    let log = &loaded.log;
     for (thread, thread_log) in log.threads.as_slice().iter().enumerate() {
         assert_eq!(rt; thread_log.accesses as usize, ACCESSES);
         for access in 0..ACCESSES {

@@ -92,7 +92,7 @@ fn logs_that_lie_are_refused(rt: HostRuntime) -> Result<(), Failed> {
     let alloc = rt.alloc();
     for (place, byte, said) in [
         (0, 0x50, b"log: 1 no magic\n".as_slice()),
-        (4, 2, b"log: 2 bad version\n"),
+        (4, 3, b"log: 2 bad version\n"),
         (5, 0, b"log: 3 bad threads\n"),
         (7, 4, b"log: 6 too many accesses\n"),
         (13, 1, b"log: 5 bad mark at 14\n"),

@@ -3,6 +3,8 @@
 
 mod commands;
 mod convert;
+#[cfg(test)]
+mod convert_tests;
 mod deliver;
 #[cfg(test)]
 mod heap_tests;

@@ -94,7 +94,7 @@ fn file_bytes(
 ) -> Result<Vec<u8>, OutOfMemory>
     requires few { marks_in log.now.threads ≤ MAX_MARKS }
     requires short { length (log_bytes log.now.threads) ≤ MAX_LOG_FILE }
-    ensures { IfOk result (λ bytes. IsLogFile bytes.items (digest_kept (shown_task task) text.now) log.now.threads) }
+    ensures { IfOk result (λ bytes. IsLogFile bytes.items (digest_kept (shown_task task.entry) text.now) log.now.threads) }
 {
     match task {
         RunTask::Run => encode_v2(alloc, log, &digest(text)),

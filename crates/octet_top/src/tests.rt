@@ -16,6 +16,10 @@ const SAID: &[u8] = b"thread 0 done\nthread 1 done 3\nobject y 3\n";
 const LOG: &[u8] =
     b"OCTL\x01\x02\x00\x00\x00\x00\x00\x00\x00\x00\x00\x00\x00\x01\x00\x00\x00\x01\x01\x00\x00\x00\x00\x00\x00\x00\x00\x00\x00\x00\x00\x00";
 
+/// The same in version 2, with the script's digest.
+const SECOND: &[u8] =
+    b"OCTL\x02\x02\x8b\x05\x7c\x43\xda\xdd\x83\xde\x73\x7b\x4c\xd3\x9f\xd1\x51\x08\x57\xb7\x55\x36\x9c\x76\x4f\x16\x5f\xb4\x63\xa6\x03\x1c\x53\x6e\x01\x01\x01\x00\x00\x00\xff\x00\x01";
+
 /// A desk with the script as `S`. Each of `fails` is the number of a call that fails, and how many
 /// bytes it lets through.
 pub(crate) fn desk_with(
@@ -65,7 +69,7 @@ fn commands_answer(rt: HostRuntime) -> Result<(), Failed> {
     let canonical = b"fuel 16384\nobject y 3\nthread\nthread\nread r0 y\n".as_slice();
     let no_command = b"words: not a command\n".as_slice();
     for (line, status, said, log) in [
-        ("run S L", Status::Done, SAID, Some(LOG)),
+        ("run S L", Status::Done, SAID, Some(SECOND)),
         ("run S S", Status::Done, SAID, None),
         ("locked S L", Status::Done, SAID, Some(LOG)),
         ("locked S", Status::Words, no_command, None),
@@ -96,31 +100,31 @@ fn failed_calls_leave_prefixes(rt: HostRuntime) -> Result<(), Failed> {
     let alloc = rt.alloc();
     let nothing = b"".as_slice();
     let refused = b"read: failed\n".as_slice();
-    for line in ["run S L", "locked S L"] {
+    for (line, whole) in [("run S L", SECOND), ("locked S L", LOG)] {
         for (fails, status, log, said, faults) in [
-            ([(6, 0), (7, 0)], Status::Done, Some(LOG), SAID, (0, 0)),
+            ([(6, 0), (7, 0)], Status::Done, Some(whole), SAID, (0, 0)),
             ([(1, 9), (3, 0)], Status::Read, None, refused, (1, 0)),
             ([(1, 9), (2, 0)], Status::Write, None, nothing, (1, 1)),
             ([(2, 9), (3, 0)], Status::Write, None, nothing, (0, 1)),
             (
                 [(3, 10), (4, 0)],
                 Status::Write,
-                Some(&LOG[..10]),
+                Some(&whole[..10]),
                 nothing,
                 (0, 1),
             ),
             (
                 [(3, 35), (4, 0)],
                 Status::Write,
-                Some(&LOG[..35]),
+                Some(&whole[..35]),
                 nothing,
                 (0, 1),
             ),
-            ([(4, 9), (5, 0)], Status::Write, Some(LOG), nothing, (0, 1)),
+            ([(4, 9), (5, 0)], Status::Write, Some(whole), nothing, (0, 1)),
             (
                 [(5, 3), (6, 0)],
                 Status::Write,
-                Some(LOG),
+                Some(whole),
                 &SAID[..3],
                 (0, 1),
             ),
@@ -220,7 +224,7 @@ fn runs_by_turns(rt: HostRuntime) -> Result<(), Failed> {
             raising,
             "run S L",
             "thread 0 done\nthread 1 done 3 3\nobject y 3\n",
-            "4f43544c 01 02 00000000 00000000 00000003 00000001 01 00000000 00 0000000000000000",
+            "4f43544c 02 02 d02edc46e025ac35c68c491cf79adf2c7a1358cfdf00ad5a127765a675050995 01 01 01 00 00 00 ff 00 03",
         ),
     ] {
         let mut desk = desk_with(alloc, script, &[])?;

@@ -8,3 +8,8 @@ pub returns-in-OfPair : goal.returns-in-OfPair
 returns-in-OfPair g c =
     let state = g.D.Desk.state in
     subst (λ (reading : Reading). Replies (Some (shown_reading reading)) (state c.args.desk.now) c.of_pair.result (state c.of_pair.new.desk)) (sym c.in-OfPair.is) c.of_pair.ensures
+
+pub returns-in-Convert : goal.returns-in-Convert
+returns-in-Convert g c =
+    let state = g.D.Desk.state in
+    subst (λ (reading : Reading). Replies (Some (shown_reading reading)) (state c.args.desk.now) c.of_conversion.result (state c.of_conversion.new.desk)) (sym c.in-Convert.is) c.of_conversion.ensures
