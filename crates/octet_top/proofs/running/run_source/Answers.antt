@@ -1,8 +1,8 @@
-use Rattle.std.proofs.Common.{◌≡◌, ◌∙◌, ap}
+use Rattle.std.proofs.Common.{◌≡◌, ◌∙◌, ℕ, List, ap, subst}
 use Rattle.std.proofs.lemmas.Result.{IfOk-weaker}
 use Rattle.octet_top.specs.Answer.{answer_of, writes_file}
 use Rattle.octet_top.specs.Request.{shown_task}
-use Rattle.octet_top.specs.Commands.{RunAnswers}
+use Rattle.octet_top.specs.Commands.{RunAnswers, IsLogFile, digest_kept}
 use Rattle.octet_top.proofs.Lengths.{first_has_few}
 use Rattle.octet_top.proofs.Recorded.{recorded_short, recorded_whole}
 use Rattle.octet_top.proofs.running.run_source.Goals as goal
@@ -32,7 +32,7 @@ returns g c =
       c.in_ok-recorded.recorded.outcome,
       c.in_ok-bytes.bytes.items,
       c.in_ok-recorded.ensures,
-      c.in_ok-bytes.ensures,
+      subst (λ (text : List ℕ). IsLogFile c.in_ok-bytes.bytes.items (digest_kept (shown_task c.args.task) text) c.in_ok-recorded.recorded.log.threads) c.as_slice.ensures c.in_ok-bytes.ensures,
       is ∙ ap (writes_file name _) c.in_ok-text.ensures,
     ))
     c.writing.ensures
