@@ -17,3 +17,5 @@ mod Second
 mod Spelled
 mod Sizes
 mod Words
+mod PieceRefused
+mod ShortRefused

@@ -1,13 +1,13 @@
 -- A mark or a piece that is read is the one that was written, and what was written is read again.
-use Rattle.std.proofs.Common.{◌≡◌, ℕ, zero, suc, ◌+◌, ◌-◌, ◌^◌, ◌<◌, ◌≤◌, ◌&&◌, Bool, true, false, cond, not, eqb, leb, ltb, List, [], ◌∷◌, ◌++◌, length, Result, Ok, Err, refl, sym, ap, subst, ◌∙◌, append_assoc, arith}
-use Rattle.std.specs.List.{flat_map, list_all}
+use Rattle.std.proofs.Common.{◌≡◌, ℕ, ◌+◌, ◌-◌, ◌^◌, ◌<◌, ◌≤◌, ◌&&◌, true, false, cond, not, eqb, leb, ltb, List, [], ◌∷◌, ◌++◌, length, Ok, refl, sym, ap, subst, ◌∙◌, append_assoc, arith}
+use Rattle.std.specs.List.{flat_map}
 use Rattle.std.proofs.lemmas.Bool.{eqb-true, eqb-false, leb-true, le-leb, lt-ltb, ltb-true}
 use Rattle.octet_model.specs.declared.event.Mark.{Mark}
 use Rattle.octet_model.specs.declared.event.Mark.TheVariants.{Join, Draw, Fence}
 use Rattle.octet_model.specs.declared.log.Gapped.{Gapped}
 use Rattle.octet_model.specs.Log.{is_mark}
 use Rattle.octet_log.specs.declared.cause.LogCause.TheVariants.{BadMark, BadPiece, TooManyMarks}
-use Rattle.octet_log.specs.Decoding.{◌>>=◌, wanted, byte_at, each_at}
+use Rattle.octet_log.specs.Decoding.{◌>>=◌, wanted, byte_at}
 use Rattle.octet_log.specs.Laws.{IsInput}
 use Rattle.octet_log.specs.Short.{short_bytes, short_at}
 use Rattle.octet_log.specs.Pieces.{short_mark_of, short_mark_bytes, marks_bytes}

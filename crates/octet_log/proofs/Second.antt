@@ -1,8 +1,8 @@
 -- Bytes of version 2 that are judged to be a log spell it, and each spelling is judged so.
-use Rattle.std.proofs.Common.{◌≡◌, ◌⊎◌, ℕ, zero, suc, ◌+◌, ◌-◌, ◌^◌, ◌<◌, ◌≤◌, ◌&&◌, Bool, true, false, cond, eqb, leb, ltb, List, [], ◌∷◌, ◌++◌, length, take, drop, Result, Ok, Err, refl, sym, ap, subst, ◌∙◌, append_assoc, arith, replicate, inl, inr}
-use Rattle.std.specs.Prelude.{codes, sum_by}
+use Rattle.std.proofs.Common.{◌≡◌, ℕ, zero, suc, ◌+◌, ◌-◌, ◌^◌, ◌<◌, ◌≤◌, ◌&&◌, Bool, true, false, cond, eqb, leb, ltb, List, [], ◌∷◌, ◌++◌, length, take, drop, Ok, refl, sym, ap, subst, ◌∙◌, append_assoc, arith}
+use Rattle.std.specs.Prelude.{sum_by}
 use Rattle.std.specs.List.{flat_map, list_all}
-use Rattle.std.proofs.lemmas.Bool.{eqb-true, eqb-false, leb-true, le-leb, lt-ltb, le-ltb, ltb-true, ltb-false}
+use Rattle.std.proofs.lemmas.Bool.{eqb-true, eqb-false, leb-true, le-leb, lt-ltb, le-ltb, ltb-false}
 use Rattle.std.proofs.lemmas.List.{append-nil, nil_from_length, length-append, length-replicate, take_at, drop_at, take-append-drop, length-take}
 use Rattle.std.proofs.lemmas.List.Sums.{sum_by-cons}
 use Rattle.std.proofs.lemmas.List.Concat.{flat_map-cons}
@@ -12,11 +12,11 @@ use Rattle.octet_model.specs.Log.{is_mark, is_thread_log, are_thread_logs, is_lo
 use Rattle.octet_log.specs.declared.cause.LogCause.TheVariants.{BadThreads, CutShort, Trailing}
 use Rattle.octet_log.specs.Decoding.{◌>>=◌, wanted, byte_at}
 use Rattle.octet_log.specs.Laws.{IsInput}
-use Rattle.octet_log.specs.Pieces.{marks_bytes, Piece, piece_bytes, IsPiece, ArePieces, marks_of, HaveMarks, marks_in, tail_bytes}
+use Rattle.octet_log.specs.Pieces.{marks_bytes, Piece, piece_bytes, ArePieces, marks_of, HaveMarks, marks_in, tail_bytes}
 use Rattle.octet_log.specs.Loading.{digest_at, pieces_at, tail_at, no_marks, second_at}
 use Rattle.octet_log.proofs.Valid.{and_first, and_second, and_both}
 use Rattle.octet_log.proofs.Fields.{bind_ok, wanted_ok, guard_ok, ok_is, Takes, Takes-then, byte_takes, IsInput-drop}
-use Rattle.octet_log.proofs.PieceMarks.{GoodShort, GoodShorts, GoodPiece}
+use Rattle.octet_log.proofs.PieceMarks.{GoodShorts}
 use Rattle.octet_log.proofs.PieceLists.{GoodPieces, all_added, pieces_take, pieces_again, HaveAccesses, accesses_bytes, tail_takes, tail_again, with_pieces, all_added_is, marks_of_all, all_added_count}
 
 digest_takes : (total : ℕ) (bytes : List ℕ) (x : List ℕ × List ℕ) → IsInput bytes → digest_at total bytes ≡ Ok x → Takes bytes x.0 x.1 × (length x.0 ≡ 32)

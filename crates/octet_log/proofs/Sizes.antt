@@ -6,7 +6,7 @@ use Rattle.std.proofs.lemmas.List.{length-append}
 use Rattle.std.proofs.lemmas.List.Sums.{sum_by-cons}
 use Rattle.std.proofs.lemmas.List.Concat.{flat_map-cons}
 use Rattle.octet_model.specs.declared.log.ThreadLog.{ThreadLog}
-use Rattle.octet_model.specs.Texts.{mark_bytes, thread_bytes, log_bytes}
+use Rattle.octet_model.specs.Texts.{mark_bytes, thread_bytes}
 use Rattle.octet_log.specs.Pieces.{marks_in, IsSpelling}
 use Rattle.octet_log.proofs.Fields.{wide32}
 use Rattle.octet_log.proofs.Marks.{length-marks}

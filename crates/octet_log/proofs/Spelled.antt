@@ -1,10 +1,7 @@
 -- Bytes of either version that are judged to be a log spell it, and each spelling is judged so.
-use Rattle.std.proofs.Common.{◌≡◌, ℕ, ◌-◌, Bool, true, false, cond, eqb, List, [], ◌∷◌, ◌++◌, length, take, drop, Option, Some, None, Result, Ok, Err, refl, sym, ap, subst, ◌∙◌, arith}
-use Rattle.std.specs.Prelude.{codes}
+use Rattle.std.proofs.Common.{◌≡◌, ℕ, ◌-◌, Bool, true, false, cond, eqb, List, [], ◌++◌, length, take, drop, Option, Some, None, Result, Ok, refl, sym, ap, subst, ◌∙◌}
 use Rattle.std.specs.Str.{bytes_eq}
-use Rattle.std.specs.List.{flat_map}
-use Rattle.std.proofs.lemmas.Bool.{eqb-true}
-use Rattle.std.proofs.lemmas.List.{append-nil, nil_from_length, take-append-drop}
+use Rattle.std.proofs.lemmas.List.{append-nil, take-append-drop}
 use Rattle.std.proofs.lemmas.Slice.Eq.{bytes_eq-Decides}
 use Rattle.octet_model.specs.declared.log.ThreadLog.{ThreadLog}
 use Rattle.octet_model.specs.Log.{is_log}
@@ -14,9 +11,9 @@ use Rattle.octet_log.specs.declared.cause.LogCause.TheVariants.{Trailing}
 use Rattle.octet_log.specs.declared.cause.LogFault.{LogFault}
 use Rattle.octet_log.specs.Decoding.{◌>>=◌, wanted, decoded, Gives}
 use Rattle.octet_log.specs.Laws.{IsInput}
-use Rattle.octet_log.specs.Pieces.{piece_bytes, tail_bytes, pieced_bytes, SpellsPieces, IsSpelling}
+use Rattle.octet_log.specs.Pieces.{pieced_bytes, SpellsPieces, IsSpelling}
 use Rattle.octet_log.specs.Loading.{second_at, second_word, Reading, loaded, LoadsSpelling}
-use Rattle.octet_log.proofs.Fields.{bind_ok, wanted_ok, ok_is, IsInput-drop}
+use Rattle.octet_log.proofs.Fields.{bind_ok, ok_is, IsInput-drop}
 use Rattle.octet_log.proofs.Whole.{decoded_takes, decoded_again}
 use Rattle.octet_log.proofs.Second.{IsSecond, second_takes, is_pieced, second_again}
 
