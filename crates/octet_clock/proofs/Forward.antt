@@ -88,12 +88,12 @@ module _ (js : Journals) (play : List ℕ) (whole : IsWholePlay js play) where
   -- and where some step is not, they are not
   pub unordered_by_pair : (first second : Place) → IsFirstUnordered js play first second → IsOrdered js → ⊥
   unordered_by_pair first second pair ordered =
-      go (ordered first second (subst (λ (p : Place). Conflict js first p) pair.is_second pair.missed.is_earlier.conflict))
+      go (ordered first second (subst (λ (p : Place). Conflict js first p) pair.is_second pair.is_first.is_earlier.conflict))
     where
       go : HappensBefore js first second ⊎ HappensBefore js second first → ⊥
-      go (inl path) = pair.missed.apart (subst (λ (p : Place). HappensBefore js first p) (sym pair.is_second) path)
+      go (inl path) = pair.is_first.apart (subst (λ (p : Place). HappensBefore js first p) (sym pair.is_second) path)
       go (inr path) =
-          let i = index_of play pair.index first (omega (arith, pair.within)) pair.missed.is_earlier.earlier in
+          let i = index_of play pair.index first (omega (arith, pair.within)) pair.is_first.is_earlier.earlier in
           let back = before_step second first i.0 (omega (arith, i.1, pair.within)) i.2 path in
           let e = ap (λ (p : Place). p.event) pair.is_second in
           let t = ap (λ (p : Place). made_by play pair.index p.thread) pair.is_second in

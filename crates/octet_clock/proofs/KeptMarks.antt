@@ -21,7 +21,7 @@ kept_in_order js t now kept keeps i j d le lt =
           omega (arith, keeps.rising i j (get_or kept i d) (get_or kept j d) (omega arith) sooner later)
     ]
 
--- where the last one is among the first so many events, all are
+-- where the last one is among a thread's first `upto` events, all are
 pub all_before : (kept : List MarkClock) (upto : ℕ) (last : MarkClock) (n : ℕ) → n ≡ length kept → slice_get kept (length kept - 1) ≡ Some last → last.event < upto
     → IsNonDecreasingBy (λ (one : MarkClock). one.event) kept → IsPartitionPoint (λ (one : MarkClock). ltb one.event upto ≡ true) (λ (one : MarkClock). ltb one.event upto ≡ false) kept n
 all_before kept upto last n is there below sorted = (
@@ -35,7 +35,7 @@ all_before kept upto last n is there below sorted = (
 module _ (js : Journals) (t now upto : ℕ) (kept : List MarkClock) (keeps : KeepsMarks js t now kept) (within : upto ≤ now) (made : now ≤ length (journal_of js t))
     (i : ℕ) (low : i ≤ length kept)
     (point : IsPartitionPoint (λ one. ltb one.event upto ≡ true) (λ one. ltb one.event upto ≡ false) kept i) where
-  -- an event among the first so many is kept below the place, or adds nothing
+  -- an event among the thread's first `upto` is kept below the place, or adds nothing
   below_place : (event : ℕ) → event < upto → ((j : ℕ) × (one : MarkClock) × (slice_get kept j ≡ Some one) × (one.event ≡ event) × (j < i)) ⊎ AddsNothing js t event
   below_place event lt = elim (keeps.all event (omega arith)) [
     | inr nothing ↦ inr nothing

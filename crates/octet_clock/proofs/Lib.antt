@@ -1,11 +1,11 @@
-pub mod Edges
-pub mod Known
-pub mod KeptMarks
-pub mod Walk
-pub mod Forward
-pub mod Taken
-pub mod Clashes
-pub mod Taking
-pub mod Checking
-pub mod WholePlay
-pub mod Verifying
+mod Edges
+mod Known
+mod KeptMarks
+mod Walk
+mod Forward
+mod Taken
+mod Conflicts
+mod Taking
+mod Checking
+mod WholePlay
+mod Verifying

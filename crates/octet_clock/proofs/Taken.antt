@@ -3,6 +3,7 @@ use Rattle.std.proofs.Common.{◌≡◌, ℕ, zero, suc, ◌-◌, ◌<◌, ◌�
 use Rattle.std.proofs.lemmas.Bool.{cases_eq, cases_lt}
 use Rattle.std.proofs.lemmas.Option.{slice_get-get_or, slice_get_within}
 use Rattle.std.proofs.lemmas.List.{get_or_past}
+use Rattle.octet_model.specs.declared.event.Mark.{Mark}
 use Rattle.octet_model.specs.declared.event.Mark.TheVariants.{Join, Draw, Fence}
 use Rattle.octet_model.specs.declared.event.Event.{Event}
 use Rattle.octet_model.specs.declared.event.Event.TheVariants.{Marked}
@@ -15,7 +16,7 @@ use Rattle.octet_clock.specs.declared.clock.Clock.{Clock}
 use Rattle.octet_clock.specs.declared.sources.Prefix.{Prefix}
 use Rattle.octet_clock.specs.Clock.{count_in, IsRaised, IsJoined}
 use Rattle.octet_clock.specs.Past.{IsPastOf}
-use Rattle.octet_clock.specs.Play.{made_by, IsWholePlay, IsStep}
+use Rattle.octet_clock.specs.Play.{made_by, draws_by, IsWholePlay, IsStep}
 use Rattle.octet_clock.specs.Sources.{IsNextStep, IsDrawn, KeepsDraws, IsSource, TakesIn, draw_of}
 use Rattle.octet_clock.proofs.Edges.{Added, Before, Itself, ByJoin, ByDraw, ByFence, added}
 use Rattle.octet_clock.proofs.Known.{own_event, raised_has, raised_own, raised_from, past_joined}
@@ -37,6 +38,12 @@ module _ (js : Journals) where
       go : Reaches js a (place u h.near) → HappensBefore js (place u h.near) (place u event) → HappensBefore js a (place u event)
       go (inl same) path = subst (λ (p : Place). HappensBefore js p (place u event)) (sym same) path
       go (inr before) path = path_on js a (place u h.near) (place u event) before path
+
+-- the draws that a mark waits for: a Draw those before it, a Fence those up to its number
+abbrev pub WaitsForDraws : Mark → ℕ → Type 0
+WaitsForDraws (Draw upto) number = upto ≡ suc number
+WaitsForDraws (Fence upto) number = upto ≡ number
+WaitsForDraws (Join from upto) number = ⊥
 
 module _ (js : Journals) (play : List ℕ) (i t : ℕ) where
   abbrev k : ℕ
@@ -83,6 +90,14 @@ module _ (js : Journals) (play : List ℕ) (i t : ℕ) where
   abbrev HasSeen : ℕ → Type 0
   HasSeen upto = (event_at js (place t k) ≡ Some (Marked (Draw upto))) ⊎ (event_at js (place t k) ≡ Some (Marked (Fence upto)))
 
+  -- what reaches one of the first draws
+  record ByDraws (number : ℕ) (a : Place) : Type 0 where
+    sooner : ℕ
+    draw : Place
+    within : sooner ≤ number
+    is_draw : event_at js draw ≡ Some (Marked (Draw sooner))
+    reaches : Reaches js a draw
+
   module _ (whole : IsWholePlay js play) where
     taken_from_draw : (upto number : ℕ) (first : Prefix) → HasSeen upto → number ≤ upto → IsDrawn js play i number first
         → (a : Place) → InPast js first.thread first.count a → InPast js t (suc k) a
@@ -96,62 +111,66 @@ module _ (js : Journals) (play : List ℕ) (i t : ℕ) where
         subst (λ (n : ℕ). InPast js first.thread n a) (sym d.counted)
         (past_has_draws_whole js first.thread (suc d.event) d.event number sooner draw a (draws_differ js play whole) (omega arith) (inl d.drawn) at_draw le reaches)
 
-    -- a Draw takes in the draw before it
-    pub draw_source : (number : ℕ) (first : Prefix) → IsStep js play i t (Marked (Draw (suc number))) → IsDrawn js play i number first → IsSource js play i t first
-    draw_source number first step d =
-        record { made = d.made; taken = taken_from_draw (suc number) number first (inl step.makes) (omega arith) d; only = λ a h. go a (added js t k a h) }
-      where
-        go : (a : Place) → Added js t k a → Only a first
-        go a (Before was) = inl was
-        go a (Itself here) = inr (inr here)
-        go a (ByJoin from upto is past) = absurd (let makes = step.makes in cc)
-        go a (ByDraw sooner then draw at_draw is below reaches) =
-            let makes = step.makes in
-            let n : then ≡ suc number = cc in
-            inr (inl (by_draw number sooner first draw a d at_draw (omega arith) reaches))
-        go a (ByFence sooner upto draw at_draw is below reaches) = absurd (let makes = step.makes in cc)
+    module _ (mark : Mark) (number : ℕ) (waits : WaitsForDraws mark number) (step : IsStep js play i t (Marked mark)) where
+      waited_are_made : number ≤ draws_by js play i
+      waited_are_made = go mark waits step
+        where
+          go : (m : Mark) → WaitsForDraws m number → IsStep js play i t (Marked m) → number ≤ draws_by js play i
+          go (Draw upto) w s = omega (arith, w, draw_is_next js play whole i t upto s)
+          go (Fence upto) w s = omega (arith, w, fence_names js play whole i t upto s)
+          go (Join from upto) w s = absurd w
 
-    -- the first takes in none
-    pub first_draw : (a : Place) → IsStep js play i t (Marked (Draw 1)) → InPast js t (suc k) a → InPast js t k a ⊎ (a ≡ place t k)
-    first_draw a step h = go (added js t k a h)
-      where
-        go : Added js t k a → InPast js t k a ⊎ (a ≡ place t k)
-        go (Before was) = inl was
-        go (Itself here) = inr here
-        go (ByJoin from upto is past) = absurd (let makes = step.makes in cc)
-        go (ByDraw sooner then draw at_draw is below reaches) =
-            let makes = step.makes in
-            let n : then ≡ 1 = cc in
-            absurd (omega (arith, draw_is_some js play whole draw sooner at_draw))
-        go (ByFence sooner upto draw at_draw is below reaches) = absurd (let makes = step.makes in cc)
+      waited_are_seen : (upto : ℕ) × HasSeen upto × (number ≤ upto)
+      waited_are_seen = go mark waits step
+        where
+          go : (m : Mark) → WaitsForDraws m number → IsStep js play i t (Marked m) → (upto : ℕ) × HasSeen upto × (number ≤ upto)
+          go (Draw upto) w s = (upto, inl s.makes, omega (arith, w))
+          go (Fence upto) w s = (upto, inr s.makes, omega (arith, w))
+          go (Join from upto) w s = absurd w
 
-    -- a Fence takes in the draw of its number
-    pub fence_source : (number : ℕ) (first : Prefix) → IsStep js play i t (Marked (Fence number)) → IsDrawn js play i number first → IsSource js play i t first
-    fence_source number first step d =
-        record { made = d.made; taken = taken_from_draw number number first (inr step.makes) (omega arith) d; only = λ a h. go a (added js t k a h) }
-      where
-        go : (a : Place) → Added js t k a → Only a first
-        go a (Before was) = inl was
-        go a (Itself here) = inr (inr here)
-        go a (ByJoin from upto is past) = absurd (let makes = step.makes in cc)
-        go a (ByDraw sooner then draw at_draw is below reaches) = absurd (let makes = step.makes in cc)
-        go a (ByFence sooner upto draw at_draw is below reaches) =
-            let makes = step.makes in
-            let n : upto ≡ number = cc in
-            inr (inl (by_draw number sooner first draw a d at_draw (omega arith) reaches))
+      -- what the mark adds comes by these draws
+      adds_by_draws : (m : Mark) → WaitsForDraws m number → IsStep js play i t (Marked m) → (a : Place) → Added js t k a → InPast js t k a ⊎ (ByDraws number a ⊎ (a ≡ place t k))
+      adds_by_draws (Draw d) w s a (Before was) = inl was
+      adds_by_draws (Draw d) w s a (Itself here) = inr (inr here)
+      adds_by_draws (Draw d) w s a (ByJoin from upto is past) = absurd (let makes = s.makes in cc)
+      adds_by_draws (Draw d) w s a (ByDraw sooner then draw at_draw is below reaches) =
+          let makes = s.makes in
+          let n : then ≡ d = cc in
+          inr (inl (record { sooner = sooner; draw = draw; within = omega (arith, w, n, below); is_draw = at_draw; reaches = reaches }))
+      adds_by_draws (Draw d) w s a (ByFence sooner upto draw at_draw is below reaches) = absurd (let makes = s.makes in cc)
+      adds_by_draws (Fence f) w s a (Before was) = inl was
+      adds_by_draws (Fence f) w s a (Itself here) = inr (inr here)
+      adds_by_draws (Fence f) w s a (ByJoin from upto is past) = absurd (let makes = s.makes in cc)
+      adds_by_draws (Fence f) w s a (ByDraw sooner then draw at_draw is below reaches) = absurd (let makes = s.makes in cc)
+      adds_by_draws (Fence f) w s a (ByFence sooner upto draw at_draw is below reaches) =
+          let makes = s.makes in
+          let n : upto ≡ f = cc in
+          inr (inl (record { sooner = sooner; draw = draw; within = omega (arith, w, n, below); is_draw = at_draw; reaches = reaches }))
+      adds_by_draws (Join from upto) w s a new = absurd w
 
-    pub empty_fence : (a : Place) → IsStep js play i t (Marked (Fence 0)) → InPast js t (suc k) a → InPast js t k a ⊎ (a ≡ place t k)
-    empty_fence a step h = go (added js t k a h)
-      where
-        go : Added js t k a → InPast js t k a ⊎ (a ≡ place t k)
-        go (Before was) = inl was
-        go (Itself here) = inr here
-        go (ByJoin from upto is past) = absurd (let makes = step.makes in cc)
-        go (ByDraw sooner then draw at_draw is below reaches) = absurd (let makes = step.makes in cc)
-        go (ByFence sooner upto draw at_draw is below reaches) =
-            let makes = step.makes in
-            let n : upto ≡ 0 = cc in
-            absurd (omega (arith, draw_is_some js play whole draw sooner at_draw))
+      -- it takes in the last of them
+      waited_source : (first : Prefix) → IsDrawn js play i number first → IsSource js play i t first
+      waited_source first d = record {
+        made = d.made;
+        taken = taken_from_draw waited_are_seen.0 number first waited_are_seen.1 waited_are_seen.2 d;
+        only = λ a h. elim (adds_by_draws mark waits step a (added js t k a h)) [
+          | inl was ↦ inl was
+          | inr new ↦ elim new [
+            | inl by ↦ inr (inl (by_draw number by.sooner first by.draw a d by.is_draw by.within by.reaches))
+            | inr here ↦ inr (inr here)
+          ]
+        ];
+      }
+
+    -- and where there are none, nothing
+    none_waited : (mark : Mark) → WaitsForDraws mark 0 → IsStep js play i t (Marked mark) → TakesIn js play i t None
+    none_waited mark waits step = λ a h. elim (adds_by_draws mark 0 waits step mark waits step a (added js t k a h)) [
+      | inl was ↦ inl was
+      | inr new ↦ elim new [
+        | inl by ↦ absurd (omega (arith, by.within, draw_is_some js play whole by.draw by.sooner by.is_draw))
+        | inr here ↦ inr here
+      ]
+    ]
 
     -- a draw that was made is kept
     kept_draw : (place : ℕ) (draws : List Prefix) → KeepsDraws js play i draws → place < length draws → (first : Prefix) × (slice_get draws place ≡ Some first) × IsDrawn js play i (suc place) first
@@ -160,18 +179,11 @@ module _ (js : Journals) (play : List ℕ) (i t : ℕ) where
         let there = slice_get-get_or draws place none lt in
         (get_or draws place none, there, keeps.each place (get_or draws place none) there)
 
-    pub draw_takes_in : (number before : ℕ) (draws : List Prefix) → IsStep js play i t (Marked (Draw number)) → KeepsDraws js play i draws → suc before ≡ number → TakesIn js play i t (draw_of draws before)
-    draw_takes_in number zero draws step keeps is = λ a h. first_draw a (subst (λ (n : ℕ). IsStep js play i t (Marked (Draw n))) (sym is) step) h
-    draw_takes_in number (suc before) draws step keeps is =
-        let kept = kept_draw before draws keeps (omega (arith, draw_is_next js play whole i t number step, keeps.counts)) in
-        let step' = subst (λ (n : ℕ). IsStep js play i t (Marked (Draw n))) (sym is) step in
-        subst (λ (o : Option Prefix). TakesIn js play i t o) (sym kept.1) (draw_source (suc before) kept.0 step' kept.2)
-
-    pub fence_takes_in : (number : ℕ) (draws : List Prefix) → IsStep js play i t (Marked (Fence number)) → KeepsDraws js play i draws → TakesIn js play i t (draw_of draws number)
-    fence_takes_in zero draws step keeps = λ a h. empty_fence a step h
-    fence_takes_in (suc number) draws step keeps =
-        let kept = kept_draw number draws keeps (omega (arith, fence_names js play whole i t (suc number) step, keeps.counts)) in
-        subst (λ (o : Option Prefix). TakesIn js play i t o) (sym kept.1) (fence_source (suc number) kept.0 step kept.2)
+    pub waited_takes_in : (mark : Mark) (number : ℕ) (draws : List Prefix) → WaitsForDraws mark number → IsStep js play i t (Marked mark) → KeepsDraws js play i draws → TakesIn js play i t (draw_of draws number)
+    waited_takes_in mark zero draws waits step keeps = none_waited mark waits step
+    waited_takes_in mark (suc before) draws waits step keeps =
+        let kept = kept_draw before draws keeps (omega (arith, waited_are_made mark (suc before) waits step, keeps.counts)) in
+        subst (λ (o : Option Prefix). TakesIn js play i t o) (sym kept.1) (waited_source mark (suc before) waits step kept.0 kept.2)
 
     -- a draw has a number of at least 1
     pub draw_number : (number : ℕ) → IsStep js play i t (Marked (Draw number)) → 1 ≤ number

@@ -25,7 +25,7 @@ use Rattle.octet_clock.specs.LastAccesses.{last_in, is_read_of, is_write_of, IsL
 use Rattle.octet_clock.specs.Past.{AddsNothing, IsKept, IsPastOf, KeepsMarks}
 use Rattle.octet_clock.specs.Play.{made_by, step_place, IsStep}
 use Rattle.octet_clock.specs.Sources.{IsNextStep, IsDrawn, KeepsDraws, KeepsAllMarks, draws_with}
-use Rattle.octet_clock.specs.Verdict.{IsEarlierConflict, FollowsConflicts, IsFirstMissed, IsFirstUnordered, JudgedUpTo}
+use Rattle.octet_clock.specs.Verdict.{IsEarlierConflict, FollowsConflicts, IsUnorderedConflict, IsFirstUnordered, JudgedUpTo}
 use Rattle.octet_clock.proofs.Edges.{unmarked_adds}
 use Rattle.octet_clock.proofs.Walk.{made_one, made_other, draw_counts, draw_is_next, others_count_none}
 
@@ -295,9 +295,9 @@ module _ (js : Journals) (play : List ℕ) (i t : ℕ) (e : Event) (next : IsNex
   here = λ j. record { thread = next.step.is_of j; event = made_by play i (next.step.is_of j) }
 
   -- one that is not
-  pub judged_missed : (first : Place) (n : ℕ) → JudgedUpTo js play i Ordered → n ≡ k → IsFirstMissed js play i first → IsFirstUnordered js play first (place t n)
-  judged_missed first n judged is missed =
-      record { index = i; within = next.step.within; is_second = here ∙ (λ j. place t (sym is j)); missed = missed; none_sooner = judged }
+  pub judged_unordered : (first : Place) (n : ℕ) → JudgedUpTo js play i Ordered → n ≡ k → IsUnorderedConflict js play i first → IsFirstUnordered js play first (place t n)
+  judged_unordered first n judged is is_first =
+      record { index = i; within = next.step.within; is_second = here ∙ (λ j. place t (sym is j)); is_first = is_first; none_sooner = judged }
 
   -- the verdict, at a mark
   pub judged_on_mark : (mark : Mark) (verdict : Verdict) → e ≡ Marked mark → JudgedUpTo js play i verdict → JudgedUpTo js play (suc i) verdict

@@ -16,6 +16,7 @@ use Rattle.octet_model.proofs.lemmas.Fronts.{stays, after_on, no_journal}
 use Rattle.octet_model.proofs.lemmas.LogsOfJournals.{as_many_after}
 use Rattle.octet_model.proofs.lemmas.LowestFronts.{lowest_is_front, lowest_order_is_lowest}
 use Rattle.octet_replay.specs.ReplayState.{state_at}
+use Rattle.octet_replay.proofs.lemmas.EventsMade.{same_operation}
 use Rattle.octet_clock.specs.Play.{made_by, IsWholePlay, IsStep}
 use Rattle.octet_clock.proofs.Walk.{counts_are}
 
@@ -31,12 +32,6 @@ enabled_alike s s' (MakeMark (Draw number)) alike = ap (λ (n : ℕ). eqb number
 enabled_alike s s' (MakeMark (Fence number)) alike = ap (λ (n : ℕ). nat_le number n) alike.draws
 enabled_alike s s' (MakeRead object) alike = refl
 enabled_alike s s' (MakeWrite object value) alike = refl
-
--- an operation is that of the event that it makes
-same_operation : (o : Operation) (heap : List ℕ) → operation_of (event_made o heap) ≡ o
-same_operation (MakeMark mark) heap = refl
-same_operation (MakeRead object) heap = refl
-same_operation (MakeWrite object value) heap = refl
 
 module _ (V : Behavior) (js : Journals) where
   record Both (s s' : PlainState) (t : ℕ) (o : Operation) : Type 0 where

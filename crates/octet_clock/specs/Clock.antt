@@ -6,7 +6,7 @@ use Rattle.octet_clock.specs.declared.clock.Clock.{Clock}
 abbrev pub count_in : Clock → ℕ → ℕ
 count_in clock thread = get_or clock.counts thread 0
 
--- the clock with at least so many events of one thread
+-- the clock with at least `count` events of one thread
 pub record IsRaised (before : Clock) (thread count : ℕ) (after : Clock) : Type 0 where
   pub own : count_in after thread ≡ max (count_in before thread) count
   pub others : (other : ℕ) → other ≢ thread → count_in after other ≡ count_in before other

@@ -12,12 +12,12 @@ use Rattle.octet_clock.specs.Play.{made_by}
 abbrev pub last_in : List Clock → ℕ → ℕ → ℕ
 last_in clocks object thread = elim (slice_get clocks object) [ None ↦ 0 | Some clock ↦ count_in clock thread ]
 
--- the clocks with at least so many events of one thread in one object's clock
+-- the clocks with at least `count` events of one thread in one object's clock
 pub record IsNoted (before : List Clock) (object thread count : ℕ) (after : List Clock) : Type 0 where
   pub own : last_in after object thread ≡ max (last_in before object thread) count
   pub others : (other by : ℕ) → (other ≢ object) ⊎ (by ≢ thread) → last_in after other by ≡ last_in before other by
 
--- the reads, the writes, and the accesses that clash with a read or a write of an object
+-- the reads, the writes, and the accesses in conflict with a read or a write of an object
 abbrev pub is_read_of : ℕ → Event → Bool
 is_read_of object (Read other value) = other == object
 is_read_of object _ = false
@@ -26,12 +26,12 @@ abbrev pub is_write_of : ℕ → Event → Bool
 is_write_of object (Write other value) = other == object
 is_write_of object _ = false
 
-abbrev pub is_clash : ℕ → Bool → Event → Bool
-is_clash object writes (Read other value) = elim writes [ true ↦ other == object | false ↦ false ]
-is_clash object writes (Write other value) = other == object
-is_clash object writes (Marked mark) = false
+abbrev pub conflicts_with : ℕ → Bool → Event → Bool
+conflicts_with object writes (Read other value) = elim writes [ true ↦ other == object | false ↦ false ]
+conflicts_with object writes (Write other value) = other == object
+conflicts_with object writes (Marked mark) = false
 
--- among a thread's first so many events, the last that passes a test is the last of these; 0 where none passes
+-- among a thread's first `now` events, the last that passes a test is the last of its first `upto`; `upto` is 0 where none passes
 pub record IsLastOf (journals : Journals) (test : Event → Bool) (thread now upto : ℕ) : Type 0 where
   pub within : upto ≤ now
   pub none_later : (event : ℕ) (there : Event) → upto ≤ event → event < now → event_at journals (record { thread = thread; event = event }) ≡ Some there → test there ≡ false

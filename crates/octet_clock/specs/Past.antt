@@ -7,7 +7,7 @@ use Rattle.octet_clock.specs.declared.clock.Clock.{Clock}
 use Rattle.octet_clock.specs.declared.marks.MarkClock.{MarkClock}
 use Rattle.octet_clock.specs.Clock.{count_in}
 
--- a clock is the past of a thread's first so many events: an event lies in that past exactly where the clock knows it
+-- a clock is the past of a thread's first `now` events: an event lies in that past exactly where the clock knows it
 abbrev pub IsPastOf : Journals → ℕ → ℕ → Clock → Type 0
 IsPastOf journals thread now clock = (place : Place) → InPast journals thread now place ↔ (place.event < count_in clock place.thread)
 
@@ -19,7 +19,7 @@ AddsNothing journals thread event = (place : Place) → InPast journals thread (
 abbrev pub IsKept : List MarkClock → ℕ → Type 0
 IsKept kept event = (i : ℕ) × (one : MarkClock) × (slice_get kept i ≡ Some one) × (one.event ≡ event)
 
--- marks among a thread's first so many events, in order, each with the past after it; the events that are not kept add nothing
+-- marks among a thread's first `now` events, in order, each with the past after it; the events that are not kept add nothing
 pub record KeepsMarks (journals : Journals) (thread now : ℕ) (kept : List MarkClock) : Type 0 where
   pub rising : (i j : ℕ) (sooner later : MarkClock) → i < j → slice_get kept i ≡ Some sooner → slice_get kept j ≡ Some later → sooner.event < later.event
   pub made : (i : ℕ) (one : MarkClock) → slice_get kept i ≡ Some one → one.event < now

@@ -17,26 +17,26 @@ abbrev pub FollowsConflicts : Journals → List ℕ → ℕ → Type 0
 FollowsConflicts journals play index = (place : Place) → IsEarlierConflict journals play index place → HappensBefore journals place (step_place play index)
 
 -- of the earlier conflicting events that do not happen before that of the step, one of the lowest thread that has such; and that thread's last conflicting event before the step
-pub record IsFirstMissed (journals : Journals) (play : List ℕ) (index : ℕ) (first : Place) : Type 0 where
+pub record IsUnorderedConflict (journals : Journals) (play : List ℕ) (index : ℕ) (first : Place) : Type 0 where
   pub is_earlier : IsEarlierConflict journals play index first
   pub apart : ¬ HappensBefore journals first (step_place play index)
   pub none_lower : (lower : Place) → lower.thread < first.thread → IsEarlierConflict journals play index lower → HappensBefore journals lower (step_place play index)
   pub none_later : (later : Place) → later.thread ≡ first.thread → first.event < later.event → ¬ IsEarlierConflict journals play index later
 
--- the second is the first event in the play that misses an earlier conflicting one, and the first is the one that it misses
+-- the second is the first event in the play that some earlier conflicting one does not happen before, and the first is that one
 pub record IsFirstUnordered (journals : Journals) (play : List ℕ) (first second : Place) : Type 0 where
   pub index : ℕ
   pub within : index < length play
   pub is_second : step_place play index ≡ second
-  pub missed : IsFirstMissed journals play index first
+  pub is_first : IsUnorderedConflict journals play index first
   pub none_sooner : (sooner : ℕ) → sooner < index → FollowsConflicts journals play sooner
 
--- what the event of a step misses, if anything
-abbrev pub Misses : Journals → List ℕ → ℕ → Option Place → Type 0
-Misses journals play index None = FollowsConflicts journals play index
-Misses journals play index (Some first) = IsFirstMissed journals play index first
+-- the earlier conflicting event that does not happen before that of the step, if there is one
+abbrev pub UnorderedConflictIs : Journals → List ℕ → ℕ → Option Place → Type 0
+UnorderedConflictIs journals play index None = FollowsConflicts journals play index
+UnorderedConflictIs journals play index (Some first) = IsUnorderedConflict journals play index first
 
--- what so many steps tell
+-- the verdict on the steps before an index
 abbrev pub JudgedUpTo : Journals → List ℕ → ℕ → Verdict → Type 0
 JudgedUpTo journals play index Ordered = (step : ℕ) → step < index → FollowsConflicts journals play step
 JudgedUpTo journals play index (Unordered first second) = IsFirstUnordered journals play first second

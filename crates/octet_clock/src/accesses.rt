@@ -1,13 +1,14 @@
-//! The last reads and the last writes of each object, and what an access misses of them.
+//! The last reads and the last writes of each object, and which of them do not happen before an
+//! access in conflict with them.
 ghost use Rattle.std.specs.Prelude.{◌≡◌, ◌<◌, ◌≤◌, ◌+◌, ◌^◌, [], ℕ, Bool, List, length, OnOk};
 ghost use Rattle.octet_model.specs.declared.event.Event.{Event};
 ghost use Rattle.octet_clock.specs.Accesses.{AreNoted, KeepsAccesses, IsAccessStep};
-ghost use Rattle.octet_clock.specs.LastAccesses.{last_in, is_clash, IsCovered, IsNoted, IsLastOf};
+ghost use Rattle.octet_clock.specs.LastAccesses.{last_in, conflicts_with, IsCovered, IsNoted, IsLastOf};
 ghost use Rattle.octet_clock.specs.Play.{made_by};
-ghost use Rattle.octet_clock.specs.Verdict.{Misses};
+ghost use Rattle.octet_clock.specs.Verdict.{UnorderedConflictIs};
 
-use crate::clock::{Clock, THREADS};
-use octet_model::{OutOfMemory, Place};
+use crate::clock::Clock;
+use octet_model::{MAX_THREADS, OutOfMemory, Place};
 use std::alloc::Global;
 
 /// For each object a clock, which knows each thread's events up to its last access of one kind.
@@ -48,7 +49,7 @@ impl LastAccesses {
 
     // Notes an access by a thread that has made `count` events with it.
     fn note(&mut self, object: u16, thread: usize, count: u32) -> Result<(), OutOfMemory>
-        requires { thread < THREADS }
+        requires { thread < MAX_THREADS }
         ensures { OnOk result (IsNoted self.old.clocks.items object thread count self.new.clocks.items) }
     {
         self.cover(object)?;
@@ -75,10 +76,10 @@ impl Accesses {
         }
     }
 
-    // How many events of a thread there are up to its last access that clashes with a read or a
+    // How many events of a thread there are up to its last access in conflict with a read or a
     // write of the object; 0 for none.
-    fn last_clash(&self, object: u16, writing: bool, thread: usize) -> u32
-        ensures { (journals : List (List Event)) (play : List ℕ) (index : ℕ) → KeepsAccesses journals play index self.now → IsLastOf journals (is_clash object writing) thread (made_by play index thread) result }
+    fn last_conflict(&self, object: u16, writing: bool, thread: usize) -> u32
+        ensures { (journals : List (List Event)) (play : List ℕ) (index : ℕ) → KeepsAccesses journals play index self.now → IsLastOf journals (conflicts_with object writing) thread (made_by play index thread) result }
     {
         let write = self.writes.count(object, thread);
         if !writing {
@@ -87,9 +88,9 @@ impl Accesses {
         write.max(self.reads.count(object, thread))
     }
 
-    /// Among the first `threads` threads, the last clashing access by the lowest thread whose last one the
+    /// Among the first `threads` threads, the last conflicting access by the lowest thread whose last one the
     /// clock after an access does not know.
-    pub(crate) fn missed(
+    pub(crate) fn unordered_conflict(
         &self,
         threads: usize,
         thread: usize,
@@ -97,11 +98,11 @@ impl Accesses {
         writing: bool,
         known: &Clock,
     ) -> Option<Place>
-        requires { threads ≤ THREADS }
-        ensures { (journals : List (List Event)) (play : List ℕ) (index : ℕ) → length journals ≡ threads → KeepsAccesses journals play index self.now → IsAccessStep journals play index thread object writing known.now → Misses journals play index result }
+        requires { threads ≤ MAX_THREADS }
+        ensures { (journals : List (List Event)) (play : List ℕ) (index : ℕ) → length journals ≡ threads → KeepsAccesses journals play index self.now → IsAccessStep journals play index thread object writing known.now → UnorderedConflictIs journals play index result }
     {
         for other in 0..threads {
-            let last = self.last_clash(object, writing, other);
+            let last = self.last_conflict(object, writing, other);
             if other != thread && last > known.count(other) {
                 return Some(Place {
                     thread: other as u8,
@@ -120,7 +121,7 @@ impl Accesses {
         thread: usize,
         count: u32,
     ) -> Result<(), OutOfMemory>
-        requires { thread < THREADS }
+        requires { thread < MAX_THREADS }
         ensures { OnOk result (AreNoted self.old object writing thread count self.new) }
     {
         if writing {

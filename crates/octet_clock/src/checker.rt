@@ -7,15 +7,15 @@ ghost use Rattle.octet_model.specs.HappensBefore.{object_of, is_write};
 ghost use Rattle.octet_clock.specs.Checker.{Holds, TakesEvent};
 ghost use Rattle.octet_clock.specs.Clock.{count_in};
 ghost use Rattle.octet_clock.specs.Sources.{IsNextStep};
-ghost use Rattle.octet_clock.specs.Verdict.{JudgedUpTo, Misses};
+ghost use Rattle.octet_clock.specs.Verdict.{JudgedUpTo, UnorderedConflictIs};
 ghost use Rattle.octet_clock.specs.Verified.{IsJudged};
 
 use crate::accesses::Accesses;
-use crate::clock::{Clock, THREADS};
+use crate::clock::Clock;
 use crate::marks::Marks;
 use crate::sources::{Prefix, clock_after, clock_past_mark, note_draw};
 use crate::verdict::Verdict;
-use octet_model::{Event, Mark, OutOfMemory, Place};
+use octet_model::{Event, MAX_THREADS, Mark, OutOfMemory, Place};
 use octet_replay::{Replayer, Stepped};
 use std::alloc::Global;
 
@@ -47,26 +47,26 @@ impl Checker {
         })
     }
 
-    // What a thread's access misses of earlier ones.
-    fn missed(&self, thread: usize, object: u16, writing: bool) -> Option<Place>
-        requires threads { length self.now.marks.items ≤ THREADS }
+    // The earlier conflicting access that does not happen before a thread's access, if there is one.
+    fn unordered_conflict(&self, thread: usize, object: u16, writing: bool) -> Option<Place>
+        requires threads { length self.now.marks.items ≤ MAX_THREADS }
         requires thread { thread < length self.now.marks.items }
-        ensures { (journals : Journals) (play : List ℕ) (index : ℕ) (event : Event) → IsNextStep journals play index thread event → object_of event ≡ Some object → is_write event ≡ writing → Holds journals play index self.now → Misses journals play index result }
+        ensures { (journals : Journals) (play : List ℕ) (index : ℕ) (event : Event) → IsNextStep journals play index thread event → object_of event ≡ Some object → is_write event ≡ writing → Holds journals play index self.now → UnorderedConflictIs journals play index result }
     {
         let known = clock_after(&self.marks, thread, self.made.count(thread));
         self.accesses
-            .missed(self.marks.len(), thread, object, writing, &known)
+            .unordered_conflict(self.marks.len(), thread, object, writing, &known)
     }
 
     // The verdict with a thread's access.
     fn judged(&self, thread: usize, object: u16, writing: bool) -> Verdict
-        requires threads { length self.now.marks.items ≤ THREADS }
+        requires threads { length self.now.marks.items ≤ MAX_THREADS }
         requires thread { thread < length self.now.marks.items }
         ensures { (journals : Journals) (play : List ℕ) (index : ℕ) (event : Event) → IsNextStep journals play index thread event → object_of event ≡ Some object → is_write event ≡ writing → Holds journals play index self.now → JudgedUpTo journals play (suc index) result }
     {
         match self.verdict {
             Verdict::Unordered { .. } => self.verdict,
-            Verdict::Ordered => match self.missed(thread, object, writing) {
+            Verdict::Ordered => match self.unordered_conflict(thread, object, writing) {
                 None => Verdict::Ordered,
                 Some(first) => Verdict::Unordered {
                     first,
@@ -80,7 +80,7 @@ impl Checker {
     }
 
     fn take_access(&mut self, thread: usize, object: u16, writing: bool) -> Result<(), OutOfMemory>
-        requires threads { length self.old.marks.items ≤ THREADS }
+        requires threads { length self.old.marks.items ≤ MAX_THREADS }
         requires thread { thread < length self.old.marks.items }
         requires room { count_in self.old.made thread + 1 < 2 ^ 32 }
         ensures many { OnOk result (length self.new.marks.items ≡ length self.old.marks.items) }
@@ -94,7 +94,7 @@ impl Checker {
     }
 
     fn take_mark(&mut self, thread: usize, mark: Mark) -> Result<(), OutOfMemory>
-        requires threads { length self.old.marks.items ≤ THREADS }
+        requires threads { length self.old.marks.items ≤ MAX_THREADS }
         requires thread { thread < length self.old.marks.items }
         requires room { count_in self.old.made thread + 1 < 2 ^ 32 }
         ensures many { OnOk result (length self.new.marks.items ≡ length self.old.marks.items) }
@@ -114,7 +114,7 @@ impl Checker {
 
     /// Takes in a thread's next event.
     fn take_in(&mut self, thread: usize, event: Event) -> Result<(), OutOfMemory>
-        requires threads { length self.old.marks.items ≤ THREADS }
+        requires threads { length self.old.marks.items ≤ MAX_THREADS }
         requires thread { thread < length self.old.marks.items }
         requires room { count_in self.old.made thread + 1 < 2 ^ 32 }
         ensures many { OnOk result (length self.new.marks.items ≡ length self.old.marks.items) }
@@ -129,9 +129,9 @@ impl Checker {
 }
 
 /// Judges the events of a replay one by one, from its first step on, up to the first access that
-/// misses an earlier conflicting one.
+/// some earlier conflicting one does not happen before.
 ///
-/// Behind each mark its thread's vector clock is kept, since a `Join` of a thread's first events
+/// After each mark its thread's vector clock is kept, since a `Join` of a thread's first events
 /// takes in what the thread knew when it had made these, and not what it knows by now.
 pub(crate) fn judge(
     alloc: Global,

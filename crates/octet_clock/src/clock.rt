@@ -2,14 +2,13 @@
 ghost use Rattle.std.specs.Prelude.{◌≡◌, ◌≢◌, ◌<◌, ◌≤◌, false, ℕ};
 ghost use Rattle.octet_clock.specs.Clock.{count_in, IsRaised, IsJoined};
 
-/// How many threads a log has at most.
-pub(crate) const THREADS: usize = 16;
+use octet_model::MAX_THREADS;
 
 /// A vector clock, after Mattern and Fidge: for each thread, how many of its first events are
 /// known.
 #[derive(Clone, Copy, Debug, PartialEq, Eq)]
 pub(crate) struct Clock {
-    counts: [u32; THREADS],
+    counts: [u32; MAX_THREADS],
 }
 
 impl Clock {
@@ -18,14 +17,14 @@ impl Clock {
         ensures { (thread : ℕ) → count_in result thread ≡ 0 }
     {
         Clock {
-            counts: [0; THREADS],
+            counts: [0; MAX_THREADS],
         }
     }
 
     pub(crate) fn count(&self, thread: usize) -> u32
         ensures { result ≡ count_in self.now thread }
     {
-        if thread < THREADS {
+        if thread < MAX_THREADS {
             self.counts[thread]
         } else {
             0
@@ -34,7 +33,7 @@ impl Clock {
 
     /// Takes in a thread's first `count` events.
     pub(crate) fn raise(&mut self, thread: usize, count: u32)
-        requires { thread < THREADS }
+        requires { thread < MAX_THREADS }
         ensures { IsRaised self.old thread count self.new }
     {
         let known = self.counts[thread];
@@ -45,7 +44,7 @@ impl Clock {
     pub(crate) fn join(&mut self, other: &Clock)
         ensures { IsJoined self.old other.now self.new }
     {
-        for thread in 0..THREADS {
+        for thread in 0..MAX_THREADS {
             self.raise(thread, other.counts[thread]);
         }
     }
@@ -56,7 +55,7 @@ impl Clock {
         ensures others { result ≡ false → (other : ℕ) → other ≢ thread → count_in self.now other ≤ count_in before.now other }
         ensures own { result ≡ false → count_in self.now thread ≤ own }
     {
-        for other in 0..THREADS {
+        for other in 0..MAX_THREADS {
             if other != thread && self.counts[other] > before.counts[other] {
                 return true;
             }

@@ -5,8 +5,8 @@ ghost use Rattle.octet_model.specs.declared.event.Event.{Event};
 ghost use Rattle.octet_model.specs.Machine.{journal_of};
 ghost use Rattle.octet_clock.specs.Past.{IsPastOf, KeepsMarks};
 
-use crate::clock::{Clock, THREADS};
-use octet_model::OutOfMemory;
+use crate::clock::Clock;
+use octet_model::{MAX_THREADS, OutOfMemory};
 use std::alloc::Global;
 
 /// A mark's place in its thread's journal, and the clock after it.
@@ -45,7 +45,7 @@ impl Marks {
 
     /// The clock of the thread's first `upto` events.
     pub(crate) fn clock_after(&self, thread: usize, upto: u32) -> Clock
-        requires { thread < THREADS }
+        requires { thread < MAX_THREADS }
         ensures { (journals : List (List Event)) (now : ℕ) → KeepsMarks journals thread now self.now.kept.items → upto ≤ now → now ≤ length (journal_of journals thread) → IsPastOf journals thread upto result }
     {
         let earlier = self.kept_before(upto);
@@ -66,7 +66,7 @@ impl Marks {
         event: u32,
         clock: Clock,
     ) -> Result<(), OutOfMemory>
-        requires thread { thread < THREADS }
+        requires thread { thread < MAX_THREADS }
         requires room { event + 1 < 2 ^ 32 }
         ensures { OnOk result ((journals : List (List Event)) → event ≤ length (journal_of journals thread) → IsPastOf journals thread (suc event) clock → KeepsMarks journals thread event self.old.kept.items → KeepsMarks journals thread (suc event) self.new.kept.items) }
     {

@@ -6,9 +6,9 @@ ghost use Rattle.octet_clock.specs.Past.{IsPastOf};
 ghost use Rattle.octet_clock.specs.Play.{made_by, IsWholePlay};
 ghost use Rattle.octet_clock.specs.Sources.{IsNextStep, KeepsDraws, KeepsAllMarks, TakesIn, draw_of, draws_with};
 
-use crate::clock::{Clock, THREADS};
+use crate::clock::Clock;
 use crate::marks::Marks;
-use octet_model::{Mark, OutOfMemory};
+use octet_model::{MAX_THREADS, Mark, OutOfMemory};
 
 /// A thread, and how many of its first events are meant.
 #[derive(Clone, Copy, Debug, PartialEq, Eq)]
@@ -47,7 +47,7 @@ fn source_of(draws: &[Prefix], mark: Mark) -> Option<Prefix>
 
 /// The clock of a thread's first events.
 pub(crate) fn clock_after(marks: &[Marks], thread: usize, count: u32) -> Clock
-    requires { length marks.now ≤ THREADS }
+    requires { length marks.now ≤ MAX_THREADS }
     ensures { (journals : List (List Event)) (play : List ℕ) (index : ℕ) → IsWholePlay journals play → index ≤ length play → KeepsAllMarks journals play index marks.now → count ≤ made_by play index thread → IsPastOf journals thread count result }
 {
     if thread < marks.len() {
@@ -65,7 +65,7 @@ pub(crate) fn clock_past_mark(
     count: u32,
     mark: Mark,
 ) -> Clock
-    requires threads { length marks.now ≤ THREADS }
+    requires threads { length marks.now ≤ MAX_THREADS }
     requires thread { thread < length marks.now }
     requires room { count + 1 < 2 ^ 32 }
     ensures { (journals : List (List Event)) (play : List ℕ) (index : ℕ) → IsNextStep journals play index thread (Marked mark) → KeepsDraws journals play index draws.now → KeepsAllMarks journals play index marks.now → count ≡ made_by play index thread → IsPastOf journals thread (suc count) result }

@@ -1,12 +1,13 @@
 //! Logs that are judged, made by hand.
 ghost use Rattle.std.specs.Prelude.{◌≡◌, ◌∷◌, ◌*◌, ◌&&◌, [], codes, length, map, nat_le, IfOk, IsTrue};
 ghost use Rattle.std.specs.List.{list_all};
+ghost use Rattle.octet_model.specs.declared.limits.TheConstants.{DEFAULT_FUEL, MAX_FUEL, MAX_THREADS};
 ghost use Rattle.octet_model.specs.Log.{is_log};
 ghost use Rattle.octet_model.specs.Script.{is_thread};
 
 use super::*;
 use octet_model::{
-    Command, Gapped, List, Log, Mark, Name, Object, OutOfMemory, Place, Script, ThreadLog,
+    Command, DEFAULT_FUEL, Gapped, List, Log, Mark, Name, Object, OutOfMemory, Place, Script, ThreadLog,
 };
 use std::alloc::Global;
 use std::test::*;
@@ -28,12 +29,12 @@ fn objects_x_and_y(alloc: Global) -> Result<List<Object>, OutOfMemory>
 }
 
 fn script_of(alloc: Global, threads: List<List<Command>>) -> Result<Script, OutOfMemory>
-    requires few { IsTrue (nat_le 1 (length threads) && nat_le (length threads) 16 && nat_le (length threads * 16384) 262144) }
+    requires few { IsTrue (nat_le 1 (length threads) && nat_le (length threads) MAX_THREADS && nat_le (length threads * DEFAULT_FUEL) MAX_FUEL) }
     requires valid { IsTrue (list_all (is_thread 2) threads) }
 {
     let objects = objects_x_and_y(alloc)?;
     Ok(Script {
-        fuel: 16384,
+        fuel: DEFAULT_FUEL,
         objects,
         threads,
     })
@@ -136,7 +137,7 @@ fn crossed_claims_are_ordered(rt: HostRuntime) -> Result<(), Fail> {
 }
 
 #[test]
-fn last_clash_of_the_lower_thread_is_named(rt: HostRuntime) -> Result<(), Fail> {
+fn last_conflict_of_the_lower_thread_is_named(rt: HostRuntime) -> Result<(), Fail> {
     let alloc = rt.alloc();
     let script = two_threads(alloc, &[WRITE_X, READ_X], &[WRITE_X])?;
     let log = log_of_two(alloc, 2, NO_MARKS, 1, NO_MARKS)?;

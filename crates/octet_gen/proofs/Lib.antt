@@ -1,5 +1,5 @@
-pub mod Sequence
-pub mod Names
-pub mod Valid
-pub mod Rounds
-pub mod Accesses
+pub mod lemmas
+mod Sequence
+mod Names
+mod Valid
+mod Rounds

@@ -4,6 +4,7 @@ use Rattle.std.specs.List.{All}
 use Rattle.std.proofs.lemmas.Bool.{ne_eqb}
 use Rattle.std.proofs.lemmas.List.{get_or-set_same, get_or-set_other, length-set}
 use Rattle.std.proofs.lemmas.Option.{slice_get-get_or}
+use Rattle.octet_model.specs.declared.limits.TheConstants.{REGISTERS}
 use Rattle.octet_model.proofs.lemmas.Lists.{slice_get-append}
 use Rattle.octet_model.specs.declared.command.Command.{Command}
 use Rattle.octet_model.specs.declared.command.Command.TheVariants.{Sub, Read, Write, Close, Safe}
@@ -263,6 +264,6 @@ module _ (accesses : List Command) (drawn : All IsDrawn accesses) (many : length
 
   pub loop_makes_its_accesses : (journal : List Event) → FitsToEnd commands (starting_configuration 32768) journal → access_count journal ≡ 20000
   loop_makes_its_accesses journal fit =
-      let registers : List ℕ = set (set (replicate 16 0) 0 1250) 1 1 in
+      let registers : List ℕ = set (set (replicate REGISTERS 0) 0 1250) 1 1 in
       let first : FitsToEnd commands (at 3 registers 32765) journal = same_fit commands journal (starting_configuration 32768) (at 3 registers 32765) refl fit in
       counts_from journal 0 15 1249 32764 7765 registers refl (omega arith) (record { left = refl; one = refl; all = omega arith }) refl first

@@ -16,8 +16,8 @@ use Rattle.octet_replay.specs.declared.stepped.Stepped.TheVariants.{Made, Halted
 use Rattle.octet_replay.specs.Judged.{HasCause, last_state}
 use Rattle.octet_replay.specs.ReplayState.{ReplayState, state_at, plain_state, HasHalted, IsNextStep, IsNotBegun, StepsTo}
 use Rattle.octet_replay.specs.Places.{FitInPlaces}
-use Rattle.octet_replay.proofs.Places.{have_places}
-use Rattle.octet_replay.proofs.Stepping.{at_the_end}
+use Rattle.octet_replay.proofs.lemmas.Halting.{is_last_state}
+use Rattle.octet_replay.proofs.lemmas.Places.{lowest_order_fits_in_places}
 
 pub no_events_are : {A : Type 0} (xs : List A) → replicate (length xs) [] ≡ no_events xs
 no_events_are [] = refl
@@ -49,19 +49,6 @@ pub fewer_left : (r after : ReplayState) (thread : ℕ) (event : Event) → IsNe
 fewer_left r after thread event next after_is =
     subst (λ (x : ReplayState). length (lowest_order x.script x.log.threads) - x.steps < length (lowest_order r.script r.log.threads) - r.steps) (sym after_is) (omega (arith, next.within))
 
--- a step that makes no event finds the replay halted
-pub halts : (before after : ReplayState) (o : Stepped) → StepsTo before o after → ((thread : ℕ) (event : Event) → o ≡ Made thread event → ⊥) → HasHalted before × (after ≡ before)
-halts before after (Made thread event) steps none = absurd (none thread event refl)
-halts before after Halted steps none = steps
-
-pub halted_after : (before after : ReplayState) → HasHalted before × (after ≡ before) → HasHalted after
-halted_after before after h = subst (λ (x : ReplayState). HasHalted x) (sym h.1) h.0
-
--- the last state
-pub last_is : (r : ReplayState) → length r.script.threads ≡ length r.log.threads → HasHalted r → plain_state r ≡ last_state r.script r.log.threads
-last_is r agree halted =
-    at_the_end (by_log r.script r.log.threads) r.steps (lowest_order r.script r.log.threads) (opening_state r.script) (lowest_order_is_lowest r.script r.log.threads agree) halted
-
 -- the journals that were kept until then
 pub collected : (script : Script) (log : Log) (old new : ReplayState) (journals : Journals) → old ≡ record { script = script; log = log; steps = 0 } → new.script ≡ old.script → new.log ≡ old.log
     → length script.threads ≡ length log.threads → HasHalted new → journals ≡ (plain_state new).journals → journals ≡ journals_after script log.threads (lowest_order script log.threads)
@@ -70,13 +57,10 @@ collected script log old new journals opens same_script same_log agree halted is
     λ i. record { script = (same_script ∙ ap (λ (x : ReplayState). x.script) opens) i; log = (same_log ∙ ap (λ (x : ReplayState). x.log) opens) i; steps = new.steps } in
     let halted' = subst (λ (x : ReplayState). HasHalted x) new_is halted in
     is ∙ ap (λ (x : ReplayState). (plain_state x).journals) new_is
-    ∙ ap (λ (s : PlainState). s.journals) (last_is (record { script = script; log = log; steps = new.steps }) agree halted')
+    ∙ ap (λ (s : PlainState). s.journals) (is_last_state (record { script = script; log = log; steps = new.steps }) agree halted')
 
 pub collected_fit : (script : Script) (log : Log) (journals : Journals) → length script.threads ≡ length log.threads → journals ≡ journals_after script log.threads (lowest_order script log.threads) → FitInPlaces journals
-collected_fit script log journals agree is =
-    subst (λ (js : Journals). FitInPlaces js) (sym is)
-    (have_places script log.threads (lowest_order script log.threads) agree
-    (lowest_is_front (by_log script log.threads) (lowest_order script log.threads) (opening_state script) (lowest_order_is_lowest script log.threads agree)) log.valid)
+collected_fit script log journals agree is = subst (λ (js : Journals). FitInPlaces js) (sym is) (lowest_order_fits_in_places script log.threads agree log.valid)
 
 -- why a replay is not begun is why it is refused
 pub not_begun : (script : Script) (log : List ThreadLog) (fault : ReplayFault) → IsNotBegun script log fault → HasCause script log fault

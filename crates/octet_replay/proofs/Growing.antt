@@ -6,6 +6,7 @@ use Rattle.octet_model.specs.declared.command.Command.{Command}
 use Rattle.octet_model.specs.declared.event.Mark.{Mark}
 use Rattle.octet_model.specs.declared.event.Event.{Event}
 use Rattle.octet_model.specs.declared.event.Event.TheVariants.{Read, Write, Marked}
+use Rattle.octet_model.specs.declared.limits.TheConstants.{MAX_ACCESSES}
 use Rattle.octet_model.specs.declared.log.Gapped.{Gapped}
 use Rattle.octet_model.specs.declared.log.ThreadLog.{ThreadLog}
 use Rattle.octet_model.specs.Thread.{Configuration, AccessOrEnd, configuration_after}
@@ -21,6 +22,7 @@ use Rattle.octet_replay.specs.declared.thread.NextDemand.TheVariants.{Read as Re
 use Rattle.octet_replay.specs.declared.thread.ThreadReplay.{ThreadReplay}
 use Rattle.octet_replay.specs.NextDemand.{demand_of, IsBeforeDemand, IsDemandedNext, NamesObject}
 use Rattle.octet_replay.specs.Threads.{next_by_counts, next_event, IsPastEvent, Grown, HasRoomFor, IsReplayOf, StandsFor, WritesWithin}
+use Rattle.octet_replay.proofs.lemmas.EventsMade.{due_there}
 
 -- the event comes of what it demands next
 abbrev pub ComesOf : Event → NextDemand → Type 0
@@ -57,12 +59,6 @@ pub came_here : (log : ThreadLog) (t : ThreadReplay) (heap : List ℕ) (event : 
 came_here log t heap event is =
     came (due_mark (slice_get log.marks t.marks) t.gap) t.up_next (nat_lt t.accesses log.accesses) (nat_lt t.marks (length log.marks)) heap event is
 
--- the operation of an event that is made
-pub same_operation : (operation : Operation) (heap : List ℕ) → operation_of (event_made operation heap) ≡ operation
-same_operation (MakeMark mark) heap = refl
-same_operation (MakeRead object) heap = refl
-same_operation (MakeWrite object value) heap = refl
-
 gap_within : (before : ℕ) (journal : List Event) → gap_after before journal ≤ before + access_count journal
 gap_within before [] = omega arith
 gap_within before (Read object value ∷ journal) = omega (arith, gap_within (suc before) journal)
@@ -74,10 +70,6 @@ few_values [] = omega arith
 few_values (Read object value ∷ journal) = omega (arith, few_values journal)
 few_values (Write object value ∷ journal) = omega (arith, few_values journal)
 few_values (Marked mark ∷ journal) = few_values journal
-
-due_there : (o : Option Gapped) (gap : ℕ) (mark : Mark) → due_mark o gap ≡ Some mark → (g : Gapped) × (o ≡ Some g)
-due_there None gap mark is = absurd cc
-due_there (Some g) gap mark is = (g, refl)
 
 -- what is next, from the four things that decide it
 next_from : {m m' : Option Mark} {d d' : AccessOrEnd} {a a' k k' : Bool} → m ≡ m' → d ≡ d' → a ≡ a' → k ≡ k' → mark_first m (next_access d a k) ≡ mark_first m' (next_access d' a' k')
@@ -113,7 +105,7 @@ module _ (commands : List Command) (start : Configuration) (objects : ℕ) (log 
     accesses_are : t.log.accesses ≡ log.accesses
     accesses_are = ap (λ (l : ThreadLog). l.accesses) replay.follows
 
-    room_of_access : nat_lt t.accesses t.log.accesses ≡ true → log.accesses ≤ 262144 → (suc t.accesses < 2 ^ 32) × (suc t.gap < 2 ^ 32)
+    room_of_access : nat_lt t.accesses t.log.accesses ≡ true → log.accesses ≤ MAX_ACCESSES → (suc t.accesses < 2 ^ 32) × (suc t.gap < 2 ^ 32)
     room_of_access left few =
         let below = ltb-true t.accesses t.log.accesses left in
         (omega (arith, accesses_are), omega (arith, accesses_are, gap_within 0 journal, replay.counts.counts_gap, replay.counts.counts_accesses))
@@ -123,7 +115,7 @@ module _ (commands : List Command) (start : Configuration) (objects : ℕ) (log 
         let below = ltb-true t.accesses t.log.accesses left in
         omega (arith, accesses_are, t.reads.ok.0, ap (λ (xs : List ℕ). length xs) replay.reads, few_values journal, replay.counts.counts_accesses, replay.room)
 
-    pub has_room : (event : Event) → next_event (next_by_counts t.log t) heap ≡ Some event → log.accesses ≤ 262144 → length log.marks < 2 ^ 31 → HasRoomFor event t
+    pub has_room : (event : Event) → next_event (next_by_counts t.log t) heap ≡ Some event → log.accesses ≤ MAX_ACCESSES → length log.marks < 2 ^ 32 → HasRoomFor event t
     has_room (Read object value) is few marks =
         let left = (came_here t.log t heap (Read object value) is).has in
         ((room_of_access left few).0, (room_of_access left few).1, room_of_read left)

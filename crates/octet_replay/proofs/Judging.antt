@@ -7,6 +7,7 @@ use Rattle.octet_model.specs.declared.command.Command.{Command}
 use Rattle.octet_model.specs.declared.outcome.End.{End}
 use Rattle.octet_model.specs.declared.outcome.Outcome.{Outcome}
 use Rattle.octet_model.specs.declared.event.Event.{Event}
+use Rattle.octet_model.specs.declared.limits.TheConstants.{MAX_ACCESSES, MAX_THREADS}
 use Rattle.octet_model.specs.declared.log.ThreadLog.{ThreadLog}
 use Rattle.octet_model.specs.Thread.{AccessOrEnd, demanded, configuration_after, starting_configuration}
 use Rattle.octet_model.specs.Machine.{Journals, journal_of, PlainState, next_of}
@@ -14,6 +15,7 @@ use Rattle.octet_model.specs.Orders.{commands_of, by_log, opening_state, lowest_
 use Rattle.octet_model.proofs.lemmas.LowestFronts.{lowest_order_is_lowest, lowest_is_front}
 use Rattle.octet_model.proofs.lemmas.LogsOfJournals.{as_many_after}
 use Rattle.octet_model.proofs.lemmas.Splits.{length_parts}
+use Rattle.octet_model.proofs.lemmas.Validity.{valid_log}
 use Rattle.octet_replay.specs.declared.fault.ReplayFault.{ReplayFault}
 use Rattle.octet_replay.specs.declared.fault.ReplayFault.TheVariants.{ThreadsDiffer, Stuck, Misfit, OutOfMemory}
 use Rattle.octet_replay.specs.declared.thread.ThreadReplay.{ThreadReplay}
@@ -21,9 +23,10 @@ use Rattle.octet_replay.specs.declared.state.Replay.{Replay}
 use Rattle.octet_replay.specs.NextDemand.{demand_of}
 use Rattle.octet_replay.specs.Judged.{IsLawful, last_state, last_journal, last_demand, Finds, FindsOf, IsMisfitThread, IsStuck, HasCause}
 use Rattle.octet_replay.specs.ReplayState.{plain_state, HasHalted}
-use Rattle.octet_replay.specs.Replayed.{state_of, FindsIn, FindsNothing, IsAt, IsThroughHere, TellsMisfit}
-use Rattle.octet_replay.proofs.Stepping.{at_the_end, next_here}
-use Rattle.octet_replay.proofs.Valid.{few_accesses, few_marks, few_threads}
+use Rattle.octet_replay.specs.Replayed.{state_of, FindsIn, FindsNothing, IsAt, IsFinishedHere, TellsMisfit}
+use Rattle.octet_replay.proofs.lemmas.Halting.{is_last_state}
+use Rattle.octet_replay.proofs.Stepping.{next_here}
+use Rattle.octet_replay.proofs.Valid.{few_accesses, few_marks}
 
 some_thread : (threads : List ThreadReplay) (t : ℕ) → t < length threads → (x : ThreadReplay) × (slice_get threads t ≡ Some x)
 some_thread threads t within =
@@ -66,19 +69,17 @@ same_finds {d = d} {d' = d'} {l = l} {l' = l'} {j = j} {j' = j'} found p q r fin
 -- the replay has come to the end of the lowest order
 module _ (r : Replay) (at : IsAt r) (halted : HasHalted (state_of r)) where
   pub ends : plain_state (state_of r) ≡ last_state r.script.value r.log.value.threads
-  ends =
-      at_the_end (by_log r.script.value r.log.value.threads) (sum r.waits.events) (lowest_order r.script.value r.log.value.threads) (opening_state r.script.value)
-      (lowest_order_is_lowest r.script.value r.log.value.threads at.agree) halted
+  ends = is_last_state (state_of r) at.agree halted
 
   as_many : length r.threads.items ≡ length r.script.value.threads
   as_many =
       at.stands.as_many ∙ as_many_after (by_log r.script.value r.log.value.threads) (take (sum r.waits.events) (lowest_order r.script.value r.log.value.threads)) (opening_state r.script.value)
       ∙ length-map r.script.value.threads (λ (c : List Command). [])
 
-  pub few_here : length r.threads.items ≤ 16
-  few_here = omega (arith, as_many, at.agree, few_threads r.log.value.threads r.log.value.valid)
+  pub few_here : length r.threads.items ≤ MAX_THREADS
+  few_here = omega (arith, as_many, at.agree, (valid_log r.log.value.threads r.log.value.valid).most_threads)
 
-  pub accesses_here : (t : ℕ) (x : ThreadReplay) → slice_get r.threads.items t ≡ Some x → x.log.accesses < 4294967295
+  pub accesses_here : (t : ℕ) (x : ThreadReplay) → slice_get r.threads.items t ≡ Some x → x.log.accesses ≤ MAX_ACCESSES
   accesses_here t x there = omega (arith, ap (λ (l : ThreadLog). l.accesses) (at.stands.each t x there).follows, few_accesses r.log.value.threads r.log.value.valid t)
 
   pub marks_here : (t : ℕ) (x : ThreadReplay) → slice_get r.threads.items t ≡ Some x → x.marks < 2 ^ 32
@@ -118,7 +119,7 @@ module _ (r : Replay) (at : IsAt r) (halted : HasHalted (state_of r)) where
   misfit_is_cause OutOfMemory tells = absurd tells
 
   pub stuck_is_cause : ((t : ℕ) (x : ThreadReplay) → slice_get r.threads.items t ≡ Some x → FindsNothing x)
-      → (positions : List ℕ) → (waits : (t : ℕ) × (t < length r.threads.items) × ¬ IsThroughHere r.threads.items t)
+      → (positions : List ℕ) → (waits : (t : ℕ) × (t < length r.threads.items) × ¬ IsFinishedHere r.threads.items t)
       → positions ≡ map (λ (x : ThreadReplay). x.accesses + x.marks) r.threads.items → IsStuck r.script.value r.log.value.threads positions
   stuck_is_cause none positions waits made = record {
     agree = at.agree;
@@ -128,9 +129,9 @@ module _ (r : Replay) (at : IsAt r) (halted : HasHalted (state_of r)) where
     waits = (
       waits.0,
       (let below : waits.0 < length r.log.value.threads = omega (arith, as_many, at.agree, waits.1) in below),
-      λ through. waits.2 (λ x there.
+      λ finished. waits.2 (λ x there.
           sym (next_here r.script.value r.log.value.threads (plain_state (state_of r)) r.threads.items r.heap.items r.waits at.stands waits.0 x there)
-          ∙ ap (λ (s : PlainState). next_of (by_log r.script.value r.log.value.threads) s waits.0) ends ∙ through),
+          ∙ ap (λ (s : PlainState). next_of (by_log r.script.value r.log.value.threads) s waits.0) ends ∙ finished),
     );
     made =
         made
@@ -141,8 +142,8 @@ module _ (r : Replay) (at : IsAt r) (halted : HasHalted (state_of r)) where
         ∙ ap (λ (s : PlainState). map (λ (j : List Event). length j) s.journals) ends;
   }
 
-  pub through_is_lawful : ((t : ℕ) → IsThroughHere r.threads.items t) → IsLawful r.script.value r.log.value.threads
-  through_is_lawful through = (
+  pub finished_is_lawful : ((t : ℕ) → IsFinishedHere r.threads.items t) → IsLawful r.script.value r.log.value.threads
+  finished_is_lawful finished = (
     at.agree,
     (
       lowest_is_front (by_log r.script.value r.log.value.threads) (lowest_order r.script.value r.log.value.threads) (opening_state r.script.value)
@@ -150,7 +151,7 @@ module _ (r : Replay) (at : IsAt r) (halted : HasHalted (state_of r)) where
       λ t within.
           let there = some_thread r.threads.items t (omega (arith, at.stands.as_many, ap (λ (s : PlainState). length s.journals) ends)) in
           ap (λ (s : PlainState). next_of (by_log r.script.value r.log.value.threads) s t) (sym ends)
-          ∙ next_here r.script.value r.log.value.threads (plain_state (state_of r)) r.threads.items r.heap.items r.waits at.stands t there.0 there.1 ∙ through t there.0 there.1,
+          ∙ next_here r.script.value r.log.value.threads (plain_state (state_of r)) r.threads.items r.heap.items r.waits at.stands t there.0 there.1 ∙ finished t there.0 there.1,
     ),
   )
 

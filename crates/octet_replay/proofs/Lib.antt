@@ -1,12 +1,10 @@
-pub mod Valid
-pub mod Asking
-pub mod Growing
-pub mod Stepping
-pub mod Judging
-pub mod Answered
-pub mod Whole
-pub mod Places
-pub mod Collecting
-pub mod ManyMarks
+pub mod lemmas
+mod Valid
+mod Asking
+mod Growing
+mod Stepping
+mod Judging
+mod Collecting
+mod ManyMarks
 mod ThreadSets
 mod Placing

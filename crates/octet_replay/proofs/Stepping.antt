@@ -34,9 +34,10 @@ use Rattle.octet_replay.specs.declared.state.Replay.{Replay}
 use Rattle.octet_replay.specs.NextDemand.{demand_of, NamesObject}
 use Rattle.octet_replay.specs.Needs.{NeedsAndCounts, after_step, no_counts, is_met, is_ready, IsLowestReady, NamesThread}
 use Rattle.octet_replay.specs.ReplayState.{ReplayState, state_at, plain_state, HasHalted, IsNextStep}
-use Rattle.octet_replay.specs.Replayed.{state_of, is_draw, AllNameObjects, AreReplaysOf, IsAt, MakesEvent, StandsAt}
+use Rattle.octet_replay.specs.Replayed.{state_of, is_draw, AllNameObjects, AreReplaysOf, CanMake, IsAt, MakesEvent, StandsAt}
 use Rattle.octet_replay.specs.Threads.{need_of, next_by_counts, next_event, Grown, HasRoomFor, IsReplayOf, StandsFor, WritesWithin}
-use Rattle.octet_replay.proofs.Growing.{by_counts, came_here, same_operation, grows, stands_for, writes_within, has_room}
+use Rattle.octet_replay.proofs.lemmas.EventsMade.{due_there, same_length, same_operation}
+use Rattle.octet_replay.proofs.Growing.{by_counts, came_here, grows, stands_for, writes_within, has_room}
 use Rattle.octet_replay.proofs.Valid.{few_accesses, few_marks}
 use Rattle.octet_replay.proofs.Placing.{get_same, get_other, ready_is, not_there}
 
@@ -62,18 +63,6 @@ module _ (V : Behavior) where
   one_more (suc k) (u ∷ order) s low t may lower =
       let rest = one_more k order (step V s u) low.2 t may lower in
       record { within = omega (arith, rest.within); is_of = rest.is_of; steps = rest.steps }
-
-  pub at_the_end : (k : ℕ) (order : List ℕ) (s : PlainState) → IsLowestFront V s order → ((t : ℕ) → IsFalse (may_step V (after V s (take k order)) t))
-      → after V s (take k order) ≡ after V s order
-  at_the_end zero [] s low none = refl
-  at_the_end (suc k) [] s low none = refl
-  at_the_end zero (u ∷ order) s low none = absurd (let none_u = none u in let may = low.0 in cc)
-  at_the_end (suc k) (u ∷ order) s low none = at_the_end k order (step V s u) low.2 none
-
-  pub all_made : (k : ℕ) (order : List ℕ) (s : PlainState) → IsLowestFront V s order → ((t : ℕ) → IsFalse (may_step V (after V s (take k order)) t)) → length order ≤ k
-  all_made k [] s low none = omega arith
-  all_made zero (u ∷ order) s low none = absurd (let none_u = none u in let may = low.0 in cc)
-  all_made (suc k) (u ∷ order) s low none = omega (arith, all_made k order (step V s u) low.2 none)
 
 -- ---- what is next for a thread, and what it waits for
 pub wanted : (next : Next) (heap : List ℕ) (event : Event) → next_event next heap ≡ Some event → (next ≡ Wants (operation_of event)) × (event_made (operation_of event) heap ≡ event)
@@ -113,11 +102,6 @@ draws_counted (Write object value) draws = refl
 draws_counted (Marked (Join from upto)) draws = refl
 draws_counted (Marked (Draw number)) draws = refl
 draws_counted (Marked (Fence number)) draws = refl
-
-pub same_length : (operation : Operation) (heap : List ℕ) → length (heap_after operation heap) ≡ length heap
-same_length (MakeMark mark) heap = refl
-same_length (MakeRead object) heap = refl
-same_length (MakeWrite object value) heap = length-set heap object value
 
 module _ (script : Script) (log : List ThreadLog) (s : PlainState) (threads : List ThreadReplay) (heap : List ℕ) (w : NeedsAndCounts) (stands : StandsAt script log s threads heap w) where
   -- a thread may step exactly where its need is met
@@ -296,15 +280,6 @@ module _ (r : Replay) (at : IsAt r) where
       }
 
 -- ---- room to count
--- what a mark of a valid log asks of the numbers
-mark_here : (o : Option Gapped) (gap : ℕ) (mark : Mark) → due_mark o gap ≡ Some mark → (g : Gapped) × (o ≡ Some g) × (g.mark ≡ mark)
-mark_here None gap mark is = absurd cc
-mark_here (Some g) gap mark is = (g, refl, go (eqb g.gap gap) is)
-  where
-    go : (b : Bool) → ◌≡◌ {A = Option Mark} (if b then Some g.mark else None) (Some mark) → g.mark ≡ mark
-    go true is' = cc
-    go false is' = absurd cc
-
 need_names : (threads : ℕ) (due : Option Mark) (d : AccessOrEnd) (a m : Bool) → ((from upto : ℕ) → due ≡ Some (Join from upto) → from < threads) → NamesThread threads (need_of (mark_first due (next_access d a m)))
 need_names threads (Some (Join from upto)) d a m names = names from upto refl
 need_names threads (Some (Draw zero)) d a m names = tt
@@ -321,7 +296,7 @@ need_names threads None (ToEnd end) false false names = tt
 module _ (log : List ThreadLog) (valid : IsTrue (is_log log)) (t : ℕ) (within : t < length log) (x : ThreadReplay) (follows : x.log ≡ thread_log_of log t) where
   mark_is_valid : (mark : Mark) → due_mark (slice_get x.log.marks x.marks) x.gap ≡ Some mark → IsMark (length log) t mark
   mark_is_valid mark is =
-      let there = mark_here (slice_get x.log.marks x.marks) x.gap mark is in
+      let there = due_there (slice_get x.log.marks x.marks) x.gap mark is in
       let at_log : slice_get (thread_log_of log t).marks x.marks ≡ Some there.0 = ap (λ (l : ThreadLog). slice_get l.marks x.marks) (sym follows) ∙ there.1 in
       let all = ((valid_log log valid).each t within).marks in
       let inside = slice_get_within (thread_log_of log t).marks x.marks there.0 at_log in
@@ -349,29 +324,29 @@ module _ (r : Replay) (at : IsAt r) (t : ℕ) (ready : is_ready r.waits t ≡ tr
   within_log : t < length r.log.value.threads
   within_log = omega (arith, as_many_logs, at.stands.as_many, slice_get_within r.threads.items t x there)
 
-  pub stands_now : (z : ThreadReplay) → slice_get r.threads.items t ≡ Some z → StandsFor event z
+  stands_now : (z : ThreadReplay) → slice_get r.threads.items t ≡ Some z → StandsFor event z
   stands_now z at_z =
       subst (λ (v : ThreadReplay). StandsFor event v) (same_Some x z (sym there ∙ at_z))
       (stands_for (commands_of r.script.value t) (starting_configuration r.script.value.fuel) (length r.script.value.objects) (thread_log_of r.log.value.threads t) (journal_of (plain_state (state_of r)).journals t) x replay_of r.heap.items event is)
 
-  pub room_now : (z : ThreadReplay) → slice_get r.threads.items t ≡ Some z → HasRoomFor event z
+  room_now : (z : ThreadReplay) → slice_get r.threads.items t ≡ Some z → HasRoomFor event z
   room_now z at_z =
       subst (λ (v : ThreadReplay). HasRoomFor event v) (same_Some x z (sym there ∙ at_z))
       (has_room (commands_of r.script.value t) (starting_configuration r.script.value.fuel) (length r.script.value.objects) (thread_log_of r.log.value.threads t) (journal_of (plain_state (state_of r)).journals t) x replay_of r.heap.items event is
       (few_accesses r.log.value.threads r.log.value.valid t) (few_marks r.log.value.threads r.log.value.valid t))
 
-  pub writes_now : WritesWithin (length r.heap.items) event
+  writes_now : WritesWithin (length r.heap.items) event
   writes_now =
       subst (λ (n : ℕ). WritesWithin n event) (sym at.stands.heap_has)
       (writes_within (commands_of r.script.value t) (starting_configuration r.script.value.fuel) (length r.script.value.objects) (thread_log_of r.log.value.threads t) (journal_of (plain_state (state_of r)).journals t) x replay_of r.heap.items event is)
 
-  pub names_now : (z after : ThreadReplay) → slice_get r.threads.items t ≡ Some z → Grown z event after → NamesThread (length r.waits.needs) (need_of (next_by_counts after.log after))
+  names_now : (z after : ThreadReplay) → slice_get r.threads.items t ≡ Some z → Grown z event after → NamesThread (length r.waits.needs) (need_of (next_by_counts after.log after))
   names_now z after' at_z grown =
       let same = same_Some x z (sym there ∙ at_z) in
       subst (λ (n : ℕ). NamesThread n (need_of (next_by_counts after'.log after'))) (sym (at.stands.waits.as_many ∙ as_many_logs))
       (names_thread r.log.value.threads r.log.value.valid t within_log after' (grown.log ∙ ap (λ (v : ThreadReplay). v.log) (sym same) ∙ replay_of.follows))
 
-  pub events_now : get_or r.waits.events t 0 < 18446744073709551615
+  events_now : suc (get_or r.waits.events t 0) < 2 ^ 64
   events_now =
       omega (
         arith,
@@ -385,10 +360,10 @@ module _ (r : Replay) (at : IsAt r) (t : ℕ) (ready : is_ready r.waits t ≡ tr
         few_marks r.log.value.threads r.log.value.valid t,
       )
 
-  pub draws_now : is_draw event ≡ true → r.waits.draws < 18446744073709551615
+  draws_now : is_draw event ≡ true → suc r.waits.draws < 2 ^ 64
   draws_now = go event is (makes r.script.value r.log.value.threads (plain_state (state_of r)) r.threads.items r.heap.items r.waits at.stands t ready x there event is).enabled
     where
-      go : (e : Event) → next_event (next_by_counts x.log x) r.heap.items ≡ Some e → IsTrue (is_enabled (plain_state (state_of r)) (operation_of e)) → is_draw e ≡ true → r.waits.draws < 18446744073709551615
+      go : (e : Event) → next_event (next_by_counts x.log x) r.heap.items ≡ Some e → IsTrue (is_enabled (plain_state (state_of r)) (operation_of e)) → is_draw e ≡ true → suc r.waits.draws < 2 ^ 64
       go (Read object value) is_e enabled draw = absurd cc
       go (Write object value) is_e enabled draw = absurd cc
       go (Marked (Join from upto)) is_e enabled draw = absurd cc
@@ -400,6 +375,18 @@ module _ (r : Replay) (at : IsAt r) (t : ℕ) (ready : is_ready r.waits t ≡ tr
             at.stands.waits.draws,
             draw_is_small r.log.value.threads r.log.value.valid t within_log x replay_of.follows number r.heap.items is_e,
           )
+
+  pub can_make : CanMake r t event
+  can_make = record {
+    within = omega (arith, slice_get_within r.threads.items t x there);
+    stands = stands_now;
+    room = room_now;
+    object = writes_now;
+    met = ready;
+    names = names_now;
+    events = events_now;
+    draws = draws_now;
+  }
 
 -- ---- before the first step
 map_at : {A B : Type 0} (f : A → B) (xs : List A) (i : ℕ) (y : B) → slice_get (map f xs) i ≡ Some y → (x : A) × (slice_get xs i ≡ Some x) × (f x ≡ y)
@@ -452,12 +439,6 @@ module _ (script : Script) (log : List ThreadLog) (agree : length script.threads
       let there = map_at need_here threads k (get_or needs k d) (ap (λ (ns : List Need). slice_get ns k) (sym needs_are) ∙ at) in
       subst (λ (n : ℕ). NamesThread n (get_or needs k d)) (sym length_is)
       (subst (λ (need : Need). NamesThread (length log) need) there.2 (names_thread log valid k (omega (arith, within, length_is)) there.0 (each k there.0 there.1).follows))
-
-  pub start_count : (needs : List Need) → IsTrue (is_log log) → needs ≡ map (λ (t : ThreadReplay). need_of (next_by_counts t.log t)) threads → (1 ≤ length needs) × (length needs ≤ 16)
-  start_count needs valid needs_are =
-      let length_is : length needs ≡ length log = ap (λ (ns : List Need). length ns) needs_are ∙ length-map threads need_here ∙ as_many ∙ agree in
-      let is = valid_log log valid in
-      (omega (arith, length_is, is.some_threads), omega (arith, length_is, is.most_threads))
 
 pub opening_is : (r : Replay) (script : Script) (log : Log) → r.script.value ≡ script → r.log.value ≡ log → sum r.waits.events ≡ 0 → state_of r ≡ record { script = script; log = log; steps = 0 }
 opening_is r script log is_script is_log none = λ i. record { script = is_script i; log = is_log i; steps = none i }

@@ -45,12 +45,12 @@ pub record GoesOn (demand : AccessOrEnd) (log : ThreadLog) (journal : List Event
   pub made : access_count journal ≡ log.accesses
   pub no_mark_left : length log.marks ≤ mark_count journal
 
--- so many accesses are found of a thread that does not fit its log: those that it made where it ends early, and one more than its log says where it goes on
+-- how many accesses are found of a thread that does not fit its log: those that it made where it ends early, and one more than its log says where it goes on
 abbrev pub Finds : AccessOrEnd → ThreadLog → List Event → ℕ → Type 0
 Finds demand log journal found =
     (EndsEarly demand log journal × (found ≡ access_count journal)) ⊎ (GoesOn demand log journal × (found ≡ suc log.accesses))
 
--- when no thread may step, the thread does not fit its log, and so many accesses are found of it
+-- the same, of a thread when no thread may step
 abbrev pub FindsOf : Script → List ThreadLog → ℕ → ℕ → Type 0
 FindsOf script log thread found = Finds (last_demand script log thread) (thread_log_of log thread) (last_journal script log thread) found
 
@@ -58,17 +58,17 @@ FindsOf script log thread found = Finds (last_demand script log thread) (thread_
 abbrev pub IsMisfitThread : Script → List ThreadLog → ℕ → Type 0
 IsMisfitThread script log thread = (found : ℕ) × FindsOf script log thread found
 
--- the thread is through: it demands its end, and no access and no mark of its log is left
-abbrev pub IsThrough : Script → List ThreadLog → ℕ → Type 0
-IsThrough script log thread = next_of (by_log script log) (last_state script log) thread ≡ Finished
+-- the thread has finished: it demands its end, and no access and no mark of its log is left
+abbrev pub IsFinished : Script → List ThreadLog → ℕ → Type 0
+IsFinished script log thread = next_of (by_log script log) (last_state script log) thread ≡ Finished
 
--- the script and the log have so many threads, and not equally many
+-- the numbers of threads of the script and of the log, which differ
 pub record IsThreadsDiffer (script : Script) (log : List ThreadLog) (of_script of_log : ℕ) : Type 0 where
   pub script_has : of_script ≡ length script.threads
   pub log_has : of_log ≡ length log
   pub differ : of_script ≢ of_log
 
--- the thread is the lowest misfit: so many accesses are wanted by its log, and so many are found
+-- the thread is the lowest misfit, `wanted` is how many accesses its log says, and `found` how many are found of it
 pub record IsMisfit (script : Script) (log : List ThreadLog) (thread wanted found : ℕ) : Type 0 where
   pub agree : length script.threads ≡ length log
   pub within : thread < length log
@@ -76,11 +76,11 @@ pub record IsMisfit (script : Script) (log : List ThreadLog) (thread wanted foun
   pub finds : FindsOf script log thread found
   pub lowest : (lower : ℕ) → lower < thread → ¬ IsMisfitThread script log lower
 
--- no thread is a misfit, some thread is not through, and these are the numbers of events that the threads made
+-- no thread is a misfit, some thread has not finished, and these are the numbers of events that the threads made
 pub record IsStuck (script : Script) (log : List ThreadLog) (positions : List ℕ) : Type 0 where
   pub agree : length script.threads ≡ length log
   pub fit : (thread : ℕ) → thread < length log → ¬ IsMisfitThread script log thread
-  pub waits : (thread : ℕ) × (thread < length log) × ¬ IsThrough script log thread
+  pub waits : (thread : ℕ) × (thread < length log) × ¬ IsFinished script log thread
   pub made : positions ≡ map (λ journal. length journal) (last_state script log).journals
 
 -- when a replay is refused so. Out of memory alone may come at any time

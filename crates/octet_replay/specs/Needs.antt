@@ -13,7 +13,7 @@ pub record NeedsAndCounts : Type 0 where
 abbrev pub no_counts : List Need → NeedsAndCounts
 no_counts needs = record { needs = needs; events = replicate (length needs) 0; draws = 0 }
 
--- whether a need is met where the threads have made these numbers of events, and so many draws were made
+-- whether a need is met where the threads have made these numbers of events and of draws
 abbrev pub is_met : List ℕ → ℕ → Need → Bool
 is_met events draws Free = true
 is_met events draws (Events of count) = nat_le count (slice_index events of)
@@ -30,7 +30,7 @@ pub record IsLowestReady (w : NeedsAndCounts) (thread : ℕ) : Type 0 where
   pub is_met : is_ready w thread ≡ true
   pub lowest : (lower : ℕ) → lower < thread → is_ready w lower ≡ false
 
--- a need names one of so many threads
+-- a need names one of the threads, by their number
 abbrev pub NamesThread : ℕ → Need → Type 0
 NamesThread threads (Events of count) = of < threads
 NamesThread threads _ = Unit {0}

@@ -22,7 +22,7 @@ pub record IsDemandedNext (commands : List Command) (c : Configuration) (up_next
   pub demands : demanded commands c ≡ demand_of up_next
   pub stands : IsBeforeDemand commands c up_next s
 
--- what it demands next names one of so many objects
+-- what it demands next names one of the objects, by their number
 abbrev pub NamesObject : ℕ → NextDemand → Type 0
 NamesObject objects (Read object) = object < objects
 NamesObject objects (Write object value) = object < objects

@@ -18,7 +18,7 @@ pub record ReplayState : Type 0 where
   pub log : Log
   pub steps : ℕ
 
--- the plain machine's state after the first so many steps of the lowest order
+-- the plain machine's state after the first `steps` steps of the lowest order
 abbrev pub state_at : Script → List ThreadLog → ℕ → PlainState
 state_at script log steps = state_after script log (take steps (lowest_order script log))
 

@@ -1,5 +1,5 @@
 -- How far all threads are replayed.
-use Rattle.std.specs.Prelude.{◌≡◌, ℕ, ◌<◌, Bool, true, false, List, length, Some, slice_get, slice_index, slice_set}
+use Rattle.std.specs.Prelude.{◌≡◌, ℕ, suc, ◌^◌, ◌<◌, Bool, true, false, List, length, Some, slice_get, slice_index, slice_set}
 use Rattle.std.specs.List.{sum}
 use Rattle.octet_model.specs.declared.event.Event.{Event}
 use Rattle.octet_model.specs.declared.event.Event.TheVariants.{Marked}
@@ -16,9 +16,9 @@ use Rattle.octet_replay.specs.declared.need.Need.{Need}
 use Rattle.octet_replay.specs.declared.thread.ThreadReplay.{ThreadReplay}
 use Rattle.octet_replay.specs.declared.state.Replay.{Replay}
 use Rattle.octet_replay.specs.NextDemand.{demand_of, NamesObject}
-use Rattle.octet_replay.specs.Needs.{NeedsAndCounts, after_step}
+use Rattle.octet_replay.specs.Needs.{NeedsAndCounts, after_step, is_ready, NamesThread}
 use Rattle.octet_replay.specs.ReplayState.{ReplayState, plain_state}
-use Rattle.octet_replay.specs.Threads.{need_of, next_by_counts, Grown, HasCounts, IsReplayOf}
+use Rattle.octet_replay.specs.Threads.{need_of, next_by_counts, Grown, HasCounts, HasRoomFor, IsReplayOf, StandsFor, WritesWithin}
 use Rattle.octet_replay.specs.Judged.{Finds}
 
 -- what contracts of a replayer see: as many steps were made as the threads have made events
@@ -46,7 +46,7 @@ pub record StandsAt (script : Script) (log : List ThreadLog) (s : PlainState) (t
   pub heap_has : length heap ≡ length script.objects
   pub waits : AwaitsNext (by_log script log) s w
 
--- the replay stands after so many steps of the lowest order
+-- the replay stands where the steps of the lowest order that it has made lead
 pub record IsAt (r : Replay) : Type 0 where
   pub agree : length r.script.value.threads ≡ length r.log.value.threads
   pub stands : StandsAt r.script.value r.log.value.threads (plain_state (state_of r)) r.threads.items r.heap.items r.waits
@@ -58,6 +58,17 @@ AllNameObjects threads objects = (thread : ℕ) (t : ThreadReplay) → slice_get
 abbrev pub is_draw : Event → Bool
 is_draw (Marked (Draw number)) = true
 is_draw _ = false
+
+-- a thread may make the event: it stands before it, its need is met, and there is room to count it
+pub record CanMake (r : Replay) (thread : ℕ) (event : Event) : Type 0 where
+  pub within : thread < length r.threads.items
+  pub stands : (t : ThreadReplay) → slice_get r.threads.items thread ≡ Some t → StandsFor event t
+  pub room : (t : ThreadReplay) → slice_get r.threads.items thread ≡ Some t → HasRoomFor event t
+  pub object : WritesWithin (length r.heap.items) event
+  pub met : is_ready r.waits thread ≡ true
+  pub names : (t after : ThreadReplay) → slice_get r.threads.items thread ≡ Some t → Grown t event after → NamesThread (length r.waits.needs) (need_of (next_by_counts after.log after))
+  pub events : suc (slice_index r.waits.events thread) < 2 ^ 64
+  pub draws : is_draw event ≡ true → suc r.waits.draws < 2 ^ 64
 
 -- after the thread's event
 pub record MakesEvent (before : Replay) (thread : ℕ) (event : Event) (after : Replay) : Type 0 where
@@ -71,7 +82,7 @@ pub record MakesEvent (before : Replay) (thread : ℕ) (event : Event) (after : 
   pub script : after.script ≡ before.script
   pub log : after.log ≡ before.log
 
--- by what it demands next, a thread does not fit its log, and so many accesses are found of it
+-- how many accesses are found of a thread that does not fit its log, by what it demands next
 abbrev pub FindsIn : ThreadReplay → ℕ → Type 0
 FindsIn t found = (journal : List Event) → HasCounts journal t → Finds (demand_of t.up_next) t.log journal found
 
@@ -90,6 +101,6 @@ abbrev pub TellsMisfit : List ThreadReplay → ReplayFault → Type 0
 TellsMisfit threads (Misfit thread wanted found) = IsLowestMisfit threads thread wanted found
 TellsMisfit threads _ = ⊥
 
--- a thread is through: nothing is next for it
-abbrev pub IsThroughHere : List ThreadReplay → ℕ → Type 0
-IsThroughHere threads thread = (t : ThreadReplay) → slice_get threads thread ≡ Some t → next_by_counts t.log t ≡ Finished
+-- a thread has finished: nothing is next for it
+abbrev pub IsFinishedHere : List ThreadReplay → ℕ → Type 0
+IsFinishedHere threads thread = (t : ThreadReplay) → slice_get threads thread ≡ Some t → next_by_counts t.log t ≡ Finished

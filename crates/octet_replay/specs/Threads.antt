@@ -69,7 +69,7 @@ HasRoomFor (Marked mark) t = suc t.marks < 2 ^ 64
 HasRoomFor (Read object value) t = (suc t.accesses < 2 ^ 32) × (suc t.gap < 2 ^ 32) × (vec_len t.reads < vec_capacity t.reads)
 HasRoomFor (Write object value) t = (suc t.accesses < 2 ^ 32) × (suc t.gap < 2 ^ 32)
 
--- a write names one of so many objects
+-- a write names one of the objects, by their number
 abbrev pub WritesWithin : ℕ → Event → Type 0
 WritesWithin objects (Write object value) = object < objects
 WritesWithin objects _ = Unit {0}

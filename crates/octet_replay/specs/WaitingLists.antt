@@ -1,5 +1,6 @@
 -- When each thread stands among those that may step, or on the list of what it waits for.
 use Rattle.std.specs.Prelude.{◌≡◌, ◌≢◌, ℕ, suc, ◌<◌, ◌≤◌, true, length, Some, slice_get, slice_index, slice_set}
+use Rattle.octet_model.specs.declared.limits.TheConstants.{MAX_THREADS}
 use Rattle.octet_replay.specs.declared.need.Need.{Need}
 use Rattle.octet_replay.specs.declared.need.Need.TheVariants.{Events, DrawsAre, DrawsReach}
 use Rattle.octet_replay.specs.declared.waiting.WaitingList.{WaitingList}
@@ -28,9 +29,9 @@ pub record IsPlaced (l : Lists) (thread : ℕ) : Type 0 where
   pub ready : has l.ready thread ≡ is_ready (counts_of l) thread
   pub listed : (need : Need) → slice_get l.needs.items thread ≡ Some need → IsListed l thread need
 
--- at most sixteen threads, as many counts and lists, and needs of these threads
+-- no more threads than a script may have, as many counts and lists, and needs of these threads
 pub record IsSized (l : Lists) : Type 0 where
-  pub few : length l.needs.items ≤ 16
+  pub few : length l.needs.items ≤ MAX_THREADS
   pub events : length l.events.items ≡ length l.needs.items
   pub lists : length l.at_events.items ≡ length l.needs.items
   pub names : (thread : ℕ) (need : Need) → slice_get l.needs.items thread ≡ Some need → NamesThread (length l.needs.items) need

@@ -7,7 +7,7 @@ ghost use Rattle.octet_replay.specs.Replayed.{state_of, IsAt};
 ghost use Rattle.octet_replay.specs.ReplayState.{HasHalted};
 
 use crate::ReplayFault;
-use crate::judge::{are_through, lowest_misfit, positions_of};
+use crate::judge::{are_finished, lowest_misfit, positions_of};
 use crate::state::Replay;
 use crate::thread::{NextDemand, ThreadReplay};
 use octet_model::{End, List, OutOfMemory, Outcome};
@@ -53,7 +53,7 @@ fn refusal(alloc: Global, replay: &Replay) -> Result<(), ReplayFault>
     if let Some(fault) = lowest_misfit(replay.threads.as_slice()) {
         return Err(fault);
     }
-    if !are_through(replay.threads.as_slice()) {
+    if !are_finished(replay.threads.as_slice()) {
         let positions = positions_of(alloc, replay.threads.as_slice())?;
         return Err(ReplayFault::Stuck { positions });
     }

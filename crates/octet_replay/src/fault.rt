@@ -13,7 +13,8 @@ pub enum ReplayFault {
     /// The script and the log have these numbers of threads, which differ.
     #[error("{script} threads in the script, {log} in the log")]
     ThreadsDiffer { script: u32, log: u32 },
-    /// No thread may step and some thread is not through. `positions` are how many events each thread has made.
+    /// No thread may step and some thread has not finished. `positions` are how many events each
+    /// thread has made.
     #[error("stuck")]
     Stuck { positions: List<u64> },
     /// When no thread may step, this is the lowest thread that ended with fewer accesses than

@@ -1,7 +1,8 @@
 //! What becomes of the threads when none may step.
 ghost use Rattle.std.specs.Prelude.{◌≡◌, ◌<◌, ◌≤◌, ◌+◌, ◌^◌, ◌↔◌, ℕ, true, false, length, map, slice_get, Some, All, IfOk, IfSome, IsNone, IsTrue};
+ghost use Rattle.octet_model.specs.declared.limits.TheConstants.{MAX_ACCESSES, MAX_THREADS};
 ghost use Rattle.octet_model.specs.Machine.{Finished};
-ghost use Rattle.octet_replay.specs.Replayed.{FindsIn, FindsNothing, IsThroughHere, TellsMisfit};
+ghost use Rattle.octet_replay.specs.Replayed.{FindsIn, FindsNothing, IsFinishedHere, TellsMisfit};
 ghost use Rattle.octet_replay.specs.Threads.{next_by_counts};
 ghost use Rattle.octet_replay.specs.declared.thread.ThreadReplay.{ThreadReplay};
 
@@ -19,7 +20,7 @@ fn has_all_marks(thread: &ThreadReplay) -> bool
 
 // How many accesses are found of a thread that does not fit its log.
 fn misfit(thread: &ThreadReplay) -> Option<u32>
-    requires { thread.now.log.accesses < u32.MAX }
+    requires { thread.now.log.accesses ≤ MAX_ACCESSES }
     ensures some { IfSome result (FindsIn thread.now) }
     ensures none { IsNone result → FindsNothing thread.now }
 {
@@ -35,8 +36,8 @@ fn misfit(thread: &ThreadReplay) -> Option<u32>
 
 /// The refusal that names the lowest thread that does not fit its log, if there is one.
 pub(crate) fn lowest_misfit(threads: &[ThreadReplay]) -> Option<ReplayFault>
-    requires few { length threads.now ≤ 16 }
-    requires room { (thread : ℕ) (t : ThreadReplay) → slice_get threads.now thread ≡ Some t → t.log.accesses < u32.MAX }
+    requires few { length threads.now ≤ MAX_THREADS }
+    requires room { (thread : ℕ) (t : ThreadReplay) → slice_get threads.now thread ≡ Some t → t.log.accesses ≤ MAX_ACCESSES }
     ensures some { IfSome result (TellsMisfit threads.now) }
     ensures none { IsNone result → (thread : ℕ) (t : ThreadReplay) → slice_get threads.now thread ≡ Some t → FindsNothing t }
 {
@@ -53,7 +54,7 @@ pub(crate) fn lowest_misfit(threads: &[ThreadReplay]) -> Option<ReplayFault>
     None
 }
 
-fn is_through(thread: &ThreadReplay) -> bool
+fn is_finished(thread: &ThreadReplay) -> bool
     ensures { IsTrue result ↔ (next_by_counts thread.now.log thread.now ≡ Finished) }
 {
     let NextDemand::Ended { .. } = thread.up_next else {
@@ -62,13 +63,13 @@ fn is_through(thread: &ThreadReplay) -> bool
     thread.accesses >= thread.log.accesses && has_all_marks(thread)
 }
 
-/// Whether all threads are through: they demand their ends, and have made what the log says.
-pub(crate) fn are_through(threads: &[ThreadReplay]) -> bool
-    ensures all { result ≡ true → (thread : ℕ) → IsThroughHere threads.now thread }
-    ensures some { result ≡ false → (thread : ℕ) × (thread < length threads.now) × ¬ IsThroughHere threads.now thread }
+/// Whether all threads have finished: they demand their ends, and have made what the log says.
+pub(crate) fn are_finished(threads: &[ThreadReplay]) -> bool
+    ensures all { result ≡ true → (thread : ℕ) → IsFinishedHere threads.now thread }
+    ensures some { result ≡ false → (thread : ℕ) × (thread < length threads.now) × ¬ IsFinishedHere threads.now thread }
 {
     for thread in 0..threads.len() {
-        if !is_through(&threads[thread]) {
+        if !is_finished(&threads[thread]) {
             return false;
         }
     }

@@ -1,12 +1,10 @@
 //! All threads as far as they are replayed.
-ghost use Rattle.std.specs.Prelude.{◌≡◌, ◌<◌, ◌≤◌, ◌^◌, true, false, Some, length, map, All, IfOk, IsTrue, slice_get, slice_index};
+ghost use Rattle.std.specs.Prelude.{◌≡◌, ◌<◌, ◌≤◌, ◌^◌, length, map, All, IfOk, IsTrue};
 ghost use Rattle.octet_model.specs.Machine.{heap_after, no_events};
 ghost use Rattle.octet_model.specs.Plays.{operation_of};
-ghost use Rattle.octet_replay.specs.Needs.{is_ready, NamesThread};
-ghost use Rattle.octet_replay.specs.Replayed.{is_draw, state_of, AreReplaysOf, IsAt, MakesEvent};
+ghost use Rattle.octet_replay.specs.Replayed.{is_draw, state_of, AreReplaysOf, CanMake, IsAt, MakesEvent};
 ghost use Rattle.octet_replay.specs.ReplayState.{StepsTo};
-ghost use Rattle.octet_replay.specs.Threads.{need_of, next_by_counts, Grown, HasRoomFor, StandsFor, WritesWithin};
-ghost use Rattle.octet_replay.specs.declared.thread.ThreadReplay.{ThreadReplay};
+ghost use Rattle.octet_replay.specs.Threads.{need_of, next_by_counts, WritesWithin};
 
 use crate::thread::ThreadReplay;
 use crate::{Need, Stepped, Waits};
@@ -94,14 +92,7 @@ impl Replay {
 
     // Makes the event of a thread that may step.
     fn make(&mut self, thread: u8, event: Event)
-        requires within { thread < length self.old.threads.items }
-        requires stands { (t : ThreadReplay) → slice_get self.old.threads.items thread ≡ Some t → StandsFor event t }
-        requires room { (t : ThreadReplay) → slice_get self.old.threads.items thread ≡ Some t → HasRoomFor event t }
-        requires object { WritesWithin (length self.old.heap.items) event }
-        requires met { is_ready self.old.waits thread ≡ true }
-        requires names { (t after : ThreadReplay) → slice_get self.old.threads.items thread ≡ Some t → Grown t event after → NamesThread (length self.old.waits.needs) (need_of (next_by_counts after.log after)) }
-        requires events { slice_index self.old.waits.events thread < u64.MAX }
-        requires draws { is_draw event ≡ true → self.old.waits.draws < u64.MAX }
+        requires { CanMake self.old thread event }
         ensures { MakesEvent self.old thread event self.new }
     {
         let it = &mut self.threads[thread as usize];

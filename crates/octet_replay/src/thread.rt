@@ -63,7 +63,8 @@ fn due_mark(log: &ThreadLog, marks: usize, gap: u32) -> Option<Mark>
     }
 }
 
-// A Join waits for so many events of its thread, a Draw for its turn, a Fence for so many draws.
+// A Join waits for the events of its thread that it names, a Draw for its turn, and a Fence for the
+// draw of its number.
 fn need_of_mark(mark: Mark) -> Need
     ensures { result ≡ need_of (Wants (MakeMark mark)) }
 {

@@ -1,8 +1,9 @@
 //! Sets of threads.
 ghost use Rattle.std.specs.Prelude.{◌≡◌, ◌≢◌, ◌<◌, ℕ, true, false, IfSome, IsNone};
+ghost use Rattle.octet_model.specs.declared.limits.TheConstants.{MAX_THREADS};
 ghost use Rattle.octet_replay.specs.ThreadSet.{has, IsLowestIn};
 
-/// A set of threads, which are below sixteen.
+/// A set of threads, as one bit for each that a script may have.
 #[derive(Clone, Copy, Debug, PartialEq, Eq)]
 pub(crate) struct ThreadSet {
     bits: u16,
@@ -16,7 +17,7 @@ impl ThreadSet {
     }
 
     pub(crate) fn insert(&mut self, thread: u8)
-        requires { thread < 16 }
+        requires { thread < MAX_THREADS }
         ensures own { has self.new thread ≡ true }
         ensures others { (other : ℕ) → other ≢ thread → has self.new other ≡ has self.old other }
     {
@@ -24,7 +25,7 @@ impl ThreadSet {
     }
 
     pub(crate) fn remove(&mut self, thread: u8)
-        requires { thread < 16 }
+        requires { thread < MAX_THREADS }
         ensures own { has self.new thread ≡ false }
         ensures others { (other : ℕ) → other ≢ thread → has self.new other ≡ has self.old other }
         ensures fewer { has self.old thread ≡ true → self.new.bits < self.old.bits }

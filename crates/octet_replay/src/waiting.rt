@@ -1,5 +1,6 @@
 //! Lists of threads that wait for one count.
 ghost use Rattle.std.specs.Prelude.{◌≡◌, ◌<◌, ◌⊎◌, ℕ, true, false};
+ghost use Rattle.octet_model.specs.declared.limits.TheConstants.{MAX_THREADS};
 ghost use Rattle.octet_replay.specs.ThreadSet.{has};
 ghost use Rattle.octet_replay.specs.WaitingLists.{Awaits};
 
@@ -23,7 +24,7 @@ impl WaitingList {
 
     /// Adds a thread, whose need changes at this number.
     pub(crate) fn add(&mut self, thread: u8, number: u64)
-        requires { thread < 16 }
+        requires { thread < MAX_THREADS }
         ensures added { Awaits self.new thread number }
         ensures kept { (other at : ℕ) → Awaits self.old other at → Awaits self.new other at }
     {

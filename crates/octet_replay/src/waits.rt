@@ -1,5 +1,6 @@
 //! Which threads may step, and what the others wait for.
 ghost use Rattle.std.specs.Prelude.{◌≡◌, ◌≢◌, ◌<◌, ◌≤◌, ◌+◌, ℕ, suc, true, false, replicate, length, slice_get, slice_set, slice_index, Some, All, IfOk, IfSome, IsNone};
+ghost use Rattle.octet_model.specs.declared.limits.TheConstants.{MAX_THREADS};
 ghost use Rattle.octet_replay.specs.Needs.{after_step, is_met, is_ready, no_counts, IsLowestReady, NamesThread};
 ghost use Rattle.octet_replay.specs.ThreadSet.{has};
 ghost use Rattle.octet_replay.specs.WaitingLists.{counts_of, with_draw, with_event, ArePlacedBut, IsListed, IsPlaced, IsSized, Keeps};
@@ -39,7 +40,7 @@ impl Lists {
 
     // Puts a thread on the list of the count at which its need changes, if that can come.
     fn enlist(&mut self, thread: u8, need: Need)
-        requires thread { thread < 16 }
+        requires thread { thread < MAX_THREADS }
         requires events { NamesThread (length self.old.events.items) need }
         requires lists { NamesThread (length self.old.at_events.items) need }
         ensures listed { IsListed self.new thread need }
@@ -176,7 +177,7 @@ impl Model for Waits {
 
 // No thread stands anywhere.
 fn empty_lists(alloc: Global, needs: &List<Need>) -> Result<Lists, OutOfMemory>
-    requires few { length needs.now ≤ 16 }
+    requires few { length needs.now ≤ MAX_THREADS }
     requires names { All (NamesThread (length needs.now)) needs.now }
     ensures counts { IfOk result (λ lists. counts_of lists ≡ no_counts needs.now) }
     ensures sized { IfOk result (λ lists. IsSized lists) }
@@ -198,7 +199,7 @@ impl Waits {
     /// memory that is ever needed.
     pub fn new(alloc: Global, needs: &List<Need>) -> Result<Waits, OutOfMemory>
         requires some { 1 ≤ length needs.now }
-        requires few { length needs.now ≤ 16 }
+        requires few { length needs.now ≤ MAX_THREADS }
         requires names { All (NamesThread (length needs.now)) needs.now }
         ensures { IfOk result (λ waits. waits ≡ no_counts needs.now) }
     {

@@ -1,15 +1,12 @@
 use Rattle.std.proofs.Common.{◌≡◌, ◌-◌, length}
-use Rattle.octet_model.specs.Orders.{journals_after, lowest_order}
-use Rattle.octet_clock.specs.Checker.{Holds}
+use Rattle.octet_model.specs.Orders.{lowest_order}
+use Rattle.octet_clock.proofs.Verifying.{HoldsOf}
 use Rattle.octet_clock.proofs.checker.judge.Given as goal
 
 abbrev pub invariant-loop-thread : goal.invariant-loop-thread
 invariant-loop-thread l = record {
-  script : l.replayer.script ≡ l.fn.replayer.script;
-  log : l.replayer.log ≡ l.fn.replayer.log;
   many : length l.checker.marks.items ≡ l.threads;
-  holds : Holds (journals_after l.fn.replayer.script l.fn.replayer.log.threads (lowest_order l.fn.replayer.script l.fn.replayer.log.threads))
-      (lowest_order l.fn.replayer.script l.fn.replayer.log.threads) l.replayer.steps l.checker;
+  holds : HoldsOf l.fn.replayer.script l.fn.replayer.log l.replayer l.checker;
 }
 
 abbrev pub decreases-loop-thread : goal.decreases-loop-thread

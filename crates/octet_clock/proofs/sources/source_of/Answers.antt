@@ -1,9 +1,10 @@
-use Rattle.std.proofs.Common.{ℕ, Option, sym, subst, arith}
+use Rattle.std.proofs.Common.{ℕ, Option, refl, sym, subst, arith}
 use Rattle.octet_model.specs.declared.event.Mark.{Mark}
+use Rattle.octet_model.specs.declared.event.Mark.TheVariants.{Draw, Fence}
 use Rattle.octet_model.specs.declared.event.Event.TheVariants.{Marked}
 use Rattle.octet_clock.specs.declared.sources.Prefix.{Prefix}
 use Rattle.octet_clock.specs.Sources.{IsNextStep, IsSource, TakesIn}
-use Rattle.octet_clock.proofs.Taken.{join_source, join_fits, draw_takes_in, draw_number, fence_takes_in}
+use Rattle.octet_clock.proofs.Taken.{join_source, join_fits, waited_takes_in, draw_number}
 use Rattle.octet_clock.proofs.sources.source_of.Goals as goal
 
 pub returns-in-Ok : goal.returns-in-Ok
@@ -22,10 +23,10 @@ returns-in-Draw c = λ journals play index thread next keeps.
     let next' = subst (λ (m : Mark). IsNextStep journals play index thread (Marked m)) c.in-Draw.is next in
     let some = draw_number journals play index thread next.whole c.in-Draw.number next'.step in
     subst (λ (o : Option Prefix). TakesIn journals play index thread o) (sym c.draw_of.ensures)
-    (draw_takes_in journals play index thread next.whole c.in-Draw.number c.saturating_sub.result _ next'.step keeps (omega (arith, some, c.saturating_sub.ensures)))
+    (waited_takes_in journals play index thread next.whole (Draw c.in-Draw.number) c.saturating_sub.result _ (omega (arith, some, c.saturating_sub.ensures)) next'.step keeps)
 
 pub returns-in-Fence : goal.returns-in-Fence
 returns-in-Fence c = λ journals play index thread next keeps.
     let next' = subst (λ (m : Mark). IsNextStep journals play index thread (Marked m)) c.in-Fence.is next in
     subst (λ (o : Option Prefix). TakesIn journals play index thread o) (sym c.draw_of-in-Fence.ensures)
-    (fence_takes_in journals play index thread next.whole c.in-Fence.number _ next'.step keeps)
+    (waited_takes_in journals play index thread next.whole (Fence c.in-Fence.number) c.in-Fence.number _ refl next'.step keeps)

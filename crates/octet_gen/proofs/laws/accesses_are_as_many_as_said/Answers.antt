@@ -1,4 +1,4 @@
-use Rattle.octet_gen.proofs.Accesses.{thread_makes_its_accesses, script_makes_its_accesses}
+use Rattle.octet_gen.proofs.lemmas.Accesses.{thread_makes_its_accesses, script_makes_its_accesses}
 use Rattle.octet_gen.proofs.laws.accesses_are_as_many_as_said.Goals as goal
 
 pub returns-clause-thread : goal.returns-clause-thread

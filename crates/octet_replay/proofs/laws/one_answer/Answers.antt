@@ -1,4 +1,4 @@
-use Rattle.octet_replay.proofs.Answered.{lawful_or_refused, not_refused, one_refusal}
+use Rattle.octet_replay.proofs.lemmas.OneAnswer.{lawful_or_refused, not_refused, one_refusal}
 use Rattle.octet_replay.proofs.laws.one_answer.Goals as goal
 
 pub returns-clause-some : goal.returns-clause-some

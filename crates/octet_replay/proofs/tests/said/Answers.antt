@@ -1,7 +1,7 @@
 use Rattle.std.proofs.Common.{length, ap, ◌∙◌}
 use Rattle.octet_model.specs.declared.outcome.Outcome.{Outcome}
 use Rattle.octet_model.specs.Orders.{lowest_order}
-use Rattle.octet_replay.proofs.Whole.{whole}
+use Rattle.octet_replay.proofs.lemmas.WholeOutcomes.{whole}
 use Rattle.octet_replay.proofs.tests.said.Goals as goal
 
 pub outcome_text-requires-clause-ends : goal.outcome_text-requires-clause-ends

@@ -1,4 +1,5 @@
-use Rattle.octet_replay.proofs.Collecting.{fewer_left, halted_after}
+use Rattle.octet_replay.proofs.lemmas.Halting.{halted_after}
+use Rattle.octet_replay.proofs.Collecting.{fewer_left}
 use Rattle.octet_replay.proofs.replayer.Replayer.run.Goals as goal
 
 pub loop-smaller : goal.loop-smaller

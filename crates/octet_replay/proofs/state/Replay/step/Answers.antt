@@ -2,7 +2,7 @@ use Rattle.std.proofs.Common.{ℕ, List, length, Some, None, refl, sym, subst}
 use Rattle.octet_replay.specs.NextDemand.{NamesObject}
 use Rattle.octet_replay.specs.ReplayState.{plain_state}
 use Rattle.octet_replay.specs.Replayed.{state_of}
-use Rattle.octet_replay.proofs.Stepping.{halted, next_step, at_after, state_after_event, names_objects, some_event, ready_within, thread_read, event_read, stands_now, room_now, writes_now, names_now, events_now, draws_now}
+use Rattle.octet_replay.proofs.Stepping.{halted, next_step, at_after, state_after_event, names_objects, some_event, thread_read, event_read, can_make}
 use Rattle.octet_replay.proofs.state.Replay.step.Goals as goal
 
 pub returns-in_default-clause-steps : goal.returns-in_default-clause-steps
@@ -24,56 +24,13 @@ unreachable-requires c =
     some_event r.script.value r.log.value.threads (plain_state (state_of r)) r.threads.items r.heap.items r.waits c.requires.stands c.in-Some.thread x there c.in-Some.ensures.some.is_met
     (event_read x r.heap.items c.deref.result.now c.next_event.result None c.deref.ensures.value c.next_event.ensures c.in_default-next_event.is)
 
-pub make-requires-clause-within : goal.make-requires-clause-within
-make-requires-clause-within c = ready_within c.args.self.now c.requires c.in-Some.thread c.in-Some.ensures.some.is_met
-
-pub make-requires-clause-stands : goal.make-requires-clause-stands
-make-requires-clause-stands c =
+pub make-requires : goal.make-requires
+make-requires c =
     let r = c.args.self.now in
     let x = c.index.result.now in
     let there = thread_read r c.requires c.in-Some.thread c.in-Some.ensures.some.is_met x c.index.ensures in
     let is = event_read x r.heap.items c.deref.result.now c.next_event.result (Some c.in-Some-next_event.event) c.deref.ensures.value c.next_event.ensures c.in-Some-next_event.is in
-    stands_now r c.requires c.in-Some.thread c.in-Some.ensures.some.is_met x there c.in-Some-next_event.event is
-
-pub make-requires-clause-room : goal.make-requires-clause-room
-make-requires-clause-room c =
-    let r = c.args.self.now in
-    let x = c.index.result.now in
-    let there = thread_read r c.requires c.in-Some.thread c.in-Some.ensures.some.is_met x c.index.ensures in
-    let is = event_read x r.heap.items c.deref.result.now c.next_event.result (Some c.in-Some-next_event.event) c.deref.ensures.value c.next_event.ensures c.in-Some-next_event.is in
-    room_now r c.requires c.in-Some.thread c.in-Some.ensures.some.is_met x there c.in-Some-next_event.event is
-
-pub make-requires-clause-object : goal.make-requires-clause-object
-make-requires-clause-object c =
-    let r = c.args.self.now in
-    let x = c.index.result.now in
-    let there = thread_read r c.requires c.in-Some.thread c.in-Some.ensures.some.is_met x c.index.ensures in
-    let is = event_read x r.heap.items c.deref.result.now c.next_event.result (Some c.in-Some-next_event.event) c.deref.ensures.value c.next_event.ensures c.in-Some-next_event.is in
-    writes_now r c.requires c.in-Some.thread c.in-Some.ensures.some.is_met x there c.in-Some-next_event.event is
-
-pub make-requires-clause-names : goal.make-requires-clause-names
-make-requires-clause-names c =
-    let r = c.args.self.now in
-    let x = c.index.result.now in
-    let there = thread_read r c.requires c.in-Some.thread c.in-Some.ensures.some.is_met x c.index.ensures in
-    let is = event_read x r.heap.items c.deref.result.now c.next_event.result (Some c.in-Some-next_event.event) c.deref.ensures.value c.next_event.ensures c.in-Some-next_event.is in
-    names_now r c.requires c.in-Some.thread c.in-Some.ensures.some.is_met x there c.in-Some-next_event.event is
-
-pub make-requires-clause-events : goal.make-requires-clause-events
-make-requires-clause-events c =
-    let r = c.args.self.now in
-    let x = c.index.result.now in
-    let there = thread_read r c.requires c.in-Some.thread c.in-Some.ensures.some.is_met x c.index.ensures in
-    let is = event_read x r.heap.items c.deref.result.now c.next_event.result (Some c.in-Some-next_event.event) c.deref.ensures.value c.next_event.ensures c.in-Some-next_event.is in
-    events_now r c.requires c.in-Some.thread c.in-Some.ensures.some.is_met x there c.in-Some-next_event.event is
-
-pub make-requires-clause-draws : goal.make-requires-clause-draws
-make-requires-clause-draws c =
-    let r = c.args.self.now in
-    let x = c.index.result.now in
-    let there = thread_read r c.requires c.in-Some.thread c.in-Some.ensures.some.is_met x c.index.ensures in
-    let is = event_read x r.heap.items c.deref.result.now c.next_event.result (Some c.in-Some-next_event.event) c.deref.ensures.value c.next_event.ensures c.in-Some-next_event.is in
-    draws_now r c.requires c.in-Some.thread c.in-Some.ensures.some.is_met x there c.in-Some-next_event.event is
+    can_make r c.requires c.in-Some.thread c.in-Some.ensures.some.is_met x there c.in-Some-next_event.event is
 
 pub returns-clause-steps : goal.returns-clause-steps
 returns-clause-steps c =

@@ -5,7 +5,7 @@ use Rattle.octet_model.specs.HappensBefore.{HappensBefore}
 use Rattle.octet_clock.specs.Accesses.{KeepsAccesses, IsAccessStep}
 use Rattle.octet_clock.specs.Play.{step_place}
 use Rattle.octet_clock.specs.Verdict.{IsEarlierConflict}
-use Rattle.octet_clock.proofs.accesses.Accesses.missed.Given as goal
+use Rattle.octet_clock.proofs.accesses.Accesses.unordered_conflict.Given as goal
 
 abbrev pub invariant-loop-other : goal.invariant-loop-other
 invariant-loop-other l = (journals : List (List Event)) (play : List ℕ) (index : ℕ) → length journals ≡ l.threads → KeepsAccesses journals play index l.self → IsAccessStep journals play index l.thread l.object l.writing l.known

@@ -8,7 +8,7 @@ use Rattle.octet_model.specs.Orders.{by_log, opening_state, state_after, ends_of
 use Rattle.octet_model.proofs.lemmas.Steps.{by_step}
 use Rattle.octet_model.proofs.lemmas.LogsOfJournals.{as_many_after}
 use Rattle.octet_replay.specs.Laws.{ExecutionIsWhole}
-use Rattle.octet_replay.proofs.Stepping.{same_length}
+use Rattle.octet_replay.proofs.lemmas.EventsMade.{same_length}
 
 length_ends : (fuel : ℕ) (threads : List (List Command)) (journals : Journals) → length journals ≡ length threads → length (ends_of fuel threads journals) ≡ length threads
 length_ends fuel [] journals same = refl

@@ -15,7 +15,7 @@ use Rattle.octet_model.proofs.lemmas.LogsOfJournals.{as_many_after}
 use Rattle.octet_model.proofs.lemmas.LowestFronts.{lowest_order_is_lowest, lowest_is_front, lowest_order_is_lawful}
 use Rattle.octet_replay.specs.declared.fault.ReplayFault.{ReplayFault}
 use Rattle.octet_replay.specs.declared.fault.ReplayFault.TheVariants.{ThreadsDiffer, Stuck, Misfit, OutOfMemory}
-use Rattle.octet_replay.specs.Judged.{IsLawful, last_state, last_journal, last_demand, DemandsEnd, DemandsAccess, Finds, FindsOf, IsMisfitThread, IsThrough, IsMisfit, HasCause}
+use Rattle.octet_replay.specs.Judged.{IsLawful, last_state, last_journal, last_demand, DemandsEnd, DemandsAccess, Finds, FindsOf, IsMisfitThread, IsFinished, IsMisfit, HasCause}
 use Rattle.octet_replay.specs.Laws.{LawfulOrRefused, LawfulIsNotRefused, OneRefusal, FaithfulIsLawful}
 
 pub faithful : FaithfulIsLawful
@@ -33,22 +33,22 @@ end_or_access (ToRead object) ends access = ends
 end_or_access (ToWrite object value) ends access = ends
 end_or_access (ToEnd end) ends access = access
 
--- a thread that is through is at its end, and no access of its log is left
-through_parts : (due : Option Mark) (d : AccessOrEnd) (a m : Bool) → mark_first due (next_access d a m) ≡ Finished → DemandsEnd d × (a ≡ false)
-through_parts (Some mark) d a m is = absurd cc
-through_parts None (ToRead object) true m is = absurd cc
-through_parts None (ToRead object) false m is = absurd cc
-through_parts None (ToWrite object value) true m is = absurd cc
-through_parts None (ToWrite object value) false m is = absurd cc
-through_parts None (ToEnd end) true m is = absurd cc
-through_parts None (ToEnd end) false true is = absurd cc
-through_parts None (ToEnd end) false false is = (tt, refl)
+-- a thread that has finished is at its end, and no access of its log is left
+finished_parts : (due : Option Mark) (d : AccessOrEnd) (a m : Bool) → mark_first due (next_access d a m) ≡ Finished → DemandsEnd d × (a ≡ false)
+finished_parts (Some mark) d a m is = absurd cc
+finished_parts None (ToRead object) true m is = absurd cc
+finished_parts None (ToRead object) false m is = absurd cc
+finished_parts None (ToWrite object value) true m is = absurd cc
+finished_parts None (ToWrite object value) false m is = absurd cc
+finished_parts None (ToEnd end) true m is = absurd cc
+finished_parts None (ToEnd end) false true is = absurd cc
+finished_parts None (ToEnd end) false false is = (tt, refl)
 
-through_fits : (script : Script) (log : List ThreadLog) (t : ℕ) → IsThrough script log t → ¬ IsMisfitThread script log t
-through_fits script log t through misfit =
+finished_fits : (script : Script) (log : List ThreadLog) (t : ℕ) → IsFinished script log t → ¬ IsMisfitThread script log t
+finished_fits script log t finished misfit =
     let j = last_journal script log t in
     let l = thread_log_of log t in
-    let parts = through_parts _ (last_demand script log t) (nat_lt (access_count j) l.accesses) _ through in
+    let parts = finished_parts _ (last_demand script log t) (nat_lt (access_count j) l.accesses) _ finished in
     elim misfit.1 [
       | inl early ↦ (let left = lt-ltb (access_count j) l.accesses early.0.fewer in let none = parts.1 in absurd cc)
       | inr on ↦ end_or_access (last_demand script log t) parts.0 on.0.demands
@@ -59,7 +59,7 @@ not_refused script log (ThreadsDiffer of_script of_log) lawful not_memory cause 
 not_refused script log (Stuck positions) lawful not_memory cause =
     cause.waits.2 (lawful.1.1 cause.waits.0 (omega (arith, as_many_last script log, lawful.0, cause.waits.1)))
 not_refused script log (Misfit thread wanted found) lawful not_memory cause =
-    through_fits script log thread (lawful.1.1 thread (omega (arith, as_many_last script log, lawful.0, cause.within))) (found, cause.finds)
+    finished_fits script log thread (lawful.1.1 thread (omega (arith, as_many_last script log, lawful.0, cause.within))) (found, cause.finds)
 not_refused script log OutOfMemory lawful not_memory cause = not_memory refl
 
 one_found : (d : AccessOrEnd) (log : ThreadLog) (j : List Event) (found other : ℕ) → Finds d log j found → Finds d log j other → found ≡ other
@@ -100,7 +100,7 @@ one_refusal script log (Misfit t w n) (ThreadsDiffer s l) f o p q = absurd (q.di
 one_refusal script log (Misfit t w n) (Stuck positions) f o p q = absurd (q.fit t p.within (n, p.finds))
 one_refusal script log (Misfit t w n) (Misfit t' w' n') f o p q = one_misfit script log t w n t' w' n' p q
 
--- a test that decides finds the first of so many that passes, or none
+-- a test that decides finds the first below `n` that passes, or none
 record First (P : ℕ → Type 0) (n : ℕ) : Type 0 where
   place : ℕ
   within : place < n
@@ -142,18 +142,18 @@ finished_or_not Finished = inl refl
 finished_or_not NothingFits = inr (λ is. absurd cc)
 finished_or_not (Wants operation) = inr (λ is. absurd cc)
 
-waits_or_through : (next : Next) → (¬ (next ≡ Finished)) ⊎ ¬ (¬ (next ≡ Finished))
-waits_or_through next = elim (finished_or_not next) [ inl is ↦ inr (λ is_not. is_not is) | inr is_not ↦ inl is_not ]
+unfinished_or_not : (next : Next) → (¬ (next ≡ Finished)) ⊎ ¬ (¬ (next ≡ Finished))
+unfinished_or_not next = elim (finished_or_not next) [ inl is ↦ inr (λ is_not. is_not is) | inr is_not ↦ inl is_not ]
 
-through_from : (next : Next) → ¬ (¬ (next ≡ Finished)) → next ≡ Finished
-through_from next not_not = elim (finished_or_not next) [ inl is ↦ is | inr is_not ↦ absurd (not_not is_not) ]
+finished_from : (next : Next) → ¬ (¬ (next ≡ Finished)) → next ≡ Finished
+finished_from next not_not = elim (finished_or_not next) [ inl is ↦ is | inr is_not ↦ absurd (not_not is_not) ]
 
 module _ (script : Script) (log : List ThreadLog) where
   abbrev Answer : Type 0
   Answer = IsLawful script log ⊎ ((fault : ReplayFault) × (fault ≢ OutOfMemory) × HasCause script log fault)
 
   by_waiting : length script.threads ≡ length log → ((t : ℕ) → t < length log → ¬ IsMisfitThread script log t)
-      → First (λ t. ¬ IsThrough script log t) (length log) ⊎ ((t : ℕ) → t < length log → ¬ (¬ IsThrough script log t)) → Answer
+      → First (λ t. ¬ IsFinished script log t) (length log) ⊎ ((t : ℕ) → t < length log → ¬ (¬ IsFinished script log t)) → Answer
   by_waiting same fit (inl found) =
       inr (
         Stuck (map (λ (j : List Event). length j) (last_state script log).journals),
@@ -165,7 +165,7 @@ module _ (script : Script) (log : List ThreadLog) where
         same,
         (
           lowest_is_front (by_log script log) (lowest_order script log) (opening_state script) (lowest_order_is_lowest script log same),
-          λ t within. through_from (next_of (by_log script log) (last_state script log) t) (none t (omega (arith, as_many_last script log))),
+          λ t within. finished_from (next_of (by_log script log) (last_state script log) t) (none t (omega (arith, as_many_last script log))),
         ),
       )
 
@@ -177,7 +177,7 @@ module _ (script : Script) (log : List ThreadLog) where
         record { agree = same; within = found.within; wants = refl; finds = found.passes.1; lowest = found.below },
       )
   by_misfit same (inr fit) =
-      by_waiting same fit (first_or_none (λ t. ¬ IsThrough script log t) (λ t. waits_or_through (next_of (by_log script log) (last_state script log) t)) (length log))
+      by_waiting same fit (first_or_none (λ t. ¬ IsFinished script log t) (λ t. unfinished_or_not (next_of (by_log script log) (last_state script log) t)) (length log))
 
   answer : Answer
   answer =

@@ -1,4 +1,4 @@
--- What an access misses.
+-- The earlier accesses in conflict with an access.
 use Rattle.std.proofs.Common.{◌≡◌, ℕ, suc, ◌<◌, ◌≤◌, inl, inr, max, Bool, true, false, ◌||◌, List, [], length, get_or, Some, IsTrue, refl, sym, ap, ◌∙◌, subst, arith}
 use Rattle.std.proofs.lemmas.Bool.{cases_lt, eq-eqb, eqb-true}
 use Rattle.std.proofs.lemmas.List.{get_or_past}
@@ -14,70 +14,70 @@ use Rattle.octet_model.proofs.lemmas.Pasts.{place, past_happens_before}
 use Rattle.octet_clock.specs.declared.clock.Clock.{Clock}
 use Rattle.octet_clock.specs.Clock.{count_in}
 use Rattle.octet_clock.specs.Accesses.{IsAccessStep}
-use Rattle.octet_clock.specs.LastAccesses.{is_read_of, is_write_of, is_clash, IsLastOf}
+use Rattle.octet_clock.specs.LastAccesses.{is_read_of, is_write_of, conflicts_with, IsLastOf}
 use Rattle.octet_clock.specs.Play.{made_by, step_place}
-use Rattle.octet_clock.specs.Verdict.{IsEarlierConflict, IsFirstMissed}
+use Rattle.octet_clock.specs.Verdict.{IsEarlierConflict, IsUnorderedConflict}
 use Rattle.octet_clock.proofs.Edges.{unmarked_adds}
 
--- what clashes with a write are the reads and the writes, and with a read the writes
-clash_of_read : (object : ℕ) (e : Event) → is_clash object false e ≡ is_write_of object e
-clash_of_read object (Read other value) = refl
-clash_of_read object (Write other value) = refl
-clash_of_read object (Marked mark) = refl
+-- in conflict with a write are the reads and the writes, and with a read the writes
+conflicts_with_read : (object : ℕ) (e : Event) → conflicts_with object false e ≡ is_write_of object e
+conflicts_with_read object (Read other value) = refl
+conflicts_with_read object (Write other value) = refl
+conflicts_with_read object (Marked mark) = refl
 
-no_clash : (object : ℕ) (e : Event) → is_read_of object e ≡ false → is_write_of object e ≡ false → is_clash object true e ≡ false
-no_clash object (Read other value) r w = r
-no_clash object (Write other value) r w = w
-no_clash object (Marked mark) r w = refl
+no_conflict : (object : ℕ) (e : Event) → is_read_of object e ≡ false → is_write_of object e ≡ false → conflicts_with object true e ≡ false
+no_conflict object (Read other value) r w = r
+no_conflict object (Write other value) r w = w
+no_conflict object (Marked mark) r w = refl
 
-read_clashes : (object : ℕ) (e : Event) → is_read_of object e ≡ true → is_clash object true e ≡ true
-read_clashes object (Read other value) r = r
-read_clashes object (Write other value) r = absurd cc
-read_clashes object (Marked mark) r = absurd cc
+read_conflicts : (object : ℕ) (e : Event) → is_read_of object e ≡ true → conflicts_with object true e ≡ true
+read_conflicts object (Read other value) r = r
+read_conflicts object (Write other value) r = absurd cc
+read_conflicts object (Marked mark) r = absurd cc
 
-write_clashes : (object : ℕ) (e : Event) → is_write_of object e ≡ true → is_clash object true e ≡ true
-write_clashes object (Read other value) w = absurd cc
-write_clashes object (Write other value) w = w
-write_clashes object (Marked mark) w = absurd cc
+write_conflicts : (object : ℕ) (e : Event) → is_write_of object e ≡ true → conflicts_with object true e ≡ true
+write_conflicts object (Read other value) w = absurd cc
+write_conflicts object (Write other value) w = w
+write_conflicts object (Marked mark) w = absurd cc
 
 module _ (js : Journals) (object t now : ℕ) where
-  pub last_write_clashes : (n : ℕ) → IsLastOf js (is_write_of object) t now n → IsLastOf js (is_clash object false) t now n
-  last_write_clashes n last =
+  pub last_write_conflicts : (n : ℕ) → IsLastOf js (is_write_of object) t now n → IsLastOf js (conflicts_with object false) t now n
+  last_write_conflicts n last =
       record {
         within = last.within;
-        none_later = λ event e le lt is. clash_of_read object e ∙ last.none_later event e le lt is;
-        passes = λ event is. let there = last.passes event is in (there.0, there.1, clash_of_read object there.0 ∙ there.2);
+        none_later = λ event e le lt is. conflicts_with_read object e ∙ last.none_later event e le lt is;
+        passes = λ event is. let there = last.passes event is in (there.0, there.1, conflicts_with_read object there.0 ∙ there.2);
       }
 
-  pub later_clashes : (n m : ℕ) → IsLastOf js (is_write_of object) t now n → IsLastOf js (is_read_of object) t now m → IsLastOf js (is_clash object true) t now (max n m)
-  later_clashes n m writes reads =
+  pub later_conflicts : (n m : ℕ) → IsLastOf js (is_write_of object) t now n → IsLastOf js (is_read_of object) t now m → IsLastOf js (conflicts_with object true) t now (max n m)
+  later_conflicts n m writes reads =
       record {
         within = omega (arith, writes.within, reads.within);
-        none_later = λ event e le lt is. no_clash object e (reads.none_later event e (omega arith) lt is) (writes.none_later event e (omega arith) lt is);
+        none_later = λ event e le lt is. no_conflict object e (reads.none_later event e (omega arith) lt is) (writes.none_later event e (omega arith) lt is);
         passes = λ event is. elim (cases_lt n m) [
-          | inl below ↦ let there = reads.passes event (omega arith) in (there.0, there.1, read_clashes object there.0 there.2)
-          | inr above ↦ let there = writes.passes event (omega arith) in (there.0, there.1, write_clashes object there.0 there.2)
+          | inl below ↦ let there = reads.passes event (omega arith) in (there.0, there.1, read_conflicts object there.0 there.2)
+          | inr above ↦ let there = writes.passes event (omega arith) in (there.0, there.1, write_conflicts object there.0 there.2)
         ];
       }
 
--- a conflict is a clash by another thread
-clash_from : (e x : Event) (object o : ℕ) (writing : Bool) → object_of e ≡ Some object → is_write e ≡ writing → object_of x ≡ Some o → object_of e ≡ Some o → IsTrue (is_write x || is_write e) → is_clash object writing x ≡ true
-clash_from e (Read other value) object o true of does of_x of_e one = let same : other ≡ object = cc in eq-eqb other object same
-clash_from e (Read other value) object o false of does of_x of_e one = absurd cc
-clash_from e (Write other value) object o writing of does of_x of_e one = let same : other ≡ object = cc in eq-eqb other object same
-clash_from e (Marked mark) object o writing of does of_x of_e one = absurd cc
+-- a conflicting event of another thread conflicts with the access
+from_conflict : (e x : Event) (object o : ℕ) (writing : Bool) → object_of e ≡ Some object → is_write e ≡ writing → object_of x ≡ Some o → object_of e ≡ Some o → IsTrue (is_write x || is_write e) → conflicts_with object writing x ≡ true
+from_conflict e (Read other value) object o true of does of_x of_e one = let same : other ≡ object = cc in eq-eqb other object same
+from_conflict e (Read other value) object o false of does of_x of_e one = absurd cc
+from_conflict e (Write other value) object o writing of does of_x of_e one = let same : other ≡ object = cc in eq-eqb other object same
+from_conflict e (Marked mark) object o writing of does of_x of_e one = absurd cc
 
-clash_object : (x : Event) (object : ℕ) (writing : Bool) → is_clash object writing x ≡ true → object_of x ≡ Some object
-clash_object (Read other value) object true is = ap Some (eqb-true other object is)
-clash_object (Read other value) object false is = absurd cc
-clash_object (Write other value) object writing is = ap Some (eqb-true other object is)
-clash_object (Marked mark) object writing is = absurd cc
+same_object : (x : Event) (object : ℕ) (writing : Bool) → conflicts_with object writing x ≡ true → object_of x ≡ Some object
+same_object (Read other value) object true is = ap Some (eqb-true other object is)
+same_object (Read other value) object false is = absurd cc
+same_object (Write other value) object writing is = ap Some (eqb-true other object is)
+same_object (Marked mark) object writing is = absurd cc
 
-clash_writes : (x : Event) (object : ℕ) (writing : Bool) → is_clash object writing x ≡ true → IsTrue (is_write x || writing)
-clash_writes (Read other value) object true is = refl
-clash_writes (Read other value) object false is = absurd cc
-clash_writes (Write other value) object writing is = refl
-clash_writes (Marked mark) object writing is = absurd cc
+one_writes_of : (x : Event) (object : ℕ) (writing : Bool) → conflicts_with object writing x ≡ true → IsTrue (is_write x || writing)
+one_writes_of (Read other value) object true is = refl
+one_writes_of (Read other value) object false is = absurd cc
+one_writes_of (Write other value) object writing is = refl
+one_writes_of (Marked mark) object writing is = absurd cc
 
 module _ (js : Journals) (play : List ℕ) (i t object : ℕ) (writing : Bool) (known : Clock) (at : IsAccessStep js play i t object writing known) where
   abbrev k : ℕ
@@ -103,8 +103,8 @@ module _ (js : Journals) (play : List ℕ) (i t object : ℕ) (writing : Bool) (
         | inr itself ↦ absurd (other (ap (λ (p : Place). p.thread) itself))
       ]
 
-  module _ (u n : ℕ) (last : IsLastOf js (is_clash object writing) u (made_by play i u) n) where
-    -- an earlier conflicting access is not after the last clash
+  module _ (u n : ℕ) (last : IsLastOf js (conflicts_with object writing) u (made_by play i u) n) where
+    -- an earlier conflicting access is not after the last one
     below_last : (a : Place) → a.thread ≡ u → IsEarlierConflict js play i a → a.event < n
     below_last a same c =
         elim (cases_lt a.event n) [
@@ -112,7 +112,7 @@ module _ (js : Journals) (play : List ℕ) (i t object : ℕ) (writing : Bool) (
           | inr later ↦
               let conflict = subst (λ (p : Place). Conflict js a p) here c.conflict in
               let second : conflict.second ≡ at.event = some_same conflict.second at.event (sym conflict.is_second ∙ at.next.step.makes) in
-              let passes = clash_from at.event conflict.first object conflict.object writing at.is_of at.does conflict.of_one (ap object_of (sym second) ∙ conflict.of_same) (subst (λ (e : Event). IsTrue (is_write conflict.first || is_write e)) second conflict.one_writes) in
+              let passes = from_conflict at.event conflict.first object conflict.object writing at.is_of at.does conflict.of_one (ap object_of (sym second) ∙ conflict.of_same) (subst (λ (e : Event). IsTrue (is_write conflict.first || is_write e)) second conflict.one_writes) in
               let there : event_at js (place u a.event) ≡ Some conflict.first = subst (λ (v : ℕ). event_at js (place v a.event) ≡ Some conflict.first) same conflict.is_first in
               let made : a.event < made_by play i u = subst (λ (v : ℕ). a.event < made_by play i v) same c.earlier in
               absurd (let fails = last.none_later a.event conflict.first later made there in cc)
@@ -121,17 +121,17 @@ module _ (js : Journals) (play : List ℕ) (i t object : ℕ) (writing : Bool) (
         some_same : (x y : Event) → Some x ≡ Some y → x ≡ y
         some_same x y e = cc
 
-    -- where the clock knows the last clash, each happens before the access
+    -- where the clock knows the last one, each happens before the access
     pub all_known : n ≤ count_in known u → (a : Place) → a.thread ≡ u → IsEarlierConflict js play i a → HappensBefore js a (step_place play i)
     all_known le a same c =
         let lt = below_last a same c in
         let in_clock : a.event < count_in known a.thread = subst (λ (v : ℕ). a.event < count_in known v) (sym same) (let h : a.event < count_in known u = omega arith in h) in
         subst (λ (p : Place). HappensBefore js a p) (sym here) (past_happens_before js t k k a ((at.past a).1 in_clock) (omega arith) (at.event, at.next.step.makes))
 
-    -- where it does not, the last clash is missed
-    pub last_missed : (u ≡ t → ⊥) → count_in known u < n → (event : ℕ) → suc event ≡ n
-        → ((a : Place) → a.thread < u → IsEarlierConflict js play i a → HappensBefore js a (step_place play i)) → IsFirstMissed js play i (place u event)
-    last_missed other lt event is lower =
+    -- where it does not, the last one does not happen before the access
+    pub last_is_unordered : (u ≡ t → ⊥) → count_in known u < n → (event : ℕ) → suc event ≡ n
+        → ((a : Place) → a.thread < u → IsEarlierConflict js play i a → HappensBefore js a (step_place play i)) → IsUnorderedConflict js play i (place u event)
+    last_is_unordered other lt event is lower =
         let there = last.passes event (sym is) in
         record {
           is_earlier = record {
@@ -143,9 +143,9 @@ module _ (js : Journals) (play : List ℕ) (i t object : ℕ) (writing : Bool) (
               is_first = there.1;
               is_second = at.next.step.makes;
               by_others = other;
-              of_one = clash_object there.0 object writing there.2;
+              of_one = same_object there.0 object writing there.2;
               of_same = at.is_of;
-              one_writes = subst (λ (w : Bool). IsTrue (is_write there.0 || w)) (sym at.does) (clash_writes there.0 object writing there.2);
+              one_writes = subst (λ (w : Bool). IsTrue (is_write there.0 || w)) (sym at.does) (one_writes_of there.0 object writing there.2);
             });
           };
           apart = λ path. (let past = (at.past (place u event)).0 (in_past (place u event) (there.0, there.1) other path) in omega arith);
