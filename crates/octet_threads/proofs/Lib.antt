@@ -1,0 +1,9 @@
+pub mod Zips
+pub mod Props
+pub mod Doing
+pub mod Polling
+pub mod Journals
+pub mod Fuel
+pub mod ValidLogs
+pub mod Ending
+pub mod Opening

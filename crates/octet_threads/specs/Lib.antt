@@ -1,1 +1,4 @@
 pub mod Step
+pub mod Tasks
+pub mod Carrying
+pub mod Runners

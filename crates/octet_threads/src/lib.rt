@@ -2,10 +2,19 @@
 //! that all of them share.
 #![tactic(auto)]
 
+mod carrying;
+mod gate;
 mod locked;
+mod recording;
+mod runner;
+mod running;
+mod runs;
 mod step;
 #[cfg(test)]
 mod tests;
 mod worker;
 
-pub use locked::{run, run_locked};
+pub use carrying::carry;
+pub use gate::HeapGate;
+pub use locked::run_locked;
+pub use running::run;

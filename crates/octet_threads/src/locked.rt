@@ -46,18 +46,3 @@ pub fn run_locked<R: Threads + Wait + Sync, G: Gate>(
     take_rounds(rt, &mut machine);
     machine.finish(alloc)
 }
-
-/// Runs the script by threads beside each other, as `run_locked` does, with its promise.
-pub fn run<R: Threads + Wait + Sync, G: Gate>(
-    rt: &R,
-    alloc: Global,
-    script: &Script,
-    gate: &G,
-) -> Result<Recorded, OutOfMemory>
-    ensures faithful { IfOk result (λ r. IsFaithful script.now r.log.threads r.outcome) }
-    ensures ends { IfOk result (λ r. length r.outcome.ends ≡ length script.now.threads) }
-    ensures reads { IfOk result (λ r. length r.outcome.reads ≡ length script.now.threads) }
-    ensures heap { IfOk result (λ r. length r.outcome.heap ≡ length script.now.objects) }
-{
-    run_locked(rt, alloc, script, gate)
-}

@@ -3,8 +3,9 @@ ghost use Rattle.std.specs.Prelude.{◌≡◌, ◌≤◌, ◌∷◌, [], length,
 ghost use Rattle.std.specs.List.{list_all};
 ghost use Rattle.octet_model.specs.Script.{is_thread};
 
-use crate::{run, run_locked};
+use crate::{HeapGate, run, run_locked};
 use octet_base::{Gate, OpenGate};
+use octet_heap::Worker;
 use octet_model::{Command, DEFAULT_FUEL, List, Name, Object, OutOfMemory, Recorded, Script};
 use std::alloc::Global;
 use std::sync::Wait;
@@ -12,11 +13,13 @@ use std::sync::atomic::{AtomicBool, AtomicU32, Ordering};
 use std::test::Fail;
 use std::thread::Threads;
 
-// Notes whether each of two threads passes once for each of its accesses, in order.
+// Notes whether each of two threads passes once for each of its accesses, in order, and whether
+// its worker, where it has one, is then shown before it has made the access.
 #[derive(Drop)]
 struct InOrder {
     first: AtomicU32,
     second: AtomicU32,
+    shown: AtomicU32,
     went_wrong: AtomicBool,
 }
 
@@ -25,7 +28,16 @@ impl InOrder {
         InOrder {
             first: AtomicU32::new(0),
             second: AtomicU32::new(0),
+            shown: AtomicU32::new(0),
             went_wrong: AtomicBool::new(false),
+        }
+    }
+
+    fn passed(&self, thread: u8) -> &AtomicU32 {
+        if thread == 0 {
+            &self.first
+        } else {
+            &self.second
         }
     }
 
@@ -40,11 +52,17 @@ impl InOrder {
 
 impl Gate for InOrder {
     fn pass<R: Threads + Wait + Sync>(&self, _rt: &R, thread: u8, access: u32) {
-        if thread == 0 {
-            self.count(&self.first, access);
-        } else {
-            self.count(&self.second, access);
+        self.count(self.passed(thread), access);
+    }
+}
+
+impl HeapGate for InOrder {
+    fn note(&self, thread: u8, worker: &Worker) {
+        let passed = self.passed(thread).load(Ordering::SeqCst);
+        if worker.accesses().saturating_add(1) != passed {
+            self.went_wrong.store(true, Ordering::SeqCst);
         }
+        self.shown.fetch_add(1, Ordering::SeqCst);
     }
 }
 
@@ -150,11 +168,18 @@ fn reads_untouched_whatever_the_schedule(rt: HostRuntime) -> Result<(), Fail> {
 fn each_access_passes_the_gate_once(rt: HostRuntime) -> Result<(), Fail> {
     let alloc = rt.alloc();
     let script = writes_in_contention(alloc)?;
-    let gate = InOrder::new();
-    let recorded = run(&rt, alloc, &script, &gate)?;
-    assert!(rt; !gate.went_wrong.load(Ordering::SeqCst));
-    assert_eq!(rt; gate.first.load(Ordering::SeqCst), 100);
-    assert_eq!(rt; gate.second.load(Ordering::SeqCst), 100);
-    assert_eq!(rt; recorded.outcome.heap.as_slice(), [1u64, 0].as_slice());
+    for (on_heap, shown) in [(true, 200), (false, 0)] {
+        let gate = InOrder::new();
+        let recorded = if on_heap {
+            run(&rt, alloc, &script, &gate)?
+        } else {
+            run_locked(&rt, alloc, &script, &gate)?
+        };
+        assert!(rt; !gate.went_wrong.load(Ordering::SeqCst));
+        assert_eq!(rt; gate.first.load(Ordering::SeqCst), 100);
+        assert_eq!(rt; gate.second.load(Ordering::SeqCst), 100);
+        assert_eq!(rt; gate.shown.load(Ordering::SeqCst), shown);
+        assert_eq!(rt; recorded.outcome.heap.as_slice(), [1u64, 0].as_slice());
+    }
     Ok(())
 }

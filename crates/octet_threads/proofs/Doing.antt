@@ -1,0 +1,125 @@
+-- A worker does a task step by step.
+use Rattle.std.proofs.Common.{◌≡◌, ◌∙◌, ℕ, Bool, true, false, List, [], ◌∷◌, ◌++◌, sym, refl, ap, subst, append_assoc, append-nil}
+use Rattle.std.specs.Prelude.{◌==◌, not, if◌then◌else◌}
+use Rattle.octet_model.specs.declared.outcome.End.{End}
+use Rattle.octet_interp.specs.declared.demand.Demand.TheVariants as demand
+use Rattle.octet_state.specs.declared.phase.Phase.{Phase}
+use Rattle.octet_state.specs.declared.phase.Phase.TheVariants.{Idle, Blocked}
+use Rattle.octet_state.specs.declared.phase.Due.{Due}
+use Rattle.octet_state.specs.declared.phase.Due.TheVariants.{Nothing, Answer}
+use Rattle.octet_state.specs.Words.{unpacked_status}
+use Rattle.octet_state.specs.Steps.{Kind, ToGlance, ToAnswer, ToBlock, ToUnblock}
+use Rattle.octet_state.specs.NextStep.{kind_by_due, kind_in_phase}
+use Rattle.octet_rule.specs.Views.{SeatView, Taken, stepped_by}
+use Rattle.octet_rule.specs.Rule.{Steps}
+use Rattle.octet_safe.specs.Replies.{AnswersOr, PassesSafePoint}
+use Rattle.octet_heap.specs.Polls.{after_steps}
+use Rattle.octet_threads.specs.Tasks.{Task, task_of, next_step, IsNext, GoesBy, Does}
+
+-- the thread has taken its steps so far, none of which does the task
+pub record HasGone (task : Task) (v w : SeatView) : Type 0 where
+  pub going : List Taken
+  pub goes : GoesBy task v going
+  pub after : w ≡ after_steps going v
+  pub trail : w.trail ≡ v.trail ++ going
+
+pub after_more : (going more : List Taken) (v : SeatView) → after_steps (going ++ more) v ≡ after_steps more (after_steps going v)
+after_more [] more v = refl
+after_more (taken ∷ going) more v = after_more going more (stepped_by taken.kind taken.word v)
+
+pub goes_more : (task : Task) (v : SeatView) (going more : List Taken) → GoesBy task v going → GoesBy task (after_steps going v) more → GoesBy task v (going ++ more)
+goes_more task v [] more g h = h
+goes_more task v (taken ∷ going) more g h = (g.0, g.1, goes_more task (stepped_by taken.kind taken.word v) going more g.2 h)
+
+-- no step yet
+pub gone_nowhere : (task : Task) (v : SeatView) → HasGone task v v
+gone_nowhere task v = record { going = []; goes = tt; after = refl; trail = sym (append-nil v.trail) }
+
+pub gone_on : (task : Task) (u v w : SeatView) → HasGone task u v → HasGone task v w → HasGone task u w
+gone_on task u v w g h = record {
+  going = g.going ++ h.going;
+  goes = goes_more task u g.going h.going g.goes (subst (λ (x : SeatView). GoesBy task x h.going) g.after h.goes);
+  after = h.after ∙ (ap (after_steps h.going) g.after ∙ sym (after_more g.going h.going u));
+  trail = h.trail ∙ (ap (λ (l : List Taken). l ++ h.going) g.trail ∙ append_assoc u.trail g.going h.going);
+}
+
+-- steps on the way, and then the task is done
+pub gone_and_done : (task : Task) (u v w : SeatView) → HasGone task u v → Does task v w → Does task u w
+gone_and_done task u v w g d =
+    let there = ap (after_steps d.going) g.after ∙ sym (after_more g.going d.going u) in
+    let joined : (l : List Taken) → l ≡ d.going ++ d.last ∷ [] → g.going ++ l ≡ (g.going ++ d.going) ++ d.last ∷ [] = λ l is. ap (λ (x : List Taken). g.going ++ x) is ∙ sym (append_assoc g.going d.going (d.last ∷ [])) in record {
+      going = g.going ++ d.going;
+      last = d.last;
+      goes = goes_more task u g.going d.going g.goes (subst (λ (x : SeatView). GoesBy task x d.going) g.after d.goes);
+      is_next = subst (λ (x : SeatView). IsNext task x d.last) there d.is_next;
+      does = d.does;
+      after = d.after ∙ (ap (after_steps (d.going ++ d.last ∷ [])) g.after ∙ (sym (after_more g.going (d.going ++ d.last ∷ []) u) ∙ ap (λ (l : List Taken). after_steps l u) (joined (d.going ++ d.last ∷ []) refl)));
+      trail = d.trail ∙ (ap (λ (l : List Taken). l ++ (d.going ++ d.last ∷ [])) g.trail ∙ (append_assoc u.trail g.going (d.going ++ d.last ∷ []) ∙ ap (λ (l : List Taken). u.trail ++ l) (joined (d.going ++ d.last ∷ []) refl)));
+    }
+
+-- a step that is taken, in its order
+next_by : (task : Task) (v w : SeatView) (k : Kind) (told : ℕ) → Steps k v told w → k ≡ next_step task v → IsNext task v (record { kind = k; word = told })
+next_by task v w k told took next = record { in_order = next; took = subst (Steps k v told) took.moves took }
+
+trail_of : (v w : SeatView) (k : Kind) (told : ℕ) → Steps k v told w → w.trail ≡ v.trail ++ record { kind = k; word = told } ∷ []
+trail_of v w k told took = ap (λ (x : SeatView). x.trail) took.moves
+
+pub gone_one : (task : Task) (v w : SeatView) (k : Kind) (told : ℕ) → Steps k v told w → k ≡ next_step task v → task.is_done_by k told ≡ false → HasGone task v w
+gone_one task v w k told took next is_not = record {
+  going = record { kind = k; word = told } ∷ [];
+  goes = (next_by task v w k told took next, is_not, tt);
+  after = took.moves;
+  trail = trail_of v w k told took;
+}
+
+pub done_by : (task : Task) (v w : SeatView) (k : Kind) (told : ℕ) → Steps k v told w → k ≡ next_step task v → task.is_done_by k told ≡ true → Does task v w
+done_by task v w k told took next is = record {
+  going = [];
+  last = record { kind = k; word = told };
+  goes = tt;
+  is_next = next_by task v w k told took next;
+  does = is;
+  after = took.moves;
+  trail = trail_of v w k told took;
+}
+
+-- the next step by where the thread stands
+pub next_in : (task : Task) (v : SeatView) (due : Due) (p : Phase) → v.thread.due ≡ due → v.thread.phase ≡ p → kind_by_due due (kind_in_phase v.threads v.number v.thread.count task.first task.value p) ≡ next_step task v
+next_in task v due p owes stands = λ i. kind_by_due (sym owes i) (kind_in_phase v.threads v.number v.thread.count task.first task.value (sym stands i))
+
+-- a safe point
+pub passes : (v w : SeatView) (answered : Bool) → v.thread.due ≡ Nothing → v.thread.phase ≡ Idle → PassesSafePoint v answered w → Does (task_of demand.Safe) v w
+passes v w answered due phase p = go answered p.by_bits p.answers
+  where
+    first : ToGlance ≡ next_step (task_of demand.Safe) v
+    first = next_in (task_of demand.Safe) v Nothing Idle due phase
+
+    go : (b : Bool) → b ≡ not ((unpacked_status p.found).asked == 0) → AnswersOr b p.between w → Does (task_of demand.Safe) v w
+    go false none same = done_by (task_of demand.Safe) v w ToGlance p.found (subst (Steps ToGlance v p.found) (sym same) p.glances) first (clear ((unpacked_status p.found).asked == 0) none)
+      where
+        clear : (b : Bool) → false ≡ not b → b ≡ true
+        clear true e = refl
+        clear false e = absurd cc
+    go true some answers =
+        let met : ((unpacked_status p.found).asked == 0) ≡ false = set ((unpacked_status p.found).asked == 0) some in
+        let owes : p.between.thread.due ≡ Answer = ap (λ (x : SeatView). x.thread.due) p.glances.moves ∙ ap (λ (b : Bool). if b then Nothing else Answer) met in
+        let second : ToAnswer ≡ next_step (task_of demand.Safe) p.between = next_in (task_of demand.Safe) p.between Answer p.between.thread.phase owes refl in
+        gone_and_done (task_of demand.Safe) v p.between w (gone_one (task_of demand.Safe) v p.between ToGlance p.found p.glances first met)
+        (done_by (task_of demand.Safe) p.between w ToAnswer answers.0 answers.1 second refl)
+      where
+        set : (b : Bool) → true ≡ not b → b ≡ false
+        set false e = refl
+        set true e = absurd cc
+
+-- a block and an unblock
+pub pauses : (u v w : SeatView) (found there : ℕ) → u.thread.due ≡ Nothing → u.thread.phase ≡ Idle → Steps (ToBlock false) u found v → Steps ToUnblock v there w → Does (task_of demand.Pause) u w
+pauses u v w found there due phase blocks unblocks =
+    let task = task_of demand.Pause in
+    let owes : v.thread.due ≡ Nothing = ap (λ (x : SeatView). x.thread.due) blocks.moves in
+    let stands : v.thread.phase ≡ Blocked = ap (λ (x : SeatView). x.thread.phase) blocks.moves in
+    gone_and_done task u v w (gone_one task u v (ToBlock false) found blocks (next_in task u Nothing Idle due phase) refl)
+    (done_by task v w ToUnblock there unblocks (next_in task v Nothing Blocked owes stands) refl)
+
+-- a block
+pub blocks_for_good : (v w : SeatView) (end : End) (found : ℕ) → v.thread.due ≡ Nothing → v.thread.phase ≡ Idle → Steps (ToBlock false) v found w → Does (task_of (demand.Ended end)) v w
+blocks_for_good v w end found due phase blocks = done_by (task_of (demand.Ended end)) v w (ToBlock false) found blocks (next_in (task_of (demand.Ended end)) v Nothing Idle due phase) refl

@@ -1,0 +1,128 @@
+-- Polls, one after another, make an access.
+use Rattle.std.proofs.Common.{◌≡◌, ◌≢◌, ◌∙◌, ℕ, true, false, List, [], ◌∷◌, ◌++◌, map, Option, Some, None, sym, refl, ap, append_assoc, append-nil}
+use Rattle.octet_model.specs.declared.event.Mark.{Mark}
+use Rattle.octet_model.specs.declared.event.Event.{Event}
+use Rattle.octet_model.specs.declared.event.Event.TheVariants.{Marked}
+use Rattle.octet_state.specs.declared.phase.Due.{Due}
+use Rattle.octet_state.specs.declared.phase.Due.TheVariants.{Nothing, Glance, Answer}
+use Rattle.octet_state.specs.declared.why.Why.{Why}
+use Rattle.octet_state.specs.Steps.{Kind, ToLoad, ToRead, ToWrite}
+use Rattle.octet_state.specs.NextStep.{kind_by_due, kind_in_phase, waits}
+use Rattle.octet_rule.specs.Views.{SeatView, Taken, stepped_by}
+use Rattle.octet_heap.specs.declared.wish.Wish.{Wish}
+use Rattle.octet_heap.specs.declared.poll.Poll.{Poll}
+use Rattle.octet_heap.specs.declared.poll.Poll.TheVariants.{Ready, Pending}
+use Rattle.octet_heap.specs.Polls as heap
+use Rattle.octet_heap.specs.Polls.{answer_by, answer_to, after_steps, PaysBy}
+use Rattle.octet_heap.specs.Workers.{IsPoll}
+use Rattle.octet_heap.specs.Growth.{access_made, AddsAccess}
+use Rattle.octet_threads.specs.Tasks.{access_task, is_on_cell, IsNext, GoesBy, Does}
+use Rattle.octet_threads.proofs.Doing.{HasGone, goes_more}
+
+-- a step by which a poll goes on is none on the cell
+goes_off_cell : (why : Option Why) (k : Kind) (word : ℕ) → answer_by why k word ≡ None → is_on_cell k word ≡ false
+goes_off_cell (Some why) k word e = absurd cc
+goes_off_cell None ToRead word e = absurd cc
+goes_off_cell None (ToWrite value) word e = absurd cc
+goes_off_cell None _ word e = refl
+
+-- nor is one that waits
+waits_off_cell : (k : Kind) (me word : ℕ) (v : SeatView) (why : Why) → answer_by (waits k me word v.thread) k word ≡ Some (Pending why) → is_on_cell k word ≡ false
+waits_off_cell ToRead me word v why e = absurd cc
+waits_off_cell (ToWrite value) me word v why e = absurd cc
+waits_off_cell _ me word v why e = refl
+
+-- the one that makes the access is
+makes_on_cell : (why : Option Why) (k : Kind) (word value : ℕ) → answer_by why k word ≡ Some (Ready value) → is_on_cell k word ≡ true
+makes_on_cell (Some why) k word value e = absurd cc
+makes_on_cell None ToRead word value e = refl
+makes_on_cell None (ToWrite written) word value e = refl
+makes_on_cell None _ word value e = absurd cc
+
+-- after it nothing is due
+leaves_nothing : (k : Kind) (word : ℕ) (v : SeatView) → is_on_cell k word ≡ true → (stepped_by k word v).thread.due ≡ Nothing
+leaves_nothing ToRead word v e = refl
+leaves_nothing (ToWrite value) word v e = refl
+leaves_nothing _ word v e = absurd cc
+
+-- a glance or an answer is none on the cell
+pays_off_cell : (due : Due) (k kind : Kind) (word : ℕ) → due ≢ Nothing → k ≡ kind_by_due due kind → is_on_cell k word ≡ false
+pays_off_cell Nothing k kind word owes e = absurd (owes refl)
+pays_off_cell Glance k kind word owes e = ap (λ (z : Kind). is_on_cell z word) e
+pays_off_cell Answer k kind word owes e = ap (λ (z : Kind). is_on_cell z word) e
+
+as_next : (wish : Wish) (v : SeatView) (taken : Taken) → heap.IsNext wish v taken → IsNext (access_task wish) v taken
+as_next wish v taken is = record { in_order = is.in_order; took = is.took }
+
+going_as : (wish : Wish) (v : SeatView) (going : List Taken) → heap.GoesBy wish v going → GoesBy (access_task wish) v going
+going_as wish v [] goes = tt
+going_as wish v (t ∷ more) goes =
+    (as_next wish v t goes.0, goes_off_cell (waits t.kind v.number t.word v.thread) t.kind t.word goes.1, going_as wish (stepped_by t.kind t.word v) more goes.2)
+
+paying_as : (wish : Wish) (v : SeatView) (paid : List Taken) → PaysBy wish v paid → GoesBy (access_task wish) v paid
+paying_as wish v [] pays = tt
+paying_as wish v (t ∷ more) pays =
+    let kind = kind_in_phase v.threads v.number v.thread.count (ToLoad wish.object wish.mode) wish.value v.thread.phase in
+    (as_next wish v t pays.1, pays_off_cell v.thread.due t.kind kind t.word pays.0 pays.1.in_order, paying_as wish (stepped_by t.kind t.word v) more pays.2)
+
+pays_nothing : (wish : Wish) (v : SeatView) (paid : List Taken) → v.thread.due ≡ Nothing → PaysBy wish v paid → paid ≡ []
+pays_nothing wish v [] none pays = refl
+pays_nothing wish v (t ∷ more) none pays = absurd (pays.0 none)
+
+-- a poll that is pending has gone on
+pub pending_goes : (wish : Wish) (v w : SeatView) (why : Why) → IsPoll wish v (Pending why) w → HasGone (access_task wish) v w
+pending_goes wish v w why p =
+    let task = access_task wish in
+    let u = after_steps p.going v in
+    let last : IsNext task u p.last = as_next wish u p.last p.is_next in
+    let off : is_on_cell p.last.kind p.last.word ≡ false = waits_off_cell p.last.kind u.number p.last.word u why p.answers in record {
+      going = p.going ++ p.last ∷ p.at_safe_point;
+      goes = goes_more task v p.going (p.last ∷ p.at_safe_point) (going_as wish v p.going p.goes) (last, off, paying_as wish (stepped_by p.last.kind p.last.word u) p.at_safe_point p.pays);
+      after = p.after;
+      trail = p.trail;
+    }
+
+-- one that is ready has made the access
+pub ready_does : (wish : Wish) (v w : SeatView) (value : ℕ) → IsPoll wish v (Ready value) w → Does (access_task wish) v w
+ready_does wish v w value p =
+    let u = after_steps p.going v in
+    let on : is_on_cell p.last.kind p.last.word ≡ true = makes_on_cell (waits p.last.kind u.number p.last.word u.thread) p.last.kind p.last.word value p.answers in
+    let none : p.at_safe_point ≡ [] = pays_nothing wish (stepped_by p.last.kind p.last.word u) p.at_safe_point (leaves_nothing p.last.kind p.last.word u on) p.pays in record {
+      going = p.going;
+      last = p.last;
+      goes = going_as wish v p.going p.goes;
+      is_next = as_next wish u p.last p.is_next;
+      does = on;
+      after = p.after ∙ ap (λ (l : List Taken). after_steps (p.going ++ p.last ∷ l) v) none;
+      trail = p.trail ∙ ap (λ (l : List Taken). v.trail ++ (p.going ++ p.last ∷ l)) none;
+    }
+
+-- the journal has grown by marks alone
+abbrev pub AddsMarks : SeatView → SeatView → Type 0
+AddsMarks v w = (marks : List Mark) × (w.journal ≡ v.journal ++ map (λ mark. Marked mark) marks)
+
+both_marked : (ms ns : List Mark) → map (λ mark. Marked mark) ms ++ map (λ mark. Marked mark) ns ≡ map (λ mark. Marked mark) (ms ++ ns)
+both_marked [] ns = refl
+both_marked (m ∷ ms) ns = ap (λ (l : List Event). Marked m ∷ l) (both_marked ms ns)
+
+pub adds_none : (v : SeatView) → AddsMarks v v
+adds_none v = ([], sym (append-nil v.journal))
+
+-- by marks first, and then as an answer says
+adds_then : (u v w : List Event) (ms ns : List Mark) (made : List Event) → v ≡ u ++ map (λ mark. Marked mark) ms → w ≡ v ++ (map (λ mark. Marked mark) ns ++ made)
+    → w ≡ u ++ (map (λ mark. Marked mark) (ms ++ ns) ++ made)
+adds_then u v w ms ns made first second =
+    let a : List Event = map (λ mark. Marked mark) ms in
+    let b : List Event = map (λ mark. Marked mark) ns in
+    second ∙ (ap (λ (l : List Event). l ++ (b ++ made)) first ∙ (append_assoc u a (b ++ made) ∙ ap (λ (l : List Event). u ++ l) (sym (append_assoc a b made) ∙ ap (λ (l : List Event). l ++ made) (both_marked ms ns))))
+
+pub adds_more : (wish : Wish) (u v w : SeatView) (why : Why) → AddsMarks u v → AddsAccess wish v (Pending why) w → AddsMarks u w
+adds_more wish u v w why a b =
+    (a.0 ++ b.marks, adds_then u.journal v.journal w.journal a.0 b.marks [] a.1 b.grown ∙ ap (λ (l : List Event). u.journal ++ l) (append-nil (map (λ mark. Marked mark) (a.0 ++ b.marks))))
+
+pub adds_last : (wish : Wish) (u v w : SeatView) (answer : Poll) → AddsMarks u v → AddsAccess wish v answer w → AddsAccess wish u answer w
+adds_last wish u v w answer a b = record {
+  marks = a.0 ++ b.marks;
+  grown = adds_then u.journal v.journal w.journal a.0 b.marks (access_made wish answer) a.1 b.grown;
+  value = b.value;
+}

@@ -1,0 +1,43 @@
+-- What a clause says of a worker that carries out the demands of its thread.
+use Rattle.std.specs.Prelude.{◌≡◌, ◌<◌, Bool, true, false, None}
+use Rattle.octet_model.specs.Journals.{access_count}
+use Rattle.octet_model.specs.Thread.{Configuration, starting_configuration}
+use Rattle.octet_interp.specs.declared.demand.Demand.{Demand}
+use Rattle.octet_interp.specs.declared.demand.Demand.TheVariants.{Read, Write, Ended}
+use Rattle.octet_interp.specs.Demands.{ThreadState, next_demand}
+use Rattle.octet_interp.specs.Laws.{IsJournalOf}
+use Rattle.octet_state.specs.declared.phase.Phase.TheVariants.{Blocked}
+use Rattle.octet_heap.specs.declared.heap.Heap.{Heap}
+use Rattle.octet_heap.specs.declared.worker.Worker.{Worker}
+use Rattle.octet_heap.specs.Workers.{seat_of, IsIdle}
+
+abbrev pub is_access : Demand → Bool
+is_access (Read object) = true
+is_access (Write object value) = true
+is_access _ = false
+
+-- the thread may make one more access, or demands none
+abbrev pub HasAccessLeft : Heap → Worker → ThreadState → Type 0
+HasAccessLeft heap worker state = is_access (next_demand state) ≡ true → access_count (seat_of worker).journal < heap.fuel
+
+-- after its end the worker is blocked, after any other demand idle
+abbrev pub IsLeftBy : Demand → Worker → Type 0
+IsLeftBy (Ended end) worker = ((seat_of worker).thread.phase ≡ Blocked) × (worker.wish ≡ None)
+IsLeftBy _ worker = IsIdle worker
+
+-- the same thread of a script
+abbrev pub IsSameThread : ThreadState → ThreadState → Type 0
+IsSameThread before after = (after.commands ≡ before.commands) × (after.objects ≡ before.objects)
+
+-- an end is demanded again
+abbrev pub TellsAgain : Demand → ThreadState → Type 0
+TellsAgain (Ended end) state = next_demand state ≡ Ended end
+TellsAgain _ state = Unit {0}
+
+-- from whatever start the worker's journal fitted the thread and left it where it stood, it does so still
+abbrev pub KeepsUp : Worker → ThreadState → Worker → ThreadState → Type 0
+KeepsUp worker state worker_after state_after = (start : Configuration) → IsJournalOf start (seat_of worker).journal state → IsJournalOf start (seat_of worker_after).journal state_after
+
+-- where the worker's thread starts, which has its heap's fuel
+abbrev pub start_of : Worker → Configuration
+start_of worker = starting_configuration worker.recorder.fuel

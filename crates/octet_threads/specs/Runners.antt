@@ -1,0 +1,55 @@
+-- Runners: workers with the threads that they run.
+use Rattle.std.specs.Prelude.{◌≡◌, ℕ, ◌<◌, List, length, slice_index_or}
+use Rattle.octet_model.specs.declared.outcome.End.{End}
+use Rattle.octet_model.specs.declared.outcome.End.TheVariants.{Spent}
+use Rattle.octet_model.specs.declared.script.Script.{Script}
+use Rattle.octet_model.specs.Orders.{commands_of, starting_heap}
+use Rattle.octet_interp.specs.declared.demand.Demand.{Demand}
+use Rattle.octet_interp.specs.declared.demand.Demand.TheVariants.{Ended}
+use Rattle.octet_interp.specs.Demands.{next_demand}
+use Rattle.octet_rule.specs.Conditions.{IsResting}
+use Rattle.octet_rule.specs.Seats.{objects_of, threads_of, starts_of}
+use Rattle.octet_heap.specs.declared.heap.Heap.{Heap}
+use Rattle.octet_heap.specs.Workers.{seat_of, IsWorkerOf}
+use Rattle.octet_threads.specs.declared.runner.Runner.{Runner}
+
+-- the runner of one of this heap's workers, which is off or blocked, with a thread of as many objects
+pub record IsAtRest (heap : Heap) (runner : Runner) : Type 0 where
+  pub own : IsWorkerOf heap runner.worker
+  pub rests : IsResting (seat_of runner.worker).thread.phase
+  pub objects : runner.config.objects ≡ objects_of heap.words
+
+abbrev pub IsEnd : Demand → Type 0
+IsEnd (Ended end) = Unit {0}
+IsEnd _ = ⊥
+
+-- and its thread demands its end
+pub record HasEnded (heap : Heap) (runner : Runner) : Type 0 where
+  pub rests : IsAtRest heap runner
+  pub ends : IsEnd (next_demand runner.config)
+
+-- a runner of the same thread
+pub record IsSame (before after : Runner) : Type 0 where
+  pub number : (seat_of after.worker).number ≡ (seat_of before.worker).number
+  pub commands : after.config.commands ≡ before.config.commands
+
+-- the runner of this thread of a script
+pub record IsOf (script : Script) (thread : ℕ) (runner : Runner) : Type 0 where
+  pub number : (seat_of runner.worker).number ≡ thread
+  pub commands : runner.config.commands ≡ commands_of script thread
+
+-- one for each thread of a script, in order
+pub record AreOf (script : Script) (runners : List Runner) : Type 0 where
+  pub as_many : length runners ≡ length script.threads
+  pub each : (thread : ℕ) (none : Runner) → thread < length runners → IsOf script thread (slice_index_or runners thread none)
+
+-- a heap for the threads of a script, with its objects
+pub record IsHeapOf (script : Script) (heap : Heap) : Type 0 where
+  pub threads : threads_of heap.words ≡ length script.threads
+  pub fuel : heap.fuel ≡ script.fuel
+  pub starts : starts_of heap.words ≡ starting_heap script
+
+-- how a thread ended that demands its end
+abbrev pub end_told : Demand → End
+end_told (Ended end) = end
+end_told _ = Spent

@@ -1,0 +1,74 @@
+-- What a worker has to do for a demand of its thread, and the steps by which it does it.
+use Rattle.std.specs.Prelude.{◌≡◌, ℕ, Bool, true, false, ◌==◌, List, [], ◌∷◌, ◌++◌}
+use Rattle.octet_interp.specs.declared.demand.Demand.{Demand}
+use Rattle.octet_interp.specs.declared.demand.Demand.TheVariants as demand
+use Rattle.octet_state.specs.declared.act.Mode.TheVariants.{Read, Write}
+use Rattle.octet_state.specs.Words.{unpacked_status}
+use Rattle.octet_state.specs.Steps.{Kind, ToGlance, ToAnswer, ToBlock, ToUnblock, ToLoad, ToRead, ToWrite}
+use Rattle.octet_state.specs.NextStep.{next_kind}
+use Rattle.octet_rule.specs.Views.{SeatView, Taken, stepped_by}
+use Rattle.octet_rule.specs.Rule.{Steps}
+use Rattle.octet_heap.specs.declared.wish.Wish.{Wish}
+use Rattle.octet_heap.specs.Polls.{after_steps}
+
+-- what an idle thread is to do: the first step of it, the value that a write stores, and the step that does it, by the word that it is told
+pub record Task : Type 0 where
+  pub first : Kind
+  pub value : ℕ
+  pub is_done_by : Kind → ℕ → Bool
+
+-- an access is made by the step on the cell
+abbrev pub is_on_cell : Kind → ℕ → Bool
+is_on_cell ToRead word = true
+is_on_cell (ToWrite value) word = true
+is_on_cell _ word = false
+
+-- a safe point is over with a glance that finds no bit, else with the answer
+abbrev pub ends_safe_point : Kind → ℕ → Bool
+ends_safe_point ToGlance word = (unpacked_status word).asked == 0
+ends_safe_point ToAnswer word = true
+ends_safe_point _ word = false
+
+abbrev pub is_unblock : Kind → ℕ → Bool
+is_unblock ToUnblock word = true
+is_unblock _ word = false
+
+abbrev pub is_block : Kind → ℕ → Bool
+is_block (ToBlock ends) word = true
+is_block _ word = false
+
+-- an access
+abbrev pub access_task : Wish → Task
+access_task wish = record { first = ToLoad wish.object wish.mode; value = wish.value; is_done_by = is_on_cell }
+
+-- what a demand is for its worker: an access; a safe point; a block and an unblock; or a block for good
+abbrev pub task_of : Demand → Task
+task_of (demand.Read object) = access_task (record { object = object; mode = Read; value = 0 })
+task_of (demand.Write object value) = access_task (record { object = object; mode = Write; value = value })
+task_of demand.Safe = record { first = ToGlance; value = 0; is_done_by = ends_safe_point }
+task_of demand.Pause = record { first = ToBlock false; value = 0; is_done_by = is_unblock }
+task_of (demand.Ended end) = record { first = ToBlock false; value = 0; is_done_by = is_block }
+
+-- the next step of a seat's thread that has this task
+abbrev pub next_step : Task → SeatView → Kind
+next_step task v = next_kind v.threads v.number task.first task.value v.thread
+
+-- the thread takes this step, which is its next one and one of the protocol
+pub record IsNext (task : Task) (v : SeatView) (taken : Taken) : Type 0 where
+  pub in_order : taken.kind ≡ next_step task v
+  pub took : Steps taken.kind v taken.word (stepped_by taken.kind taken.word v)
+
+-- the thread takes these steps, none of which does the task
+abbrev pub GoesBy : Task → SeatView → List Taken → Type 0
+GoesBy task v [] = Unit {0}
+GoesBy task v (taken ∷ more) = IsNext task v taken × (task.is_done_by taken.kind taken.word ≡ false) × GoesBy task (stepped_by taken.kind taken.word v) more
+
+-- the thread has taken its steps up to the one that does the task, with every wait, glance and answer between, and no other
+pub record Does (task : Task) (v w : SeatView) : Type 0 where
+  pub going : List Taken
+  pub last : Taken
+  pub goes : GoesBy task v going
+  pub is_next : IsNext task (after_steps going v) last
+  pub does : task.is_done_by last.kind last.word ≡ true
+  pub after : w ≡ after_steps (going ++ last ∷ []) v
+  pub trail : w.trail ≡ v.trail ++ (going ++ last ∷ [])

@@ -1,0 +1,122 @@
+//! A worker carries out one demand of its thread on the heap.
+ghost use Rattle.std.specs.Prelude.{◌≡◌, ◌<◌, true, false, Some};
+ghost use Rattle.std.specs.Option.{is_some};
+ghost use Rattle.octet_model.specs.Journals.{access_count};
+ghost use Rattle.octet_interp.specs.Demands.{next_demand};
+ghost use Rattle.octet_rule.specs.Seats.{objects_of};
+ghost use Rattle.octet_heap.specs.declared.wish.Wish.{Wish as TheWish};
+ghost use Rattle.octet_heap.specs.declared.poll.Poll.TheVariants.{Ready};
+ghost use Rattle.octet_heap.specs.Growth.{AddsAccess};
+ghost use Rattle.octet_heap.specs.Workers.{seat_of, IsWorkerOf, IsIdle};
+ghost use Rattle.octet_threads.specs.Tasks.{access_task, task_of, Does};
+ghost use Rattle.octet_threads.specs.Carrying.{HasAccessLeft, IsLeftBy, IsSameThread, TellsAgain, KeepsUp};
+
+use crate::gate::HeapGate;
+use crossbeam_utils::Backoff;
+use octet_heap::{Heap, Poll, Wish, Worker};
+use octet_interp::{Config, Demand};
+use octet_state::Mode;
+use std::sync::Wait;
+use std::thread::Threads;
+
+// Polls the access that was begun until it is made, and answers its value.
+fn make<R: Wait>(rt: &R, heap: &Heap, worker: &mut Worker) -> u64
+    requires own { IsWorkerOf heap.now worker.old }
+    requires begun { is_some worker.old.wish ≡ true }
+    ensures own { IsWorkerOf heap.now worker.new }
+    ensures idle { IsIdle worker.new }
+    ensures number { (seat_of worker.new).number ≡ (seat_of worker.old).number }
+    ensures steps { (wish : TheWish) → worker.old.wish ≡ Some wish → Does (access_task wish) (seat_of worker.old) (seat_of worker.new) }
+    ensures journal { (wish : TheWish) → worker.old.wish ≡ Some wish → AddsAccess wish (seat_of worker.old) (Ready result) (seat_of worker.new) }
+{
+    let backoff = Backoff::new();
+    for _ in rt.forever() {
+        match heap.poll(worker) {
+            Poll::Ready { value } => return value,
+            Poll::Pending { .. } => backoff.snooze(),
+        }
+    }
+    unreachable!()
+}
+
+// Makes an access, and answers the value that it read or wrote.
+fn access<R: Threads + Wait + Sync, G: HeapGate>(
+    rt: &R,
+    heap: &Heap,
+    worker: &mut Worker,
+    gate: &G,
+    wish: Wish,
+) -> u64
+    requires own { IsWorkerOf heap.now worker.old }
+    requires idle { IsIdle worker.old }
+    requires object { wish.object < objects_of heap.now.words }
+    requires more { access_count (seat_of worker.old).journal < heap.now.fuel }
+    ensures own { IsWorkerOf heap.now worker.new }
+    ensures idle { IsIdle worker.new }
+    ensures number { (seat_of worker.new).number ≡ (seat_of worker.old).number }
+    ensures steps { Does (access_task wish) (seat_of worker.old) (seat_of worker.new) }
+    ensures journal { AddsAccess wish (seat_of worker.old) (Ready result) (seat_of worker.new) }
+{
+    let thread = worker.thread();
+    gate.pass(rt, thread, worker.accesses());
+    gate.note(thread, worker);
+    heap.begin(worker, wish.object, wish.mode, wish.value);
+    make(rt, heap, worker)
+}
+
+/// Carries out the next demand of the configuration, which is one of the worker's thread, and
+/// answers it: a safe point; a block and an unblock; an access, which passes the gate and is noted
+/// before; or a block at the end. A read gives the configuration its value. Takes no memory. May
+/// wait: nothing says that an access is ever made.
+pub fn carry<R: Threads + Wait + Sync, G: HeapGate>(
+    rt: &R,
+    heap: &Heap,
+    worker: &mut Worker,
+    config: &mut Config,
+    gate: &G,
+) -> Demand
+    requires own { IsWorkerOf heap.now worker.old }
+    requires idle { IsIdle worker.old }
+    requires more { HasAccessLeft heap.now worker.old config.old }
+    requires objects { config.old.objects ≡ objects_of heap.now.words }
+    requires waits { config.old.waits ≡ false }
+    ensures own { IsWorkerOf heap.now worker.new }
+    ensures left { IsLeftBy result worker.new }
+    ensures number { (seat_of worker.new).number ≡ (seat_of worker.old).number }
+    ensures demand { result ≡ next_demand config.old }
+    ensures thread { IsSameThread config.old config.new }
+    ensures waits { config.new.waits ≡ false }
+    ensures ends { TellsAgain result config.new }
+    ensures steps { Does (task_of result) (seat_of worker.old) (seat_of worker.new) }
+    ensures journal { KeepsUp worker.old config.old worker.new config.new }
+{
+    let demand = config.next();
+    match demand {
+        Demand::Read { object } => {
+            let wish = Wish {
+                object,
+                mode: Mode::Read,
+                value: 0,
+            };
+            let value = access(rt, heap, worker, gate, wish);
+            config.give(value);
+        }
+        Demand::Write { object, value } => {
+            let wish = Wish {
+                object,
+                mode: Mode::Write,
+                value,
+            };
+            access(rt, heap, worker, gate, wish);
+        }
+        Demand::Safe => {
+            heap.safe_point(worker);
+        }
+        Demand::Pause => {
+            heap.block(worker);
+            heap.unblock(worker);
+        }
+        Demand::Ended { .. } => heap.block(worker),
+    }
+    demand
+}

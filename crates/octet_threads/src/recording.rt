@@ -1,0 +1,73 @@
+//! What is recorded of a run whose threads have all ended.
+ghost use Rattle.std.specs.Prelude.{◌≡◌, ◌<◌, All, length, map, IfOk};
+ghost use Rattle.octet_model.specs.Orders.{IsFaithful};
+ghost use Rattle.octet_interp.specs.Demands.{next_demand};
+ghost use Rattle.octet_threads.specs.Runners.{AreOf, HasEnded, IsHeapOf, end_told};
+
+use crate::runner::Runner;
+use octet_heap::{Heap, Worker};
+use octet_interp::Demand;
+use octet_model::{End, List, Log, OutOfMemory, Outcome, Recorded, Script};
+use std::alloc::Global;
+
+// How a thread ended that demands its end.
+fn end_told(demand: Demand) -> End
+    ensures { result ≡ end_told demand }
+{
+    match demand {
+        Demand::Ended { end } => end,
+        _ => End::Spent,
+    }
+}
+
+// How each thread ended.
+fn ends_of(alloc: Global, runners: &[Runner]) -> Result<List<End>, OutOfMemory>
+    ensures { IfOk result (λ ends. ends ≡ map (λ runner. end_told (next_demand runner.config)) runners.now) }
+{
+    let mut ends = List::new(alloc);
+    for runner in runners {
+        ends.push(end_told(runner.config.peek()))?;
+    }
+    Ok(ends)
+}
+
+// The workers, without their threads.
+fn workers_of(alloc: Global, runners: Vec<Runner>) -> Result<List<Worker>, OutOfMemory>
+    ensures { IfOk result (λ workers. workers ≡ map (λ runner. runner.worker) runners.items) }
+{
+    let mut workers = List::new(alloc);
+    for runner in runners {
+        workers.push(runner.worker)?;
+    }
+    Ok(workers)
+}
+
+/// Ends the run, and answers its log and its outcome.
+pub(crate) fn recorded(
+    alloc: Global,
+    script: &Script,
+    heap: Heap,
+    runners: Vec<Runner>,
+) -> Result<Recorded, OutOfMemory>
+    requires heap { IsHeapOf script.now heap }
+    requires runners { AreOf script.now runners.items }
+    requires ended { All (HasEnded heap) runners.items }
+    ensures faithful { IfOk result (λ r. IsFaithful script.now r.log.threads r.outcome) }
+    ensures ends { IfOk result (λ r. length r.outcome.ends ≡ length script.now.threads) }
+    ensures reads { IfOk result (λ r. length r.outcome.reads ≡ length script.now.threads) }
+    ensures heap { IfOk result (λ r. length r.outcome.heap ≡ length script.now.objects) }
+{
+    let ends = ends_of(alloc, runners.as_slice())?;
+    let workers = workers_of(alloc, runners)?;
+    let closed = heap.close(alloc, workers)?;
+    Ok(Recorded {
+        log: Log {
+            threads: closed.logs,
+        },
+        outcome: Outcome {
+            ends,
+            reads: closed.reads,
+            heap: closed.heap,
+        },
+    })
+}

@@ -1,0 +1,19 @@
+//! A worker with the thread that it runs.
+ghost use Rattle.std.specs.Prelude.{◌≡◌, ◌<◌, [], false, IfOk};
+ghost use Rattle.octet_interp.specs.Demands.{next_demand, starting_thread};
+ghost use Rattle.octet_interp.specs.Laws.{IsJournalOf};
+ghost use Rattle.octet_heap.specs.Workers.{seat_of};
+ghost use Rattle.octet_threads.specs.Carrying.{start_of};
+
+use octet_heap::Worker;
+use octet_interp::Config;
+
+/// A worker with the configuration of its thread. The worker's journal fits the thread from its
+/// start, the configuration stands where the journal leaves it, and no read waits for its value.
+#[derive(Drop)]
+pub(crate) struct Runner {
+    pub(crate) worker: Worker,
+    pub(crate) config: Config,
+    ghost fits: { ∥ IsJournalOf (start_of worker) (seat_of worker).journal config ∥₁ },
+    ghost idle: { config.waits ≡ false },
+}
