@@ -23,15 +23,15 @@ use Rattle.octet_log.proofs.Threads.{GoodThread, GoodThreads, parts, thread_agai
 use Rattle.octet_log.proofs.Whole.{body, good_log}
 use Rattle.octet_log.specs.Laws.{cut_cause}
 
-cons_is : {A : Type 0} (x y : A) (xs ys : List A) → x ∷ xs ≡ y ∷ ys → (x ≡ y) × (xs ≡ ys)
+pub cons_is : {A : Type 0} (x y : A) (xs ys : List A) → x ∷ xs ≡ y ∷ ys → (x ≡ y) × (xs ≡ ys)
 cons_is x y xs ys e = (cc, cc)
 
-nothing≢more : (front : List ℕ) (next : ℕ) (rest : List ℕ) → [] ≡ front ++ next ∷ rest → ⊥
+pub nothing≢more : (front : List ℕ) (next : ℕ) (rest : List ℕ) → [] ≡ front ++ next ∷ rest → ⊥
 nothing≢more [] next rest e = cc
 nothing≢more (x ∷ front) next rest e = cc
 
 -- a text of two parts is cut in the first or in the second
-split : (a b front : List ℕ) (next : ℕ) (rest : List ℕ) → a ++ b ≡ front ++ next ∷ rest → ((r : List ℕ) × (a ≡ front ++ next ∷ r)) ⊎ ((f : List ℕ) × (front ≡ a ++ f) × (b ≡ f ++ next ∷ rest))
+pub split : (a b front : List ℕ) (next : ℕ) (rest : List ℕ) → a ++ b ≡ front ++ next ∷ rest → ((r : List ℕ) × (a ≡ front ++ next ∷ r)) ⊎ ((f : List ℕ) × (front ≡ a ++ f) × (b ≡ f ++ next ∷ rest))
 split [] b front next rest e = inr (front, refl, e)
 split (x ∷ a) b [] next rest e = inl (a, ap (λ (y : ℕ). y ∷ a) (cons_is x next (a ++ b) rest e).0)
 split (x ∷ a) b (y ∷ front) next rest e =
@@ -42,28 +42,28 @@ split (x ∷ a) b (y ∷ front) next rest e =
     ]
 
 -- each reading of a proper front of the text answers that it is cut
-abbrev IsCutIn : {A : Type 0} → ℕ → (List ℕ → Result A LogCause) → List ℕ → Type 0
+abbrev pub IsCutIn : {A : Type 0} → ℕ → (List ℕ → Result A LogCause) → List ℕ → Type 0
 IsCutIn total read text = (front : List ℕ) (next : ℕ) (rest : List ℕ) → text ≡ front ++ next ∷ rest → read front ≡ Err (CutShort total)
 
-then_cut : {A B : Type 0} (total : ℕ) (read : List ℕ → Result (A × List ℕ) LogCause) (go : A × List ℕ → Result B LogCause) (a b : List ℕ) (x : A) → ((rest : List ℕ) → read (a ++ rest) ≡ Ok (x, rest)) → IsCutIn total read a → IsCutIn total (λ r. go (x, r)) b → IsCutIn total (λ r. read r >>= go) (a ++ b)
+pub then_cut : {A B : Type 0} (total : ℕ) (read : List ℕ → Result (A × List ℕ) LogCause) (go : A × List ℕ → Result B LogCause) (a b : List ℕ) (x : A) → ((rest : List ℕ) → read (a ++ rest) ≡ Ok (x, rest)) → IsCutIn total read a → IsCutIn total (λ r. go (x, r)) b → IsCutIn total (λ r. read r >>= go) (a ++ b)
 then_cut total read go a b x again cut_a cut_b front next rest e =
     elim (split a b front next rest e) [
       | inl p ↦ ap (λ r. r >>= go) (cut_a front next p.0 p.1)
       | inr p ↦ ap (λ l. read l >>= go) p.1 ∙ ap (λ r. r >>= go) (again p.0) ∙ cut_b p.0 next rest p.2
     ]
 
-more_cut : {A B : Type 0} (total : ℕ) (read : List ℕ → Result A LogCause) (go : A → Result B LogCause) (a : List ℕ) → IsCutIn total read a → IsCutIn total (λ r. read r >>= go) a
+pub more_cut : {A B : Type 0} (total : ℕ) (read : List ℕ → Result A LogCause) (go : A → Result B LogCause) (a : List ℕ) → IsCutIn total read a → IsCutIn total (λ r. read r >>= go) a
 more_cut total read go a cut front next rest e = ap (λ r. r >>= go) (cut front next rest e)
 
-wanted_cut : {A : Type 0} (total : ℕ) (read : List ℕ → Result A LogCause) (b : Bool) (cause : LogCause) (a : List ℕ) → b ≡ true → IsCutIn total read a → IsCutIn total (λ r. wanted b cause >>= λ u. read r) a
+pub wanted_cut : {A : Type 0} (total : ℕ) (read : List ℕ → Result A LogCause) (b : Bool) (cause : LogCause) (a : List ℕ) → b ≡ true → IsCutIn total read a → IsCutIn total (λ r. wanted b cause >>= λ u. read r) a
 wanted_cut total read b cause a holds cut front next rest e = rw holds (cut front next rest e)
 
-byte_cut : (total byte : ℕ) → IsCutIn total (byte_at total) (byte ∷ [])
+pub byte_cut : (total byte : ℕ) → IsCutIn total (byte_at total) (byte ∷ [])
 byte_cut total byte [] next rest e = refl
 byte_cut total byte (x ∷ front) next rest e = absurd (nothing≢more front next rest (cons_is byte x [] (front ++ next ∷ rest) e).1)
 
 -- a proper front is shorter
-shorter : (text front : List ℕ) (next : ℕ) (rest : List ℕ) → text ≡ front ++ next ∷ rest → length front < length text
+pub shorter : (text front : List ℕ) (next : ℕ) (rest : List ℕ) → text ≡ front ++ next ∷ rest → length front < length text
 shorter text front next rest e = rw e (omega (arith, length-append front (next ∷ rest)))
 
 number_cut : (w : Width) (limit : ℕ) (wide : IsWide w limit) (total number : ℕ) → IsCutIn total (number_at w total) (to_be_bytes w number)
@@ -77,7 +77,7 @@ mark_cut total threads thread left text len front next rest e =
     let short : length front < 14 = omega (arith, shorter text front next rest e, len) in
     rw (lt-leb 14 (length front) short) refl
 
-each_cut : {A S : Type 0} (total : ℕ) (read : S → List ℕ → Result (A × List ℕ) LogCause) (next : S → A → S) (spell : A → List ℕ) (good : S → A → Type 0)
+pub each_cut : {A S : Type 0} (total : ℕ) (read : S → List ℕ → Result (A × List ℕ) LogCause) (next : S → A → S) (spell : A → List ℕ) (good : S → A → Type 0)
     → ((state : S) (x : A) (rest : List ℕ) → good state x → read state (spell x ++ rest) ≡ Ok (x, rest))
     → ((state : S) (x : A) → good state x → IsCutIn total (read state) (spell x))
     → (xs : List A) (state : S) → AllGood good next state xs → IsCutIn total (each_at (length xs) read next state) (flat_map spell xs)
@@ -126,7 +126,7 @@ body_cut total logs valid =
     (λ r. refl) (byte_cut total 1) counted
 
 -- a text shorter than the word at the front does not begin with it
-no_magic : (front : List ℕ) → length front < 4 → bytes_eq (take 4 front) (codes "OCTL") ≡ false
+pub no_magic : (front : List ℕ) → length front < 4 → bytes_eq (take 4 front) (codes "OCTL") ≡ false
 no_magic front short =
     elim (bytes_eq (take 4 front) (codes "OCTL")) as (λ b. bytes_eq (take 4 front) (codes "OCTL") ≡ b → b ≡ false) [
       | true ↦ λ is.

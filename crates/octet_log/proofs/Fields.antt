@@ -9,10 +9,10 @@ use Rattle.octet_log.specs.declared.cause.LogCause.TheVariants.{CutShort}
 use Rattle.octet_log.specs.Decoding.{◌>>=◌, wanted, byte_at, number_at}
 use Rattle.octet_log.specs.Laws.{AreBytes, IsInput}
 
-AreBytes-drop : (n : ℕ) (bytes : List ℕ) → AreBytes bytes → AreBytes (drop n bytes)
+pub AreBytes-drop : (n : ℕ) (bytes : List ℕ) → AreBytes bytes → AreBytes (drop n bytes)
 AreBytes-drop n bytes h i = rw get_or-drop (h (n + i))
 
-AreBytes-take : (n : ℕ) (bytes : List ℕ) → AreBytes bytes → AreBytes (take n bytes)
+pub AreBytes-take : (n : ℕ) (bytes : List ℕ) → AreBytes bytes → AreBytes (take n bytes)
 AreBytes-take n bytes h i =
     elim (cases_lt i n) [
       | inl lt ↦ rw (get_or-take n bytes i 0 lt) (h i)
@@ -22,7 +22,7 @@ AreBytes-take n bytes h i =
 pub IsInput-drop : (n : ℕ) (bytes : List ℕ) → IsInput bytes → IsInput (drop n bytes)
 IsInput-drop n bytes is = record { fits = AreBytes-drop n bytes is.fits; short = omega (arith, length-drop n bytes, is.short) }
 
-IsInput-rest : (byte : ℕ) (bytes : List ℕ) → IsInput (byte ∷ bytes) → IsInput bytes
+pub IsInput-rest : (byte : ℕ) (bytes : List ℕ) → IsInput (byte ∷ bytes) → IsInput bytes
 IsInput-rest byte bytes is = record { fits = λ i. is.fits (suc i); short = omega (arith, is.short) }
 
 -- the value of a reading that did not fail
@@ -35,11 +35,11 @@ pub wanted_ok : {B : Type 0} (b : Bool) (cause : LogCause) (f : Unit {0} → Res
 wanted_ok true cause f y e = (refl, e)
 wanted_ok false cause f y e = absurd cc
 
-guard_ok : {A : Type 0} (b : Bool) (d : LogCause) (x y : A) → cond b (Err d) (Ok x) ≡ Ok y → (b ≡ false) × (x ≡ y)
+pub guard_ok : {A : Type 0} (b : Bool) (d : LogCause) (x y : A) → cond b (Err d) (Ok x) ≡ Ok y → (b ≡ false) × (x ≡ y)
 guard_ok true d x y e = absurd cc
 guard_ok false d x y e = (refl, cc)
 
-abbrev done : {A : Type 0} → A → Result A LogCause
+abbrev pub done : {A : Type 0} → A → Result A LogCause
 done x = Ok x
 
 pub ok_is : {A : Type 0} (x y : A) → done x ≡ done y → x ≡ y

@@ -8,3 +8,8 @@ pub mod Whole
 pub mod Cuts
 pub mod Refused
 pub mod lemmas
+mod Groups
+mod WholePieces
+mod PieceLoops
+mod PieceMarks
+mod PieceLists

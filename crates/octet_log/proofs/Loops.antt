@@ -6,10 +6,7 @@ use Rattle.octet_log.specs.declared.cause.LogCause.{LogCause}
 use Rattle.octet_log.specs.declared.cause.LogFault.{LogFault}
 use Rattle.octet_log.specs.declared.cause.LogFault.TheVariants as faults
 use Rattle.octet_log.specs.Decoding.{◌>>=◌, Fails, each_at, thread_at}
-
--- what was read before, and what is still read
-abbrev pub with_front : {A : Type 0} → List A → Result (List A × List ℕ) LogCause → Result (List A × List ℕ) LogCause
-with_front front read = read >>= λ x. Ok (front ++ x.0, x.1)
+use Rattle.octet_log.specs.Loading.{with_front}
 
 -- the log of the thread whose number stands in front of the accesses before it
 abbrev pub read_next : ℕ → ℕ → ℕ × ℕ → List ℕ → Result (ThreadLog × List ℕ) LogCause
@@ -22,7 +19,7 @@ next_thread (thread, before) log = (suc thread, before + log.accesses)
 abbrev pub threads_from : ℕ → ℕ → ℕ → ℕ → ℕ → List ℕ → Result (List ThreadLog × List ℕ) LogCause
 threads_from total threads count thread before bytes = each_at count (read_next total threads) next_thread (thread, before) bytes
 
-regroup : {A : Type 0} (front : List A) (n : A) (read : Result (List A × List ℕ) LogCause) → with_front front (read >>= λ x. Ok (n ∷ x.0, x.1)) ≡ with_front (front ++ n ∷ []) read
+pub regroup : {A : Type 0} (front : List A) (n : A) (read : Result (List A × List ℕ) LogCause) → with_front front (read >>= λ x. Ok (n ∷ x.0, x.1)) ≡ with_front (front ++ n ∷ []) read
 regroup front n (Ok x) = ap (λ ns. Ok (ns, x.1)) (simp append_assoc)
 regroup front n (Err f) = refl
 

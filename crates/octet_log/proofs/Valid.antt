@@ -13,6 +13,11 @@ pub and_second : (a b : Bool) → (a && b) ≡ true → b ≡ true
 and_second true b h = h
 and_second false b h = absurd (false≢true h)
 
+pub and_both : (a b : Bool) → a ≡ true → b ≡ true → (a && b) ≡ true
+and_both true true h k = refl
+and_both true false h k = k
+and_both false b h k = h
+
 -- each thread of a list of valid ones is valid
 each_valid : (threads thread : ℕ) (logs : List ThreadLog) (i : ℕ) (d : ThreadLog) → i < length logs → are_thread_logs threads thread logs ≡ true → is_thread_log threads (thread + i) (get_or logs i d) ≡ true
 each_valid n t [] i d l h = absurd (omega (arith, l))

@@ -2,3 +2,8 @@ pub mod Decoding
 pub mod Texts
 pub mod Laws
 pub mod Refusals
+pub mod Short
+pub mod Pieces
+pub mod Loading
+pub mod LoadingLaws
+pub mod Readings

@@ -7,7 +7,7 @@ use Rattle.octet_model.specs.declared.event.Mark.TheVariants.{Join, Draw, Fence}
 use Rattle.octet_model.specs.declared.log.Gapped.{Gapped}
 use Rattle.octet_model.specs.declared.log.ThreadLog.{ThreadLog}
 use Rattle.octet_log.specs.declared.cause.LogCause.{LogCause}
-use Rattle.octet_log.specs.declared.cause.LogCause.TheVariants.{NoMagic, BadVersion, BadThreads, CutShort, BadMark, TooManyAccesses, Trailing}
+use Rattle.octet_log.specs.declared.cause.LogCause.TheVariants.{NoMagic, BadVersion, BadThreads, CutShort, BadMark, TooManyAccesses, Trailing, BadNumber, BadPiece, GapsOver, TooManyMarks}
 
 -- the word of a mark, and its numbers
 abbrev pub mark_words : Mark → List ℕ
@@ -34,7 +34,7 @@ thread_texts thread (log ∷ logs) = thread_text thread log ++ thread_texts (suc
 abbrev pub log_text : List ThreadLog → List ℕ
 log_text logs = codes "threads " ++ decimal (length logs) ++ codes "\n" ++ thread_texts 0 logs
 
--- the number of a cause, what it is called, and its place where it has one
+-- the number of a cause, what it is called, and its place or its thread where it has one
 abbrev pub refusal_words : LogCause → List ℕ
 refusal_words NoMagic = codes "1 no magic"
 refusal_words BadVersion = codes "2 bad version"
@@ -43,6 +43,10 @@ refusal_words (CutShort at) = codes "4 cut short at " ++ decimal at
 refusal_words (BadMark at) = codes "5 bad mark at " ++ decimal at
 refusal_words TooManyAccesses = codes "6 too many accesses"
 refusal_words (Trailing at) = codes "7 trailing at " ++ decimal at
+refusal_words (BadNumber at) = codes "8 bad number at " ++ decimal at
+refusal_words (BadPiece at) = codes "9 bad piece at " ++ decimal at
+refusal_words (GapsOver thread) = codes "10 gaps over accesses of thread " ++ decimal thread
+refusal_words TooManyMarks = codes "11 too many marks"
 
 -- the line that says why
 abbrev pub refusal_line : LogCause → List ℕ

@@ -2,6 +2,7 @@
 ghost use Rattle.std.specs.Prelude.{◌≡◌};
 ghost use Rattle.octet_log.specs.declared.cause.LogFault.TheVariants.{OutOfMemory};
 
+use octet_model::OutOfMemory;
 use std::alloc::{AllocError, AllocFailed};
 use thiserror::Error;
 
@@ -11,7 +12,7 @@ pub enum LogCause {
     /// The first four bytes are not `OCTL`, or there are fewer.
     #[error("no magic")]
     NoMagic,
-    /// The version is not 1.
+    /// The version is neither 1 nor 2.
     #[error("bad version")]
     BadVersion,
     /// The number of threads is 0 or above 16.
@@ -26,9 +27,21 @@ pub enum LogCause {
     /// The accesses sum to more than 262,144.
     #[error("too many accesses")]
     TooManyAccesses,
-    /// A byte stands after the last thread, at this place.
+    /// A byte stands after the last thread, or the tail, at this place.
     #[error("trailing at {at}")]
     Trailing { at: u64 },
+    /// The short number at this place is not shortest, or is above 2^64 - 1.
+    #[error("bad number at {at}")]
+    BadNumber { at: u64 },
+    /// The piece at this place is of no thread of the log, or has no mark.
+    #[error("bad piece at {at}")]
+    BadPiece { at: u64 },
+    /// The gaps of this thread's marks sum to more than its accesses.
+    #[error("gaps over accesses of thread {thread}")]
+    GapsOver { thread: u8 },
+    /// The pieces have more than 4,793,490 marks.
+    #[error("too many marks")]
+    TooManyMarks,
 }
 
 /// Why bytes were not read as a log.
@@ -52,6 +65,14 @@ impl<T: Drop> From<AllocFailed<T>> for LogFault {
     ghost from_gives = { λ _ e. e ≡ OutOfMemory };
 
     fn from(_: AllocFailed<T>) -> Self {
+        LogFault::OutOfMemory
+    }
+}
+
+impl From<OutOfMemory> for LogFault {
+    ghost from_gives = { λ _ e. e ≡ OutOfMemory };
+
+    fn from(_: OutOfMemory) -> Self {
         LogFault::OutOfMemory
     }
 }

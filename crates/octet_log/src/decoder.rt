@@ -1,4 +1,4 @@
-//! Bytes as a log.
+//! Bytes of version 1 as a log.
 ghost use Rattle.std.specs.Prelude.{◌≡◌, ◌+◌, ◌≤◌, length, IfOk};
 ghost use Rattle.octet_model.specs.Log.{is_mark};
 ghost use Rattle.octet_model.specs.Texts.{log_bytes};
@@ -181,10 +181,10 @@ fn read_log(alloc: Global, bytes: &[u8]) -> Result<Vec<ThreadLog>, LogFault>
     read_body(alloc, bytes.len(), rest)
 }
 
-/// The log that the bytes spell, all of them; else the first refusal from the front, with its
+/// The log that the bytes spell in version 1, all of them; else the first refusal from the front, with its
 /// place. The bytes are at most 67,108,864. Room is taken as marks are met, and not by a number
 /// that the bytes merely claim.
-pub fn decode(alloc: Global, bytes: &[u8]) -> Result<Log, LogFault>
+pub fn decode_v1(alloc: Global, bytes: &[u8]) -> Result<Log, LogFault>
     requires { length bytes.now ≤ MAX_LOG_FILE }
 
     // What is read is spelled so.

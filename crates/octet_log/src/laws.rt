@@ -2,6 +2,7 @@
 ghost use Rattle.std.specs.Prelude.{◌^◌};
 ghost use Rattle.std.specs.Int.{w32, w64};
 ghost use Rattle.octet_log.specs.Refusals.{LacksMagic, OtherVersionIsBad, ThreadsAreBad, HeadIsCut, AccessesAreCut, CountIsCut, MarkIsCut, MarkIsBad, AccessesAreTooMany};
+ghost use Rattle.octet_log.specs.LoadingLaws.{ShortHasOneSpelling, ShortIsReadAgain, LoadsLogs, SpellingsSpellOneLog, NoSpellingIsAPrefix};
 ghost use Rattle.octet_log.specs.Laws.{NumberIsReadAgain, NumberHasOneSpelling, DecodesLogs, BytesSpellOneLog, NoLogIsAPrefix, FrontIsCut, ByteAfterIsTrailing};
 
 /// The bytes of a field are the one spelling of their number, and give it back.
@@ -64,4 +65,26 @@ pub fn bad_mark_is_refused()
 /// After whole and good threads, accesses that pass the limit are too many.
 pub fn too_many_accesses_are_refused()
     ensures { AccessesAreTooMany }
+{}
+
+/// The bytes of a short number are its one spelling, and give it back.
+pub fn short_number_has_one_spelling()
+    ensures one { ShortHasOneSpelling }
+    ensures again { ShortIsReadAgain }
+{}
+
+/// Bytes are judged to be a log with a digest, or without one, exactly where they spell that valid
+/// log so, in either version.
+pub fn loading_accepts_spellings_alone()
+    ensures { LoadsLogs }
+{}
+
+/// No bytes spell two logs, nor two digests, in either version.
+pub fn spellings_spell_one_log()
+    ensures { SpellingsSpellOneLog }
+{}
+
+/// No spelling of a log, in either version, is a proper prefix of a spelling of a log.
+pub fn no_spelling_is_a_prefix()
+    ensures { NoSpellingIsAPrefix }
 {}

@@ -6,18 +6,30 @@ mod cause;
 mod decoder;
 mod encoder;
 mod field;
+mod hashing;
 mod laws;
+mod limits;
+mod loader;
+mod reader;
+mod short;
 mod text;
+mod writer;
 
 pub use cause::{LogCause, LogFault};
-pub use decoder::decode;
+pub use decoder::decode_v1;
 pub use encoder::encode_v1;
+pub use hashing::digest;
 pub use laws::{
     bad_head_is_refused, bad_mark_is_refused, byte_after_log_is_trailing, bytes_spell_one_log,
     cut_input_is_refused, decoding_accepts_spellings_alone, field_has_one_spelling,
-    front_of_log_is_cut, no_log_is_a_prefix, too_many_accesses_are_refused,
+    front_of_log_is_cut, loading_accepts_spellings_alone, no_log_is_a_prefix,
+    no_spelling_is_a_prefix, short_number_has_one_spelling, spellings_spell_one_log,
+    too_many_accesses_are_refused,
 };
+pub use limits::MAX_MARKS;
+pub use loader::{Digest, Loaded, decode};
 pub use text::{refusal_line, show};
+pub use writer::{encode_v2, head, piece, tail};
 
 #[cfg(test)]
 mod tests;

@@ -47,11 +47,11 @@ fn logs_are_read_written_and_shown(rt: HostRuntime) -> Result<(), Fail> {
     let alloc = rt.alloc();
     for bytes in [PLAIN.as_slice(), JOINED.as_slice(), SHARED.as_slice()] {
         assert!(rt; bytes.len() < 100);
-        let log = decode(alloc, bytes)?;
+        let log = decode(alloc, bytes)?.log;
         let written = encode_v1(alloc, &log)?;
         assert_eq!(rt; written.as_slice(), bytes);
     }
-    let text = show(alloc, &decode(alloc, &SHARED)?)?;
+    let text = show(alloc, &decode(alloc, &SHARED)?.log)?;
     assert_eq!(rt; text.as_slice(), SHARED_TEXT.as_bytes());
     Ok(())
 }
@@ -61,7 +61,7 @@ fn changed_bytes_are_refused(rt: HostRuntime) -> Result<(), Fail> {
     let alloc = rt.alloc();
     for (place, byte, line) in [
         (0, 0, "log: 1 no magic\n"),
-        (4, 2, "log: 2 bad version\n"),
+        (4, 3, "log: 2 bad version\n"),
         (5, 0, "log: 3 bad threads\n"),
         (5, 17, "log: 3 bad threads\n"),
         (7, 4, "log: 6 too many accesses\n"),

@@ -69,7 +69,7 @@ pub fn show(alloc: Global, log: &Log) -> Result<Vec<u8>, OutOfMemory>
     Ok(out)
 }
 
-// The words of a refusal that has a place.
+// The words of a refusal that has a place, or a thread.
 fn push_place(out: &mut Vec<u8>, words: &[u8], place: u64) -> Result<(), OutOfMemory>
     ensures { OnOk result (out.new.items ≡ out.old.items ++ words.now ++ decimal place) }
 {
@@ -88,6 +88,12 @@ fn push_refusal(out: &mut Vec<u8>, cause: LogCause) -> Result<(), OutOfMemory>
         LogCause::BadMark { at } => push_place(out, b"5 bad mark at ", at),
         LogCause::TooManyAccesses => Ok(out.extend_from_slice(b"6 too many accesses")?),
         LogCause::Trailing { at } => push_place(out, b"7 trailing at ", at),
+        LogCause::BadNumber { at } => push_place(out, b"8 bad number at ", at),
+        LogCause::BadPiece { at } => push_place(out, b"9 bad piece at ", at),
+        LogCause::GapsOver { thread } => {
+            push_place(out, b"10 gaps over accesses of thread ", u64::from(thread))
+        }
+        LogCause::TooManyMarks => Ok(out.extend_from_slice(b"11 too many marks")?),
     }
 }
 

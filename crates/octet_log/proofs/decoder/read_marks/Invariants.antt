@@ -1,6 +1,6 @@
 use Rattle.std.proofs.Common.{◌≡◌, ◌-◌, ◌≤◌, length}
 use Rattle.octet_log.specs.Decoding.{marks_at}
-use Rattle.octet_log.proofs.Loops.{with_front}
+use Rattle.octet_log.specs.Loading.{with_front}
 use Rattle.octet_log.proofs.decoder.read_marks.Given as goal
 
 abbrev pub invariant-loop : goal.invariant-loop

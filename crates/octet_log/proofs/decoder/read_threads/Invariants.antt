@@ -1,6 +1,7 @@
 use Rattle.std.proofs.Common.{◌≡◌, ◌-◌, ◌≤◌, length}
 use Rattle.octet_log.specs.Decoding.{threads_at}
-use Rattle.octet_log.proofs.Loops.{with_front, threads_from}
+use Rattle.octet_log.specs.Loading.{with_front}
+use Rattle.octet_log.proofs.Loops.{threads_from}
 use Rattle.octet_log.proofs.decoder.read_threads.Given as goal
 
 abbrev pub invariant-loop-thread : goal.invariant-loop-thread

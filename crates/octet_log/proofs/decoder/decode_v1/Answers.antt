@@ -2,7 +2,7 @@ use Rattle.std.proofs.Common.{◌∙◌, ap, sym, arith, Ok}
 use Rattle.std.proofs.lemmas.Result.{err_from_is_err_and}
 use Rattle.octet_log.proofs.Whole.{decoded_takes}
 use Rattle.octet_log.proofs.lemmas.Spellings.{reads_spelling}
-use Rattle.octet_log.proofs.decoder.decode.Goals as goal
+use Rattle.octet_log.proofs.decoder.decode_v1.Goals as goal
 
 pub returns-in_err-read_log-clause-read : goal.returns-in_err-read_log-clause-read
 returns-in_err-read_log-clause-read c =

@@ -1,0 +1,10 @@
+use Rattle.std.proofs.Common.{◌≡◌, ◌+◌, ◌-◌, ◌≤◌, length}
+use Rattle.octet_log.specs.Loading.{with_front, short_marks_at}
+use Rattle.octet_log.proofs.reader.read_marks.Given as goal
+
+abbrev pub invariant-loop : goal.invariant-loop
+invariant-loop l = record {
+  judged : with_front l.marks (short_marks_at l.total l.threads l.thread (l.count - l.counter) l.rest) ≡ with_front l.fn.marks (short_marks_at l.total l.threads l.thread l.count l.bytes);
+  shorter : length l.rest ≤ length l.bytes;
+  count : length l.marks ≡ length l.fn.marks + l.counter;
+}
