@@ -6,7 +6,9 @@ None. What a root user is not refused is tried as the user `nobody`.
 
 import os
 import pathlib
+import resource
 import shutil
+import signal
 import subprocess
 import tempfile
 
@@ -153,6 +155,52 @@ def full_disk():
         )
 
 
+def calls_that_fail_in_turn():
+    """A take, a begin, an add and a say of `locked`: what was written or said before stays. (A finish
+    that fails takes a broken disk.) Files that may grow to so many bytes alone are written in part.
+    """
+    content = script("object y 3 / thread / thread / read r0 y")
+    recorded = log((0,), (1, join(0, 0, 0)))
+    said = text("thread 0 done", "thread 1 done 3", "object y 3")
+
+    def limited(size, words, **how):
+        def limit():
+            signal.signal(signal.SIGXFSZ, signal.SIG_IGN)
+            resource.setrlimit(resource.RLIMIT_FSIZE, (size, size))
+
+        return octet(words, folder, preexec_fn=limit, **how)
+
+    with folder_with(S=content, out=b"." * 33) as folder:
+        here = pathlib.Path(folder)
+        os.mkdir(here / "F")
+
+        def left(name, wanted):
+            return differs(f"the file {name}", (here / name).read_bytes(), wanted)
+
+        def say_in_part():
+            with open(here / "out", "ab") as out:
+                found = limited(36, ["locked", "S", "L"], stdout=out)
+            return first(differs("a say", found, (6, b"")), left("L", recorded), left("out", b"." * 33 + said[:3]))
+
+        return first(
+            differs("none", octet(["locked", "S", "L"], folder), (0, said)),
+            left("L", recorded),
+            differs("a take", octet(["locked", "none", "L"], folder), (5, FAILED)),
+            differs("a begin", octet(["locked", "S", "F"], folder), (6, b"")),
+            left("L", recorded),
+            *(
+                problem
+                for size in [0, 10, 35]
+                for problem in [
+                    differs(f"an add after {size} bytes", limited(size, ["locked", "S", "L"]), (6, b"")),
+                    left("L", recorded[:size]),
+                ]
+            ),
+            say_in_part(),
+            differs("what is left", sorted(os.listdir(folder)), ["F", "L", "S", "out"]),
+        )
+
+
 def script_of_the_limit():
     most = b"thread\n#" + b"x" * (SCRIPT_LIMIT - 8)
     with folder_with(S=most, T=most + b"x") as folder:
@@ -235,6 +283,7 @@ TESTS = {
     "a file with no permission": files_without_permission,
     "a read that fails": reads_that_fail,
     "a disk that is full": full_disk,
+    "locked: the calls that fail in turn": calls_that_fail_in_turn,
     "a script of the limit, and one byte more": script_of_the_limit,
     "a log of the limit, and one byte more": log_of_the_limit,
     "names with blanks, and no UTF-8": odd_names,

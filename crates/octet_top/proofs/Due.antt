@@ -5,9 +5,7 @@ use Rattle.std.specs.FinMap.{get}
 use std.HLevel.{prop→path_p}
 use Rattle.std.proofs.Props.{props}
 use Rattle.octet_base.specs.Desk.{Contents, DeskState}
-use Rattle.octet_base.specs.declared.fault.DeskFault.{DeskFault}
 use Rattle.octet_model.specs.Log.{is_log}
-use Rattle.octet_model.specs.declared.list.OutOfMemory.{OutOfMemory as NoMemory}
 use Rattle.octet_model.specs.declared.script.Script.{Script}
 use Rattle.octet_model.specs.declared.log.Log.{Log}
 use Rattle.octet_script.proofs.lemmas.Grammar.{spells_parsed, one_script}
@@ -16,16 +14,14 @@ use Rattle.octet_log.proofs.lemmas.Spellings.{spelling_decoded, one_log}
 use Rattle.octet_replay.proofs.Answered.{not_refused}
 use Rattle.octet_top.specs.declared.inputs.Pair.{Pair}
 use Rattle.octet_top.specs.declared.request.PairTask.{PairTask}
-use Rattle.octet_top.specs.declared.reply.Reply.{Reply}
 use Rattle.octet_top.specs.declared.reply.Status.{Status}
 use Rattle.octet_top.specs.declared.reply.Status.TheVariants as exit
-use Rattle.octet_top.specs.Answer.{Answer, answer_of, code_of, not_a_command, read_failed, too_long, script_refused, log_refused}
+use Rattle.octet_top.specs.Answer.{Answer, code_of, not_a_command, read_failed, too_long, script_refused, log_refused}
 use Rattle.octet_top.specs.Request.{Request, OfScript, OfLog, OfPair, Run, Gen, request_in}
 use Rattle.octet_top.specs.Inputs.{◌>>=◌, IsTaken, IsParsed, IsDecoded, IsChosen, IsScriptRead, IsLogRead, IsScriptChosen, IsPairRead}
-use Rattle.octet_top.specs.Replies.{Replies}
-use Rattle.octet_top.specs.Delivery.{Makes, acts_of, code_after, IsGiven, IsServed}
+use Rattle.octet_top.specs.Delivery.{IsServed}
 use Rattle.octet_top.specs.Causes.{IsDue, NoneFailed}
-use Rattle.octet_top.proofs.Causes.{makes_keep, makes_fail, after_refused}
+use Rattle.octet_top.proofs.Causes.{Ending, Whole, CutShort, Lacking, ended}
 use Rattle.octet_top.proofs.Rows.{PairRow, script_row, log_row, pair_row, run_row}
 use Rattle.octet_top.specs.Commands.{Answering, Answers, RequestAnswers, IsAnswer, ScriptAnswers, LogAnswers, PairAnswers, RunAnswers}
 
@@ -162,21 +158,20 @@ answers_status t (Some request) a b p q = request_status t request a b p q
 pub one_due : (words : List (List ℕ)) (t : Contents) (status other : Status) → IsDue words (Some t) status → IsDue words (Some t) other → status ≡ other
 one_due words t status other (a, p, is) (b, q, is') = sym is ∙ answers_status t (request_in words) a b p q ∙ is'
 
--- the status that is due comes, where no call of the desk fails, unless memory was refused
-pub comes_as_due : (words : List (List ℕ)) (before after : DeskState) (code : ℕ) → IsServed (request_in words) before after code → (t : Contents) → before.contents ≡ Some t → (status : Status) → IsDue words before.contents status
-    → NoneFailed before after → (code ≡ code_of status) ⊎ (code ≡ 7)
-comes_as_due words before after code served t tells status due none = by served.reply served.found served.given
+-- where no call of the desk fails, the status is that of an answer, unless memory was refused
+pub comes : (words : List (List ℕ)) (before after : DeskState) (code : ℕ) → IsServed (request_in words) before after code → (t : Contents) → before.contents ≡ Some t → NoneFailed before after
+    → (code ≡ code_of exit.Memory) ⊎ ((answer : Answer) × IsAnswer words (Some t) answer × (code ≡ code_of answer.status))
+comes words before after code served t tells none = by (ended words before after code served)
   where
-    given : (reply : Reply) (made : Result (Unit {0}) DeskFault) → Replies (request_in words) before (Ok reply) served.mid → Makes (acts_of (answer_of reply)) served.mid made after → code ≡ code_after (answer_of reply) made → (code ≡ code_of status) ⊎ (code ≡ 7)
-    given reply (Ok tt) found makes is = elim found.found [
-      | inl (answers, same) ↦ inl (is ∙ ap code_of (one_due words t reply.status status (answer_of reply, subst (λ contents. IsAnswer words contents (answer_of reply)) tells answers, refl) (subst (λ contents. IsDue words contents status) tells due)))
-      | inr (said, rose) ↦ absurd (none.takes (rw (makes_keep (acts_of (answer_of reply)) served.mid (Ok tt) after makes) rose))
-    ]
-    given reply (Err failed) found makes is = elim (after_refused (answer_of reply) failed) [
-      | inl (memory, comes) ↦ inr (is ∙ comes)
-      | inr (not, comes) ↦ absurd (none.writes (rw (← found.write_faults) (makes_fail (acts_of (answer_of reply)) served.mid failed after makes not)))
-    ]
+    by : Ending words before after code → (code ≡ code_of exit.Memory) ⊎ ((answer : Answer) × IsAnswer words (Some t) answer × (code ≡ code_of answer.status))
+    by (Whole answer (inl (answers, same)) is counts left) = inr (answer, subst (λ contents. IsAnswer words contents answer) tells answers, is)
+    by (Whole answer (inr (said, rose)) is counts left) = absurd (none.takes rose)
+    by (CutShort answer found is rose left) = absurd (none.writes rose)
+    by (Lacking is counts left) = inl is
 
-    by : (reply : Result Reply NoMemory) → Replies (request_in words) before reply served.mid → IsGiven reply served.mid after code → (code ≡ code_of status) ⊎ (code ≡ 7)
-    by (Ok reply) found (made, makes, is) = given reply made found makes is
-    by (Err none') found (same, is) = inr is
+pub comes_as_due : (words : List (List ℕ)) (before after : DeskState) (code : ℕ) → IsServed (request_in words) before after code → (t : Contents) → before.contents ≡ Some t → (status : Status) → IsDue words before.contents status
+    → NoneFailed before after → (code ≡ code_of status) ⊎ (code ≡ code_of exit.Memory)
+comes_as_due words before after code served t tells status due none = elim (comes words before after code served t tells none) [
+  | inl memory ↦ inr memory
+  | inr (answer, answers, is) ↦ inl (is ∙ ap code_of (one_due words t answer.status status (answer, answers, refl) (subst (λ contents. IsDue words contents status) tells due)))
+]

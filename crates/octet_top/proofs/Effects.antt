@@ -2,80 +2,23 @@
 use Rattle.std.proofs.Common.{◌≡◌, ◌≢◌, ◌∙◌, ◌⊎◌, ℕ, List, [], ◌∷◌, map, take, Option, None, Some, Result, Ok, Err, inl, inr, ap, sym, refl, subst, arith}
 use Rattle.std.specs.FinMap.{get, insert}
 use Rattle.octet_base.specs.Desk.{Files, Contents, DeskState}
-use Rattle.octet_base.specs.declared.fault.DeskFault.{DeskFault}
-use Rattle.octet_model.specs.declared.list.OutOfMemory.{OutOfMemory as NoMemory}
 use Rattle.octet_model.specs.declared.outcome.Outcome.{Outcome}
 use Rattle.octet_model.specs.Orders.{lowest_order, IsFaithful}
 use Rattle.octet_replay.proofs.Answered.{faithful, not_refused}
 use Rattle.octet_top.specs.declared.inputs.Pair.{Pair}
-use Rattle.octet_top.specs.declared.reply.Reply.{Reply}
 use Rattle.octet_top.specs.declared.reply.Status.{Status}
 use Rattle.octet_top.specs.declared.reply.Status.TheVariants as exit
-use Rattle.octet_top.specs.Answer.{Answer, answer_of, code_of}
+use Rattle.octet_top.specs.Answer.{Answer, code_of}
 use Rattle.octet_top.specs.Request.{Request, OfScript, OfLog, OfPair, Run, Gen, request_in, outputs_in}
 use Rattle.octet_top.specs.Commands.{Answers, RequestAnswers, PairAnswers, IsAnswer}
-use Rattle.octet_top.specs.Replies.{Replies, TakesFiles}
-use Rattle.octet_top.specs.Delivery.{Makes, acts_of, code_after, IsGiven, IsServed}
+use Rattle.octet_top.specs.Delivery.{IsServed}
 use Rattle.octet_top.specs.Outputs.{written, ArePartlyWritten}
 use Rattle.octet_top.specs.Causes.{NoneFailed}
 use Rattle.octet_top.specs.Effects.{IsStatus, CountsFailures, IsUntouched, IsDelivered, IsGivenAnswer, Leaves, IsOneOf, KeepsOthers, KeepsFiles, HasFiles, IsWellMet}
-use Rattle.octet_top.proofs.Causes.{makes_keep, makes_count, makes_fail, after_refused}
+use Rattle.octet_top.proofs.Causes.{Ending, Whole, CutShort, Lacking, IsFound, ended}
 use Rattle.octet_top.proofs.Rows.{IsDone, Refuses, is_refusal, answers_row, request_row, script_row, log_row, pair_row, run_row}
-use Rattle.octet_top.proofs.Due.{script_single, log_single, pair_single}
-use Rattle.octet_top.proofs.Left.{Holds, some_is, taken_held, answer_left, get-other}
-
-module _ (words : List (List ℕ)) (before after : DeskState) (code : ℕ) (served : IsServed (request_in words) before after code) where
-  pub status : IsStatus code
-  status = by served.reply served.given
-    where
-      by : (reply : Result Reply NoMemory) → IsGiven reply served.mid after code → IsStatus code
-      by (Ok reply) (Ok tt, makes, is) = (reply.status, is)
-      by (Ok reply) (Err failed, makes, is) = elim (after_refused (answer_of reply) failed) [ inl (memory, comes) ↦ (exit.Memory, is ∙ comes) | inr (not, comes) ↦ (exit.Write, is ∙ comes) ]
-      by (Err none) (same, is) = (exit.Memory, is)
-
-  pub counts : CountsFailures before after code
-  counts = by served.reply served.found served.given
-    where
-      writes : (reply : Reply) (made : Result (Unit {0}) DeskFault) → Replies (request_in words) before (Ok reply) served.mid → Makes (acts_of (answer_of reply)) served.mid made after → code ≡ code_after (answer_of reply) made → code ≢ code_of exit.Write → after.write_faults ≡ before.write_faults
-      writes reply made found makes is write = makes_count (acts_of (answer_of reply)) served.mid made after makes (λ e. write (is ∙ ap (code_after (answer_of reply)) e)) ∙ found.write_faults
-
-      takes : (reply : Reply) (made : Result (Unit {0}) DeskFault) → Replies (request_in words) before (Ok reply) served.mid → Makes (acts_of (answer_of reply)) served.mid made after → code ≡ code_after (answer_of reply) made
-          → code ≢ code_of exit.Read → code ≢ code_of exit.Write → code ≢ code_of exit.Memory → after.take_faults ≡ before.take_faults
-      takes reply (Err failed) found makes is read write memory = absurd (elim (after_refused (answer_of reply) failed) [ inl (lacking, comes) ↦ memory (is ∙ comes) | inr (not, comes) ↦ write (is ∙ comes) ])
-      takes reply (Ok tt) found makes is read write memory = makes_keep (acts_of (answer_of reply)) served.mid (Ok tt) after makes ∙ elim found.found [
-        | inl (answers, same) ↦ same
-        | inr (said, rose) ↦ absurd (read (is ∙ ap (λ (a : Answer). code_of a.status) said))
-      ]
-
-      by : (reply : Result Reply NoMemory) → Replies (request_in words) before reply served.mid → IsGiven reply served.mid after code → CountsFailures before after code
-      by (Ok reply) found (made, makes, is) = record { writes = writes reply made found makes is; takes = takes reply made found makes is }
-      by (Err none) found (same, is) = record { writes = λ write. ap (λ (s : DeskState). s.write_faults) same ∙ found.write_faults; takes = λ read write memory. absurd (memory is) }
-
-  pub leaves : Leaves words before after code
-  leaves contents contents' tells tells' = by served.reply served.found served.given
-    where
-      given : (reply : Reply) → Replies (request_in words) before (Ok reply) served.mid → after.take_faults ≡ served.mid.take_faults → IsGivenAnswer words contents before.take_faults after.take_faults (answer_of reply)
-      given reply found kept = elim found.found [
-        | inl (answers, same) ↦ inl (subst (λ t. IsAnswer words t (answer_of reply)) tells answers)
-        | inr (said, rose) ↦ inr (said, rw kept rose)
-      ]
-
-      short : (answer : Answer) (failed : DeskFault) → code ≡ code_after answer (Err failed) → (code ≡ code_of exit.Write) ⊎ (code ≡ code_of exit.Memory)
-      short answer failed is = elim (after_refused answer failed) [ inl (lacking, comes) ↦ inr (is ∙ comes) | inr (not, comes) ↦ inl (is ∙ comes) ]
-
-      held : (Short : Type 0) → TakesFiles (request_in words) Short before served.mid → Holds contents.files contents.said served.mid
-      held Short takes = taken_held (request_in words) Short contents.files contents.said before served.mid (record { contents = contents; tells = tells; files_are = refl; said_is = refl }) takes
-
-      by : (reply : Result Reply NoMemory) → Replies (request_in words) before reply served.mid → IsGiven reply served.mid after code
-          → IsUntouched contents contents' code ⊎ ((answer : Answer) × IsGivenAnswer words contents before.take_faults after.take_faults answer × IsDelivered answer contents contents' code)
-      by (Ok reply) found (Ok tt, makes, is) =
-          inr (answer_of reply, given reply found (makes_keep _ _ _ _ makes), inl (answer_left (answer_of reply) served.mid (Ok tt) after contents contents' (held _ found.calls) tells' makes, is))
-      by (Ok reply) found (Err failed, makes, is) =
-          inr (answer_of reply, given reply found (makes_keep _ _ _ _ makes), inr (answer_left (answer_of reply) served.mid (Err failed) after contents contents' (held _ found.calls) tells' makes, short (answer_of reply) failed is))
-      by (Err none) found (same, is) =
-          let mid = held _ found.calls in
-          let now : contents' ≡ mid.contents = some_is (sym tells' ∙ ap (λ (s : DeskState). s.contents) same ∙ mid.tells) in
-          inl (record { status = is; files = ap (λ (c : Contents). c.files) now ∙ mid.files_are; said = ap (λ (c : Contents). c.said) now ∙ mid.said_is })
+use Rattle.octet_top.proofs.Due.{script_single, log_single, pair_single, comes}
+use Rattle.octet_top.proofs.Left.{get-other}
 
 -- files of other names stay
 other_of_written : (files : List (List ℕ × List ℕ)) (base : Files) (name : List ℕ) → ¬ IsOneOf name (map (λ file. file.0) files) → get (written files base) name ≡ get base name
@@ -98,19 +41,51 @@ names_given : (words : List (List ℕ)) (contents : Contents) (before after : �
 names_given words contents before after answer (inl answers) = answers_row (request_in words) (Some contents) answer answers
 names_given words contents before after answer (inr (is, rose)) = inr (record { status = ap (λ (a : Answer). is_refusal a.status) is; files = ap (λ (a : Answer). a.files) is })
 
-module _ (words : List (List ℕ)) (before after : DeskState) (code : ℕ) (left : Leaves words before after code) where
-  keeps_others : KeepsOthers words before after
-  keeps_others contents contents' name tells tells' other = elim (left contents contents' tells tells') [
-    | inl untouched ↦ ap (λ (fs : Files). get fs name) untouched.files
+module _ (words : List (List ℕ)) (before after : DeskState) (code : ℕ) (served : IsServed (request_in words) before after code) where
+  pub status : IsStatus code
+  status = by (ended words before after code served)
+    where
+      by : Ending words before after code → IsStatus code
+      by (Whole answer found is same left) = (answer.status, is)
+      by (CutShort answer found is rose left) = (exit.Write, is)
+      by (Lacking is same left) = (exit.Memory, is)
+
+  pub counts : CountsFailures before after code
+  counts = by (ended words before after code served)
+    where
+      by : Ending words before after code → CountsFailures before after code
+      by (Whole answer (inl (answers, kept)) is same left) = record { writes = λ write. same; takes = λ read write memory. kept }
+      by (Whole answer (inr (said, rose)) is same left) = record { writes = λ write. same; takes = λ read write memory. absurd (read (is ∙ ap (λ (a : Answer). code_of a.status) said)) }
+      by (CutShort answer found is rose left) = record { writes = λ write. absurd (write is); takes = λ read write memory. absurd (write is) }
+      by (Lacking is same left) = record { writes = λ write. same; takes = λ read write memory. absurd (memory is) }
+
+  pub leaves : Leaves words before after code
+  leaves contents contents' tells tells' = by (ended words before after code served)
+    where
+      given : (answer : Answer) → IsFound words before after answer → IsGivenAnswer words contents before.take_faults after.take_faults answer
+      given answer (inl (answers, same)) = inl (subst (λ t. IsAnswer words t answer) tells answers)
+      given answer (inr failed) = inr failed
+
+      by : Ending words before after code → IsUntouched contents contents' code ⊎ ((answer : Answer) × IsGivenAnswer words contents before.take_faults after.take_faults answer × IsDelivered answer contents contents' code)
+      by (Whole answer found is same left) = inr (answer, given answer found, inl (left contents contents' tells tells', is))
+      by (CutShort answer found is rose left) = inr (answer, given answer found, inr (left contents contents' tells tells', inl is))
+      by (Lacking is same left) = elim (left contents contents' tells tells') [
+        | inl (files, said) ↦ inl (record { status = is; files = files; said = said })
+        | inr (answer, found, short) ↦ inr (answer, given answer found, inr (short, inr is))
+      ]
+
+  pub others : KeepsOthers words before after
+  others contents contents' name tells tells' other = elim (leaves contents contents' tells tells') [
+    | inl nothing ↦ ap (λ (fs : Files). get fs name) nothing.files
     | inr (answer, given, delivered) ↦ other_of_left answer contents contents' code name (elim (names_given words contents _ _ answer given) [
       | inl whole ↦ λ one. other (subst (IsOneOf name) whole.files one)
       | inr refused ↦ λ one. subst (λ (fs : List (List ℕ × List ℕ)). IsOneOf name (map (λ file. file.0) fs)) refused.files one
     ]) delivered
   ]
 
-  keeps_files : KeepsFiles before after code
-  keeps_files contents contents' tells tells' done write memory = elim (left contents contents' tells tells') [
-    | inl untouched ↦ untouched.files
+  pub untouched : KeepsFiles before after code
+  untouched contents contents' tells tells' done write memory = elim (leaves contents contents' tells tells') [
+    | inl nothing ↦ nothing.files
     | inr (answer, given, inr (short, inl is)) ↦ absurd (write is)
     | inr (answer, given, inr (short, inr is)) ↦ absurd (memory is)
     | inr (answer, given, inl (whole, is)) ↦ elim (names_given words contents _ _ answer given) [
@@ -118,12 +93,6 @@ module _ (words : List (List ℕ)) (before after : DeskState) (code : ℕ) (left
       | inr refused ↦ whole.files ∙ ap (λ (fs : List (List ℕ × List ℕ)). written fs contents.files) refused.files
     ]
   ]
-
-pub others : (words : List (List ℕ)) (before after : DeskState) (code : ℕ) → IsServed (request_in words) before after code → KeepsOthers words before after
-others words before after code served = keeps_others words before after code (leaves words before after code served)
-
-pub untouched : (words : List (List ℕ)) (before after : DeskState) (code : ℕ) → IsServed (request_in words) before after code → KeepsFiles before after code
-untouched words before after code served = keeps_files words before after code (leaves words before after code served)
 
 -- where all files are as they should be, each answer is done
 met_done : (request : Request) (contents : Contents) (answer : Answer) → HasFiles request contents → RequestAnswers request (Some contents) answer → answer.status ≡ exit.Done
@@ -148,15 +117,7 @@ met_done (Gen number script log) contents answer met answers = elim (request_row
 -- and that status comes, where no call fails, unless memory was refused
 pub complete : (words : List (List ℕ)) (before after : DeskState) (code : ℕ) → IsServed (request_in words) before after code → (contents : Contents) → before.contents ≡ Some contents → IsWellMet words contents → NoneFailed before after
     → (code ≡ code_of exit.Done) ⊎ (code ≡ code_of exit.Memory)
-complete words before after code served contents tells (request, asked, met) none = by served.reply served.found served.given
-  where
-    by : (reply : Result Reply NoMemory) → Replies (request_in words) before reply served.mid → IsGiven reply served.mid after code → (code ≡ code_of exit.Done) ⊎ (code ≡ code_of exit.Memory)
-    by (Err lacking) found (same, is) = inr is
-    by (Ok reply) found (Ok tt, makes, is) = elim found.found [
-      | inl (answers, same) ↦ inl (is ∙ ap code_of (met_done request contents (answer_of reply) met (subst (λ r. Answers r (Some contents) (answer_of reply)) asked (subst (λ t. Answers (request_in words) t (answer_of reply)) tells answers))))
-      | inr (said, rose) ↦ absurd (none.takes (rw (makes_keep (acts_of (answer_of reply)) served.mid (Ok tt) after makes) rose))
-    ]
-    by (Ok reply) found (Err failed, makes, is) = elim (after_refused (answer_of reply) failed) [
-      | inl (lacking, comes) ↦ inr (is ∙ comes)
-      | inr (not, comes) ↦ absurd (none.writes (rw (← found.write_faults) (makes_fail (acts_of (answer_of reply)) served.mid failed after makes not)))
-    ]
+complete words before after code served contents tells (request, asked, met) none = elim (comes words before after code served contents tells none) [
+  | inl memory ↦ inr memory
+  | inr (answer, answers, is) ↦ inl (is ∙ ap code_of (met_done request contents answer met (subst (λ r. Answers r (Some contents) answer) asked answers)))
+]

@@ -1,6 +1,6 @@
 -- What the calls of an answer leave, given whole or cut short.
 use Rattle.octet_model.specs.declared.limits.TheConstants.{MAX_LOG_FILE, MAX_SCRIPT_FILE}
-use Rattle.std.proofs.Common.{◌≡◌, ◌≢◌, ◌∙◌, ◌++◌, ◌≤◌, ◌<◌, ◌⊎◌, ℕ, zero, suc, List, [], ◌∷◌, map, take, drop, length, append_assoc, append-nil, Option, None, Some, Result, Ok, Err, Bool, true, false, cond, inl, inr, refl, sym, subst, ap, nat_cmp, arith}
+use Rattle.std.proofs.Common.{◌≡◌, ◌≢◌, ◌∙◌, ◌++◌, ◌≤◌, ◌<◌, ◌+◌, ◌⊎◌, ℕ, zero, suc, List, [], ◌∷◌, map, take, drop, length, append_assoc, append-nil, Option, None, Some, Result, Ok, Err, Bool, true, false, cond, inl, inr, refl, sym, subst, ap, nat_cmp, arith}
 use Rattle.std.specs.List.{flat_map}
 use Rattle.std.specs.Option.{unwrap_or}
 use Rattle.std.specs.Ordering.{eq_by_cmp}
@@ -9,7 +9,8 @@ use Rattle.std.specs.Cmp.Lexicographic.{slice_cmp, nat_list_cmp_total, texts_tie
 use Rattle.std.specs.Str.{bytes_eq}
 use Rattle.std.proofs.lemmas.Slice.Eq.{bytes_eq-Decides}
 use Rattle.std.specs.FinMap.{get, insert, get-insert, same_map, slice_cmp-IsAntisymmetric, nat_cmp-IsAntisymmetric}
-use Rattle.std.proofs.lemmas.List.{take-append-drop, length-drop}
+use Rattle.std.proofs.lemmas.List.{take-append-drop, take-append-le, length-drop}
+use Rattle.std.proofs.Math.Seq.{take-append-add}
 use Rattle.std.specs.Global.{Vec}
 use Rattle.octet_base.specs.Desk.{Files, Contents, DeskState, Adds, IsCalled, with_call, with_bytes, with_empty, with_said}
 use Rattle.octet_base.specs.declared.call.Call.{Call}
@@ -19,7 +20,7 @@ use Rattle.octet_top.specs.Answer.{Answer}
 use Rattle.octet_top.specs.Request.{Request, OfScript, OfLog, OfPair, Run, Gen}
 use Rattle.octet_top.specs.Inputs.{TakesOne}
 use Rattle.octet_top.specs.Replies.{TakesFiles}
-use Rattle.octet_top.specs.Delivery.{Act, Add, Finish, Say, Makes, IsRefused, pieces_within, file_acts, acts_of}
+use Rattle.octet_top.specs.Delivery.{Act, Add, Finish, Say, Makes, IsRefused, pieces, pieces_within, file_acts, acts_of}
 use Rattle.octet_top.specs.Outputs.{written, ArePartlyWritten, IsWhole, IsCutShort, IsLeft}
 
 pub some_is : {x y : Contents} → Some x ≡ Some y → x ≡ y
@@ -54,18 +55,16 @@ insert-insert files name before bytes =
 more_bytes : (base : Files) (name done piece : List ℕ) → insert (insert base name done) name (unwrap_or (get (insert base name done) name) [] ++ piece) ≡ insert base name (done ++ piece)
 more_bytes base name done piece = insert-insert base name done _ ∙ ap (λ o. insert base name (unwrap_or o [] ++ piece)) (get-inserted base name done)
 
--- first bytes of first bytes, and first bytes after those
-front_of_front : (k n : ℕ) (bytes : List ℕ) → (m : ℕ) × (take k (take n bytes) ≡ take m bytes)
-front_of_front zero n bytes = (0, refl)
-front_of_front (suc k) zero bytes = (0, refl)
-front_of_front (suc k) (suc n) [] = (0, refl)
-front_of_front (suc k) (suc n) (byte ∷ bytes) = let rest = front_of_front k n bytes in (suc rest.0, ap (λ (bs : List ℕ). byte ∷ bs) rest.1)
+-- all bytes of the pieces
+abbrev joined : List (List ℕ) → List ℕ
+joined pieces = flat_map (λ piece. piece) pieces
 
-front_after : (n k : ℕ) (bytes : List ℕ) → (m : ℕ) × (take n bytes ++ take k (drop n bytes) ≡ take m bytes)
-front_after zero k bytes = (k, refl)
-front_after (suc n) zero [] = (0, refl)
-front_after (suc n) (suc k) [] = (0, refl)
-front_after (suc n) k (byte ∷ bytes) = let rest = front_after n k bytes in (suc rest.0, ap (λ (bs : List ℕ). byte ∷ bs) rest.1)
+pieces_joined : (size n : ℕ) (bytes : List ℕ) → 0 < size → length bytes ≤ n → joined (pieces_within size n bytes) ≡ bytes
+pieces_joined size n [] some room = refl
+pieces_joined size zero (byte ∷ bytes) some room = absurd (omega (arith, room))
+pieces_joined size (suc n) (byte ∷ bytes) some room =
+    ap (λ rest. take size (byte ∷ bytes) ++ rest) (pieces_joined size n (drop size (byte ∷ bytes)) some (omega (arith, length-drop size (byte ∷ bytes), some, room)))
+    ∙ take-append-drop size (byte ∷ bytes)
 
 -- a desk tells these files, and that these bytes were said
 pub record Holds (files : Files) (said : List ℕ) (state : DeskState) : Type 0 where
@@ -121,39 +120,25 @@ module _ (base : Files) (name : List ℕ) (said : List ℕ) where
   IsAdded done bytes (Ok all) after = Holds (insert base name (done ++ bytes)) said after
   IsAdded done bytes (Err fault) after = (k : ℕ) × Holds (insert base name (done ++ take k bytes)) said after
 
-  nothing_added : (done bytes : List ℕ) (fault : DeskFault) (after : DeskState) → Holds (insert base name done) said after → IsAdded done bytes (Err fault) after
-  nothing_added done bytes fault after holds = (0, rw (append-nil done) holds)
-
-  piece_added : (done piece : List ℕ) (fault : DeskFault) (before after : DeskState) → before.begun ≡ Some name → Holds (insert base name done) said before → Adds piece before (Err fault) after
-      → (k : ℕ) × Holds (insert base name (done ++ take k piece)) said after
-  piece_added done piece fault before after begun holds adds = elim adds.refused [
-    | inl called ↦ (0, rw (append-nil done) (held_called {T = Unit {0}} (Err fault) _ _ _ before after holds called))
-    | inr (n, within, is) ↦ (n, bytes_held done (take n piece) _ before after begun holds is)
-  ]
-
-  rest_added : (size n : ℕ) (bytes done : List ℕ) (before : DeskState) (result : Result (Unit {0}) DeskFault) (after : DeskState) → 0 < size → length bytes ≤ n → before.begun ≡ Some name → Holds (insert base name done) said before
-      → Makes (map Add (pieces_within size n bytes) ++ Finish ∷ []) before result after → IsAdded done bytes result after
-  rest_added size n [] done before (Ok tt) after some room begun holds (inl never) = absurd never.0
-  rest_added size n [] done before (Err fault) after some room begun holds (inl (refused, finishes)) =
-      nothing_added done [] fault after (held_called {T = Unit {0}} (Err fault) call.Finish _ _ before after holds (inl finishes.contents))
-  rest_added size n [] done before result after some room begun holds (inr (mid, finishes, (ok, is))) =
+  rest_added : (pieces : List (List ℕ)) (done : List ℕ) (before : DeskState) (result : Result (Unit {0}) DeskFault) (after : DeskState) → before.begun ≡ Some name → Holds (insert base name done) said before
+      → Makes (map Add pieces ++ Finish ∷ []) before result after → IsAdded done (joined pieces) result after
+  rest_added [] done before (Ok tt) after begun holds (inl never) = absurd never.0
+  rest_added [] done before (Err fault) after begun holds (inl (refused, finishes)) =
+      (0, rw (append-nil done) (held_called {T = Unit {0}} (Err fault) call.Finish _ _ before after holds (inl finishes.contents)))
+  rest_added [] done before result after begun holds (inr (mid, finishes, (ok, is))) =
       subst (λ r. IsAdded done [] r after) (sym ok) (rw (is, append-nil done) (held_called {T = Unit {0}} (Ok tt) call.Finish _ _ before mid holds (inl finishes.contents)))
-  rest_added size zero (byte ∷ bytes) done before result after some room begun holds makes = absurd (omega (arith, room))
-  rest_added size (suc n) (byte ∷ bytes) done before (Ok tt) after some room begun holds (inl never) = absurd never.0
-  rest_added size (suc n) (byte ∷ bytes) done before (Err fault) after some room begun holds (inl (refused, adds)) =
-      let added = piece_added done (take size (byte ∷ bytes)) fault before after begun holds adds in
-      let front = front_of_front added.0 size (byte ∷ bytes) in
-      (front.0, rw (← front.1) added.1)
-  rest_added size (suc n) (byte ∷ bytes) done before result after some room begun holds (inr (mid, adds, makes)) =
-      more result (rest_added size n (drop size (byte ∷ bytes)) (done ++ take size (byte ∷ bytes)) mid result after some (omega (arith, length-drop size (byte ∷ bytes), some, room)) (adds.begun ∙ begun)
-      (bytes_held done (take size (byte ∷ bytes)) _ before mid begun holds adds.done) makes)
+  rest_added (piece ∷ pieces) done before (Ok tt) after begun holds (inl never) = absurd never.0
+  rest_added (piece ∷ pieces) done before (Err fault) after begun holds (inl (refused, adds)) = elim adds.refused [
+    | inl called ↦ (0, rw (append-nil done) (held_called {T = Unit {0}} (Err fault) _ _ _ before after holds called))
+    | inr (n, within, is) ↦ (n, rw (take-append-le n piece (joined pieces) within) (bytes_held done (take n piece) _ before after begun holds is))
+  ]
+  rest_added (piece ∷ pieces) done before result after begun holds (inr (mid, adds, makes)) =
+      more result (rest_added pieces (done ++ piece) mid result after (adds.begun ∙ begun) (bytes_held done piece _ before mid begun holds adds.done) makes)
     where
-      more : (result : Result (Unit {0}) DeskFault) → IsAdded (done ++ take size (byte ∷ bytes)) (drop size (byte ∷ bytes)) result after → IsAdded done (byte ∷ bytes) result after
-      more (Ok tt) added =
-          subst (λ bs. Holds (insert base name bs) said after) (append_assoc done (take size (byte ∷ bytes)) (drop size (byte ∷ bytes)) ∙ ap (λ r. done ++ r) (take-append-drop size (byte ∷ bytes))) added
+      more : (result : Result (Unit {0}) DeskFault) → IsAdded (done ++ piece) (joined pieces) result after → IsAdded done (piece ++ joined pieces) result after
+      more (Ok tt) added = subst (λ bytes. Holds (insert base name bytes) said after) (append_assoc done piece (joined pieces)) added
       more (Err fault) (k, added) =
-          let front = front_after size k (byte ∷ bytes) in
-          (front.0, subst (λ bs. Holds (insert base name bs) said after) (append_assoc done (take size (byte ∷ bytes)) (take k (drop size (byte ∷ bytes))) ∙ ap (λ r. done ++ r) front.1) added)
+          (length piece + k, subst (λ bytes. Holds (insert base name bytes) said after) (append_assoc done piece (take k (joined pieces)) ∙ ap (λ rest. done ++ rest) (sym (take-append-add piece (joined pieces) k))) added)
 
 -- files are written, and nothing is said
 abbrev AreLeft : List (List ℕ × List ℕ) → Files → List ℕ → Result (Unit {0}) DeskFault → DeskState → Type 0
@@ -177,7 +162,8 @@ file_left file base said before (Err fault) after holds (inl (refused, begins)) 
   | inr is ↦ (insert base file.0 [], begun_held file base said before after holds is, inl (inr (0, refl)))
 ]
 file_left file base said before result after holds (inr (mid, begins, makes)) =
-    by result (rest_added base file.0 said 65536 (length file.1) file.1 [] mid result after (omega arith) (omega arith) begins.begun_done (begun_held file base said before mid holds begins.done) makes)
+    by result (subst (λ bytes. IsAdded base file.0 said [] bytes result after) (pieces_joined 65536 (length file.1) file.1 (omega arith) (omega arith))
+    (rest_added base file.0 said (pieces file.1) [] mid result after begins.begun_done (begun_held file base said before mid holds begins.done) makes))
   where
     by : (result : Result (Unit {0}) DeskFault) → IsAdded base file.0 said [] file.1 result after → AreLeft (file ∷ []) base said result after
     by (Ok tt) added = added

@@ -4,8 +4,8 @@ pub mod Counted
 pub mod Rows
 pub mod Found
 pub mod Made
+pub mod Left
 pub mod Causes
 pub mod Due
-pub mod Left
 pub mod Effects
 pub mod Promises

@@ -35,12 +35,6 @@ abbrev pub Records : Way → Script → Log → Outcome → Type 0
 Records AsTheyCome script log outcome = IsFaithful script log.threads outcome
 Records (ByPicks picks) script log outcome = IsFaithful script log.threads outcome × IsPlayed script picks (record { log = log; outcome = outcome })
 
--- a log and an outcome are recorded: the log's bytes are written, and the outcome is said
-abbrev pub IsRecording : Way → List ℕ → Script → Answer → Type 0
-IsRecording way log_name script answer =
-    (log : Log) × (outcome : Outcome) × Records way script log outcome
-    × (answer ≡ writes_file log_name (log_bytes log.threads) (outcome_text script outcome))
-
 -- the generated script of a number, and a log and an outcome that are a faithful recording of it: the script's canonical text and then the log's bytes are written, and the summary is said
 abbrev pub IsGeneration : ℕ → List ℕ → List ℕ → Answer → Type 0
 IsGeneration number script_name log_name answer =
@@ -53,18 +47,6 @@ Fitting Next script log answer =
     ((fault : ReplayFault) × (fault ≢ OutOfMemory) × HasCause script log fault × (answer ≡ does_not_fit fault))
     ⊎ (IsLawful script log × Next answer)
 
--- the outcome of the lowest order is said
-abbrev pub SaysOutcome : Script → List ThreadLog → Answer → Type 0
-SaysOutcome script log answer = answer ≡ says Done (outcome_text script (execution script log (lowest_order script log)))
-
--- the verdict on the journals of the lowest order is said
-abbrev pub SaysVerdict : Script → List ThreadLog → Answer → Type 0
-SaysVerdict script log answer = (verdict : Verdict) × IsVerified script log verdict × (answer ≡ verdict_said verdict)
-
--- the counts over the journals of the lowest order are said
-abbrev pub SaysCounts : Option ℕ → Script → List ThreadLog → Answer → Type 0
-SaysCounts wanted script log answer = answer ≡ says Done (profile_text wanted (journals_after script log (lowest_order script log)))
-
 -- the answer of each task on a script
 abbrev pub ScriptAnswers : ScriptTask → Source → Answer → Type 0
 ScriptAnswers Tidy source answer = answer ≡ says Done (canonical_text source.script)
@@ -73,19 +55,21 @@ ScriptAnswers Tidy source answer = answer ≡ says Done (canonical_text source.s
 abbrev pub LogAnswers : LogTask → Log → Answer → Type 0
 LogAnswers Show log answer = answer ≡ says Done (log_text log.threads)
 
--- what each on a script and a log says where the log fits
+-- what each on a script and a log says where the log fits, of the lowest order: its outcome, the verdict on its journals, or the counts over them
 abbrev pub PairSays : PairTask → Pair → Answer → Type 0
-PairSays Replay pair = SaysOutcome pair.source.script pair.log.threads
-PairSays Verify pair = SaysVerdict pair.source.script pair.log.threads
-PairSays Profile pair = SaysCounts pair.wanted pair.source.script pair.log.threads
+PairSays Replay pair answer = answer ≡ says Done (outcome_text pair.source.script (execution pair.source.script pair.log.threads (lowest_order pair.source.script pair.log.threads)))
+PairSays Verify pair answer = (verdict : Verdict) × IsVerified pair.source.script pair.log.threads verdict × (answer ≡ verdict_said verdict)
+PairSays Profile pair answer = answer ≡ says Done (profile_text pair.wanted (journals_after pair.source.script pair.log.threads (lowest_order pair.source.script pair.log.threads)))
 
 -- and its answer
 abbrev pub PairAnswers : PairTask → Pair → Answer → Type 0
 PairAnswers task pair answer = Fitting (PairSays task pair) pair.source.script pair.log.threads answer
 
--- the answer of each way to run a script
+-- the answer of each way to run a script: a log and an outcome are recorded, the log's bytes are written, and the outcome is said
 abbrev pub RunAnswers : Way → List ℕ → Source → Answer → Type 0
-RunAnswers way log_name source answer = IsRecording way log_name source.script answer
+RunAnswers way log_name source answer =
+    (log : Log) × (outcome : Outcome) × Records way source.script log outcome
+    × (answer ≡ writes_file log_name (log_bytes log.threads) (outcome_text source.script outcome))
 
 -- reading is refused, or the command answers by what was read
 abbrev pub Answering : {T : Type 0} → (Result T Answer → Type 0) → (T → Answer → Type 0) → Answer → Type 0

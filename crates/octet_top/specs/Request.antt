@@ -1,13 +1,10 @@
 -- What words ask for, and which files that takes and writes.
-use Rattle.octet_model.specs.declared.limits.TheConstants.{MAX_LOG_FILE, MAX_SCRIPT_FILE}
 use Rattle.std.specs.Prelude.{ℕ, List, [], ◌∷◌, map, codes, if◌then◌else◌, Option, Some, None, String, string_bytes}
 use denote.Ref.{Bor}
 use Rattle.std.specs.Option.{option_map}
 use Rattle.std.specs.Str.{bytes_eq}
 use Rattle.std.specs.Char.{digit_value}
 use Rattle.std.specs.Global.{Global}
-use Rattle.octet_base.specs.declared.call.Call.{Call}
-use Rattle.octet_base.specs.declared.call.Call.TheVariants.{Take}
 use Rattle.octet_script.specs.Spelling.{number_of}
 use Rattle.octet_top.specs.Picks.{are_picks}
 use Rattle.octet_top.specs.declared.request.ScriptTask.{ScriptTask}
@@ -40,40 +37,17 @@ pub data Request : Type 0 where
   Run : (way : Way) (script log : List ℕ) → Request
   Gen : (number : ℕ) (script log : List ℕ) → Request
 
--- the word of each task on a script
-abbrev pub script_task : List ℕ → Option ScriptTask
-script_task word = if bytes_eq word (codes "tidy") then Some Tidy else None
-
--- of each on a log
-abbrev pub log_task : List ℕ → Option LogTask
-log_task word = if bytes_eq word (codes "show") then Some Show else None
-
--- of each on a script and a log
-abbrev pub pair_task : List ℕ → Option PairTask
-pair_task word =
-    if bytes_eq word (codes "replay") then Some Replay
-    else (if bytes_eq word (codes "verify") then Some Verify
-    else (if bytes_eq word (codes "profile") then Some Profile else None))
-
--- of each way to run a script
-abbrev pub way_of : List ℕ → Option Way
-way_of word = if bytes_eq word (codes "run") then Some AsTheyCome else (if bytes_eq word (codes "locked") then Some AsTheyCome else None)
-
--- of a run by picks, and these
-abbrev pub way_by_picks : List ℕ → List ℕ → Option Way
-way_by_picks word picks = if bytes_eq word (codes "turns") then (if are_picks picks then Some (ByPicks (map digit_value picks)) else None) else None
-
--- the first of the two, if it is there
-abbrev pub or_else : {A : Type 0} → Option A → Option A → Option A
-or_else None other = other
-or_else (Some x) other = Some x
-
 -- what two, three and four words ask for that starts no thread
 abbrev pub reading_of_two : List ℕ → List ℕ → Option Request
-reading_of_two word file = or_else (option_map (λ t. OfScript t file) (script_task word)) (option_map (λ t. OfLog t file) (log_task word))
+reading_of_two word file =
+    if bytes_eq word (codes "tidy") then Some (OfScript Tidy file)
+    else (if bytes_eq word (codes "show") then Some (OfLog Show file) else None)
 
 abbrev pub reading_of_three : List ℕ → List ℕ → List ℕ → Option Request
-reading_of_three word script log = option_map (λ t. OfPair t script log None) (pair_task word)
+reading_of_three word script log =
+    if bytes_eq word (codes "replay") then Some (OfPair Replay script log None)
+    else (if bytes_eq word (codes "verify") then Some (OfPair Verify script log None)
+    else (if bytes_eq word (codes "profile") then Some (OfPair Profile script log None) else None))
 
 abbrev pub reading_of_four : List ℕ → List ℕ → List ℕ → List ℕ → Option Request
 reading_of_four word script log object = if bytes_eq word (codes "profile") then Some (OfPair Profile script log (Some object)) else None
@@ -86,29 +60,28 @@ reading_in _ = None
 
 -- what three and four words ask for that runs a script
 abbrev pub running_of_three : List ℕ → List ℕ → List ℕ → Option Request
-running_of_three word script log = option_map (λ w. Run w script log) (way_of word)
+running_of_three word script log =
+    if bytes_eq word (codes "run") then Some (Run AsTheyCome script log)
+    else (if bytes_eq word (codes "locked") then Some (Run AsTheyCome script log) else None)
 
 abbrev pub running_of_four : List ℕ → List ℕ → List ℕ → List ℕ → Option Request
 running_of_four word first second third =
     if bytes_eq word (codes "gen") then option_map (λ n. Gen n second third) (number_of first)
-    else option_map (λ w. Run w first second) (way_by_picks word third)
+    else (if bytes_eq word (codes "turns") then (if are_picks third then Some (Run (ByPicks (map digit_value third)) first second) else None) else None)
 
 abbrev pub running_in : List (List ℕ) → Option Request
 running_in (word ∷ script ∷ log ∷ []) = running_of_three word script log
 running_in (word ∷ first ∷ second ∷ third ∷ []) = running_of_four word first second third
 running_in _ = None
 
+-- the first of the two, if it is there
+abbrev pub or_else : {A : Type 0} → Option A → Option A → Option A
+or_else None other = other
+or_else (Some x) other = Some x
+
 -- what words ask for, if they ask for anything
 abbrev pub request_in : List (List ℕ) → Option Request
 request_in words = or_else (running_in words) (reading_in words)
-
--- the calls that take its files, each with its own limit, in order
-abbrev pub takes_of : Request → List Call
-takes_of (OfScript task script) = Take script MAX_SCRIPT_FILE ∷ []
-takes_of (OfLog task log) = Take log MAX_LOG_FILE ∷ []
-takes_of (OfPair task script log object) = Take script MAX_SCRIPT_FILE ∷ Take log MAX_LOG_FILE ∷ []
-takes_of (Run way script log) = Take script MAX_SCRIPT_FILE ∷ []
-takes_of (Gen number script log) = []
 
 -- the files that it writes, in order
 abbrev pub outputs_of : Request → List (List ℕ)

@@ -30,12 +30,7 @@ pub(crate) fn are_picks(word: &str) -> bool
 fn are_hexadecimal(digits: &[u8]) -> bool
     ensures { result ≡ list_all is_ascii_hexdigit digits.now }
 {
-    for digit in digits {
-        if !digit.is_ascii_hexdigit() {
-            return false;
-        }
-    }
-    true
+    digits.iter().all(|digit| digit.is_ascii_hexdigit())
 }
 
 /// The values of the digits.

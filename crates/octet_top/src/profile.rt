@@ -28,39 +28,21 @@ pub(crate) fn profile(alloc: Global, pair: &Pair) -> Result<Reply, OutOfMemory>
     Ok(Reply::saying(alloc, Status::Done, text))
 }
 
-/// The class of an event.
+/// The class of an event: its kind, or what it does to one object.
 fn class_of(wanted: Option<usize>, event: &Event) -> u32
     ensures { result ≡ class_of wanted event.now }
 {
-    match wanted {
-        None => kind_of(event),
-        Some(object) => use_of(object, event),
-    }
-}
-
-/// The class of an event by its kind.
-fn kind_of(event: &Event) -> u32
-    ensures { result ≡ class_of None event.now }
-{
-    match event {
-        Event::Read { .. } => 0,
-        Event::Write { .. } => 1,
-        Event::Marked {
-            mark: Mark::Join { .. },
-        } => 2,
-        Event::Marked {
-            mark: Mark::Draw { .. },
-        } => 3,
-        Event::Marked {
-            mark: Mark::Fence { .. },
-        } => 4,
-    }
-}
-
-/// The class of an event by what it does to one object.
-fn use_of(wanted: usize, event: &Event) -> u32
-    ensures { result ≡ class_of (Some wanted) event.now }
-{
+    let Some(wanted) = wanted else {
+        return match event {
+            Event::Read { .. } => 0,
+            Event::Write { .. } => 1,
+            Event::Marked { mark } => match mark {
+                Mark::Join { .. } => 2,
+                Mark::Draw { .. } => 3,
+                Mark::Fence { .. } => 4,
+            },
+        };
+    };
     match event {
         Event::Read { object, .. } if usize::from(*object) == wanted => 0,
         Event::Write { object, .. } if usize::from(*object) == wanted => 1,

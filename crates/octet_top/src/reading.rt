@@ -5,15 +5,12 @@ ghost use Rattle.octet_top.specs.Request.{shown_reading, name_in, OfScript, OfLo
 ghost use Rattle.octet_top.specs.Commands.{ScriptAnswers, LogAnswers, PairAnswers};
 ghost use Rattle.octet_top.specs.Replies.{Replies};
 
+use crate::commands::{replay, show, tidy, verify};
 use crate::inputs::{Pair, Source, read_log, read_pair, read_script};
 use crate::profile::profile;
 use crate::refusal::refused;
-use crate::replay::replay;
 use crate::reply::Reply;
 use crate::request::{LogTask, PairTask, Reading, ScriptTask};
-use crate::show::show;
-use crate::tidy::tidy;
-use crate::verify::verify;
 use octet_base::Desk;
 use octet_model::{Log, OutOfMemory};
 use std::alloc::Global;

@@ -1,7 +1,7 @@
 //! What words ask for: which task, and of which files.
 ghost use Rattle.std.specs.Prelude.{◌≡◌, ◌∷◌, []};
 ghost use Rattle.std.specs.Option.{option_map};
-ghost use Rattle.octet_top.specs.Request.{texts, shown_reading, shown_running, reading_in, running_in, script_task, log_task, pair_task, way_of, way_by_picks, shown_task, reading_of_two, reading_of_three, reading_of_four, running_of_three, running_of_four};
+ghost use Rattle.octet_top.specs.Request.{texts, shown_reading, shown_running, reading_in, running_in, reading_of_two, reading_of_three, reading_of_four, running_of_three, running_of_four};
 
 use crate::picks::are_picks;
 use octet_script::number_of;
@@ -73,62 +73,6 @@ pub(crate) enum Running<'a> {
     },
 }
 
-fn script_task(word: &str) -> Option<ScriptTask>
-    ensures { result ≡ script_task word.now }
-{
-    if word == "tidy" {
-        Some(ScriptTask::Tidy)
-    } else {
-        None
-    }
-}
-
-fn log_task(word: &str) -> Option<LogTask>
-    ensures { result ≡ log_task word.now }
-{
-    if word == "show" {
-        Some(LogTask::Show)
-    } else {
-        None
-    }
-}
-
-fn pair_task(word: &str) -> Option<PairTask>
-    ensures { result ≡ pair_task word.now }
-{
-    if word == "replay" {
-        Some(PairTask::Replay)
-    } else if word == "verify" {
-        Some(PairTask::Verify)
-    } else if word == "profile" {
-        Some(PairTask::Profile)
-    } else {
-        None
-    }
-}
-
-fn run_task(word: &str) -> Option<RunTask<'static>>
-    ensures { option_map shown_task result ≡ way_of word.now }
-{
-    if word == "run" {
-        Some(RunTask::Run)
-    } else if word == "locked" {
-        Some(RunTask::Locked)
-    } else {
-        None
-    }
-}
-
-fn turns_task<'a>(word: &str, picks: &'a str) -> Option<RunTask<'a>>
-    ensures { option_map shown_task result ≡ way_by_picks word.now picks.now }
-{
-    if word == "turns" && are_picks(picks) {
-        Some(RunTask::Turns { picks })
-    } else {
-        None
-    }
-}
-
 /// The reading that words ask for, if they ask for one.
 pub(crate) fn reading_of(words: &[String]) -> Option<Reading<'_>>
     ensures { option_map shown_reading result ≡ reading_in (texts words.now) }
@@ -149,27 +93,34 @@ pub(crate) fn reading_of(words: &[String]) -> Option<Reading<'_>>
 fn reading_of_two<'a>(word: &str, file: &'a str) -> Option<Reading<'a>>
     ensures { option_map shown_reading result ≡ reading_of_two word.now file.now }
 {
-    if let Some(task) = script_task(word) {
-        return Some(Reading::OfScript { task, script: file });
+    match word {
+        "tidy" => Some(Reading::OfScript {
+            task: ScriptTask::Tidy,
+            script: file,
+        }),
+        "show" => Some(Reading::OfLog {
+            task: LogTask::Show,
+            log: file,
+        }),
+        _ => None,
     }
-    if let Some(task) = log_task(word) {
-        return Some(Reading::OfLog { task, log: file });
-    }
-    None
 }
 
 fn reading_of_three<'a>(word: &str, script: &'a str, log: &'a str) -> Option<Reading<'a>>
     ensures { option_map shown_reading result ≡ reading_of_three word.now script.now log.now }
 {
-    if let Some(task) = pair_task(word) {
-        return Some(Reading::OfPair {
-            task,
-            script,
-            log,
-            object: None,
-        });
-    }
-    None
+    let task = match word {
+        "replay" => PairTask::Replay,
+        "verify" => PairTask::Verify,
+        "profile" => PairTask::Profile,
+        _ => return None,
+    };
+    Some(Reading::OfPair {
+        task,
+        script,
+        log,
+        object: None,
+    })
 }
 
 fn reading_of_four<'a>(
@@ -180,15 +131,15 @@ fn reading_of_four<'a>(
 ) -> Option<Reading<'a>>
     ensures { option_map shown_reading result ≡ reading_of_four word.now script.now log.now object.now }
 {
-    if word == "profile" {
-        return Some(Reading::OfPair {
+    match word {
+        "profile" => Some(Reading::OfPair {
             task: PairTask::Profile,
             script,
             log,
             object: Some(object),
-        });
+        }),
+        _ => None,
     }
-    None
 }
 
 /// The run that words ask for, if they ask for one.
@@ -210,10 +161,12 @@ pub(crate) fn running_of(words: &[String]) -> Option<Running<'_>>
 fn running_of_three<'a>(word: &str, script: &'a str, log: &'a str) -> Option<Running<'a>>
     ensures { option_map shown_running result ≡ running_of_three word.now script.now log.now }
 {
-    if let Some(task) = run_task(word) {
-        return Some(Running::OfScript { task, script, log });
-    }
-    None
+    let task = match word {
+        "run" => RunTask::Run,
+        "locked" => RunTask::Locked,
+        _ => return None,
+    };
+    Some(Running::OfScript { task, script, log })
 }
 
 fn running_of_four<'a>(
@@ -224,22 +177,17 @@ fn running_of_four<'a>(
 ) -> Option<Running<'a>>
     ensures { option_map shown_running result ≡ running_of_four word.now first.now second.now third.now }
 {
-    if word == "gen" {
-        if let Some(number) = number_of(first.as_bytes()) {
-            return Some(Running::Gen {
-                number,
-                script: second,
-                log: third,
-            });
-        }
-        return None;
-    }
-    if let Some(task) = turns_task(word, third) {
-        return Some(Running::OfScript {
-            task,
+    match word {
+        "gen" => Some(Running::Gen {
+            number: number_of(first.as_bytes())?,
+            script: second,
+            log: third,
+        }),
+        "turns" if are_picks(third) => Some(Running::OfScript {
+            task: RunTask::Turns { picks: third },
             script: first,
             log: second,
-        });
+        }),
+        _ => None,
     }
-    None
 }

@@ -89,50 +89,55 @@ fn commands_answer(rt: HostRuntime) -> Result<(), Failed> {
     Ok(())
 }
 
-/// The call after the one that ends the run would fail too, and be counted: it is not made.
+/// The calls are a take, a begin, an add, a finish and a say. The call after the one that ends the
+/// run would fail too, and be counted: it is not made.
 #[test]
 fn failed_calls_leave_prefixes(rt: HostRuntime) -> Result<(), Failed> {
     let alloc = rt.alloc();
-    let words = words_of(alloc, "run S L")?;
     let nothing = b"".as_slice();
-    for (fails, status, log, said, faults) in [
-        (
-            [(1, 9), (3, 0)],
-            Status::Read,
-            None,
-            b"read: failed\n".as_slice(),
-            (1, 0),
-        ),
-        ([(1, 9), (2, 0)], Status::Write, None, nothing, (1, 1)),
-        ([(2, 9), (3, 0)], Status::Write, None, nothing, (0, 1)),
-        (
-            [(3, 35), (4, 0)],
-            Status::Write,
-            Some(&LOG[..35]),
-            nothing,
-            (0, 1),
-        ),
-        ([(4, 9), (5, 0)], Status::Write, Some(LOG), nothing, (0, 1)),
-        (
-            [(5, 3), (6, 0)],
-            Status::Write,
-            Some(LOG),
-            b"thr".as_slice(),
-            (0, 1),
-        ),
-    ] {
-        let mut desk = desk_with(alloc, SCRIPT, &fails)?;
-        let answer = serve(&rt, alloc, &words, &mut desk, &OpenGate);
-        assert_eq!(rt; answer, status.code());
-        assert_eq!(rt; desk.file("L"), log);
-        assert_eq!(rt; desk.said(), said);
-        assert_eq!(rt; desk.faults(), faults);
+    let refused = b"read: failed\n".as_slice();
+    for line in ["run S L", "locked S L"] {
+        for (fails, status, log, said, faults) in [
+            ([(6, 0), (7, 0)], Status::Done, Some(LOG), SAID, (0, 0)),
+            ([(1, 9), (3, 0)], Status::Read, None, refused, (1, 0)),
+            ([(1, 9), (2, 0)], Status::Write, None, nothing, (1, 1)),
+            ([(2, 9), (3, 0)], Status::Write, None, nothing, (0, 1)),
+            (
+                [(3, 10), (4, 0)],
+                Status::Write,
+                Some(&LOG[..10]),
+                nothing,
+                (0, 1),
+            ),
+            (
+                [(3, 35), (4, 0)],
+                Status::Write,
+                Some(&LOG[..35]),
+                nothing,
+                (0, 1),
+            ),
+            ([(4, 9), (5, 0)], Status::Write, Some(LOG), nothing, (0, 1)),
+            (
+                [(5, 3), (6, 0)],
+                Status::Write,
+                Some(LOG),
+                &SAID[..3],
+                (0, 1),
+            ),
+        ] {
+            let mut desk = desk_with(alloc, SCRIPT, &fails)?;
+            let answer = serve(&rt, alloc, &words_of(alloc, line)?, &mut desk, &OpenGate);
+            assert_eq!(rt; answer, status.code(), "{line}");
+            assert_eq!(rt; desk.file("L"), log, "{line}");
+            assert_eq!(rt; desk.said(), said, "{line}");
+            assert_eq!(rt; desk.faults(), faults, "{line}");
+        }
     }
     Ok(())
 }
 
 // The bytes that hexadecimal digits spell; what stands between them is skipped.
-fn bytes_of(alloc: Global, hex: &str) -> Result<Vec<u8>, AllocError> {
+pub(crate) fn bytes_of(alloc: Global, hex: &str) -> Result<Vec<u8>, AllocError> {
     let mut bytes = Vec::new(alloc);
     let mut half = None;
     for digit in hex.bytes() {

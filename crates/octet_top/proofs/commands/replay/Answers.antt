@@ -2,7 +2,7 @@ use Rattle.std.proofs.Common.{◌∙◌, ap, length}
 use Rattle.octet_model.specs.declared.outcome.Outcome.{Outcome}
 use Rattle.octet_model.specs.Orders.{lowest_order}
 use Rattle.octet_replay.proofs.Whole.{whole}
-use Rattle.octet_top.proofs.replay.replay.Goals as goal
+use Rattle.octet_top.proofs.commands.replay.Goals as goal
 
 pub outcome_text-requires-clause-ends : goal.outcome_text-requires-clause-ends
 outcome_text-requires-clause-ends c =

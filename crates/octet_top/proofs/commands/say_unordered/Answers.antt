@@ -1,7 +1,7 @@
 use Rattle.std.proofs.Common.{◌∙◌, ap, append_assoc}
 use Rattle.octet_top.specs.declared.reply.Status.TheVariants.{Unordered}
 use Rattle.octet_top.specs.Answer.{says}
-use Rattle.octet_top.proofs.verify.say_unordered.Goals as goal
+use Rattle.octet_top.proofs.commands.say_unordered.Goals as goal
 
 pub returns : goal.returns
 returns c =

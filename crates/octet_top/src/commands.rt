@@ -1,0 +1,81 @@
+//! The commands that say what was read, what it comes to, or what it shows: `tidy SCRIPT`,
+//! `show LOG`, `replay SCRIPT LOG` and `verify SCRIPT LOG`.
+ghost use Rattle.std.specs.Prelude.{◌≡◌, IfOk};
+ghost use Rattle.octet_clock.specs.declared.verdict.Verdict.TheVariants as verdict;
+ghost use Rattle.octet_top.specs.declared.request.ScriptTask.TheVariants.{Tidy};
+ghost use Rattle.octet_top.specs.declared.request.LogTask.TheVariants.{Show};
+ghost use Rattle.octet_top.specs.declared.request.PairTask.TheVariants.{Replay, Verify};
+ghost use Rattle.octet_top.specs.Answer.{answer_of, verdict_said};
+ghost use Rattle.octet_top.specs.Commands.{ScriptAnswers, LogAnswers, PairAnswers};
+
+use crate::inputs::{Pair, Source};
+use crate::refusal::does_not_fit;
+use crate::reply::{Reply, Status};
+use octet_clock::Verdict;
+use octet_model::{Log, OutOfMemory, Place, outcome_text};
+use octet_replay::ReplayFault;
+use octet_script::print;
+use std::alloc::Global;
+
+/// The script's canonical text is said.
+pub(crate) fn tidy(alloc: Global, source: &Source) -> Result<Reply, OutOfMemory>
+    ensures { IfOk result (λ reply. ScriptAnswers Tidy source.now (answer_of reply)) }
+{
+    let text = print(alloc, &source.script)?;
+    Ok(Reply::saying(alloc, Status::Done, text))
+}
+
+/// The log's text is said.
+pub(crate) fn show(alloc: Global, log: &Log) -> Result<Reply, OutOfMemory>
+    ensures { IfOk result (λ reply. LogAnswers Show log.now (answer_of reply)) }
+{
+    let text = octet_log::show(alloc, log)?;
+    Ok(Reply::saying(alloc, Status::Done, text))
+}
+
+/// The outcome of the log's lowest order is said.
+pub(crate) fn replay(alloc: Global, pair: &Pair) -> Result<Reply, OutOfMemory>
+    ensures { IfOk result (λ reply. PairAnswers Replay pair.now (answer_of reply)) }
+{
+    let outcome = match octet_replay::replay(alloc, &pair.source.script, &pair.log) {
+        Ok(outcome) => outcome,
+        Err(ReplayFault::OutOfMemory) => return Err(OutOfMemory),
+        Err(fault) => return does_not_fit(alloc, &fault),
+    };
+    let text = outcome_text(alloc, &pair.source.script, &outcome)?;
+    Ok(Reply::saying(alloc, Status::Done, text))
+}
+
+/// Whether the log orders all conflicts is said.
+pub(crate) fn verify(alloc: Global, pair: &Pair) -> Result<Reply, OutOfMemory>
+    ensures { IfOk result (λ reply. PairAnswers Verify pair.now (answer_of reply)) }
+{
+    let verdict = match octet_clock::verify(alloc, &pair.source.script, &pair.log) {
+        Ok(verdict) => verdict,
+        Err(ReplayFault::OutOfMemory) => return Err(OutOfMemory),
+        Err(fault) => return does_not_fit(alloc, &fault),
+    };
+    say_verdict(alloc, verdict)
+}
+
+fn say_verdict(alloc: Global, verdict: Verdict) -> Result<Reply, OutOfMemory>
+    ensures { IfOk result (λ reply. answer_of reply ≡ verdict_said verdict) }
+{
+    match verdict {
+        Verdict::Ordered => {
+            let line = Vec::from_slice(alloc, b"ordered\n")?;
+            Ok(Reply::saying(alloc, Status::Done, line))
+        }
+        Verdict::Unordered { first, second } => say_unordered(alloc, first, second),
+    }
+}
+
+fn say_unordered(alloc: Global, first: Place, second: Place) -> Result<Reply, OutOfMemory>
+    ensures { IfOk result (λ reply. answer_of reply ≡ verdict_said (verdict.Unordered first second)) }
+{
+    let line = format!(in alloc;
+        "unordered {}:{} {}:{}\n",
+        first.thread, first.event, second.thread, second.event
+    )?;
+    Ok(Reply::saying(alloc, Status::Unordered, line.into_bytes()))
+}
