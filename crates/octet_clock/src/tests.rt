@@ -7,7 +7,8 @@ ghost use Rattle.octet_model.specs.Script.{is_thread};
 
 use super::*;
 use octet_model::{
-    Command, DEFAULT_FUEL, Gapped, List, Log, Mark, Name, Object, OutOfMemory, Place, Script, ThreadLog,
+    Command, DEFAULT_FUEL, Gapped, List, Log, Mark, Name, Object, OutOfMemory, Place, Script,
+    ThreadLog,
 };
 use std::alloc::Global;
 use std::test::*;

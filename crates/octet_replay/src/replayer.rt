@@ -51,6 +51,7 @@ impl Replayer {
 
     /// Makes the next step of the lowest order, and gives its event. Where no thread may step
     /// nothing changes. Takes no memory.
+    #[inline(always)]
     pub fn step(&mut self) -> Stepped
         ensures { StepsTo self.old result self.new }
     {

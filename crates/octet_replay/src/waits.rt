@@ -71,6 +71,7 @@ impl Lists {
     }
 
     // Puts a thread where its need says: among those that may step, or not, and on a list.
+    #[inline(always)]
     fn place(&mut self, thread: u8)
         requires { IsSized self.old }
         ensures placed { thread < length self.old.needs.items → IsPlaced self.new thread }
@@ -133,6 +134,7 @@ impl Lists {
     }
 
     // Counts an event of a thread, which is a draw or not, and gives the thread its next need.
+    #[inline(always)]
     fn step(&mut self, thread: u8, draw: bool, next: Need)
         requires sized { IsSized self.old }
         requires within { thread < length self.old.needs.items }
@@ -220,6 +222,7 @@ impl Waits {
 
     /// Counts an event of a thread whose need is met, and a draw where it is one, and gives the
     /// thread its next need. Takes no memory.
+    #[inline(always)]
     pub fn step(&mut self, thread: u8, draw: bool, next: Need)
         requires met { is_ready self.old thread ≡ true }
         requires names { NamesThread (length self.old.needs) next }
