@@ -4,14 +4,18 @@
 //! much of a time the task itself takes. It takes what is well formed, and panics at all else.
 //!
 //! plain tidy SCRIPT: the canonical text. plain read SCRIPT: reads it, and says how many commands it
-//! has. plain run SCRIPT: one thread after another on plain cells, and the outcome. plain show LOG:
-//! the log's text. plain marks LOG: reads the log, and says the sum of its marks' numbers.
+//! has. plain run SCRIPT: one thread after another on plain cells, and the outcome. plain locked SCRIPT
+//! LOG: a thread for each, beside each other, with a lock and a log of its own at each object: which
+//! thread made each access; and the outcome. plain show LOG: the log's text. plain marks LOG: reads the
+//! log, and says the sum of its marks' numbers.
 
 use std::collections::HashMap;
 use std::env;
 use std::fs;
 use std::io::{self, Write};
 use std::str;
+use std::sync::{Mutex, MutexGuard};
+use std::thread;
 
 #[derive(Clone, Copy)]
 enum Command {
@@ -170,8 +174,58 @@ fn calculated(operation: Operation, left: u64, right: u64) -> u64 {
     }
 }
 
+/// What the accesses of a thread go to.
+trait Heap {
+    fn read(&mut self, object: u16) -> u64;
+    fn write(&mut self, object: u16, value: u64);
+}
+
+struct Cells {
+    values: Vec<u64>,
+}
+
+impl Heap for Cells {
+    fn read(&mut self, object: u16) -> u64 {
+        self.values[object as usize]
+    }
+
+    fn write(&mut self, object: u16, value: u64) {
+        self.values[object as usize] = value;
+    }
+}
+
+/// A value, and which thread made each access of it.
+struct Logged {
+    value: u64,
+    log: Vec<u8>,
+}
+
+/// The objects as one thread sees them.
+struct Locked<'o> {
+    thread: u8,
+    objects: &'o [Mutex<Logged>],
+}
+
+impl Locked<'_> {
+    fn access(&mut self, object: u16) -> MutexGuard<'_, Logged> {
+        let mut logged = self.objects[object as usize].lock().expect("a lock");
+        logged.log.push(self.thread);
+        logged
+    }
+}
+
+impl Heap for Locked<'_> {
+    fn read(&mut self, object: u16) -> u64 {
+        self.access(object).value
+    }
+
+    fn write(&mut self, object: u16, value: u64) {
+        self.access(object).value = value;
+    }
+}
+
 /// Runs one thread to its end, and says whether that was its last command.
-fn run_thread(commands: &[Command], mut fuel: u32, heap: &mut [u64], seen: &mut Vec<u64>) -> bool {
+fn run_thread<H: Heap>(commands: &[Command], mut fuel: u32, heap: &mut H, seen: &mut Vec<u64>) -> bool {
     let mut registers = [0u64; 16];
     let mut place = 0;
     while place < commands.len() {
@@ -187,10 +241,11 @@ fn run_thread(commands: &[Command], mut fuel: u32, heap: &mut [u64], seen: &mut 
                 registers[to as usize] = calculated(operation, registers[left as usize], registers[right as usize]);
             }
             Command::Read(to, object) => {
-                seen.push(heap[object as usize]);
-                registers[to as usize] = heap[object as usize];
+                let value = heap.read(object);
+                seen.push(value);
+                registers[to as usize] = value;
             }
-            Command::Write(object, from) => heap[object as usize] = registers[from as usize],
+            Command::Write(object, from) => heap.write(object, registers[from as usize]),
             Command::Loop(test, past) | Command::Branch(test, past) if registers[test as usize] == 0 => {
                 next = past as usize;
             }
@@ -202,21 +257,57 @@ fn run_thread(commands: &[Command], mut fuel: u32, heap: &mut [u64], seen: &mut 
     true
 }
 
-fn run_script(script: &Script, out: &mut Vec<u8>) -> io::Result<()> {
-    let mut heap: Vec<u64> = script.objects.iter().map(|object| object.1).collect();
-    for (number, commands) in script.threads.iter().enumerate() {
-        let mut seen = Vec::with_capacity(script.fuel as usize);
-        let done = run_thread(commands, script.fuel, &mut heap, &mut seen);
-        write!(out, "thread {number} {}", if done { "done" } else { "spent" })?;
-        for value in &seen {
+/// How a thread ended, and what it has read.
+type Run = (bool, Vec<u64>);
+
+fn write_outcome(script: &Script, runs: &[Run], values: &[u64], out: &mut Vec<u8>) -> io::Result<()> {
+    for (number, (done, seen)) in runs.iter().enumerate() {
+        write!(out, "thread {number} {}", if *done { "done" } else { "spent" })?;
+        for value in seen {
             write!(out, " {value}")?;
         }
         writeln!(out)?;
     }
-    for ((name, _), value) in script.objects.iter().zip(&heap) {
+    for ((name, _), value) in script.objects.iter().zip(values) {
         writeln!(out, "object {name} {value}")?;
     }
     Ok(())
+}
+
+fn run_one<H: Heap>(script: &Script, commands: &[Command], heap: &mut H) -> Run {
+    let mut seen = Vec::with_capacity(script.fuel as usize);
+    let done = run_thread(commands, script.fuel, heap, &mut seen);
+    (done, seen)
+}
+
+fn run_script(script: &Script, out: &mut Vec<u8>) -> io::Result<()> {
+    let mut cells = Cells { values: script.objects.iter().map(|object| object.1).collect() };
+    let runs: Vec<Run> = script.threads.iter().map(|commands| run_one(script, commands, &mut cells)).collect();
+    write_outcome(script, &runs, &cells.values, out)
+}
+
+/// The log has the objects in order: how many accesses, in four bytes, and a byte for each.
+fn run_locked(script: &Script, log: &str, out: &mut Vec<u8>) -> io::Result<()> {
+    let objects: Vec<Mutex<Logged>> =
+        script.objects.iter().map(|object| Mutex::new(Logged { value: object.1, log: Vec::new() })).collect();
+    let runs: Vec<Run> = thread::scope(|scope| {
+        let mut started = Vec::new();
+        for (number, commands) in script.threads.iter().enumerate() {
+            let mut heap = Locked { thread: number as u8, objects: &objects };
+            started.push(scope.spawn(move || run_one(script, commands, &mut heap)));
+        }
+        started.into_iter().map(|thread| thread.join().expect("a thread")).collect()
+    });
+    let mut bytes = Vec::new();
+    let mut values = Vec::new();
+    for object in objects {
+        let logged = object.into_inner().expect("a lock");
+        bytes.extend((logged.log.len() as u32).to_be_bytes());
+        bytes.extend(logged.log);
+        values.push(logged.value);
+    }
+    fs::write(log, bytes)?;
+    write_outcome(script, &runs, &values, out)
 }
 
 /// The bytes of a log from a place on.
@@ -268,6 +359,7 @@ fn main() -> io::Result<()> {
     match words[1].as_str() {
         "tidy" => write_script(&read_script(text()), &mut out)?,
         "run" => run_script(&read_script(text()), &mut out)?,
+        "locked" => run_locked(&read_script(text()), &words[3], &mut out)?,
         "read" => {
             let commands: usize = read_script(text()).threads.iter().map(Vec::len).sum();
             writeln!(out, "commands {commands}")?;

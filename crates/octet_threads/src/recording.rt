@@ -1,11 +1,12 @@
 //! What is recorded of a run whose threads have all ended.
-ghost use Rattle.std.specs.Prelude.{◌≡◌, ◌<◌, All, length, map, IfOk};
+ghost use Rattle.std.specs.Prelude.{◌≡◌, ◌<◌, All, length, map, IfOk, IsTrue};
+ghost use Rattle.octet_model.specs.Log.{is_log};
 ghost use Rattle.octet_model.specs.Orders.{IsFaithful};
 ghost use Rattle.octet_interp.specs.Demands.{next_demand};
 ghost use Rattle.octet_threads.specs.Runners.{AreOf, HasEnded, IsHeapOf, end_told};
 
 use crate::runner::Runner;
-use octet_heap::{Heap, Worker};
+use octet_heap::{Closed, Heap, Worker};
 use octet_interp::Demand;
 use octet_model::{End, List, Log, OutOfMemory, Outcome, Recorded, Script};
 use std::alloc::Global;
@@ -42,6 +43,27 @@ fn workers_of(alloc: Global, runners: Vec<Runner>) -> Result<List<Worker>, OutOf
     Ok(workers)
 }
 
+// The log and the outcome that a closed heap and the ends come to.
+fn recording(script: &Script, closed: Closed, ends: List<End>) -> Recorded
+    requires valid { IsTrue (is_log closed.logs) }
+    requires faithful { IsFaithful script.now closed.logs (record { ends = ends; reads = closed.reads; heap = closed.heap }) }
+    ensures faithful { IsFaithful script.now result.log.threads result.outcome }
+    ensures ends { result.outcome.ends ≡ ends }
+    ensures reads { result.outcome.reads ≡ closed.reads }
+    ensures heap { result.outcome.heap ≡ closed.heap }
+{
+    Recorded {
+        log: Log {
+            threads: closed.logs,
+        },
+        outcome: Outcome {
+            ends,
+            reads: closed.reads,
+            heap: closed.heap,
+        },
+    }
+}
+
 /// Ends the run, and answers its log and its outcome.
 pub(crate) fn recorded(
     alloc: Global,
@@ -60,14 +82,5 @@ pub(crate) fn recorded(
     let ends = ends_of(alloc, runners.as_slice())?;
     let workers = workers_of(alloc, runners)?;
     let closed = heap.close(alloc, workers)?;
-    Ok(Recorded {
-        log: Log {
-            threads: closed.logs,
-        },
-        outcome: Outcome {
-            ends,
-            reads: closed.reads,
-            heap: closed.heap,
-        },
-    })
+    Ok(recording(script, closed, ends))
 }
