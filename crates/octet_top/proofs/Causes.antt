@@ -1,5 +1,5 @@
 -- From what is served to the cause of its status.
-use Rattle.std.proofs.Common.{◌≡◌, ◌≢◌, ◌∙◌, ◌⊎◌, ℕ, List, [], ◌∷◌, Option, None, Some, Result, Ok, Err, Bool, true, false, inl, inr, ap, sym, refl, subst, get_or, arith}
+use Rattle.std.proofs.Common.{◌≡◌, ◌∙◌, ◌⊎◌, ℕ, List, [], ◌∷◌, Some, Result, Ok, Err, true, inl, inr, ap, sym, refl, subst, get_or, arith}
 use Rattle.octet_base.specs.Desk.{Contents, DeskState, Rose, IsCounted, IsWriteAnswer}
 use Rattle.octet_base.specs.declared.fault.DeskFault.{DeskFault}
 use Rattle.octet_base.specs.declared.fault.DeskFault.TheVariants as fault

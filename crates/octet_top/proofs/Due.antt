@@ -11,7 +11,7 @@ use Rattle.octet_model.specs.declared.log.Log.{Log}
 use Rattle.octet_script.proofs.lemmas.Grammar.{spells_parsed, one_script}
 use Rattle.octet_log.specs.Decoding as log
 use Rattle.octet_log.proofs.lemmas.Spellings.{spelling_decoded, one_log}
-use Rattle.octet_replay.proofs.Answered.{not_refused}
+use Rattle.octet_replay.proofs.lemmas.OneAnswer.{not_refused}
 use Rattle.octet_top.specs.declared.inputs.Pair.{Pair}
 use Rattle.octet_top.specs.declared.request.PairTask.{PairTask}
 use Rattle.octet_top.specs.declared.reply.Status.{Status}

@@ -1,20 +1,23 @@
 -- From what was read to the reply.
-use Rattle.std.proofs.Common.{◌≡◌, ◌≢◌, ◌∙◌, ℕ, List, Option, Some, Result, Ok, Err, IfOk, inl, inr, ap, refl, sym}
+use Rattle.std.proofs.Common.{◌≡◌, ◌∙◌, ℕ, List, Option, Some, Result, Ok, Err, IfOk, inl, inr, ap, refl, sym}
 use Rattle.octet_base.specs.Desk.{Contents, DeskState}
 use Rattle.octet_model.specs.declared.list.OutOfMemory.{OutOfMemory as NoMemory}
 use Rattle.octet_top.specs.declared.inputs.Pair.{Pair}
-use Rattle.octet_top.specs.declared.inputs.Stop.{Stop}
-use Rattle.octet_top.specs.declared.inputs.Stop.TheVariants.{Refused, OutOfMemory}
 use Rattle.octet_top.specs.declared.reply.Reply.{Reply}
 use Rattle.octet_top.specs.declared.reply.Status.TheVariants.{Done, Read}
 use Rattle.octet_top.specs.declared.request.PairTask.{PairTask}
 use Rattle.octet_top.specs.Answer.{Answer, answer_of}
-use Rattle.octet_top.specs.Request.{Request, OfPair, Gen}
-use Rattle.octet_top.specs.Inputs.{IsPairRead, Ends, WasRefused, TakesOne, TakesBoth}
-use Rattle.octet_top.specs.Commands.{Answering, Answers, RequestAnswers, PairAnswers, IsGeneration}
-use Rattle.octet_top.specs.Replies.{Finds, Replies, IsNoSuccess, TakesFiles, refusal_of}
+use Rattle.octet_model.specs.declared.log.Log.{Log}
+use Rattle.octet_model.specs.declared.limits.TheConstants.{MAX_LOG_FILE, MAX_SCRIPT_FILE}
+use Rattle.octet_top.specs.declared.inputs.Source.{Source}
+use Rattle.octet_top.specs.declared.request.ScriptTask.{ScriptTask}
+use Rattle.octet_top.specs.declared.request.LogTask.{LogTask}
+use Rattle.octet_top.specs.Request.{Way, Request, OfScript, OfLog, OfPair, Run, Gen}
+use Rattle.octet_top.specs.Inputs.{IsScriptRead, IsLogRead, IsPairRead, Stop, Ends, WasRefused, TakesOne, TakesBoth}
+use Rattle.octet_top.specs.Commands.{Answering, Answers, ScriptAnswers, LogAnswers, RunAnswers, RequestAnswers, PairAnswers, IsGeneration}
+use Rattle.octet_top.specs.Replies.{Finds, Replies, IsNoSuccess, TakesFiles}
 use Rattle.octet_top.proofs.Steps.{as_short, both_as_short, one_keeps, both_keep}
-use Rattle.octet_top.proofs.Rows.{Refuses, not_done, pair_refused}
+use Rattle.octet_top.proofs.Rows.{Refuses, not_done, script_refused, log_refused, pair_refused}
 
 found_done : {T : Type 0} (Reading : Result T Answer → Type 0) (Reply' : T → Answer → Type 0) (input : T) (before after : ℕ) (result : Result Reply NoMemory)
     → Reading (Ok input) → after ≡ before → IfOk result (λ reply. Reply' input (answer_of reply)) → Finds (Answering Reading Reply') before result after
@@ -22,15 +25,15 @@ found_done Reading Reply' input before after (Ok reply) read same answers = inl 
 found_done Reading Reply' input before after (Err none) read same answers = tt
 
 found_refused : {T : Type 0} (Reading : Result T Answer → Type 0) (Reply' : T → Answer → Type 0) (before after : ℕ) (stop : Stop)
-    → Ends Reading before (Err stop) after → Finds (Answering Reading Reply') before (refusal_of stop) after
-found_refused Reading Reply' before after (Refused reply) (inl (refused, same)) = inl (inl refused, same)
-found_refused Reading Reply' before after (Refused reply) (inr failed) = inr failed
-found_refused Reading Reply' before after OutOfMemory ends = tt
+    → Ends Reading before (Err stop) after → Finds (Answering Reading Reply') before stop after
+found_refused Reading Reply' before after (Ok reply) (inl (refused, same)) = inl (inl refused, same)
+found_refused Reading Reply' before after (Ok reply) (inr failed) = inr failed
+found_refused Reading Reply' before after (Err none) ends = tt
 
-is_short : {T : Type 0} (Reading : Result T Answer → Type 0) → ((answer : Answer) → Reading (Err answer) → Refuses answer) → (before after : ℕ) (stop : Stop) → Ends Reading before (Err stop) after → IsNoSuccess (refusal_of stop)
-is_short Reading short before after (Refused reply) (inl (refused, same)) = not_done (answer_of reply) (short (answer_of reply) refused)
-is_short Reading short before after (Refused reply) (inr (is, rose)) = λ done. (let both : Read ≡ Done = ap (λ (a : Answer). a.status) (sym is) ∙ done in cc)
-is_short Reading short before after OutOfMemory ends = tt
+is_short : {T : Type 0} (Reading : Result T Answer → Type 0) → ((answer : Answer) → Reading (Err answer) → Refuses answer) → (before after : ℕ) (stop : Stop) → Ends Reading before (Err stop) after → IsNoSuccess stop
+is_short Reading short before after (Ok reply) (inl (refused, same)) = not_done (answer_of reply) (short (answer_of reply) refused)
+is_short Reading short before after (Ok reply) (inr (is, rose)) = λ done. (let both : Read ≡ Done = ap (λ (a : Answer). a.status) (sym is) ∙ done in cc)
+is_short Reading short before after (Err none) ends = tt
 
 as_found : (A B : Answer → Type 0) → ((answer : Answer) → A answer → B answer) → (before after : ℕ) (result : Result Reply NoMemory) → Finds A before result after → Finds B before result after
 as_found A B on before after (Ok reply) (inl (answers, same)) = inl (on (answer_of reply) answers, same)
@@ -51,14 +54,39 @@ module _ (request : Request) (name : List ℕ) (limit : ℕ) (T : Type 0) (Readi
     write_faults = (one_keeps name limit ⊥ before after calls).1;
   }
 
-  pub one_stops : (before after : DeskState) (stop : Stop) → Ends (Reading before.contents) before.take_faults (Err stop) after.take_faults → TakesOne name limit (WasRefused {T = T} (Err stop)) before after → Replies (Some request) before (refusal_of stop) after
+  pub one_stops : (before after : DeskState) (stop : Stop) → Ends (Reading before.contents) before.take_faults (Err stop) after.take_faults → TakesOne name limit (WasRefused {T = T} (Err stop)) before after → Replies (Some request) before stop after
   one_stops before after stop ends calls = record {
-    found = as_found (Answering (Reading before.contents) Reply') (RequestAnswers request before.contents) (answers_it before.contents) _ _ (refusal_of stop) (found_refused (Reading before.contents) Reply' _ _ stop ends);
-    calls = takes (IsNoSuccess (refusal_of stop)) before after
-        (as_short name limit (Unit {0}) (IsNoSuccess (refusal_of stop)) before after (λ refused. is_short (Reading before.contents) (refuses_it before.contents) _ _ stop ends) calls);
+    found = as_found (Answering (Reading before.contents) Reply') (RequestAnswers request before.contents) (answers_it before.contents) _ _ stop (found_refused (Reading before.contents) Reply' _ _ stop ends);
+    calls = takes (IsNoSuccess stop) before after
+        (as_short name limit (Unit {0}) (IsNoSuccess stop) before after (λ refused. is_short (Reading before.contents) (refuses_it before.contents) _ _ stop ends) calls);
     begun = (one_keeps name limit (Unit {0}) before after calls).0;
     write_faults = (one_keeps name limit (Unit {0}) before after calls).1;
   }
+
+-- tasks on a script, tasks on a log, and runs of a script
+module _ (task : ScriptTask) (script : List ℕ) where
+  pub script_read : (before after : DeskState) (input : Source) (result : Result Reply NoMemory) → Ends (IsScriptRead script before.contents) before.take_faults (Ok input) after.take_faults → TakesOne script MAX_SCRIPT_FILE (WasRefused {T = Source} {E = Stop} (Ok input)) before after
+      → IfOk result (λ reply. ScriptAnswers task input (answer_of reply)) → Replies (Some (OfScript task script)) before result after
+  script_read = one_read (OfScript task script) script MAX_SCRIPT_FILE Source (IsScriptRead script) (ScriptAnswers task) (λ short before after calls. calls) (λ contents answer answers. answers) (script_refused script)
+
+  pub script_stops : (before after : DeskState) (stop : Stop) → Ends (IsScriptRead script before.contents) before.take_faults (Err stop) after.take_faults → TakesOne script MAX_SCRIPT_FILE (WasRefused {T = Source} (Err stop)) before after → Replies (Some (OfScript task script)) before stop after
+  script_stops = one_stops (OfScript task script) script MAX_SCRIPT_FILE Source (IsScriptRead script) (ScriptAnswers task) (λ short before after calls. calls) (λ contents answer answers. answers) (script_refused script)
+
+module _ (task : LogTask) (log : List ℕ) where
+  pub log_read : (before after : DeskState) (input : Log) (result : Result Reply NoMemory) → Ends (IsLogRead log before.contents) before.take_faults (Ok input) after.take_faults → TakesOne log MAX_LOG_FILE (WasRefused {T = Log} {E = Stop} (Ok input)) before after
+      → IfOk result (λ reply. LogAnswers task input (answer_of reply)) → Replies (Some (OfLog task log)) before result after
+  log_read = one_read (OfLog task log) log MAX_LOG_FILE Log (IsLogRead log) (LogAnswers task) (λ short before after calls. calls) (λ contents answer answers. answers) (log_refused log)
+
+  pub log_stops : (before after : DeskState) (stop : Stop) → Ends (IsLogRead log before.contents) before.take_faults (Err stop) after.take_faults → TakesOne log MAX_LOG_FILE (WasRefused {T = Log} (Err stop)) before after → Replies (Some (OfLog task log)) before stop after
+  log_stops = one_stops (OfLog task log) log MAX_LOG_FILE Log (IsLogRead log) (LogAnswers task) (λ short before after calls. calls) (λ contents answer answers. answers) (log_refused log)
+
+module _ (way : Way) (script log : List ℕ) where
+  pub run_read : (before after : DeskState) (input : Source) (result : Result Reply NoMemory) → Ends (IsScriptRead script before.contents) before.take_faults (Ok input) after.take_faults → TakesOne script MAX_SCRIPT_FILE (WasRefused {T = Source} {E = Stop} (Ok input)) before after
+      → IfOk result (λ reply. RunAnswers way log input (answer_of reply)) → Replies (Some (Run way script log)) before result after
+  run_read = one_read (Run way script log) script MAX_SCRIPT_FILE Source (IsScriptRead script) (RunAnswers way log) (λ short before after calls. calls) (λ contents answer answers. answers) (script_refused script)
+
+  pub run_stops : (before after : DeskState) (stop : Stop) → Ends (IsScriptRead script before.contents) before.take_faults (Err stop) after.take_faults → TakesOne script MAX_SCRIPT_FILE (WasRefused {T = Source} (Err stop)) before after → Replies (Some (Run way script log)) before stop after
+  run_stops = one_stops (Run way script log) script MAX_SCRIPT_FILE Source (IsScriptRead script) (RunAnswers way log) (λ short before after calls. calls) (λ contents answer answers. answers) (script_refused script)
 
 -- one that takes a script and a log
 module _ (task : PairTask) (script log : List ℕ) (object : Option (List ℕ)) where
@@ -72,10 +100,10 @@ module _ (task : PairTask) (script log : List ℕ) (object : Option (List ℕ)) 
   }
 
   pub both_stop : (before after : DeskState) (stop : Stop) → Ends (IsPairRead script log object before.contents) before.take_faults (Err stop) after.take_faults
-      → TakesBoth script log object (WasRefused {T = Pair} (Err stop)) before after → Replies (Some (OfPair task script log object)) before (refusal_of stop) after
+      → TakesBoth script log object (WasRefused {T = Pair} (Err stop)) before after → Replies (Some (OfPair task script log object)) before stop after
   both_stop before after stop ends calls = record {
     found = found_refused (IsPairRead script log object before.contents) (PairAnswers task) _ _ stop ends;
-    calls = both_as_short script log object (Unit {0}) (IsNoSuccess (refusal_of stop)) before after
+    calls = both_as_short script log object (Unit {0}) (IsNoSuccess stop) before after
         (λ refused. is_short (IsPairRead script log object before.contents) (pair_refused script log object before.contents) _ _ stop ends) calls;
     begun = (both_keep script log object (Unit {0}) before after calls).0;
     write_faults = (both_keep script log object (Unit {0}) before after calls).1;

@@ -12,7 +12,7 @@ use Rattle.std.specs.FinMap.{get, insert, get-insert, same_map, slice_cmp-IsAnti
 use Rattle.std.proofs.lemmas.List.{take-append-drop, take-append-le, length-drop}
 use Rattle.std.proofs.Math.Seq.{take-append-add}
 use Rattle.std.specs.Global.{Vec}
-use Rattle.octet_base.specs.Desk.{Files, Contents, DeskState, Adds, IsCalled, with_call, with_bytes, with_empty, with_said}
+use Rattle.octet_base.specs.Desk.{Files, Contents, DeskState, IsCalled, with_call, with_bytes, with_empty, with_said}
 use Rattle.octet_base.specs.declared.call.Call.{Call}
 use Rattle.octet_base.specs.declared.fault.DeskFault.{DeskFault}
 use Rattle.octet_base.specs.declared.call.Call.TheVariants as call
@@ -21,7 +21,7 @@ use Rattle.octet_top.specs.Request.{Request, OfScript, OfLog, OfPair, Run, Gen}
 use Rattle.octet_top.specs.Inputs.{TakesOne}
 use Rattle.octet_top.specs.Replies.{TakesFiles}
 use Rattle.octet_top.specs.Delivery.{Act, Add, Finish, Say, Makes, IsRefused, pieces, pieces_within, file_acts, acts_of}
-use Rattle.octet_top.specs.Outputs.{written, ArePartlyWritten, IsWhole, IsCutShort, IsLeft}
+use Rattle.octet_top.specs.Outputs.{written, ArePartlyWritten, IsLeft}
 
 pub some_is : {x y : Contents} → Some x ≡ Some y → x ≡ y
 some_is {x} {y} is = ap (λ o. unwrap_or o x) is

@@ -1,5 +1,5 @@
 -- From what is served to the promises of each command.
-use Rattle.std.proofs.Common.{◌≡◌, ◌∙◌, ◌++◌, ℕ, List, Some, Ok, inl, inr, ap, sym, subst, arith, Option, None, refl, ◌≢◌, length, Bool, true, false, cond}
+use Rattle.std.proofs.Common.{◌≡◌, ◌∙◌, ◌++◌, ℕ, List, Some, Ok, inl, inr, ap, sym, subst, arith, Option, None, refl, length}
 use Rattle.std.specs.FinMap.{get, insert}
 use Rattle.octet_base.specs.Desk.{Files, Contents, DeskState}
 use Rattle.octet_model.specs.Texts.{log_bytes, outcome_text}
@@ -17,7 +17,7 @@ use Rattle.octet_top.proofs.Effects.{leaves}
 use Rattle.octet_top.specs.Effects.{Leaves}
 use Rattle.octet_model.specs.declared.outcome.Outcome.{Outcome}
 use Rattle.octet_model.specs.Orders.{execution, lowest_order, IsFaithful, journals_after}
-use Rattle.octet_replay.proofs.Answered.{faithful}
+use Rattle.octet_replay.proofs.lemmas.OneAnswer.{faithful}
 use Rattle.octet_clock.specs.declared.verdict.Verdict.TheVariants as verdict
 use Rattle.octet_top.specs.declared.inputs.Pair.{Pair}
 use Rattle.octet_top.specs.declared.request.PairTask.TheVariants.{Replay, Verify}
@@ -33,7 +33,7 @@ use Rattle.octet_model.specs.declared.log.ThreadLog.{ThreadLog}
 use Rattle.octet_model.specs.Journals.{log_of_journal, log_of}
 use Rattle.octet_model.proofs.lemmas.LawfulOrders.{lawful_order_has_its_log, lawful_order_fits}
 use Rattle.octet_gen.specs.Generated.{IsGenerated}
-use Rattle.octet_gen.proofs.Accesses.{script_makes_its_accesses}
+use Rattle.octet_gen.proofs.lemmas.Accesses.{script_makes_its_accesses}
 
 -- where all is done, an answer of that status was given whole
 pub record Succeeds (words : List (List ℕ)) (contents contents' : Contents) : Type 0 where

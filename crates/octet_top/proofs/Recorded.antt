@@ -8,7 +8,7 @@ use Rattle.octet_model.specs.declared.outcome.Recorded.{Recorded}
 use Rattle.octet_model.specs.Orders.{IsFaithful}
 use Rattle.octet_machine.specs.Turns.{IsPlayed}
 use Rattle.octet_replay.specs.Laws.{IsWholeOutcome}
-use Rattle.octet_replay.proofs.Whole.{whole}
+use Rattle.octet_replay.proofs.lemmas.WholeOutcomes.{whole}
 use Rattle.octet_top.specs.Request.{Way, AsTheyCome, ByPicks}
 use Rattle.octet_top.specs.Commands.{Records}
 

@@ -1,6 +1,6 @@
 -- What the answers of each task are like: one fact a row.
 use Rattle.octet_model.specs.declared.limits.TheConstants.{MAX_LOG_FILE, MAX_SCRIPT_FILE}
-use Rattle.std.proofs.Common.{◌≡◌, ◌≢◌, ◌∙◌, ◌⊎◌, ℕ, List, [], ◌∷◌, map, Option, None, Some, Result, Ok, Err, Bool, true, false, inl, inr, ap, sym, refl}
+use Rattle.std.proofs.Common.{◌≡◌, ◌≢◌, ◌∙◌, ◌⊎◌, ℕ, List, [], ◌∷◌, map, Option, None, Some, Err, Bool, true, false, inl, inr, ap, sym, refl}
 use Rattle.octet_base.specs.Desk.{Contents}
 use Rattle.octet_model.specs.HappensBefore.{IsOrdered}
 use Rattle.octet_model.specs.Orders.{journals_after, lowest_order}
@@ -19,7 +19,7 @@ use Rattle.octet_model.specs.declared.log.Log.{Log}
 use Rattle.octet_top.specs.Answer.{Answer}
 use Rattle.octet_top.specs.Request.{Way, Request, OfScript, OfLog, OfPair, Run, Gen, outputs_of, outputs_in}
 use Rattle.octet_top.specs.Inputs.{IsTaken, IsScriptRead, IsLogRead, IsScriptChosen, IsPairRead}
-use Rattle.octet_top.specs.Commands.{Answers, RequestAnswers, ScriptAnswers, LogAnswers, PairSays, PairAnswers, RunAnswers}
+use Rattle.octet_top.specs.Commands.{Answers, RequestAnswers, ScriptAnswers, LogAnswers, PairSays, RunAnswers}
 
 -- a status that comes with a refusal
 abbrev pub is_refusal : Status → Bool

@@ -5,33 +5,31 @@ use Rattle.std.specs.Global.{Vec}
 use Rattle.octet_base.specs.Desk.{Contents, DeskState, Takes, IsCalled, with_call}
 use Rattle.octet_base.specs.declared.call.Call.TheVariants.{Take}
 use Rattle.octet_model.specs.declared.log.Log.{Log}
-use Rattle.octet_top.specs.declared.inputs.Stop.{Stop}
-use Rattle.octet_top.specs.declared.inputs.Stop.TheVariants.{Refused, OutOfMemory}
 use Rattle.octet_top.specs.Answer.{Answer, answer_of}
-use Rattle.octet_top.specs.Inputs.{◌>>=◌, IsLogRead, Comes, Ends, WasRefused, TakesOne, TakesBoth}
+use Rattle.octet_top.specs.Inputs.{◌>>=◌, IsLogRead, Stop, Comes, Ends, WasRefused, TakesOne, TakesBoth}
 
 module _ {A B : Type 0} (first : Result A Answer → Type 0) (next : A → Result B Answer → Type 0) where
   -- a refusal is that of the whole
   pub comes_stop : (stop : Stop) → Comes first (Err stop) → Comes (first >>= next) (Err stop)
-  comes_stop (Refused reply) refused = inl refused
-  comes_stop OutOfMemory refused = tt
+  comes_stop (Ok reply) refused = inl refused
+  comes_stop (Err none) refused = tt
 
   pub ends_stop : (before after : ℕ) (stop : Stop) → Ends first before (Err stop) after → Ends (first >>= next) before (Err stop) after
-  ends_stop before after (Refused reply) (inl (refused, same)) = inl (inl refused, same)
-  ends_stop before after (Refused reply) (inr failed) = inr failed
-  ends_stop before after OutOfMemory refused = tt
+  ends_stop before after (Ok reply) (inl (refused, same)) = inl (inl refused, same)
+  ends_stop before after (Ok reply) (inr failed) = inr failed
+  ends_stop before after (Err none) refused = tt
 
   -- after a value, what the next step comes to is what the whole comes to
   pub ends_then : (before after : ℕ) (x : A) (result : Result B Stop) → Ends first before (Ok x) after → Comes (next x) result → Ends (first >>= next) before result after
   ends_then before after x (Ok y) (is, same) comes = ((x, is, comes), same)
-  ends_then before after x (Err (Refused reply)) (is, same) comes = inl (inr (x, is, comes), same)
-  ends_then before after x (Err OutOfMemory) (is, same) comes = tt
+  ends_then before after x (Err (Ok reply)) (is, same) comes = inl (inr (x, is, comes), same)
+  ends_then before after x (Err (Err none)) (is, same) comes = tt
 
   pub ends_next : (before mid after : ℕ) (x : A) (result : Result B Stop) → Ends first before (Ok x) mid → Ends (next x) mid result after → Ends (first >>= next) before result after
   ends_next before mid after x (Ok y) (is, same) (comes, later) = ((x, is, comes), later ∙ same)
-  ends_next before mid after x (Err (Refused reply)) (is, same) (inl (refused, later)) = inl (inr (x, is, refused), later ∙ same)
-  ends_next before mid after x (Err (Refused reply)) (is, same) (inr (said, rose)) = inr (said, rw (← same) rose)
-  ends_next before mid after x (Err OutOfMemory) (is, same) comes = tt
+  ends_next before mid after x (Err (Ok reply)) (is, same) (inl (refused, later)) = inl (inr (x, is, refused), later ∙ same)
+  ends_next before mid after x (Err (Ok reply)) (is, same) (inr (said, rose)) = inr (said, rw (← same) rose)
+  ends_next before mid after x (Err (Err none)) (is, same) comes = tt
 
 -- taking a file changes no file
 pub log_ends_before : (name script : List ℕ) (bytes : Vec ℕ) (before mid : DeskState) (faults after : ℕ) (result : Result Log Stop) → Takes script MAX_SCRIPT_FILE before (Ok bytes) mid
@@ -46,9 +44,9 @@ log_ends_before name script bytes before mid faults after result takes = by take
 
     changed : (result : Result Log Stop) → Ends (IsLogRead name (with_call (Take script MAX_SCRIPT_FILE) before.contents)) faults result after → Ends (IsLogRead name before.contents) faults result after
     changed (Ok log) (read, is) = (same before.contents (Ok log) read, is)
-    changed (Err (Refused reply)) (inl (read, is)) = inl (same before.contents (Err (answer_of reply)) read, is)
-    changed (Err (Refused reply)) (inr failed) = inr failed
-    changed (Err OutOfMemory) ends = tt
+    changed (Err (Ok reply)) (inl (read, is)) = inl (same before.contents (Err (answer_of reply)) read, is)
+    changed (Err (Ok reply)) (inr failed) = inr failed
+    changed (Err (Err none)) ends = tt
 
     by : IsCalled (Ok bytes) (Take script MAX_SCRIPT_FILE) before.contents mid.contents → Ends (IsLogRead name mid.contents) faults result after → Ends (IsLogRead name before.contents) faults result after
     by (inl is) ends = changed result (rw (← is) ends)

@@ -1,5 +1,5 @@
 -- What the top call leaves, whatever its status.
-use Rattle.std.specs.Prelude.{ℕ, ◌≡◌, ◌≢◌, ◌⊎◌, List, [], ◌∷◌, Option, None, Some, Ok}
+use Rattle.std.specs.Prelude.{ℕ, ◌≡◌, ◌≢◌, ◌⊎◌, List, [], ◌∷◌, Some, Ok}
 use Rattle.std.specs.FinMap.{get}
 use Rattle.octet_base.specs.Desk.{Contents, DeskState, Rose}
 use Rattle.octet_model.specs.Orders.{IsFaithful}

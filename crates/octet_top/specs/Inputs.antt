@@ -1,8 +1,7 @@
 -- What reading the files of a request comes to, step by step. A step ends with a value, or with the answer that refuses.
 use Rattle.octet_model.specs.declared.limits.TheConstants.{MAX_LOG_FILE, MAX_SCRIPT_FILE}
-use Rattle.std.specs.Prelude.{ℕ, ◌≡◌, ◌≤◌, ◌<◌, ◌⊎◌, ◌++◌, List, [], ◌∷◌, length, Option, None, Some, Result, Ok, Err, IfSome, IsSomeAnd}
+use Rattle.std.specs.Prelude.{ℕ, ◌≡◌, ◌≤◌, ◌<◌, ◌⊎◌, List, length, Option, None, Some, Result, Ok, Err, IfSome, IsSomeAnd}
 use Rattle.std.specs.FinMap.{get}
-use Rattle.std.specs.Option.{option_map}
 use Rattle.octet_base.specs.Desk.{Contents, DeskState, Takes, Rose}
 use Rattle.octet_base.specs.declared.fault.DeskFault.{DeskFault}
 use Rattle.std.specs.Global.{Vec}
@@ -19,8 +18,6 @@ use Rattle.octet_top.specs.declared.inputs.Source.{Source}
 use Rattle.octet_top.specs.declared.inputs.Pair.{Pair}
 use Rattle.octet_model.specs.declared.list.OutOfMemory.{OutOfMemory as NoMemory}
 use Rattle.octet_top.specs.declared.reply.Reply.{Reply}
-use Rattle.octet_top.specs.declared.inputs.Stop.{Stop}
-use Rattle.octet_top.specs.declared.inputs.Stop.TheVariants.{Refused, OutOfMemory}
 use Rattle.octet_top.specs.Profile.{wanted_by}
 use Rattle.octet_top.specs.Answer.{Answer, answer_of, read_failed, too_long, no_such_object, script_refused, log_refused}
 
@@ -73,10 +70,9 @@ abbrev pub IsPairRead : List ℕ → List ℕ → Option (List ℕ) → Option C
 IsPairRead script_name log_name object contents =
     IsScriptChosen script_name object contents >>= λ chosen. IsLogRead log_name contents >>= λ log read. read ≡ Ok (record { source = chosen.0; wanted = chosen.1; log = log })
 
--- a refusal, if there was memory for its line
-abbrev pub stop_of : Result Reply NoMemory → Stop
-stop_of (Ok reply) = Refused reply
-stop_of (Err none) = OutOfMemory
+-- why reading ended early: the reply that refuses, if there was memory for it
+abbrev pub Stop : Type 0
+Stop = Result Reply NoMemory
 
 abbrev pub WasRefused : {T E : Type 0} → Result T E → Type 0
 WasRefused (Ok value) = ⊥
@@ -85,14 +81,14 @@ WasRefused (Err fault) = Unit {0}
 -- what a step comes to, unless memory was refused
 abbrev pub Comes : {T : Type 0} → (Result T Answer → Type 0) → Result T Stop → Type 0
 Comes Step (Ok value) = Step (Ok value)
-Comes Step (Err (Refused reply)) = Step (Err (answer_of reply))
-Comes Step (Err OutOfMemory) = Unit {0}
+Comes Step (Err (Ok reply)) = Step (Err (answer_of reply))
+Comes Step (Err (Err none)) = Unit {0}
 
 -- a reading ends as its steps say, with no failed take; or a take failed, and that is said; or memory was refused
 abbrev pub Ends : {T : Type 0} → (Result T Answer → Type 0) → ℕ → Result T Stop → ℕ → Type 0
 Ends Steps before (Ok value) after = Steps (Ok value) × (after ≡ before)
-Ends Steps before (Err (Refused reply)) after = (Steps (Err (answer_of reply)) × (after ≡ before)) ⊎ ((answer_of reply ≡ read_failed) × Rose before after)
-Ends Steps before (Err OutOfMemory) after = Unit {0}
+Ends Steps before (Err (Ok reply)) after = (Steps (Err (answer_of reply)) × (after ≡ before)) ⊎ ((answer_of reply ≡ read_failed) × Rose before after)
+Ends Steps before (Err (Err none)) after = Unit {0}
 
 -- a file is asked for, and taken unless what follows is short
 abbrev pub TakesOne : List ℕ → ℕ → Type 0 → DeskState → DeskState → Type 0

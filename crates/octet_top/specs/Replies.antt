@@ -1,10 +1,8 @@
 -- How a reply is found: what it answers, and which calls of the desk that takes.
 use Rattle.octet_model.specs.declared.limits.TheConstants.{MAX_LOG_FILE, MAX_SCRIPT_FILE}
-use Rattle.std.specs.Prelude.{ℕ, ◌≡◌, ◌≢◌, ◌⊎◌, List, [], take, Option, None, Some, Result, Ok, Err}
-use Rattle.octet_base.specs.Desk.{Contents, DeskState, Rose}
+use Rattle.std.specs.Prelude.{ℕ, ◌≡◌, ◌≢◌, ◌⊎◌, Option, None, Some, Result, Ok, Err}
+use Rattle.octet_base.specs.Desk.{DeskState, Rose}
 use Rattle.octet_model.specs.declared.list.OutOfMemory.{OutOfMemory}
-use Rattle.octet_top.specs.declared.inputs.Stop.{Stop}
-use Rattle.octet_top.specs.declared.inputs.Stop.TheVariants as stop
 use Rattle.octet_top.specs.declared.reply.Reply.{Reply}
 use Rattle.octet_top.specs.declared.reply.Status.TheVariants.{Done}
 use Rattle.octet_top.specs.Answer.{Answer, answer_of, read_failed}
@@ -16,11 +14,6 @@ use Rattle.octet_top.specs.Commands.{Answers}
 abbrev pub Finds : (Answer → Type 0) → ℕ → Result Reply OutOfMemory → ℕ → Type 0
 Finds Answers before (Ok reply) after = (Answers (answer_of reply) × (after ≡ before)) ⊎ ((answer_of reply ≡ read_failed) × Rose before after)
 Finds Answers before (Err none) after = Unit {0}
-
--- the reply of a reading that ended early
-abbrev pub refusal_of : Stop → Result Reply OutOfMemory
-refusal_of (stop.Refused reply) = Ok reply
-refusal_of stop.OutOfMemory = Err record {}
 
 -- the reply is no success
 abbrev pub IsNoSuccess : Result Reply OutOfMemory → Type 0

@@ -34,6 +34,7 @@ pub(crate) fn show(alloc: Global, log: &Log) -> Result<Reply, OutOfMemory>
 }
 
 /// The outcome of the log's lowest order is said.
+#[tactic(auto, using(octet_replay::proofs::lemmas::WholeOutcomes::whole))]
 pub(crate) fn replay(alloc: Global, pair: &Pair) -> Result<Reply, OutOfMemory>
     ensures { IfOk result (λ reply. PairAnswers Replay pair.now (answer_of reply)) }
 {

@@ -1,7 +1,7 @@
 //! Takes the files of a request from the desk and reads them, or refuses where that fails.
 ghost use Rattle.std.specs.Prelude.{◌≡◌, ◌≤◌, length};
 ghost use Rattle.octet_top.specs.Request.{name_in};
-ghost use Rattle.octet_top.specs.Inputs.{Comes, Ends, IsTaken, IsParsed, IsDecoded, IsScriptRead, IsLogRead, IsChosen, IsScriptChosen, IsPairRead, TakesOne, TakesBoth, WasRefused, stop_of};
+ghost use Rattle.octet_top.specs.Inputs.{Comes, Ends, IsTaken, IsParsed, IsDecoded, IsScriptRead, IsLogRead, IsChosen, IsScriptChosen, IsPairRead, TakesOne, TakesBoth, WasRefused};
 ghost use Rattle.octet_top.specs.Profile.{object_named};
 
 use crate::refusal::{log_refused, no_such_object, read_failed, script_refused, too_long};
@@ -27,22 +27,8 @@ pub(crate) struct Pair {
     pub(crate) log: Log,
 }
 
-/// Why reading ended early.
-#[derive(Drop)]
-pub(crate) enum Stop {
-    Refused(Reply),
-    OutOfMemory,
-}
-
-/// A refusal, if there was memory for its line.
-fn stop_with(reply: Result<Reply, OutOfMemory>) -> Stop
-    ensures { result ≡ stop_of reply }
-{
-    match reply {
-        Ok(reply) => Stop::Refused(reply),
-        Err(OutOfMemory) => Stop::OutOfMemory,
-    }
-}
+/// Why reading ended early: the reply that refuses, if there was memory for it.
+pub(crate) type Stop = Result<Reply, OutOfMemory>;
 
 /// Takes the bytes of a file that has at most `limit`.
 fn take_file<D: Desk>(alloc: Global, desk: &mut D, name: &str, limit: u32) -> Result<List<u8>, Stop>
@@ -51,10 +37,10 @@ fn take_file<D: Desk>(alloc: Global, desk: &mut D, name: &str, limit: u32) -> Re
 {
     match desk.take(alloc, name, limit) {
         Ok(bytes) => Ok(List::from_vec(bytes)),
-        Err(DeskFault::OutOfMemory) => Err(Stop::OutOfMemory),
-        Err(DeskFault::TooLong) => Err(stop_with(too_long(alloc, name, limit))),
-        Err(DeskFault::Failed) => Err(stop_with(read_failed(alloc))),
-        Err(DeskFault::Absent) => Err(stop_with(read_failed(alloc))),
+        Err(DeskFault::OutOfMemory) => Err(Err(OutOfMemory)),
+        Err(DeskFault::TooLong) => Err(too_long(alloc, name, limit)),
+        Err(DeskFault::Failed) => Err(read_failed(alloc)),
+        Err(DeskFault::Absent) => Err(read_failed(alloc)),
     }
 }
 
@@ -64,10 +50,10 @@ fn parse_text(alloc: Global, text: List<u8>) -> Result<Source, Stop>
 {
     match parse(alloc, text.as_slice()) {
         Ok(script) => Ok(Source { text, script }),
-        Err(ScriptFault::OutOfMemory) => Err(Stop::OutOfMemory),
+        Err(ScriptFault::OutOfMemory) => Err(Err(OutOfMemory)),
         Err(ScriptFault::Refused { line, cause }) => {
             let refusal = script_refused(alloc, line, cause);
-            Err(stop_with(refusal))
+            Err(refusal)
         }
     }
 }
@@ -78,8 +64,8 @@ fn decode_bytes(alloc: Global, bytes: &[u8]) -> Result<Log, Stop>
 {
     match decode(alloc, bytes) {
         Ok(log) => Ok(log),
-        Err(LogFault::OutOfMemory) => Err(Stop::OutOfMemory),
-        Err(LogFault::Refused { cause }) => Err(stop_with(log_refused(alloc, cause))),
+        Err(LogFault::OutOfMemory) => Err(Err(OutOfMemory)),
+        Err(LogFault::Refused { cause }) => Err(log_refused(alloc, cause)),
     }
 }
 
@@ -114,7 +100,7 @@ fn choose(alloc: Global, script: &Script, name: Option<&str>) -> Result<Option<u
     };
     match object_named(script, name.as_bytes()) {
         Some(place) => Ok(Some(place)),
-        None => Err(stop_with(no_such_object(alloc))),
+        None => Err(no_such_object(alloc)),
     }
 }
 

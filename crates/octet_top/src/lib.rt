@@ -4,6 +4,8 @@
 mod commands;
 mod deliver;
 #[cfg(test)]
+mod heap_tests;
+#[cfg(test)]
 mod hostile_tests;
 mod inputs;
 mod picks;

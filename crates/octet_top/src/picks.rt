@@ -37,9 +37,6 @@ fn are_hexadecimal(digits: &[u8]) -> bool
 pub(crate) fn picks_of(alloc: Global, word: &str) -> Result<Vec<u8>, OutOfMemory>
     ensures { IfOk result (λ picks. picks.items ≡ map digit_value word.now) }
 {
-    let mut picks = Vec::new(alloc);
-    for digit in word.as_bytes() {
-        picks.push(digit_value(*digit))?;
-    }
+    let picks = word.bytes().map(digit_value).collect::<Vec<u8>>(alloc)?;
     Ok(picks)
 }

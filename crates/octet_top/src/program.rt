@@ -4,7 +4,7 @@ ghost use Rattle.octet_base.specs.Desk.{Contents};
 ghost use Rattle.octet_top.specs.declared.reply.Status.{Status};
 ghost use Rattle.octet_top.specs.declared.reply.Status.TheVariants.{Done, Memory};
 ghost use Rattle.octet_top.specs.Answer.{code_of};
-ghost use Rattle.octet_top.specs.Request.{texts, request_in, reading_in, shown_running};
+ghost use Rattle.octet_top.specs.Request.{texts, request_in, reading_in};
 ghost use Rattle.octet_top.specs.Causes.{IsCause, IsDue, NoneFailed};
 ghost use Rattle.octet_top.specs.Effects.{IsStatus, Leaves, KeepsOthers, KeepsFiles, CountsFailures, IsWellMet};
 ghost use Rattle.octet_top.specs.Replies.{Replies};
@@ -15,17 +15,18 @@ use crate::deliver::deliver;
 use crate::reading::read;
 use crate::refusal::not_a_command;
 use crate::reply::Reply;
-use crate::request::{Running, reading_of, running_of};
+use crate::request::{reading_of, running_of};
 use crate::running::run;
-use octet_base::{Desk, Gate};
+use octet_base::Desk;
 use octet_model::OutOfMemory;
+use octet_threads::HeapGate;
 use std::alloc::Global;
 use std::sync::Wait;
 use std::thread::Threads;
 
 /// Does what the words of a command line say, over the desk, and answers the exit status. The
 /// words are those after the program's name.
-pub fn serve<R: Threads + Wait + Sync, D: Desk, G: Gate>(
+pub fn serve<R: Threads + Wait + Sync, D: Desk, G: HeapGate>(
     rt: &R,
     alloc: Global,
     words: &[String],
@@ -73,7 +74,7 @@ pub fn serve<R: Threads + Wait + Sync, D: Desk, G: Gate>(
     serve_words(rt, alloc, words, desk, gate)
 }
 
-fn serve_words<R: Threads + Wait + Sync, D: Desk, G: Gate>(
+fn serve_words<R: Threads + Wait + Sync, D: Desk, G: HeapGate>(
     rt: &R,
     alloc: Global,
     words: &[String],
@@ -84,7 +85,10 @@ fn serve_words<R: Threads + Wait + Sync, D: Desk, G: Gate>(
     ensures { IsServed (request_in (texts words.now)) (D.state desk.old) (D.state desk.new) result }
 {
     match running_of(words) {
-        Some(running) => serve_running(rt, alloc, running, desk, gate),
+        Some(running) => {
+            let reply = run(rt, alloc, running, desk, gate);
+            deliver(alloc, desk, reply)
+        }
         None => serve_alone(alloc, words, desk),
     }
 }
@@ -106,18 +110,4 @@ fn reply_alone<D: Desk>(alloc: Global, words: &[String], desk: &mut D) -> Result
         Some(reading) => read(alloc, desk, reading),
         None => not_a_command(alloc),
     }
-}
-
-fn serve_running<R: Threads + Wait + Sync, D: Desk, G: Gate>(
-    rt: &R,
-    alloc: Global,
-    running: Running<'_>,
-    desk: &mut D,
-    gate: &G,
-) -> u8
-    requires { (D.state desk.old).begun ≡ None }
-    ensures { IsServed (Some (shown_running running.entry)) (D.state desk.old) (D.state desk.new) result }
-{
-    let reply = run(rt, alloc, running, desk, gate);
-    deliver(alloc, desk, reply)
 }

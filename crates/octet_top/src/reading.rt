@@ -8,7 +8,6 @@ ghost use Rattle.octet_top.specs.Replies.{Replies};
 use crate::commands::{replay, show, tidy, verify};
 use crate::inputs::{Pair, Source, read_log, read_pair, read_script};
 use crate::profile::profile;
-use crate::refusal::refused;
 use crate::reply::Reply;
 use crate::request::{LogTask, PairTask, Reading, ScriptTask};
 use octet_base::Desk;
@@ -41,6 +40,7 @@ fn answer_pair(alloc: Global, task: PairTask, pair: &Pair) -> Result<Reply, OutO
     }
 }
 
+#[tactic(auto, using(crate::proofs::Found::script_stops))]
 fn of_script<D: Desk>(
     alloc: Global,
     desk: &mut D,
@@ -51,10 +51,11 @@ fn of_script<D: Desk>(
 {
     match read_script(alloc, desk, script) {
         Ok(source) => answer_script(alloc, task, &source),
-        Err(stop) => refused(stop),
+        Err(stop) => stop,
     }
 }
 
+#[tactic(auto, using(crate::proofs::Found::log_stops))]
 fn of_log<D: Desk>(
     alloc: Global,
     desk: &mut D,
@@ -65,7 +66,7 @@ fn of_log<D: Desk>(
 {
     match read_log(alloc, desk, log) {
         Ok(log) => answer_log(alloc, task, &log),
-        Err(stop) => refused(stop),
+        Err(stop) => stop,
     }
 }
 
@@ -81,7 +82,7 @@ fn of_pair<D: Desk>(
 {
     match read_pair(alloc, desk, script, log, object) {
         Ok(pair) => answer_pair(alloc, task, &pair),
-        Err(stop) => refused(stop),
+        Err(stop) => stop,
     }
 }
 

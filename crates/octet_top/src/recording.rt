@@ -5,17 +5,16 @@ ghost use Rattle.octet_top.specs.Commands.{Records};
 
 use crate::picks::picks_of;
 use crate::request::RunTask;
-use octet_base::Gate;
 use octet_machine::play;
 use octet_model::{OutOfMemory, Recorded, Script};
-use octet_threads::{run, run_locked};
+use octet_threads::{HeapGate, run, run_locked};
 use std::alloc::Global;
 use std::sync::Wait;
 use std::thread::Threads;
 
 /// A faithful recording of the script: by threads beside each other, which pass the gate before
 /// each access, or by picks, on the calling thread.
-pub(crate) fn record<R: Threads + Wait + Sync, G: Gate>(
+pub(crate) fn record<R: Threads + Wait + Sync, G: HeapGate>(
     rt: &R,
     alloc: Global,
     task: RunTask<'_>,

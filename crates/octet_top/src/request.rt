@@ -78,14 +78,9 @@ pub(crate) fn reading_of(words: &[String]) -> Option<Reading<'_>>
     ensures { option_map shown_reading result ≡ reading_in (texts words.now) }
 {
     match words {
-        [word, file] => reading_of_two(word.as_str(), file.as_str()),
-        [word, script, log] => reading_of_three(word.as_str(), script.as_str(), log.as_str()),
-        [word, script, log, object] => reading_of_four(
-            word.as_str(),
-            script.as_str(),
-            log.as_str(),
-            object.as_str(),
-        ),
+        [word, file] => reading_of_two(word, file),
+        [word, script, log] => reading_of_three(word, script, log),
+        [word, script, log, object] => reading_of_four(word, script, log, object),
         _ => None,
     }
 }
@@ -147,13 +142,8 @@ pub(crate) fn running_of(words: &[String]) -> Option<Running<'_>>
     ensures { option_map shown_running result ≡ running_in (texts words.now) }
 {
     match words {
-        [word, script, log] => running_of_three(word.as_str(), script.as_str(), log.as_str()),
-        [word, first, second, third] => running_of_four(
-            word.as_str(),
-            first.as_str(),
-            second.as_str(),
-            third.as_str(),
-        ),
+        [word, script, log] => running_of_three(word, script, log),
+        [word, first, second, third] => running_of_four(word, first, second, third),
         _ => None,
     }
 }

@@ -8,14 +8,14 @@ ghost use Rattle.octet_top.specs.Replies.{Replies};
 
 use crate::inputs::{Source, read_script};
 use crate::recording::record;
-use crate::refusal::refused;
 use crate::reply::{Output, Reply};
 use crate::request::{RunTask, Running};
-use octet_base::{Desk, Gate};
+use octet_base::Desk;
 use octet_gen::make;
 use octet_log::encode_v1;
 use octet_model::{List, OutOfMemory, outcome_text};
 use octet_script::print;
+use octet_threads::HeapGate;
 use std::alloc::Global;
 use std::sync::Wait;
 use std::thread::Threads;
@@ -24,7 +24,7 @@ use std::thread::Threads;
 const SUMMARY: &[u8] = b"threads 8\nobjects 64\naccesses 160000\n";
 
 /// The reply to a run: the script's file is taken, and nothing is written or said yet.
-pub(crate) fn run<R: Threads + Wait + Sync, D: Desk, G: Gate>(
+pub(crate) fn run<R: Threads + Wait + Sync, D: Desk, G: HeapGate>(
     rt: &R,
     alloc: Global,
     running: Running<'_>,
@@ -45,7 +45,8 @@ pub(crate) fn run<R: Threads + Wait + Sync, D: Desk, G: Gate>(
     }
 }
 
-fn run_script<R: Threads + Wait + Sync, D: Desk, G: Gate>(
+#[tactic(auto, using(crate::proofs::Found::run_stops))]
+fn run_script<R: Threads + Wait + Sync, D: Desk, G: HeapGate>(
     rt: &R,
     alloc: Global,
     desk: &mut D,
@@ -58,12 +59,12 @@ fn run_script<R: Threads + Wait + Sync, D: Desk, G: Gate>(
 {
     match read_script(alloc, desk, script) {
         Ok(source) => run_source(rt, alloc, gate, task, &source, log),
-        Err(stop) => refused(stop),
+        Err(stop) => stop,
     }
 }
 
 /// The script is run: the log's bytes are written, and the outcome is said.
-fn run_source<R: Threads + Wait + Sync, G: Gate>(
+fn run_source<R: Threads + Wait + Sync, G: HeapGate>(
     rt: &R,
     alloc: Global,
     gate: &G,
@@ -81,7 +82,7 @@ fn run_source<R: Threads + Wait + Sync, G: Gate>(
 
 /// The number's script is run: its canonical text and then the log's bytes are written, and the
 /// summary is said.
-fn generate<R: Threads + Wait + Sync, G: Gate>(
+fn generate<R: Threads + Wait + Sync, G: HeapGate>(
     rt: &R,
     alloc: Global,
     gate: &G,

@@ -2,7 +2,9 @@
 use crate::tests::{desk_with, desk_with_log, words_of};
 use crate::{Status, serve};
 use octet_base::{Gate, OpenGate};
+use octet_heap::Worker;
 use octet_model::OutOfMemory;
+use octet_threads::HeapGate;
 use std::alloc::Global;
 use std::sync::Wait;
 use std::sync::atomic::{AtomicBool, Ordering};
@@ -59,6 +61,10 @@ impl Gate for TwoFlags {
             self.await_both();
         }
     }
+}
+
+impl HeapGate for TwoFlags {
+    fn note(&self, _thread: u8, _worker: &Worker) {}
 }
 
 /// No body that runs the threads one after another, and none that leaves the gate out, passes.

@@ -1,6 +1,5 @@
-use Rattle.std.proofs.Common.{◌≡◌, ◌∙◌, ap, sym, length}
+use Rattle.std.proofs.Common.{◌≡◌, ◌∙◌, ap}
 use Rattle.std.proofs.lemmas.Result.{IfOk-weaker}
-use Rattle.octet_model.specs.declared.outcome.Outcome.{Outcome}
 use Rattle.octet_top.specs.Answer.{answer_of, writes_file}
 use Rattle.octet_top.specs.Request.{shown_task}
 use Rattle.octet_top.specs.Commands.{RunAnswers}
