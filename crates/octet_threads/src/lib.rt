@@ -1,5 +1,6 @@
-//! Runs of a script by real threads: a worker for each thread of the script, over one machine
-//! that all of them share.
+//! Runs of a script by real threads: a worker for each thread of the script, all on one shared
+//! heap (`run`), or over one machine behind a lock (`run_locked`). `carry` has a worker of a heap
+//! carry out one demand of a thread.
 #![tactic(auto)]
 
 mod carrying;
