@@ -1,7 +1,6 @@
 -- A short number that is read is the one that was written, and what was written is read again; its bytes are its one spelling.
-use Rattle.std.proofs.Common.{◌≡◌, ◌≢◌, ℕ, zero, suc, ◌+◌, ◌-◌, ◌*◌, ◌/◌, ◌%◌, ◌^◌, ◌<◌, ◌≤◌, ◌&&◌, Bool, true, false, cond, ltb, leb, List, [], ◌∷◌, ◌++◌, length, Result, Ok, Err, refl, sym, ap, subst, ◌∙◌, append_assoc, arith, get_or}
+use Rattle.std.proofs.Common.{◌≡◌, ℕ, zero, suc, ◌+◌, ◌-◌, ◌*◌, ◌/◌, ◌%◌, ◌^◌, ◌<◌, ◌≤◌, ◌&&◌, true, false, cond, ltb, leb, List, [], ◌∷◌, ◌++◌, length, Ok, Err, refl, sym, ap, subst, ◌∙◌, append_assoc, arith, get_or}
 use Rattle.std.proofs.lemmas.Bool.{lt-ltb, le-ltb, le-leb, ltb-true, ltb-false, leb-true}
-use Rattle.octet_log.specs.declared.cause.LogCause.{LogCause}
 use Rattle.octet_log.specs.declared.cause.LogCause.TheVariants.{BadNumber, CutShort}
 use Rattle.octet_log.specs.Decoding.{◌>>=◌, wanted, byte_at}
 use Rattle.octet_log.specs.Laws.{IsInput}

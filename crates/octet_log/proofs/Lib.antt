@@ -13,3 +13,9 @@ mod WholePieces
 mod PieceLoops
 mod PieceMarks
 mod PieceLists
+mod Second
+mod Spelled
+mod Sizes
+mod Words
+mod PieceRefused
+mod ShortRefused

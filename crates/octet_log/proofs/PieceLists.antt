@@ -1,24 +1,22 @@
 -- Pieces and the tail that are read are those that were written, and what was written is read again.
-use Rattle.std.proofs.Common.{◌≡◌, ◌≢◌, ℕ, zero, suc, ◌+◌, ◌-◌, ◌*◌, ◌^◌, ◌<◌, ◌≤◌, ◌&&◌, Bool, true, false, cond, eqb, leb, ltb, List, [], ◌∷◌, ◌++◌, length, Result, Ok, Err, refl, sym, ap, subst, ◌∙◌, append_assoc, arith, replicate}
+use Rattle.std.proofs.Common.{◌≡◌, ℕ, zero, suc, ◌+◌, ◌-◌, ◌<◌, ◌≤◌, true, false, cond, eqb, leb, List, [], ◌∷◌, ◌++◌, length, Ok, refl, sym, ap, subst, ◌∙◌, append_assoc, arith}
 use Rattle.std.specs.Prelude.{sum_by}
-use Rattle.std.specs.List.{flat_map, list_all}
-use Rattle.std.proofs.lemmas.Bool.{eqb-true, eqb-false, ne_eqb, leb-true, le-leb, lt-ltb, ltb-true}
+use Rattle.std.specs.List.{flat_map}
+use Rattle.std.proofs.lemmas.Bool.{eqb-true, eqb-false, ne_eqb, leb-true, le-leb}
 use Rattle.std.proofs.lemmas.List.{append-nil, length-append}
 use Rattle.std.proofs.lemmas.List.Sums.{sum_by-cons}
 use Rattle.std.proofs.lemmas.List.Concat.{flat_map-cons}
 use Rattle.octet_model.specs.declared.log.Gapped.{Gapped}
 use Rattle.octet_model.specs.declared.log.ThreadLog.{ThreadLog}
-use Rattle.octet_model.specs.Log.{is_mark, is_thread_log, are_thread_logs}
-use Rattle.octet_log.specs.declared.cause.LogCause.TheVariants.{TooManyAccesses, GapsOver, CutShort}
+use Rattle.octet_log.specs.declared.cause.LogCause.TheVariants.{TooManyAccesses, GapsOver}
 use Rattle.octet_log.specs.Decoding.{◌>>=◌, wanted, byte_at}
 use Rattle.octet_log.specs.Laws.{IsInput}
 use Rattle.octet_log.specs.Short.{short_bytes, short_at}
-use Rattle.octet_log.specs.Pieces.{marks_bytes, Piece, piece_bytes, IsPiece, ArePieces, marks_of, HaveMarks, marks_in}
-use Rattle.octet_log.specs.Loading.{piece_at, added, pieces_at, accesses_at, tail_at, no_marks}
-use Rattle.octet_log.proofs.Valid.{and_first, and_second, and_both}
+use Rattle.octet_log.specs.Pieces.{marks_bytes, Piece, piece_bytes, ArePieces, marks_of, marks_in}
+use Rattle.octet_log.specs.Loading.{piece_at, added, pieces_at, accesses_at, tail_at}
 use Rattle.octet_log.proofs.Fields.{bind_ok, wanted_ok, ok_is, Takes, Takes-then, byte_takes}
 use Rattle.octet_log.proofs.Groups.{short_takes, short_again}
-use Rattle.octet_log.proofs.PieceMarks.{GoodShort, GoodShorts, GoodPiece, piece_takes, piece_again}
+use Rattle.octet_log.proofs.PieceMarks.{GoodPiece, piece_takes, piece_again}
 
 -- the marks of all pieces, each behind those that its thread has
 abbrev pub all_added : List Piece → List ThreadLog → List ThreadLog
@@ -65,7 +63,7 @@ pieces_take (suc most) total threads before logs bytes x is e =
           (pieces_take most total threads (before + length p.0.0) (added 0 b.0.0 p.0.0 logs) p.0.1 x one.0.rest_is p.2)
     ] refl b.2
 
-one_again : (most total threads before : ℕ) (logs : List ThreadLog) (thread : ℕ) (marks : List Gapped) (rest : List ℕ) → threads ≤ 16 → GoodPiece threads thread before marks
+pub one_again : (most total threads before : ℕ) (logs : List ThreadLog) (thread : ℕ) (marks : List Gapped) (rest : List ℕ) → threads ≤ 16 → GoodPiece threads thread before marks
     → pieces_at (suc most) total threads before logs ((thread ∷ marks_bytes marks) ++ rest) ≡ pieces_at most total threads (before + length marks) (added 0 thread marks logs) rest
 unfolding pieces_at
 one_again most total threads before logs thread marks rest few good =
@@ -129,7 +127,7 @@ tail_takes total thread before (log ∷ logs) bytes x is e =
     subst (λ (y : List ThreadLog × List ℕ). Takes bytes (accesses_bytes y.0) y.1 × HaveAccesses before (log ∷ logs) y.0) (ok_is made x o.2)
     (rw flat_map-cons both, (first.marks, first.sum, first.gaps, rest.1))
 
-accesses_again : (total thread before : ℕ) (log y : ThreadLog) (rest : List ℕ) → y.marks ≡ log.marks → before + y.accesses ≤ 262144 → sum_by (λ m. m.gap) y.marks ≤ y.accesses → accesses_at total thread before log (short_bytes y.accesses ++ rest) ≡ Ok (y, rest)
+pub accesses_again : (total thread before : ℕ) (log y : ThreadLog) (rest : List ℕ) → y.marks ≡ log.marks → before + y.accesses ≤ 262144 → sum_by (λ m. m.gap) y.marks ≤ y.accesses → accesses_at total thread before log (short_bytes y.accesses ++ rest) ≡ Ok (y, rest)
 unfolding accesses_at
 accesses_again total thread before log y rest marks sum gaps =
     let within : leb (sum_by (λ m. m.gap) log.marks) y.accesses ≡ true = rw (← marks) (le-leb (sum_by (λ m. m.gap) y.marks) y.accesses gaps) in

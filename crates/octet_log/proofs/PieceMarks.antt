@@ -1,13 +1,13 @@
 -- A mark or a piece that is read is the one that was written, and what was written is read again.
-use Rattle.std.proofs.Common.{◌≡◌, ℕ, zero, suc, ◌+◌, ◌-◌, ◌^◌, ◌<◌, ◌≤◌, ◌&&◌, Bool, true, false, cond, not, eqb, leb, ltb, List, [], ◌∷◌, ◌++◌, length, Result, Ok, Err, refl, sym, ap, subst, ◌∙◌, append_assoc, arith}
-use Rattle.std.specs.List.{flat_map, list_all}
+use Rattle.std.proofs.Common.{◌≡◌, ℕ, ◌+◌, ◌-◌, ◌^◌, ◌<◌, ◌≤◌, ◌&&◌, true, false, cond, not, eqb, leb, ltb, List, [], ◌∷◌, ◌++◌, length, Ok, refl, sym, ap, subst, ◌∙◌, append_assoc, arith}
+use Rattle.std.specs.List.{flat_map}
 use Rattle.std.proofs.lemmas.Bool.{eqb-true, eqb-false, leb-true, le-leb, lt-ltb, ltb-true}
 use Rattle.octet_model.specs.declared.event.Mark.{Mark}
 use Rattle.octet_model.specs.declared.event.Mark.TheVariants.{Join, Draw, Fence}
 use Rattle.octet_model.specs.declared.log.Gapped.{Gapped}
 use Rattle.octet_model.specs.Log.{is_mark}
 use Rattle.octet_log.specs.declared.cause.LogCause.TheVariants.{BadMark, BadPiece, TooManyMarks}
-use Rattle.octet_log.specs.Decoding.{◌>>=◌, wanted, byte_at, each_at}
+use Rattle.octet_log.specs.Decoding.{◌>>=◌, wanted, byte_at}
 use Rattle.octet_log.specs.Laws.{IsInput}
 use Rattle.octet_log.specs.Short.{short_bytes, short_at}
 use Rattle.octet_log.specs.Pieces.{short_mark_of, short_mark_bytes, marks_bytes}
@@ -171,14 +171,15 @@ piece_takes total threads place thread before bytes x is e =
     let f = wanted_ok (leb (before + c.0.0) 4793490) TooManyMarks (λ _. short_marks_at total threads thread c.0.0 c.0.1) x s.1 in
     let t0 = (short_takes total bytes c.0 is c.1).0 in
     let t1 = short_marks_take total threads thread c.0.0 c.0.1 x t0.rest_is f.1 in
-    let both = Takes-then bytes (short_bytes c.0.0) c.0.1 (flat_map short_mark_bytes x.0) x.1 t0 t1.0 in
-    (subst (λ (n : ℕ). Takes bytes (short_bytes n ++ flat_map short_mark_bytes x.0) x.1) (sym t1.1) both,
+    let both = Takes-then bytes (short_bytes c.0.0) c.0.1 (flat_map short_mark_bytes x.0) x.1 t0 t1.0 in (
+      subst (λ (n : ℕ). Takes bytes (short_bytes n ++ flat_map short_mark_bytes x.0) x.1) (sym t1.1) both,
       record {
         thread_is = ltb-true thread threads k.0;
         some_mark = rw t1.1 (leb-true 1 c.0.0 s.0);
         few = rw t1.1 (leb-true (before + c.0.0) 4793490 f.0);
         good = t1.2;
-      })
+      },
+    )
 
 pub piece_again : (total threads place thread before : ℕ) (marks : List Gapped) (rest : List ℕ) → GoodPiece threads thread before marks → piece_at total threads place thread before (marks_bytes marks ++ rest) ≡ Ok (marks, rest)
 unfolding piece_at

@@ -40,7 +40,7 @@ pub other_version : (version : ℕ) (rest : List ℕ) → version ≢ 1 → deco
 unfolding decoded body_at
 other_version version rest other = rw (ne_eqb version 1 other) refl
 
-not_allowed : (threads : ℕ) → (threads ≡ 0) ⊎ (16 < threads) → (leb 1 threads && leb threads 16) ≡ false
+pub not_allowed : (threads : ℕ) → (threads ≡ 0) ⊎ (16 < threads) → (leb 1 threads && leb threads 16) ≡ false
 not_allowed threads (inl none) = rw none refl
 not_allowed zero (inr many) = refl
 not_allowed (suc threads) (inr many) = rw (lt-leb (suc threads) 16 many) (elim (leb 1 (suc threads)) as (λ b. (b && false) ≡ false) [ true ↦ refl | false ↦ refl ])
@@ -54,12 +54,12 @@ unfolding decoded body_at
 head_cut = (refl, refl)
 
 -- the state after all
-abbrev last : {A S : Type 0} → (S → A → S) → S → List A → S
+abbrev pub last : {A S : Type 0} → (S → A → S) → S → List A → S
 last next state [] = state
 last next state (x ∷ xs) = last next (next state x) xs
 
 module _ {A S : Type 0} (read : S → List ℕ → Result (A × List ℕ) LogCause) (next : S → A → S) (spell : A → List ℕ) (good : S → A → Type 0) where
-  each_fails : (one : (state : S) (x : A) (rest : List ℕ) → good state x → read state (spell x ++ rest) ≡ Ok (x, rest))
+  pub each_fails : (one : (state : S) (x : A) (rest : List ℕ) → good state x → read state (spell x ++ rest) ≡ Ok (x, rest))
       (count : ℕ) (state : S) (xs : List A) (rest : List ℕ) (cause : LogCause) → length xs < count → AllGood good next state xs → read (last next state xs) rest ≡ Err cause → each_at count read next state (flat_map spell xs ++ rest) ≡ Err cause
   unfolding each_at
   each_fails one zero state xs rest cause more all fails = absurd (omega arith)

@@ -1,10 +1,10 @@
 -- One piece for each thread that has marks is a spelling of the log's marks.
-use Rattle.std.proofs.Common.{◌≡◌, ℕ, zero, suc, ◌+◌, ◌<◌, ◌≤◌, Bool, true, false, cond, eqb, List, [], ◌∷◌, ◌++◌, length, refl, sym, ap, subst, ◌∙◌, append_assoc, arith}
+use Rattle.std.proofs.Common.{◌≡◌, ℕ, suc, ◌+◌, ◌<◌, ◌≤◌, true, false, cond, eqb, List, [], ◌∷◌, ◌++◌, length, refl, sym, ap, subst, ◌∙◌, append_assoc, arith}
 use Rattle.std.proofs.lemmas.Bool.{eqb-true, eqb-false, ne_eqb}
 use Rattle.std.proofs.lemmas.List.{append-nil, nil_from_length}
 use Rattle.octet_model.specs.declared.log.Gapped.{Gapped}
 use Rattle.octet_model.specs.declared.log.ThreadLog.{ThreadLog}
-use Rattle.octet_log.specs.Pieces.{Piece, IsPiece, ArePieces, marks_of, HaveMarks, whole_pieces}
+use Rattle.octet_log.specs.Pieces.{Piece, ArePieces, marks_of, HaveMarks, whole_pieces}
 
 -- the piece of a thread, where it has marks
 abbrev piece_of : ℕ → ThreadLog → List Piece

@@ -7,3 +7,4 @@ pub mod Pieces
 pub mod Loading
 pub mod LoadingLaws
 pub mod Readings
+pub mod PieceRefusals

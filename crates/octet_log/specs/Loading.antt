@@ -1,5 +1,5 @@
 -- Bytes judged from the front, field by field, in either version: the log that they spell, with a digest where they have one, or the first cause to refuse them.
-use Rattle.std.specs.Prelude.{◌≡◌, ℕ, zero, suc, ◌+◌, ◌-◌, ◌==◌, ◌&&◌, List, [], ◌∷◌, ◌++◌, length, take, drop, codes, replicate, Option, Some, None, Result, Ok, Err, nat_lt, nat_le, not, sum_by, if◌then◌else◌, IsTrue}
+use Rattle.std.specs.Prelude.{ℕ, zero, suc, ◌+◌, ◌-◌, ◌==◌, ◌&&◌, List, [], ◌∷◌, ◌++◌, length, take, drop, codes, replicate, Option, Some, None, Result, Ok, Err, nat_lt, nat_le, not, sum_by, if◌then◌else◌, IsTrue}
 use Rattle.std.specs.Str.{bytes_eq}
 use Rattle.octet_model.specs.declared.event.Mark.{Mark}
 use Rattle.octet_model.specs.declared.event.Mark.TheVariants.{Join, Draw, Fence}

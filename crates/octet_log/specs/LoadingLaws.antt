@@ -1,9 +1,8 @@
 -- The laws of both versions: a short number has one spelling, bytes spell one log, and no log goes on where another ends.
-use Rattle.std.specs.Prelude.{◌≡◌, ℕ, ◌<◌, ◌^◌, ◌↔◌, List, [], ◌∷◌, ◌++◌, length, Option, Some, Ok, Err, IsTrue}
+use Rattle.std.specs.Prelude.{◌≡◌, ℕ, ◌<◌, ◌^◌, ◌↔◌, List, [], ◌++◌, Option, Ok, IsTrue}
 use Rattle.octet_model.specs.declared.log.ThreadLog.{ThreadLog}
 use Rattle.octet_model.specs.Log.{is_log}
-use Rattle.octet_log.specs.declared.cause.LogCause.TheVariants.{Trailing}
-use Rattle.octet_log.specs.Laws.{IsInput, cut_cause}
+use Rattle.octet_log.specs.Laws.{IsInput}
 use Rattle.octet_log.specs.Short.{SpellsShort, short_bytes, short_at}
 use Rattle.octet_log.specs.Pieces.{IsSpelling}
 use Rattle.octet_log.specs.Loading.{loaded}

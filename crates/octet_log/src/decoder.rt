@@ -172,7 +172,7 @@ fn read_body(alloc: Global, total: usize, bytes: &[u8]) -> Result<Vec<ThreadLog>
 }
 
 #[tactic(auto, unfolding(crate::specs::Decoding::decoded))]
-fn read_log(alloc: Global, bytes: &[u8]) -> Result<Vec<ThreadLog>, LogFault>
+pub(crate) fn read_log(alloc: Global, bytes: &[u8]) -> Result<Vec<ThreadLog>, LogFault>
     ensures { Gives (λ logs. logs.items) result (decoded bytes.now) }
 {
     let Some(rest) = bytes.strip_prefix(b"OCTL") else {

@@ -2,6 +2,7 @@
 ghost use Rattle.std.specs.Prelude.{◌^◌};
 ghost use Rattle.std.specs.Int.{w32, w64};
 ghost use Rattle.octet_log.specs.Refusals.{LacksMagic, OtherVersionIsBad, ThreadsAreBad, HeadIsCut, AccessesAreCut, CountIsCut, MarkIsCut, MarkIsBad, AccessesAreTooMany};
+ghost use Rattle.octet_log.specs.PieceRefusals.{BytesLackMagic, NoVersionIsBad, NoThreadsAreBad, DigestIsCut, NoThreadIsBadPiece, NoMarkIsBadPiece, MarksAreTooMany, NoMarkIsBad, NoShortIsBad, ShortIsCut, TailHasTooMany, GapsPassAccesses, ByteAfterSpellingIsTrailing};
 ghost use Rattle.octet_log.specs.LoadingLaws.{ShortHasOneSpelling, ShortIsReadAgain, LoadsLogs, SpellingsSpellOneLog, NoSpellingIsAPrefix};
 ghost use Rattle.octet_log.specs.Laws.{NumberIsReadAgain, NumberHasOneSpelling, DecodesLogs, BytesSpellOneLog, NoLogIsAPrefix, FrontIsCut, ByteAfterIsTrailing};
 
@@ -87,4 +88,47 @@ pub fn spellings_spell_one_log()
 /// No spelling of a log, in either version, is a proper prefix of a spelling of a log.
 pub fn no_spelling_is_a_prefix()
     ensures { NoSpellingIsAPrefix }
+{}
+
+/// Bytes are refused for their first four bytes, their version or their number of threads alone,
+/// whatever stands after these; and those of a digest that is cut, where they end.
+pub fn bad_beginning_is_refused()
+    ensures magic { BytesLackMagic }
+    ensures version { NoVersionIsBad }
+    ensures threads { NoThreadsAreBad }
+    ensures digest { DigestIsCut }
+{}
+
+/// After a good head and good pieces, a piece of no thread or of no mark is refused, at its first
+/// byte, and more marks than the limit are too many.
+pub fn bad_piece_is_refused()
+    ensures thread { NoThreadIsBadPiece }
+    ensures mark { NoMarkIsBadPiece }
+    ensures marks { MarksAreTooMany }
+{}
+
+/// Within a good piece, what begins no mark of its thread is refused as a bad mark, at its first
+/// byte, as soon as a field tells.
+pub fn bad_mark_of_a_piece_is_refused()
+    ensures { NoMarkIsBad }
+{}
+
+/// Where a short number is read, bytes that spell none are refused, at their first byte; and cut,
+/// where they end too early.
+pub fn bad_short_number_is_refused()
+    ensures bad { NoShortIsBad }
+    ensures cut { ShortIsCut }
+{}
+
+/// Within a good tail, accesses that pass the limit with those before are too many, and accesses
+/// below the gaps of their thread are refused by that thread.
+pub fn bad_tail_is_refused()
+    ensures sum { TailHasTooMany }
+    ensures gaps { GapsPassAccesses }
+{}
+
+/// A spelling of a log, in either version, with more bytes is refused for the first of these, at
+/// its place.
+pub fn byte_after_spelling_is_trailing()
+    ensures { ByteAfterSpellingIsTrailing }
 {}

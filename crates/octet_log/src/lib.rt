@@ -20,11 +20,13 @@ pub use decoder::decode_v1;
 pub use encoder::encode_v1;
 pub use hashing::digest;
 pub use laws::{
-    bad_head_is_refused, bad_mark_is_refused, byte_after_log_is_trailing, bytes_spell_one_log,
-    cut_input_is_refused, decoding_accepts_spellings_alone, field_has_one_spelling,
-    front_of_log_is_cut, loading_accepts_spellings_alone, no_log_is_a_prefix,
-    no_spelling_is_a_prefix, short_number_has_one_spelling, spellings_spell_one_log,
-    too_many_accesses_are_refused,
+    bad_beginning_is_refused, bad_head_is_refused, bad_mark_is_refused,
+    bad_mark_of_a_piece_is_refused, bad_piece_is_refused, bad_short_number_is_refused,
+    bad_tail_is_refused, byte_after_log_is_trailing, byte_after_spelling_is_trailing,
+    bytes_spell_one_log, cut_input_is_refused, decoding_accepts_spellings_alone,
+    field_has_one_spelling, front_of_log_is_cut, loading_accepts_spellings_alone,
+    no_log_is_a_prefix, no_spelling_is_a_prefix, short_number_has_one_spelling,
+    spellings_spell_one_log, too_many_accesses_are_refused,
 };
 pub use limits::MAX_MARKS;
 pub use loader::{Digest, Loaded, decode};

@@ -1,17 +1,19 @@
 //! Bytes of either version as a log.
 ghost use Rattle.std.specs.Prelude.{◌≡◌, ◌+◌, ◌≤◌, length, IfOk, nat_le, sum_by};
 ghost use Rattle.octet_log.specs.Decoding.{Gives};
-ghost use Rattle.octet_log.specs.Pieces.{IsSpelling};
+ghost use Rattle.octet_log.specs.Pieces.{IsSpelling, marks_in};
 ghost use Rattle.octet_log.specs.Loading.{digest_at, no_marks, pieces_at, tail_at, accesses_at, second_at, loaded, LoadsSpelling};
-ghost use Rattle.octet_log.specs.Readings.{reading_of};
+ghost use Rattle.octet_log.specs.Readings.{reading, reading_of};
 
-use crate::decoder::decode_v1;
+use crate::decoder::read_log;
 use crate::field::{cut_short, read_u8};
 use crate::reader::read_piece;
 use crate::short::read_short;
 use crate::writer::END;
-use crate::{LogCause, LogFault};
-use octet_model::{Gapped, List, Log, MAX_ACCESSES, MAX_LOG_FILE, MAX_THREADS, OutOfMemory, ThreadLog};
+use crate::{LogCause, LogFault, MAX_MARKS};
+use octet_model::{
+    Gapped, List, Log, MAX_ACCESSES, MAX_LOG_FILE, MAX_THREADS, OutOfMemory, ThreadLog,
+};
 use std::alloc::Global;
 
 const DIGEST_LEN: usize = 32;
@@ -79,7 +81,15 @@ fn read_pieces<'a>(
             return Err(LogCause::BadPiece { at: place as u64 }.into());
         }
         let log = &mut logs[usize::from(thread)];
-        let (count, after) = read_piece(total, threads, place, thread, before, &mut log.marks, after)?;
+        let (count, after) = read_piece(
+            total,
+            threads,
+            place,
+            thread,
+            before,
+            &mut log.marks,
+            after,
+        )?;
         before += count;
         rest = after;
     }
@@ -174,10 +184,26 @@ fn read_second(
     Ok((logs, digest))
 }
 
+// The threads' logs and the digest that the bytes spell in either version.
+#[tactic(auto, unfolding(crate::specs::Loading::loaded))]
+fn read_either(alloc: Global, bytes: &[u8]) -> Result<(List<ThreadLog>, Option<Digest>), LogFault>
+    ensures { Gives (λ x. reading x.0 x.1) result (loaded bytes.now) }
+{
+    match bytes.strip_prefix(b"OCTL\x02") {
+        Some(rest) => {
+            let (logs, digest) = read_second(alloc, bytes.len(), rest)?;
+            Ok((List::from_vec(logs), Some(digest)))
+        }
+        None => {
+            let logs = read_log(alloc, bytes)?;
+            Ok((List::from_vec(logs), None))
+        }
+    }
+}
+
 /// The log that the bytes spell, all of them, in version 1 or 2, with its digest in version 2;
 /// else the first refusal from the front, with its place. The bytes are at most 67,108,864. Room
 /// is taken as marks are met, and not by a number that the bytes merely claim.
-#[tactic(auto, unfolding(crate::specs::Loading::loaded))]
 pub fn decode(alloc: Global, bytes: &[u8]) -> Result<Loaded, LogFault>
     requires { length bytes.now ≤ MAX_LOG_FILE }
 
@@ -187,18 +213,10 @@ pub fn decode(alloc: Global, bytes: &[u8]) -> Result<Loaded, LogFault>
     ensures read { LoadsSpelling reading_of bytes.now result }
     // Which refusal it is, and where.
     ensures judged { Gives reading_of result (loaded bytes.now) }
+    // It has no more marks than version 2 may hold.
+    ensures few { IfOk result (λ x. marks_in x.log.threads ≤ MAX_MARKS) }
 {
-    match bytes.strip_prefix(b"OCTL\x02") {
-        Some(rest) => {
-            let (threads, digest) = read_second(alloc, bytes.len(), rest)?;
-            let threads = List::from_vec(threads);
-            let log = Log { threads };
-            let digest = Some(digest);
-            Ok(Loaded { log, digest })
-        }
-        None => {
-            let log = decode_v1(alloc, bytes)?;
-            Ok(Loaded { log, digest: None })
-        }
-    }
+    let (threads, digest) = read_either(alloc, bytes)?;
+    let log = Log { threads };
+    Ok(Loaded { log, digest })
 }

@@ -34,12 +34,7 @@ fn bad_number(place: usize) -> LogFault
 
 // A number in at most one group more than `more`.
 #[tactic(auto, unfolding(crate::specs::Short::groups_at))]
-fn read_groups(
-    more: u8,
-    total: usize,
-    place: usize,
-    bytes: &[u8],
-) -> Result<(u64, &[u8]), LogFault>
+fn read_groups(more: u8, total: usize, place: usize, bytes: &[u8]) -> Result<(u64, &[u8]), LogFault>
     ensures judged { Gives (λ x. (x.0, x.1.now)) result (groups_at more total place bytes.now) }
     ensures shorter { IfOk result (λ x. length x.1.now ≤ length bytes.now) }
 {

@@ -1,7 +1,9 @@
 ghost use Rattle.std.specs.Prelude.{◌≤◌, length};
 
-use crate::{LogFault, decode, encode_v1, refusal_line, show};
-use octet_model::OutOfMemory;
+use crate::{
+    Digest, LogFault, decode, digest, encode_v1, encode_v2, head, piece, refusal_line, show, tail,
+};
+use octet_model::{Gapped, Mark, OutOfMemory};
 use std::alloc::Global;
 use std::test::Fail;
 
@@ -30,6 +32,28 @@ thread 2 accesses 1 marks 2
 gap 0 join 1 1
 gap 0 draw 1
 ";
+
+// The digest of `abc`, which FIPS 180-4 gives as an example.
+const ABC: [u8; 32] = [
+    0xba, 0x78, 0x16, 0xbf, 0x8f, 0x01, 0xcf, 0xea, 0x41, 0x41, 0x40, 0xde, 0x5d, 0xae, 0x22, 0x23,
+    0xb0, 0x03, 0x61, 0xa3, 0x96, 0x17, 0x7a, 0x9c, 0xb4, 0x10, 0xff, 0x61, 0xf2, 0x00, 0x15, 0xad,
+];
+
+// What stands behind the digest in version 2 of the second and the third log.
+const JOINED_PIECES: &[u8] = b"\x01\x01\x01\x00\x00\x01\xff\x01\x01";
+
+const SHARED_PIECES: &[u8] =
+    b"\x01\x02\x01\x00\x00\x00\x03\x01\x01\x02\x02\x01\x00\x01\x01\x02\x00\x01\xff\x00\x02\x01";
+
+// Bytes of version 2: the head for that many threads, and what stands behind it.
+fn second(alloc: Global, threads: u8, rest: &[u8]) -> Result<Vec<u8>, OutOfMemory> {
+    let mut bytes = Vec::new(alloc);
+    bytes.extend_from_slice(b"OCTL\x02")?;
+    bytes.push(threads)?;
+    bytes.extend_from_slice(&ABC)?;
+    bytes.extend_from_slice(rest)?;
+    Ok(bytes)
+}
 
 // The line that refuses the bytes, or none where they are a log.
 fn refusal(alloc: Global, bytes: &[u8]) -> Result<Vec<u8>, OutOfMemory>
@@ -103,5 +127,138 @@ fn cut_and_trailing_bytes_are_refused(rt: HostRuntime) -> Result<(), Fail> {
     assert!(rt; bytes.len() == 37);
     let refused = refusal(alloc, &bytes)?;
     assert_eq!(rt; refused.as_slice(), b"log: 7 trailing at 36\n".as_slice());
+    Ok(())
+}
+
+#[test]
+fn logs_are_written_and_read_in_version_two(rt: HostRuntime) -> Result<(), Fail> {
+    let alloc = rt.alloc();
+    let named = digest(b"abc");
+    assert_eq!(rt; named, Digest { bytes: ABC });
+    for (bytes, threads, rest) in [
+        (JOINED.as_slice(), 2, JOINED_PIECES),
+        (SHARED.as_slice(), 3, SHARED_PIECES),
+    ] {
+        assert!(rt; bytes.len() < 100);
+        let loaded = decode(alloc, bytes)?;
+        assert_eq!(rt; loaded.digest, None);
+        let written = encode_v2(alloc, &loaded.log, &named)?;
+        let wanted = second(alloc, threads, rest)?;
+        assert_eq!(rt; written.as_slice(), wanted.as_slice());
+
+        assert!(rt; written.len() < 100);
+        let loaded = decode(alloc, written.as_slice())?;
+        assert_eq!(rt; loaded.digest, Some(named));
+        let again = encode_v1(alloc, &loaded.log)?;
+        assert_eq!(rt; again.as_slice(), bytes);
+    }
+    Ok(())
+}
+
+#[test]
+fn a_log_is_written_in_parts(rt: HostRuntime) -> Result<(), Fail> {
+    let alloc = rt.alloc();
+    let log = decode(alloc, &JOINED)?.log;
+    let mut bytes = head(alloc, 2, &Digest { bytes: ABC })?;
+    let mark = Mark::Join { from: 0, upto: 1 };
+    let marks = piece(alloc, 1, &[Gapped { gap: 0, mark }])?;
+    bytes.extend_from_slice(marks.as_slice())?;
+    bytes.extend_from_slice(tail(alloc, &log)?.as_slice())?;
+    let wanted = second(alloc, 2, JOINED_PIECES)?;
+    assert_eq!(rt; bytes.as_slice(), wanted.as_slice());
+    Ok(())
+}
+
+#[test]
+fn other_pieces_are_refused(rt: HostRuntime) -> Result<(), Fail> {
+    let alloc = rt.alloc();
+    for (rest, line) in [
+        (JOINED_PIECES, ""),
+        (
+            b"\x01\x01\x01\x00\x00\x01\xff\x01\x81\x00".as_slice(),
+            "log: 8 bad number at 46\n",
+        ),
+        (
+            b"\x02\x01\x01\x00\x00\x01\xff\x01\x01".as_slice(),
+            "log: 9 bad piece at 38\n",
+        ),
+        (
+            b"\x01\x00\x01\x00\x00\x01\xff\x01\x01".as_slice(),
+            "log: 9 bad piece at 38\n",
+        ),
+        (
+            b"\x01\x01\x01\x02\x00\x01\xff\x01\x01".as_slice(),
+            "log: 10 gaps over accesses of thread 1\n",
+        ),
+        (
+            b"\x01\x01\x01\x00\x00\x01\xff\x01\x01\x00".as_slice(),
+            "log: 7 trailing at 47\n",
+        ),
+        // A kind, a gap above 262,144, a Join's thread and a number of 0, each as soon as it is whole.
+        (b"\x01\x01\x04".as_slice(), "log: 5 bad mark at 40\n"),
+        (
+            b"\x01\x01\x01\x81\x80\x10".as_slice(),
+            "log: 5 bad mark at 40\n",
+        ),
+        (
+            b"\x01\x01\x01\x00\x01".as_slice(),
+            "log: 5 bad mark at 40\n",
+        ),
+        (
+            b"\x01\x01\x01\x00\x02".as_slice(),
+            "log: 5 bad mark at 40\n",
+        ),
+        (
+            b"\x01\x01\x03\x00\x00".as_slice(),
+            "log: 5 bad mark at 40\n",
+        ),
+        (
+            b"\xff\x01\x80\x80\x10".as_slice(),
+            "log: 6 too many accesses\n",
+        ),
+        (
+            b"\x01\x93\xc9\xa4\x02".as_slice(),
+            "log: 11 too many marks\n",
+        ),
+        (
+            b"\x01\x92\xc9\xa4\x02".as_slice(),
+            "log: 4 cut short at 43\n",
+        ),
+        // Nine groups and the end, ten groups, and a tenth that is too large.
+        (
+            b"\xff\x80\x80\x80\x80\x80\x80\x80\x80\x80".as_slice(),
+            "log: 4 cut short at 48\n",
+        ),
+        (
+            b"\xff\x80\x80\x80\x80\x80\x80\x80\x80\x80\x80".as_slice(),
+            "log: 8 bad number at 39\n",
+        ),
+        (
+            b"\xff\x80\x80\x80\x80\x80\x80\x80\x80\x80\x02".as_slice(),
+            "log: 8 bad number at 39\n",
+        ),
+        (
+            b"\xff\x80\x80\x80\x80\x80\x80\x80\x80\x80\x01".as_slice(),
+            "log: 6 too many accesses\n",
+        ),
+    ] {
+        let bytes = second(alloc, 2, rest)?;
+        assert!(rt; bytes.len() < 100);
+        let refused = refusal(alloc, bytes.as_slice())?;
+        assert_eq!(rt; refused.as_slice(), line.as_bytes(), "{rest:?}");
+    }
+    Ok(())
+}
+
+#[test]
+fn fronts_of_version_two_are_cut_short(rt: HostRuntime) -> Result<(), Fail> {
+    let alloc = rt.alloc();
+    let bytes = second(alloc, 3, SHARED_PIECES)?;
+    assert!(rt; bytes.len() == 60);
+    for length in 4..bytes.len() {
+        let refused = refusal(alloc, &bytes[..length])?;
+        let line = format!(in alloc; "log: 4 cut short at {length}\n")?;
+        assert_eq!(rt; refused.as_slice(), line.as_bytes(), "{length} bytes");
+    }
     Ok(())
 }

@@ -7,7 +7,7 @@ ghost use Rattle.octet_top.specs.Profile.{object_named};
 use crate::refusal::{log_refused, no_such_object, read_failed, script_refused, too_long};
 use crate::reply::Reply;
 use octet_base::{Desk, DeskFault};
-use octet_log::{LogFault, decode};
+use octet_log::{LogFault, decode_v1};
 use octet_model::{List, Log, MAX_LOG_FILE, MAX_SCRIPT_FILE, OutOfMemory, Script};
 use octet_script::{ScriptFault, parse};
 use std::alloc::Global;
@@ -62,7 +62,7 @@ fn decode_bytes(alloc: Global, bytes: &[u8]) -> Result<Log, Stop>
     requires { length bytes.now ≤ MAX_LOG_FILE }
     ensures { Comes (IsDecoded bytes.now) result }
 {
-    match decode(alloc, bytes) {
+    match decode_v1(alloc, bytes) {
         Ok(log) => Ok(log),
         Err(LogFault::OutOfMemory) => Err(Err(OutOfMemory)),
         Err(LogFault::Refused { cause }) => Err(log_refused(alloc, cause)),

@@ -1,5 +1,5 @@
-use Rattle.octet_log.proofs.PieceLists.{pieces_take, pieces_again, tail_takes, tail_again, all_added_is, all_added_count}
+use Rattle.octet_log.proofs.Spelled.{loaded_takes, spelling_loaded}
 use Rattle.octet_log.proofs.laws.loading_accepts_spellings_alone.Goals as goal
 
 pub returns : goal.returns
-returns c = ?
+returns c = λ bytes logs digest is. (λ judged. (let took = loaded_takes bytes (record { logs = logs; digest = digest }) is judged in (took.spells, took.valid)), λ spells. spelling_loaded bytes digest logs spells.1 spells.0)

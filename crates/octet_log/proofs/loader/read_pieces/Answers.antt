@@ -1,6 +1,5 @@
-use Rattle.std.proofs.Common.{◌≡◌, ◌≢◌, ◌<◌, ◌≤◌, length, get_or, ap, sym, ◌∙◌, Err, arith, rules}
+use Rattle.std.proofs.Common.{◌≡◌, ◌<◌, length, get_or, arith, rules}
 use Rattle.std.proofs.lemmas.Result.{err_from_is_err_and}
-use Rattle.octet_log.specs.Loading.{pieces_at}
 use Rattle.octet_log.proofs.PieceLoops.{thread_fails, pieces_end, no_thread, piece_fails, piece_read, pieces_cut}
 use Rattle.octet_log.proofs.loader.read_pieces.Goals as goal
 

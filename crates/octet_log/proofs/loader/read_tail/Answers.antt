@@ -1,6 +1,5 @@
-use Rattle.std.proofs.Common.{◌≡◌, ◌<◌, length, get_or, ap, sym, ◌∙◌, arith, rules}
+use Rattle.std.proofs.Common.{◌≡◌, ◌<◌, length, get_or, arith, rules}
 use Rattle.std.proofs.lemmas.Result.{err_from_is_err_and}
-use Rattle.octet_log.specs.Loading.{tail_at}
 use Rattle.octet_log.proofs.PieceLoops.{tail_fails, tail_goes, tail_done}
 use Rattle.octet_log.proofs.loader.read_tail.Goals as goal
 

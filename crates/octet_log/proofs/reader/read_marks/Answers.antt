@@ -1,4 +1,4 @@
-use Rattle.std.proofs.Common.{◌+◌, ◌-◌, arith}
+use Rattle.std.proofs.Common.{arith}
 use Rattle.std.proofs.lemmas.List.{length-append}
 use Rattle.std.proofs.lemmas.Result.{err_from_is_err_and}
 use Rattle.octet_log.specs.Loading.{with_front, short_mark_at, short_marks_at}
