@@ -7,14 +7,11 @@ use Rattle.octet_model.specs.declared.script.Script.{Script}
 use Rattle.octet_model.specs.declared.log.Log.{Log}
 use Rattle.octet_model.specs.declared.log.ThreadLog.{ThreadLog}
 use Rattle.octet_model.specs.Machine.{Journals, journal_of, PlainState, no_events, next_of, may_proceed, appended}
-use Rattle.octet_model.specs.Orders.{by_log, opening_state, journals_after, lowest_order}
-use Rattle.octet_model.proofs.lemmas.LowestFronts.{lowest_is_front, lowest_order_is_lowest}
+use Rattle.octet_model.specs.Orders.{by_log, journals_after, lowest_order}
 use Rattle.octet_replay.specs.declared.fault.ReplayFault.{ReplayFault}
 use Rattle.octet_replay.specs.declared.fault.ReplayFault.TheVariants.{ThreadsDiffer, Stuck, Misfit, OutOfMemory}
-use Rattle.octet_replay.specs.declared.stepped.Stepped.{Stepped}
-use Rattle.octet_replay.specs.declared.stepped.Stepped.TheVariants.{Made, Halted}
-use Rattle.octet_replay.specs.Judged.{HasCause, last_state}
-use Rattle.octet_replay.specs.ReplayState.{ReplayState, state_at, plain_state, HasHalted, IsNextStep, IsNotBegun, StepsTo}
+use Rattle.octet_replay.specs.Judged.{HasCause}
+use Rattle.octet_replay.specs.ReplayState.{ReplayState, state_at, plain_state, HasHalted, IsNextStep, IsNotBegun}
 use Rattle.octet_replay.specs.Places.{FitInPlaces}
 use Rattle.octet_replay.proofs.lemmas.Halting.{is_last_state}
 use Rattle.octet_replay.proofs.lemmas.Places.{lowest_order_fits_in_places}

@@ -7,14 +7,11 @@ use Rattle.octet_model.specs.declared.event.Mark.{Mark}
 use Rattle.octet_model.specs.declared.event.Event.{Event}
 use Rattle.octet_model.specs.declared.event.Event.TheVariants.{Read, Write, Marked}
 use Rattle.octet_model.specs.declared.limits.TheConstants.{MAX_ACCESSES}
-use Rattle.octet_model.specs.declared.log.Gapped.{Gapped}
 use Rattle.octet_model.specs.declared.log.ThreadLog.{ThreadLog}
 use Rattle.octet_model.specs.Thread.{Configuration, AccessOrEnd, configuration_after}
-use Rattle.octet_model.specs.Machine.{Operation, MakeMark, MakeRead, MakeWrite, event_made}
 use Rattle.octet_model.specs.Journals.{access_count, mark_count, gap_after, due_mark, next_access, mark_first, next_by_log}
 use Rattle.std.specs.Vec.{vec_len, vec_capacity}
 use Rattle.octet_model.specs.Orders.{values_read}
-use Rattle.octet_model.specs.Plays.{operation_of}
 use Rattle.octet_model.proofs.lemmas.Splits.{accesses_split, marks_split, values_split, gap_split, configuration_split}
 use Rattle.octet_interp.specs.Demands.{ThreadState, given}
 use Rattle.octet_replay.specs.declared.thread.NextDemand.{NextDemand}

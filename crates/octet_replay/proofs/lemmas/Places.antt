@@ -12,7 +12,7 @@ use Rattle.octet_model.specs.declared.log.ThreadLog.{ThreadLog}
 use Rattle.octet_model.specs.declared.script.Script.{Script}
 use Rattle.octet_model.specs.Thread.{Configuration, AccessOrEnd, demanded, configuration_after, starting_configuration}
 use Rattle.octet_model.specs.Journals.{access_count, mark_count, gap_after, due_mark, next_by_log}
-use Rattle.octet_model.specs.Machine.{Journals, journal_of, PlainState, Next, Operation, MakeMark, MakeRead, MakeWrite, Wants, event_made, step, after, IsFront}
+use Rattle.octet_model.specs.Machine.{journal_of, PlainState, Next, Operation, MakeMark, MakeRead, MakeWrite, Wants, event_made, step, after, IsFront}
 use Rattle.octet_model.specs.Orders.{commands_of, thread_log_of, by_log, opening_state, journals_after, lowest_order}
 use Rattle.octet_model.specs.Log.{is_log}
 use Rattle.octet_model.proofs.lemmas.Fronts.{no_journal}
