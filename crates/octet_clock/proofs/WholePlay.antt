@@ -10,7 +10,7 @@ use Rattle.octet_model.specs.declared.script.Script.{Script}
 use Rattle.octet_model.specs.declared.log.ThreadLog.{ThreadLog}
 use Rattle.octet_model.specs.Machine.{Journals, PlainState, starting_state, Operation, MakeMark, MakeRead, MakeWrite, Wants, Behavior, is_enabled, event_made, draws_after, appended, next_of, step, after, IsFront}
 use Rattle.octet_model.specs.Orders.{by_log, opening_state, lowest_order, journals_after}
-use Rattle.octet_model.specs.Plays.{operation_of, next_in, by_journals}
+use Rattle.octet_model.specs.Plays.{next_in, by_journals}
 use Rattle.octet_model.proofs.lemmas.Steps.{at, count, new_event, Makes, what_it_makes, makes_from, as_many_step, other_step, counts_step, made_there}
 use Rattle.octet_model.proofs.lemmas.Fronts.{stays, after_on, no_journal}
 use Rattle.octet_model.proofs.lemmas.LogsOfJournals.{as_many_after}
