@@ -9,3 +9,4 @@ pub mod Replayed
 pub mod ReplayState
 pub mod Places
 pub mod Laws
+pub mod Fit

@@ -5,6 +5,7 @@
 
 mod ending;
 mod fault;
+mod fitting;
 mod judge;
 pub mod laws;
 mod line;
@@ -21,6 +22,7 @@ mod waiting;
 mod waits;
 
 pub use fault::ReplayFault;
+pub use fitting::{FitFault, fit, wrong_script_line};
 pub use line::fit_line;
 pub use need::Need;
 pub use order::{journals, replay};
