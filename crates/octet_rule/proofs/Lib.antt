@@ -1,5 +1,6 @@
 pub mod Kept
 pub mod Allowed
+pub mod Acting
 pub mod Known
 pub mod Splitting
 pub mod LaidOut

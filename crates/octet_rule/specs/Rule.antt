@@ -1,14 +1,17 @@
 -- The rule: between any two steps the words and the views of all seats are one sound state of the protocol.
-use Rattle.std.specs.Prelude.{◌≡◌, ◌≢◌, ℕ, ◌<◌, ◌≤◌, List, [], ◌∷◌, Bool, true, false, length}
-use mathlib.Core.Option.{some}
+use Rattle.std.specs.Prelude.{◌≡◌, ◌≢◌, ℕ, ◌+◌, ◌*◌, ◌^◌, ◌<◌, ◌≤◌, List, [], ◌∷◌, Bool, true, false, length}
+use mathlib.Core.Option.{some, none}
 use lib.ListN.{get_elem?}
-use Rattle.atomic_table.specs.Table.{State, Me}
+use Rattle.atomic_table.specs.Table.{State, Me, Step as TableStep, step as table_step}
 use Rattle.octet_model.specs.declared.event.Event.{Event}
 use Rattle.octet_model.specs.Machine.{journal_of}
 use Rattle.octet_state.specs.declared.phase.Phase.TheVariants.{Off}
-use Rattle.octet_state.specs.State.{ProtocolState, thread_of, unstarted, words}
+use Rattle.octet_state.specs.declared.state_word.StateWord.TheVariants.{WrEx, ShInt}
+use Rattle.octet_state.specs.Words.{packed_state, packed_status}
+use Rattle.octet_state.specs.State.{ProtocolState, thread_of, unstarted, words, counter_place, status_place}
 use Rattle.octet_state.specs.Steps as steps
-use Rattle.octet_state.specs.Steps.{Kind, May, step}
+use Rattle.octet_state.specs.NextStep.{word_seen}
+use Rattle.octet_state.specs.Steps.{Kind, May, step, ToAnswer, ToBlock, ToUnblock, ToAsk, ToLook, ToLoad, ToRead, ToWrite, ToClaim, ToSettle, ToDraw, ToFence, ToRaise, ToShare, target, shown, mode_of, claiming, settling}
 use Rattle.octet_state.specs.Soundness.{IsSound}
 use Rattle.octet_rule.specs.Views.{SeatView, new_view, stepped_by}
 
@@ -75,3 +78,59 @@ pub record Steps (k : Kind) (v : SeatView) (told : ℕ) (w : SeatView) : Type 0 
 
 abbrev pub Plays : Kind → Me (Unit {0}) SeatView → ℕ → Me (Unit {0}) SeatView → Type 0
 Plays k me told next = (next.1 ≡ me.1) × Steps k me.0 told next.0
+
+-- where the state of an object lies, and its cell beside it
+abbrev pub state_place : SeatView → ℕ → ℕ
+state_place v object = 8 * (1 + (v.threads + object))
+
+abbrev pub cell_place : SeatView → ℕ → ℕ
+cell_place v object = state_place v object + 1
+
+-- the place of the word that the step of a seat reads or changes
+abbrev pub place_by : Kind → SeatView → ℕ
+place_by (ToAsk whom) v = status_place whom
+place_by (ToLook whom) v = status_place whom
+place_by (ToLoad object mode) v = state_place v object
+place_by ToRead v = cell_place v (target v.thread.phase)
+place_by (ToWrite value) v = cell_place v (target v.thread.phase)
+place_by ToClaim v = state_place v (target v.thread.phase)
+place_by ToSettle v = state_place v (target v.thread.phase)
+place_by ToRaise v = state_place v (target v.thread.phase)
+place_by ToShare v = state_place v (target v.thread.phase)
+place_by ToDraw v = counter_place
+place_by ToFence v = counter_place
+place_by _ v = status_place v.number
+
+-- what its operation is given: the word that it stores, the bit that it sets, the 1 that it adds, or the word that it exchanges
+abbrev pub first_given : Kind → SeatView → ℕ
+first_given ToAnswer v = packed_status (shown false (length v.journal))
+first_given (ToBlock ends) v = packed_status (shown true (length v.journal))
+first_given ToUnblock v = packed_status (shown false (length v.journal))
+first_given (ToAsk whom) v = 2 ^ v.number
+first_given (ToWrite value) v = value
+first_given ToSettle v = packed_state (settling v.number (length v.journal) v.thread.phase)
+first_given ToDraw v = 1
+first_given ToClaim v = word_seen v.thread.phase
+first_given ToRaise v = word_seen v.thread.phase
+first_given ToShare v = word_seen v.thread.phase
+first_given _ v = 0
+
+-- and the word that takes the place of an exchanged one
+abbrev pub second_given : Kind → SeatView → ℕ
+second_given ToClaim v = packed_state (claiming v.number (mode_of v.thread.phase))
+second_given ToRaise v = packed_state (WrEx v.number)
+second_given ToShare v = packed_state (ShInt v.number)
+second_given _ v = 0
+
+-- an operation on the word of the step, and with what the step is to give it
+pub record IsOperationOf (k : Kind) (v : SeatView) (operation : TableStep (Unit {0})) : Type 0 where
+  pub place : operation.word ≡ place_by k v
+  pub first : operation.first ≡ first_given k v
+  pub second : operation.second ≡ second_given k v
+
+abbrev pub operation_on : ℕ → ℕ → ℕ → ℕ → TableStep (Unit {0})
+operation_on slots place first second = table_step slots place first second none
+
+-- one step of the protocol, by the one operation that is its own
+abbrev pub Acts : Kind → TableStep (Unit {0}) → Me (Unit {0}) SeatView → ℕ → Me (Unit {0}) SeatView → Type 0
+Acts k operation me told next = (next.1 ≡ me.1) × Steps k me.0 told next.0 × IsOperationOf k me.0 operation

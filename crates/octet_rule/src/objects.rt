@@ -6,7 +6,7 @@ ghost use Rattle.octet_state.specs.Table.{is_changed_by};
 ghost use Rattle.octet_state.specs.Words.{packed_state, unpacked_state};
 ghost use Rattle.octet_state.specs.Steps.{ToLoad, ToRead, ToWrite, ToClaim, ToSettle, state_in, settling};
 ghost use Rattle.atomic_table.specs.Table.{Allows};
-ghost use Rattle.octet_rule.specs.Rule.{IsRuled, Plays, Steps};
+ghost use Rattle.octet_rule.specs.Rule.{IsRuled, Acts, operation_on, Steps};
 ghost use Rattle.octet_rule.specs.Laws.{IsAllowedAccess};
 ghost use Rattle.octet_rule.specs.Conditions.{MayLoad, MayPass, HoldsWord, MaySettle, decision, is_take, found_by, IsLost};
 ghost use Rattle.octet_rule.specs.Seats.{view, IsSeatOf, objects_of};
@@ -134,9 +134,9 @@ impl Words {
     ) -> u64
         requires own { inner.old.table_id ≡ self.now.table.shared.table_id }
         requires place { place < self.now.table.shared.table_id.words }
-        requires allowed { Allows (IsRuled self.now.table.shared.key.threads self.now.table.shared.key.starts.value) self.now.table.shared.table_id.slots inner.old.id inner.old.me place (λ word. word) (Plays (ToLoad (place / 8 - (1 + inner.old.me.0.threads)) mode.now) inner.old.me) }
+        requires allowed { Allows (IsRuled self.now.table.shared.key.threads self.now.table.shared.key.starts.value) self.now.table.shared.table_id.slots inner.old.id inner.old.me place (λ word. word) (Acts (ToLoad (place / 8 - (1 + inner.old.me.0.threads)) mode.now) (operation_on self.now.table.shared.table_id.slots place 0 0) inner.old.me) }
         ensures own { (inner.new.table_id ≡ inner.old.table_id) × (inner.new.id ≡ inner.old.id) }
-        ensures step { Plays (ToLoad (place / 8 - (1 + inner.old.me.0.threads)) mode.now) inner.old.me result inner.new.me }
+        ensures step { Acts (ToLoad (place / 8 - (1 + inner.old.me.0.threads)) mode.now) (operation_on self.now.table.shared.table_id.slots place 0 0) inner.old.me result inner.new.me }
     {
         match *mode {
             Mode::Read => self.table.shared.load::<plays::LoadToRead>(inner, place),

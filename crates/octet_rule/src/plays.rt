@@ -1,9 +1,10 @@
-//! What each step on the table tells. The object or the thread that a step names is read off
-//! the place of its word.
+//! What each step on the table tells: it is the step of its kind, by the one operation of that
+//! step, on its word and with its operands. The object or the thread that a step names is read
+//! off the place of its word.
 ghost use Rattle.std.specs.Prelude.{◌-◌, ◌+◌, ◌/◌, false};
 ghost use Rattle.octet_state.specs.declared.act.Mode.TheVariants.{Read as ForRead, Write as ForWrite};
 ghost use Rattle.octet_state.specs.Steps.{ToGlance, ToAnswer, ToBlock, ToUnblock, ToAsk, ToLook, ToLoad, ToRead, ToWrite, ToClaim, ToSettle, ToDraw, ToFence, ToRaise, ToShare};
-ghost use Rattle.octet_rule.specs.Rule.{Plays};
+ghost use Rattle.octet_rule.specs.Rule.{Acts};
 ghost use Rattle.octet_rule.specs.Views.{after_split, split_off, after_join, spent};
 
 use crate::view::View;
@@ -12,98 +13,98 @@ use atomic_table::{Join, Play, Split};
 pub(crate) struct Glance;
 
 impl Play<(), View> for Glance {
-    ghost then = { λ step me told next. Plays ToGlance me told next };
+    ghost then = { λ step me told next. Acts ToGlance step me told next };
 }
 
 pub(crate) struct Answer;
 
 impl Play<(), View> for Answer {
-    ghost then = { λ step me told next. Plays ToAnswer me told next };
+    ghost then = { λ step me told next. Acts ToAnswer step me told next };
 }
 
 pub(crate) struct Block;
 
 impl Play<(), View> for Block {
-    ghost then = { λ step me told next. Plays (ToBlock false) me told next };
+    ghost then = { λ step me told next. Acts (ToBlock false) step me told next };
 }
 
 pub(crate) struct Unblock;
 
 impl Play<(), View> for Unblock {
-    ghost then = { λ step me told next. Plays ToUnblock me told next };
+    ghost then = { λ step me told next. Acts ToUnblock step me told next };
 }
 
 pub(crate) struct Ask;
 
 impl Play<(), View> for Ask {
-    ghost then = { λ step me told next. Plays (ToAsk (step.word / 8 - 1)) me told next };
+    ghost then = { λ step me told next. Acts (ToAsk (step.word / 8 - 1)) step me told next };
 }
 
 pub(crate) struct Look;
 
 impl Play<(), View> for Look {
-    ghost then = { λ step me told next. Plays (ToLook (step.word / 8 - 1)) me told next };
+    ghost then = { λ step me told next. Acts (ToLook (step.word / 8 - 1)) step me told next };
 }
 
 /// A load tells for which access it is by its type.
 pub(crate) struct LoadToRead;
 
 impl Play<(), View> for LoadToRead {
-    ghost then = { λ step me told next. Plays (ToLoad (step.word / 8 - (1 + me.0.threads)) ForRead) me told next };
+    ghost then = { λ step me told next. Acts (ToLoad (step.word / 8 - (1 + me.0.threads)) ForRead) step me told next };
 }
 
 pub(crate) struct LoadToWrite;
 
 impl Play<(), View> for LoadToWrite {
-    ghost then = { λ step me told next. Plays (ToLoad (step.word / 8 - (1 + me.0.threads)) ForWrite) me told next };
+    ghost then = { λ step me told next. Acts (ToLoad (step.word / 8 - (1 + me.0.threads)) ForWrite) step me told next };
 }
 
 pub(crate) struct Read;
 
 impl Play<(), View> for Read {
-    ghost then = { λ step me told next. Plays ToRead me told next };
+    ghost then = { λ step me told next. Acts ToRead step me told next };
 }
 
 pub(crate) struct Write;
 
 impl Play<(), View> for Write {
-    ghost then = { λ step me told next. Plays (ToWrite step.first) me told next };
+    ghost then = { λ step me told next. Acts (ToWrite step.first) step me told next };
 }
 
 pub(crate) struct Claim;
 
 impl Play<(), View> for Claim {
-    ghost then = { λ step me told next. Plays ToClaim me told next };
+    ghost then = { λ step me told next. Acts ToClaim step me told next };
 }
 
 pub(crate) struct Settle;
 
 impl Play<(), View> for Settle {
-    ghost then = { λ step me told next. Plays ToSettle me told next };
+    ghost then = { λ step me told next. Acts ToSettle step me told next };
 }
 
 pub(crate) struct Draw;
 
 impl Play<(), View> for Draw {
-    ghost then = { λ step me told next. Plays ToDraw me told next };
+    ghost then = { λ step me told next. Acts ToDraw step me told next };
 }
 
 pub(crate) struct Fence;
 
 impl Play<(), View> for Fence {
-    ghost then = { λ step me told next. Plays ToFence me told next };
+    ghost then = { λ step me told next. Acts ToFence step me told next };
 }
 
 pub(crate) struct Raise;
 
 impl Play<(), View> for Raise {
-    ghost then = { λ step me told next. Plays ToRaise me told next };
+    ghost then = { λ step me told next. Acts ToRaise step me told next };
 }
 
 pub(crate) struct Share;
 
 impl Play<(), View> for Share {
-    ghost then = { λ step me told next. Plays ToShare me told next };
+    ghost then = { λ step me told next. Acts ToShare step me told next };
 }
 
 /// Deals the seat of the next thread.

@@ -11,4 +11,5 @@ pub mod Spelled
 pub mod Complete
 pub mod Canonical
 pub mod BrokenRules
+pub mod WholeTexts
 pub mod lemmas

@@ -5,3 +5,4 @@ pub mod Parsing
 pub mod Building
 pub mod Laws
 pub mod BrokenRules
+pub mod WholeTexts

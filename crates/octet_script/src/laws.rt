@@ -1,5 +1,6 @@
 //! Laws about the grammar.
 ghost use Rattle.octet_script.specs.BrokenRules.{UnknownWordIsRefused, WrongCountIsRefused, MisplacedIsRefused, BadArgumentIsRefused, FuelIsRefused, ObjectIsRefused, EndIsRefused, OpenThreadIsRefused, ThreadIsRefused, FuelOfAllIsRefused};
+ghost use Rattle.octet_script.specs.WholeTexts.{NotUtf8IsRefused, NoThreadIsRefused, OpenAtEndIsRefused, OpenBeforeThreadIsRefused, EndOfNothingIsRefused};
 ghost use Rattle.octet_script.specs.Laws.{CanonicalSpells, OneScript, ParsedIsSpelled};
 
 /// A text is judged to say what a script says exactly where it spells the script.
@@ -31,4 +32,15 @@ pub fn broken_rule_is_refused()
     ensures open_thread { OpenThreadIsRefused }
     ensures thread { ThreadIsRefused }
     ensures fuel_of_all { FuelOfAllIsRefused }
+{}
+
+/// A text that is not UTF-8 is refused in the line in which that shows, whatever its lines say. Given
+/// that its lines are accepted, it is refused where it has no thread, and where a thread leaves a
+/// `while` or `if` open; and given that the lines before it are, an `end` is where nothing is open.
+pub fn broken_text_is_refused()
+    ensures utf8 { NotUtf8IsRefused }
+    ensures no_thread { NoThreadIsRefused }
+    ensures open_at_end { OpenAtEndIsRefused }
+    ensures open_before_thread { OpenBeforeThreadIsRefused }
+    ensures end_of_nothing { EndOfNothingIsRefused }
 {}

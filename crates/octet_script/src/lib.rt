@@ -16,8 +16,8 @@ mod words;
 
 pub use cause::{ScriptCause, ScriptFault};
 pub use laws::{
-    a_text_spells_one_script, broken_rule_is_refused, canonical_text_spells_its_script,
-    parsing_is_the_grammar,
+    a_text_spells_one_script, broken_rule_is_refused, broken_text_is_refused,
+    canonical_text_spells_its_script, parsing_is_the_grammar,
 };
 pub use line::number_of;
 pub use parser::parse;

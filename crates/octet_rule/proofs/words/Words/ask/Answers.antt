@@ -1,5 +1,5 @@
 use Rattle.std.proofs.Common.{rules}
-use Rattle.octet_rule.proofs.Allowed.{asks}
+use Rattle.octet_rule.proofs.Acting.{asks}
 use Rattle.octet_rule.proofs.Known.{asked_done, few_after, one_bit}
 use Rattle.octet_rule.proofs.words.Words.ask.Goals as goal
 

@@ -1,5 +1,5 @@
 use Rattle.std.proofs.Common.{rules, refl, arith}
-use Rattle.octet_rule.proofs.Allowed.{draws}
+use Rattle.octet_rule.proofs.Acting.{draws}
 use Rattle.octet_rule.proofs.Known.{grows, few_after, few_drawn}
 use Rattle.octet_rule.proofs.words.Words.draw.Goals as goal
 

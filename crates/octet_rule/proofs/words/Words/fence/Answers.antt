@@ -1,5 +1,5 @@
 use Rattle.std.proofs.Common.{rules, refl}
-use Rattle.octet_rule.proofs.Allowed.{fences}
+use Rattle.octet_rule.proofs.Acting.{fences}
 use Rattle.octet_rule.proofs.Known.{grows, few_after}
 use Rattle.octet_rule.proofs.words.Words.fence.Goals as goal
 

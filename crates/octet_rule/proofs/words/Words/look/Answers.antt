@@ -1,5 +1,5 @@
 use Rattle.std.proofs.Common.{rules}
-use Rattle.octet_rule.proofs.Allowed.{looks}
+use Rattle.octet_rule.proofs.Acting.{looks}
 use Rattle.octet_rule.proofs.Known.{looked_done, few_after}
 use Rattle.octet_rule.proofs.words.Words.look.Goals as goal
 
