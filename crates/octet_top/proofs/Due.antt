@@ -101,9 +101,9 @@ same_digest (Some a) (Some b) e = let same : a.bytes ≡ b.bytes = cc in λ i. S
 decoded_single : (bytes : List ℕ) → Single (IsDecoded bytes)
 decoded_single bytes = record {
   one = λ x y p q. (let both = one_reading bytes x.log.threads y.log.threads (reading_of x).digest (reading_of y).digest x.log.valid y.log.valid p q in
-    let log : x.log ≡ y.log = same_log x.log y.log both.0 in
-    let digest : x.digest ≡ y.digest = same_digest x.digest y.digest both.1 in
-    λ i. record { log = log i; digest = digest i });
+      let log : x.log ≡ y.log = same_log x.log y.log both.0 in
+      let digest : x.digest ≡ y.digest = same_digest x.digest y.digest both.1 in
+      λ i. record { log = log i; digest = digest i });
   never = λ x a p q. (let judged = sym q.1 ∙ spelling_read bytes (reading_of x).digest x.log.threads x.log.valid p in cc);
   same = λ a b p q. both a b (log_refused q.0) (p.2 ∙ (let judged = sym p.1 ∙ q.1 in cc)) q.2;
 }

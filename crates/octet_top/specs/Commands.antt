@@ -101,8 +101,8 @@ abbrev pub Converts : List ℕ → Pair → Answer → Type 0
 Converts out pair answer =
     ((of_script of_log : ℕ) × HasCause pair.source.script pair.loaded.log.threads (ThreadsDiffer of_script of_log) × (answer ≡ does_not_fit (ThreadsDiffer of_script of_log)))
     ⊎ ((length pair.source.script.threads ≡ length pair.loaded.log.threads)
-      × IsLogFile (second_bytes pair.source.text pair.loaded.log.threads) (Some (sha256 pair.source.text)) pair.loaded.log.threads
-      × (answer ≡ writes_file out (second_bytes pair.source.text pair.loaded.log.threads) (codes "converted\n")))
+    × IsLogFile (second_bytes pair.source.text pair.loaded.log.threads) (Some (sha256 pair.source.text)) pair.loaded.log.threads
+    × (answer ≡ writes_file out (second_bytes pair.source.text pair.loaded.log.threads) (codes "converted\n")))
 
 -- the answer of a conversion
 abbrev pub ConvertAnswers : List ℕ → Pair → Answer → Type 0

@@ -6,8 +6,7 @@ use std::test::Fail as Failed;
 
 const READING: &[u8] = b"object x 5\nthread\nset r0 7\nwrite x r0\nthread\nread r0 x\n";
 
-const SHARING: &[u8] =
-    b"object x 9\nthread\nthread\nread r0 x\nread r1 x\nthread\nread r0 x\n";
+const SHARING: &[u8] = b"object x 9\nthread\nthread\nread r0 x\nread r1 x\nthread\nread r0 x\n";
 
 /// A log of `READING` in version 1, and in version 2 with its digest.
 const FIRST: &str =
@@ -95,7 +94,8 @@ fn converted_logs_that_lie_are_refused(rt: HostRuntime) -> Result<(), Failed> {
 fn logs_of_other_scripts_are_refused(rt: HostRuntime) -> Result<(), Failed> {
     let alloc = rt.alloc();
     let blank = b"object x 5\nthread\nset r0 7\nwrite x r0\nthread\nread r0 x\n ".as_slice();
-    let digests = b"fit: digest 15ac69c77e85eb4d462650c0b1c00cbb89c4767e60889ae64c967887432cbe4e of the script, 5251e066809be3a470e21c65c7683b01d0f66d7f52a5db564f997c5b82607200 of the log\n".as_slice();
+    let digests =
+        b"fit: digest 15ac69c77e85eb4d462650c0b1c00cbb89c4767e60889ae64c967887432cbe4e of the script, 5251e066809be3a470e21c65c7683b01d0f66d7f52a5db564f997c5b82607200 of the log\n".as_slice();
     let alone = b"object x 5\nthread\nread r0 x\n".as_slice();
     let threads = b"fit: threads 1 in the script, 2 in the log\n".as_slice();
     for (script, log, said) in [(blank, SECOND, digests), (alone, FIRST, threads)] {

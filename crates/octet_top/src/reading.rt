@@ -6,8 +6,8 @@ ghost use Rattle.octet_top.specs.Commands.{ScriptAnswers, LogAnswers, PairReplay
 ghost use Rattle.octet_top.specs.Replies.{Replies};
 
 use crate::commands::{replay, show, tidy, verify};
-use crate::inputs::{Pair, Source, read_log, read_pair, read_script};
 use crate::convert::convert;
+use crate::inputs::{Pair, Source, read_log, read_pair, read_script};
 use crate::profile::profile;
 use crate::refusal::wrong_script;
 use crate::reply::Reply;

@@ -120,7 +120,13 @@ fn failed_calls_leave_prefixes(rt: HostRuntime) -> Result<(), Failed> {
                 nothing,
                 (0, 1),
             ),
-            ([(4, 9), (5, 0)], Status::Write, Some(whole), nothing, (0, 1)),
+            (
+                [(4, 9), (5, 0)],
+                Status::Write,
+                Some(whole),
+                nothing,
+                (0, 1),
+            ),
             (
                 [(5, 3), (6, 0)],
                 Status::Write,
