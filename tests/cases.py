@@ -435,6 +435,7 @@ SHARED_PIECES = (
 )  # fmt: skip
 HEAD = HANDOVER_SECOND[:38]
 BLANK = HANDOVER + b" "
+WITH_BLANK = {"S": BLANK, "L": HANDOVER_SECOND}
 OTHER_SCRIPT = text(f"fit: digest {sha256(BLANK).hexdigest()} of the script, {sha256(HANDOVER).hexdigest()} of the log")
 MOST = short(2**64 - 1)
 
@@ -453,7 +454,9 @@ SECOND = [
     converted("all kinds of marks", SHARED, SHARED_LOG, SHARED_SECOND),
     converted("to itself", SHARED, SHARED_SECOND, SHARED_SECOND),
     converted("of many pieces", SHARED, SHARED_PIECES, SHARED_SECOND),
-    converted("a log that fits in nothing but its threads", HANDOVER, HANDOVER_STUCK, second(HANDOVER, (1, join(0, 1, 1)), (1, join(0, 0, 1)))),
+    converted(
+        "a log that is stuck", HANDOVER, HANDOVER_STUCK, second(HANDOVER, (1, join(0, 1, 1)), (1, join(0, 0, 1)))
+    ),
     Case(
         "convert: the bytes", ["convert", "S", "L", "O"], {"S": HANDOVER, "L": HANDOVER_LOG}, text("converted"), 0,
         {"O": HEAD + bytes.fromhex("010101000001ff0101")},
@@ -484,8 +487,8 @@ SECOND = [
     ),
     # A log of another script: one blank more makes it another.
     *[
-        Case(f"{' '.join(words)}: another script", [*words[:1], "S", "L", *words[1:]], {"S": BLANK, "L": HANDOVER_SECOND}, OTHER_SCRIPT, 4)
-        for words in [["replay"], ["verify"], ["profile"], ["profile", "x"], ["convert", "O"]]
+        Case(" ".join([command, *more, ": another script"]), [command, "S", "L", *more], WITH_BLANK, OTHER_SCRIPT, 4)
+        for command, *more in [["replay"], ["verify"], ["profile"], ["profile", "x"], ["convert", "O"]]
     ],
     Case(
         "replay: a log of another script, with other threads", ["replay", "S", "L"], {"S": ONE, "L": HANDOVER_SECOND},
