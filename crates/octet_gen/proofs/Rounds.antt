@@ -9,10 +9,10 @@ use Rattle.octet_model.proofs.lemmas.Lists.{slice_get-append}
 use Rattle.octet_model.specs.declared.command.Command.{Command}
 use Rattle.octet_model.specs.declared.command.Command.TheVariants.{Sub, Read, Write, Close, Safe}
 use Rattle.octet_model.specs.declared.event.Event.{Event}
-use Rattle.octet_model.specs.declared.event.Event.TheVariants.{Read, Write, Marked}
+use Rattle.octet_model.specs.declared.event.Event.TheVariants.{Read, Write, Update, Marked}
 use Rattle.octet_model.specs.declared.outcome.End.{End}
 use Rattle.octet_model.specs.declared.outcome.End.TheVariants.{Done}
-use Rattle.octet_model.specs.Thread.{Configuration, starting_configuration, AccessOrEnd, ToRead, ToWrite, ToEnd, is_access, is_opener, end_from, matching_end, is_opened_at, matching_opener, place_past_end, place_after_close, stepped, run_to, settled, demand_at, demanded, past_access, past_demanded, configuration_after, FitsFrom, FitsToEnd}
+use Rattle.octet_model.specs.Thread.{Configuration, starting_configuration, AccessOrEnd, ToRead, ToWrite, ToBump, ToEnd, is_access, is_opener, end_from, matching_end, is_opened_at, matching_opener, place_past_end, place_after_close, stepped, run_to, settled, demand_at, demanded, past_access, past_demanded, configuration_after, FitsUpdate, FitsFrom, FitsToEnd}
 use Rattle.octet_model.specs.Journals.{access_count}
 use Rattle.octet_gen.specs.Generated.{loop_round}
 
@@ -62,19 +62,20 @@ module _ (commands : List Command) where
   same_past : (c d : Configuration) (value : ℕ) → settled commands c ≡ settled commands d → past_demanded commands c value ≡ past_demanded commands d value
   same_past c d value same = ap (λ (e : Configuration). past_access (slice_get commands e.place) e value) same
 
-  past_same : (journal : List Event) (c d : Configuration) (value : ℕ) → settled commands c ≡ settled commands d → (demand : AccessOrEnd)
-      → ((demanded commands c ≡ demand) × FitsFrom commands (past_demanded commands c value) journal) × ((end : End) × (demanded commands (configuration_after commands (past_demanded commands c value) journal) ≡ ToEnd end))
-      → ((demanded commands d ≡ demand) × FitsFrom commands (past_demanded commands d value) journal) × ((end : End) × (demanded commands (configuration_after commands (past_demanded commands d value) journal) ≡ ToEnd end))
-  past_same journal c d value same demand fits =
+  past_same : (journal : List Event) (c d : Configuration) (value : ℕ) → settled commands c ≡ settled commands d → (Fits : AccessOrEnd → Type 0)
+      → (Fits (demanded commands c) × FitsFrom commands (past_demanded commands c value) journal) × ((end : End) × (demanded commands (configuration_after commands (past_demanded commands c value) journal) ≡ ToEnd end))
+      → (Fits (demanded commands d) × FitsFrom commands (past_demanded commands d value) journal) × ((end : End) × (demanded commands (configuration_after commands (past_demanded commands d value) journal) ≡ ToEnd end))
+  past_same journal c d value same Fits fits =
       let p : past_demanded commands c value ≡ past_demanded commands d value = same_past c d value same in (
-        (sym (same_demand c d same) ∙ fits.0.0, subst (λ e. FitsFrom commands e journal) p fits.0.1),
+        (subst Fits (same_demand c d same) fits.0.0, subst (λ e. FitsFrom commands e journal) p fits.0.1),
         subst (λ e. (end : End) × (demanded commands (configuration_after commands e journal) ≡ ToEnd end)) p fits.1,
       )
 
   same_fit : (journal : List Event) (c d : Configuration) → settled commands c ≡ settled commands d → FitsToEnd commands c journal → FitsToEnd commands d journal
   same_fit [] c d same fits = (tt, (fits.1.0, sym (same_demand c d same) ∙ fits.1.1))
-  same_fit (Read object value ∷ journal) c d same fits = past_same journal c d value same (ToRead object) fits
-  same_fit (Write object value ∷ journal) c d same fits = past_same journal c d value same (ToWrite object value) fits
+  same_fit (Read object value ∷ journal) c d same fits = past_same journal c d value same (λ demand. demand ≡ ToRead object) fits
+  same_fit (Write object value ∷ journal) c d same fits = past_same journal c d value same (λ demand. demand ≡ ToWrite object value) fits
+  same_fit (Update object before after ∷ journal) c d same fits = past_same journal c d after same (λ demand. FitsUpdate demand object before after) fits
   same_fit (Marked mark ∷ journal) c d same fits = same_fit journal c d same fits
 
   -- at its end a thread makes no access
@@ -82,6 +83,7 @@ module _ (commands : List Command) where
   none_at_end [] c end ended fits = refl
   none_at_end (Read object value ∷ journal) c end ended fits = absurd (let two : ToEnd end ≡ ToRead object = sym ended ∙ fits.0.0 in cc)
   none_at_end (Write object value ∷ journal) c end ended fits = absurd (let two : ToEnd end ≡ ToWrite object value = sym ended ∙ fits.0.0 in cc)
+  none_at_end (Update object before after ∷ journal) c end ended fits = absurd (let two : ToEnd end ≡ ToBump object fits.0.0.0 = sym ended ∙ fits.0.0.1 in cc)
   none_at_end (Marked mark ∷ journal) c end ended fits = none_at_end journal c end ended fits
 
 -- ---- where the loop's end and its opener lead
@@ -260,6 +262,8 @@ module _ (accesses : List Command) (drawn : All IsDrawn accesses) (many : length
       ap suc (past_access_there journal (counts_from journal) i more turns fuel rest value registers at_last fits has enough (fit.0.1, fit.1)) ∙ omega arith
   counts_from (Write object value ∷ journal) i more turns fuel rest registers at_last fits has enough fit =
       ap suc (past_access_there journal (counts_from journal) i more turns fuel rest value registers at_last fits has enough (fit.0.1, fit.1)) ∙ omega arith
+  counts_from (Update object before after ∷ journal) i more turns fuel rest registers at_last fits has enough fit =
+      ap suc (past_access_there journal (counts_from journal) i more turns fuel rest after registers at_last fits has enough (fit.0.1, fit.1)) ∙ omega arith
   counts_from (Marked mark ∷ journal) i more turns fuel rest registers at_last fits has enough fit = counts_from journal i more turns fuel rest registers at_last fits has enough fit
 
   pub loop_makes_its_accesses : (journal : List Event) → FitsToEnd commands (starting_configuration 32768) journal → access_count journal ≡ 20000

@@ -1,11 +1,11 @@
 -- What a thread is told to demand is what it demands.
 use Rattle.std.proofs.Common.{◌≡◌, ℕ, zero, suc, pred, ◌<◌, ◌≤◌, true, false, List, Option, Some, None, unwrap_or, slice_get, slice_index, refl, sym, ap, ◌∙◌, arith}
 use Rattle.octet_model.specs.declared.command.Command.{Command}
-use Rattle.octet_model.specs.declared.command.Command.TheVariants.{Read, Write, Safe, Pause}
+use Rattle.octet_model.specs.declared.command.Command.TheVariants.{Read, Write, Bump, Safe, Pause}
 use Rattle.octet_model.specs.declared.outcome.End.TheVariants.{Done, Spent}
-use Rattle.octet_model.specs.Thread.{Configuration, is_access, settled, demand_at, demanded, AccessOrEnd, past_access, past_demanded, ToRead, ToWrite, ToEnd}
+use Rattle.octet_model.specs.Thread.{Configuration, is_access, settled, demand_at, demanded, AccessOrEnd, past_access, past_demanded, ToRead, ToWrite, ToBump, ToEnd}
 use Rattle.octet_interp.specs.declared.demand.Demand.{Demand}
-use Rattle.octet_interp.specs.declared.demand.Demand.TheVariants.{Read, Write, Safe, Pause, Ended}
+use Rattle.octet_interp.specs.declared.demand.Demand.TheVariants.{Read, Write, Bump, Safe, Pause, Ended}
 use Rattle.octet_interp.specs.Demands.{ThreadState, is_demand, at_demand, demand_of_command, demand_from, past_demand, is_read, next_demand, TakesFuel}
 use Rattle.octet_interp.specs.Laws.{Agrees, DemandsAreThoseOfTheThread, DemandsTakeFuel, DemandsFollowFromWhereItSettles}
 use Rattle.octet_interp.proofs.Runs.{one_fuel, told_with, goes_on, stays_at, stays_past, stays_empty, along, stopped}
@@ -13,6 +13,7 @@ use Rattle.octet_interp.proofs.Runs.{one_fuel, told_with, goes_on, stays_at, sta
 no_access : (command : Command) → is_demand command ≡ false → is_access command ≡ false
 no_access (Read to object) is = absurd cc
 no_access (Write object from) is = absurd cc
+no_access (Bump object from) is = absurd cc
 no_access _ is = refl
 
 -- a run to the next told command changes nothing of where the thread settles
@@ -48,6 +49,7 @@ follows commands c d is =
 spent : (command : Command) (d : Configuration) → d.fuel ≡ 0 → demand_at (Some command) d ≡ ToEnd Spent
 spent (Read to object) d none = ap (λ (fuel : ℕ). elim fuel as (λ n. AccessOrEnd) [ zero ↦ ToEnd Spent | suc n ↦ ToRead object ]) none
 spent (Write object from) d none = ap (λ (fuel : ℕ). elim fuel as (λ n. AccessOrEnd) [ zero ↦ ToEnd Spent | suc n ↦ ToWrite object (slice_index d.registers from) ]) none
+spent (Bump object from) d none = ap (λ (fuel : ℕ). elim fuel as (λ n. AccessOrEnd) [ zero ↦ ToEnd Spent | suc n ↦ ToBump object (slice_index d.registers from) ]) none
 spent _ d none = refl
 
 with_fuel : (wanted : AccessOrEnd) (fuel : ℕ) → 0 < fuel → ◌≡◌ {A = AccessOrEnd} (elim fuel [ zero ↦ ToEnd Spent | suc n ↦ wanted ]) wanted
@@ -58,6 +60,7 @@ with_fuel wanted (suc n) fuelled = refl
 abbrev IsToldBy : Demand → Command → List ℕ → Type 0
 IsToldBy (Read object) command registers = (to : ℕ) × (command ≡ Read to object)
 IsToldBy (Write object value) command registers = (from : ℕ) × (command ≡ Write object from) × (value ≡ slice_index registers from)
+IsToldBy (Bump object amount) command registers = (from : ℕ) × (command ≡ Bump object from) × (amount ≡ slice_index registers from)
 IsToldBy Safe command registers = command ≡ Safe
 IsToldBy Pause command registers = command ≡ Pause
 IsToldBy (Ended end) command registers = (is_demand command ≡ false) × (end ≡ Spent)
@@ -65,6 +68,7 @@ IsToldBy (Ended end) command registers = (is_demand command ≡ false) × (end �
 told_by : (command : Command) (registers : List ℕ) → IsToldBy (unwrap_or (demand_of_command command registers) (Ended Spent)) command registers
 told_by (Read to object) registers = (to, refl)
 told_by (Write object from) registers = (from, refl, refl)
+told_by (Bump object from) registers = (from, refl, refl)
 told_by Safe registers = refl
 told_by Pause registers = refl
 told_by _ registers = (refl, refl)
@@ -87,21 +91,40 @@ tells (Some command) d = go d.fuel refl
 abbrev standing_with : ThreadState → Demand → ThreadState
 standing_with s demand = record { commands = s.commands; at = past_demand demand (at_demand s.commands s.at); waits = is_read demand; objects = s.objects }
 
+-- an access that is told is what the thread demands, and the thread settles where it is told
+module _ (s : ThreadState) (command : Command) (here : slice_get s.commands (at_demand s.commands s.at).place ≡ Some command) (access : is_access command ≡ true) where
+  settles_there : settled s.commands s.at ≡ at_demand s.commands s.at
+  settles_there = let a = at_demand s.commands s.at in sym (settles_alike s.commands s.at) ∙ stays_at is_access s.commands a.fuel a command here access
+
+  demands_it : (wanted : AccessOrEnd) → demand_at (Some command) (at_demand s.commands s.at) ≡ wanted → demanded s.commands s.at ≡ wanted
+  demands_it wanted is =
+      let a = at_demand s.commands s.at in
+      demands_where s.commands s.at a settles_there ∙ ap (λ (o : Option Command). demand_at o a) here ∙ is
+
+  passes_it : (value : ℕ) → past_demanded s.commands s.at value ≡ past_access (Some command) (at_demand s.commands s.at) value
+  passes_it value =
+      let a = at_demand s.commands s.at in
+      goes_past s.commands s.at a value settles_there ∙ ap (λ (o : Option Command). past_access o a value) here
+
 agrees_by : (s : ThreadState) (command : Command) (demand : Demand) → slice_get s.commands (at_demand s.commands s.at).place ≡ Some command → 0 < (at_demand s.commands s.at).fuel
     → IsToldBy demand command (at_demand s.commands s.at).registers → Agrees demand s (standing_with s demand)
 agrees_by s command (Read object) at fuelled by =
     let a = at_demand s.commands s.at in
-    let here : slice_get s.commands a.place ≡ Some (Read by.0 object) = at ∙ ap (λ (x : Command). Some x) by.1 in
-    let settles : settled s.commands s.at ≡ a = sym (settles_alike s.commands s.at) ∙ stays_at is_access s.commands a.fuel a (Read by.0 object) here refl in (
-      demands_where s.commands s.at a settles ∙ ap (λ (o : Option Command). demand_at o a) here ∙ with_fuel (ToRead object) a.fuel fuelled,
-      λ value. sym (goes_past s.commands s.at a value settles),
+    let here = at ∙ ap (λ (x : Command). Some x) by.1 in (
+      demands_it s (Read by.0 object) here refl (ToRead object) (with_fuel (ToRead object) a.fuel fuelled),
+      λ value. sym (goes_past s.commands s.at a value (settles_there s (Read by.0 object) here refl)),
     )
 agrees_by s command (Write object value) at fuelled by =
     let a = at_demand s.commands s.at in
-    let here : slice_get s.commands a.place ≡ Some (Write object by.0) = at ∙ ap (λ (x : Command). Some x) by.1 in
-    let settles : settled s.commands s.at ≡ a = sym (settles_alike s.commands s.at) ∙ stays_at is_access s.commands a.fuel a (Write object by.0) here refl in (
-      demands_where s.commands s.at a settles ∙ ap (λ (o : Option Command). demand_at o a) here ∙ with_fuel (ToWrite object (slice_index a.registers by.0)) a.fuel fuelled ∙ ap (ToWrite object) (sym by.2),
-      λ any. sym (goes_past s.commands s.at a any settles ∙ ap (λ (o : Option Command). past_access o a any) here),
+    let here = at ∙ ap (λ (x : Command). Some x) by.1 in (
+      demands_it s (Write object by.0) here refl (ToWrite object value) (with_fuel (ToWrite object (slice_index a.registers by.0)) a.fuel fuelled ∙ ap (ToWrite object) (sym by.2)),
+      λ any. sym (passes_it s (Write object by.0) here refl any),
+    )
+agrees_by s command (Bump object amount) at fuelled by =
+    let a = at_demand s.commands s.at in
+    let here = at ∙ ap (λ (x : Command). Some x) by.1 in (
+      demands_it s (Bump object by.0) here refl (ToBump object amount) (with_fuel (ToBump object (slice_index a.registers by.0)) a.fuel fuelled ∙ ap (ToBump object) (sym by.2)),
+      λ any. sym (passes_it s (Bump object by.0) here refl any),
     )
 agrees_by s command Safe at fuelled by =
     let a = at_demand s.commands s.at in

@@ -1,11 +1,11 @@
 -- Journals keep up with their threads.
-use Rattle.std.proofs.Common.{Bool, List, [], ◌∷◌, sym, ap, ◌∙◌}
+use Rattle.std.proofs.Common.{◌≡◌, Bool, false, List, [], ◌∷◌, ◌++◌, refl, sym, ap, ◌∙◌}
 use Rattle.octet_model.specs.declared.event.Event.{Event}
-use Rattle.octet_model.specs.declared.event.Event.TheVariants.{Read, Write, Marked}
-use Rattle.octet_model.specs.Thread.{Configuration, settled, configuration_after}
+use Rattle.octet_model.specs.declared.event.Event.TheVariants.{Read, Write, Update, Marked}
+use Rattle.octet_model.specs.Thread.{Configuration, settled, configuration_after, added, FitsFrom}
 use Rattle.octet_model.proofs.lemmas.Splits.{configuration_split, fits_join}
 use Rattle.octet_interp.specs.declared.demand.Demand.{Demand}
-use Rattle.octet_interp.specs.declared.demand.Demand.TheVariants.{Read, Write, Ended}
+use Rattle.octet_interp.specs.declared.demand.Demand.TheVariants.{Read, Write, Bump, Ended}
 use Rattle.octet_interp.specs.Demands.{ThreadState, next_demand, after_demand}
 use Rattle.octet_interp.specs.Laws.{Agrees, IsJournalOf, IsJournalPast, JournalsKeepUp, JournalsTakeMarks}
 use Rattle.octet_interp.proofs.Agreement.{agrees, follows}
@@ -14,22 +14,27 @@ use Rattle.octet_interp.proofs.Agreement.{agrees, follows}
 abbrev moved : ThreadState → Configuration → Bool → ThreadState
 moved s at waits = record { commands = s.commands; at = at; waits = waits; objects = s.objects }
 
+-- an event that fits the journal, and leaves it to settle where the thread now stands
+with_event : (start : Configuration) (journal : List Event) (s : ThreadState) (at : Configuration) (waits : Bool) (event : Event) → IsJournalOf start journal s
+    → FitsFrom s.commands (configuration_after s.commands start journal) (event ∷ []) → configuration_after s.commands (configuration_after s.commands start journal) (event ∷ []) ≡ at
+    → IsJournalOf start (journal ++ event ∷ []) (moved s at waits)
+with_event start journal s at waits event kept fits leaves = record {
+  fits = fits_join s.commands start journal (event ∷ []) kept.fits fits;
+  settles = ap (settled s.commands) (configuration_split s.commands start journal (event ∷ []) ∙ leaves);
+}
+
 keeps_with : (start : Configuration) (journal : List Event) (s : ThreadState) (at : Configuration) (waits : Bool) (demand : Demand)
     → Agrees demand s (moved s at waits) → IsJournalOf start journal s → IsJournalPast start journal demand (moved s at waits)
 keeps_with start journal s at waits (Read object) agrees kept =
-    let after = configuration_after s.commands start journal in
-    let alike = follows s.commands after s.at kept.settles in
-    λ value. record {
-      fits = fits_join s.commands start journal (Read object value ∷ []) kept.fits (alike.0 ∙ agrees.0, tt);
-      settles = ap (settled s.commands) (configuration_split s.commands start journal (Read object value ∷ []) ∙ alike.1 value ∙ sym (agrees.1 value));
-    }
+    let alike = follows s.commands (configuration_after s.commands start journal) s.at kept.settles in
+    λ value. with_event start journal s _ false (Read object value) kept (alike.0 ∙ agrees.0, tt) (alike.1 value ∙ sym (agrees.1 value))
 keeps_with start journal s at waits (Write object value) agrees kept =
-    let after = configuration_after s.commands start journal in
-    let alike = follows s.commands after s.at kept.settles in
-    record {
-      fits = fits_join s.commands start journal (Write object value ∷ []) kept.fits (alike.0 ∙ agrees.0, tt);
-      settles = ap (settled s.commands) (configuration_split s.commands start journal (Write object value ∷ []) ∙ alike.1 value ∙ sym (agrees.1 value));
-    }
+    let alike = follows s.commands (configuration_after s.commands start journal) s.at kept.settles in
+    with_event start journal s at waits (Write object value) kept (alike.0 ∙ agrees.0, tt) (alike.1 value ∙ sym (agrees.1 value))
+keeps_with start journal s at waits (Bump object amount) agrees kept =
+    let alike = follows s.commands (configuration_after s.commands start journal) s.at kept.settles in
+    λ before. let after = added amount before in
+    with_event start journal s at waits (Update object before after) kept ((amount, alike.0 ∙ agrees.0, refl), tt) (alike.1 after ∙ sym (agrees.1 after))
 keeps_with start journal s at waits (Ended end) agrees kept =
     let after = configuration_after s.commands start journal in
     let ended = (follows s.commands after s.at kept.settles).0 ∙ agrees.0 in

@@ -2,11 +2,11 @@
 use Rattle.std.proofs.Common.{◌≡◌, ℕ, zero, suc, pred, ◌<◌, ◌≤◌, Bool, true, false, List, length, Option, Some, None, unwrap_or, slice_get, refl, sym, ap, ◌∙◌, arith}
 use Rattle.std.proofs.lemmas.Option.{slice_get_past}
 use Rattle.octet_model.specs.declared.command.Command.{Command}
-use Rattle.octet_model.specs.declared.command.Command.TheVariants.{Set, Copy, Add, Sub, Mul, Xor, Less, Same, Read, Write, Loop, Branch, Safe, Pause}
+use Rattle.octet_model.specs.declared.command.Command.TheVariants.{Set, Copy, Add, Sub, Mul, Xor, Less, Same, Read, Write, Bump, Loop, Branch, Safe, Pause}
 use Rattle.octet_model.specs.declared.outcome.End.TheVariants.{Spent}
 use Rattle.octet_model.specs.Thread.{Configuration, run_to, stepped}
 use Rattle.octet_interp.specs.declared.demand.Demand.{Demand}
-use Rattle.octet_interp.specs.declared.demand.Demand.TheVariants.{Read, Write, Safe, Pause, Ended}
+use Rattle.octet_interp.specs.declared.demand.Demand.TheVariants.{Ended}
 use Rattle.octet_interp.specs.Context.{CanPass}
 use Rattle.octet_interp.specs.Demands.{is_demand, at_demand, demand_of_command, demand_from}
 
@@ -86,6 +86,7 @@ module _ (stops : Command → Bool) (commands : List Command) where
 is_told_if : (command : Command) (registers : List ℕ) (demand : Demand) → demand_of_command command registers ≡ Some demand → is_demand command ≡ true
 is_told_if (Read to object) registers demand is = refl
 is_told_if (Write object from) registers demand is = refl
+is_told_if (Bump object from) registers demand is = refl
 is_told_if Safe registers demand is = refl
 is_told_if Pause registers demand is = refl
 is_told_if _ registers demand is = absurd cc
@@ -93,6 +94,7 @@ is_told_if _ registers demand is = absurd cc
 not_told_if : (command : Command) (registers : List ℕ) → demand_of_command command registers ≡ None → is_demand command ≡ false
 not_told_if (Read to object) registers is = absurd cc
 not_told_if (Write object from) registers is = absurd cc
+not_told_if (Bump object from) registers is = absurd cc
 not_told_if Safe registers is = absurd cc
 not_told_if Pause registers is = absurd cc
 not_told_if _ registers is = refl
@@ -122,7 +124,4 @@ tells_end command c none = ap (told_with command c.registers) none
 
 pub can_pass : (demand : Demand) (place fuel len : ℕ) → 0 < fuel → place < len → CanPass demand place fuel len
 can_pass (Ended end) place fuel len fuelled within = tt
-can_pass (Read object) place fuel len fuelled within = (fuelled, within)
-can_pass (Write object value) place fuel len fuelled within = (fuelled, within)
-can_pass Safe place fuel len fuelled within = (fuelled, within)
-can_pass Pause place fuel len fuelled within = (fuelled, within)
+can_pass _ place fuel len fuelled within = (fuelled, within)

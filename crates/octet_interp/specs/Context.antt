@@ -6,16 +6,17 @@ use Rattle.octet_model.specs.Thread.{Configuration, stepped, with_register}
 use Rattle.octet_interp.specs.Leads.{lead_of, IsLeadTable}
 use Rattle.octet_model.specs.Validity.{IsRegister, HasRegisters, HasObject}
 use Rattle.octet_interp.specs.declared.demand.Demand.{Demand}
-use Rattle.octet_interp.specs.declared.demand.Demand.TheVariants.{Read, Write, Ended}
+use Rattle.octet_interp.specs.declared.demand.Demand.TheVariants.{Read, Write, Bump, Ended}
 use Rattle.octet_interp.specs.declared.context.Context.{Context}
 
 -- the configuration that the code keeps
 abbrev pub configuration_of : Context → Configuration
 configuration_of context = record { place = context.place; registers = context.registers; fuel = context.fuel }
 
--- the value of a write is below 2 ^ 64
+-- the value of a write and the amount of a bump are below 2 ^ 64
 abbrev pub HasSmallValue : Demand → Type 0
 HasSmallValue (Write object value) = value < 2 ^ 64
+HasSmallValue (Bump object amount) = amount < 2 ^ 64
 HasSmallValue _ = Unit {0}
 
 -- a command that gives a register a value by itself

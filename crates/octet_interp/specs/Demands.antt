@@ -1,12 +1,12 @@
 -- What a thread demands, safe points and pauses among it.
 use Rattle.std.specs.Prelude.{ℕ, zero, suc, ◌^◌, ◌<◌, ◌≤◌, Bool, true, false, List, [], length, Option, Some, None, unwrap_or, get_or, slice_get, slice_index}
 use Rattle.octet_model.specs.declared.command.Command.{Command}
-use Rattle.octet_model.specs.declared.command.Command.TheVariants.{Read, Write, Safe, Pause}
+use Rattle.octet_model.specs.declared.command.Command.TheVariants.{Read, Write, Bump, Safe, Pause}
 use Rattle.octet_model.specs.declared.outcome.End.TheVariants.{Done, Spent}
 use Rattle.octet_model.specs.declared.script.Script.{Script}
 use Rattle.octet_model.specs.Thread.{Configuration, starting_configuration, run_to, moved_to, past_access}
 use Rattle.octet_interp.specs.declared.demand.Demand.{Demand}
-use Rattle.octet_interp.specs.declared.demand.Demand.TheVariants.{Read, Write, Safe, Pause, Ended}
+use Rattle.octet_interp.specs.declared.demand.Demand.TheVariants.{Read, Write, Bump, Safe, Pause, Ended}
 
 -- what callers know of a thread that runs: its commands, where it stands, whether a read waits for its value, and the number of the script's objects
 pub record ThreadState : Type 0 where
@@ -23,6 +23,7 @@ starting_thread script thread = record { commands = get_or script.threads thread
 abbrev pub is_demand : Command → Bool
 is_demand (Read to object) = true
 is_demand (Write object from) = true
+is_demand (Bump object from) = true
 is_demand Safe = true
 is_demand Pause = true
 is_demand _ = false
@@ -35,6 +36,7 @@ at_demand commands c = run_to is_demand commands c.fuel c
 abbrev pub demand_of_command : Command → List ℕ → Option Demand
 demand_of_command (Read to object) registers = Some (Read object)
 demand_of_command (Write object from) registers = Some (Write object (slice_index registers from))
+demand_of_command (Bump object from) registers = Some (Bump object (slice_index registers from))
 demand_of_command Safe registers = Some Safe
 demand_of_command Pause registers = Some Pause
 demand_of_command _ registers = None
@@ -67,10 +69,11 @@ after_demand s = record { commands = s.commands; at = past_demand (next_demand s
 abbrev pub given : ThreadState → ℕ → ThreadState
 given s value = record { commands = s.commands; at = past_access (slice_get s.commands s.at.place) s.at value; waits = false; objects = s.objects }
 
--- its object is one of so many, and its value below 2 ^ 64
+-- its object is one of so many, and its value or amount below 2 ^ 64
 abbrev pub IsPossible : ℕ → Demand → Type 0
 IsPossible objects (Read object) = object < objects
 IsPossible objects (Write object value) = (object < objects) × (value < 2 ^ 64)
+IsPossible objects (Bump object amount) = (object < objects) × (amount < 2 ^ 64)
 IsPossible objects _ = Unit {0}
 
 -- a demand takes fuel: a read when its value is given, the others as they are answered. The end takes none

@@ -2,11 +2,11 @@
 use Rattle.std.specs.Prelude.{◌≡◌, ℕ, List, [], ◌∷◌, ◌++◌}
 use Rattle.octet_model.specs.declared.command.Command.{Command}
 use Rattle.octet_model.specs.declared.event.Event.{Event}
-use Rattle.octet_model.specs.declared.event.Event.TheVariants.{Read, Write, Marked}
+use Rattle.octet_model.specs.declared.event.Event.TheVariants.{Read, Write, Update, Marked}
 use Rattle.octet_model.specs.declared.event.Mark.{Mark}
-use Rattle.octet_model.specs.Thread.{Configuration, settled, demanded, past_demanded, configuration_after, FitsFrom, FitsToEnd, ToRead, ToWrite, ToEnd}
+use Rattle.octet_model.specs.Thread.{Configuration, settled, demanded, past_demanded, configuration_after, FitsFrom, FitsToEnd, ToRead, ToWrite, ToBump, ToEnd, added}
 use Rattle.octet_interp.specs.declared.demand.Demand.{Demand}
-use Rattle.octet_interp.specs.declared.demand.Demand.TheVariants.{Read, Write, Ended}
+use Rattle.octet_interp.specs.declared.demand.Demand.TheVariants.{Read, Write, Bump, Ended}
 use Rattle.octet_interp.specs.Demands.{ThreadState, next_demand, after_demand, given, TakesFuel}
 
 -- an access or an end that `next` answers is the one that the thread demands with safe points and pauses left out, and leaves it where that does; a safe point and a pause change nothing of where it settles; an end is told again
@@ -15,6 +15,8 @@ Agrees (Read object) before after =
     (demanded before.commands before.at ≡ ToRead object) × ((value : ℕ) → (given after value).at ≡ past_demanded before.commands before.at value)
 Agrees (Write object value) before after =
     (demanded before.commands before.at ≡ ToWrite object value) × ((any : ℕ) → after.at ≡ past_demanded before.commands before.at any)
+Agrees (Bump object amount) before after =
+    (demanded before.commands before.at ≡ ToBump object amount) × ((any : ℕ) → after.at ≡ past_demanded before.commands before.at any)
 Agrees (Ended end) before after = (demanded before.commands before.at ≡ ToEnd end) × (next_demand after ≡ Ended end)
 Agrees _ before after = settled before.commands after.at ≡ settled before.commands before.at
 
@@ -40,6 +42,7 @@ pub record IsJournalOf (start : Configuration) (journal : List Event) (s : Threa
 abbrev pub IsJournalPast : Configuration → List Event → Demand → ThreadState → Type 0
 IsJournalPast start journal (Read object) after = (value : ℕ) → IsJournalOf start (journal ++ Read object value ∷ []) (given after value)
 IsJournalPast start journal (Write object value) after = IsJournalOf start (journal ++ Write object value ∷ []) after
+IsJournalPast start journal (Bump object amount) after = (before : ℕ) → IsJournalOf start (journal ++ Update object before (added amount before) ∷ []) after
 IsJournalPast start journal (Ended end) after = FitsToEnd after.commands start journal × (demanded after.commands (configuration_after after.commands start journal) ≡ ToEnd end)
 IsJournalPast start journal _ after = IsJournalOf start journal after
 

@@ -50,6 +50,10 @@ fn demand_of_command(command: Command, registers: &[u64; REGISTERS]) -> Option<D
             object,
             value: registers[from as usize],
         }),
+        Command::Bump { object, from } => Some(Demand::Bump {
+            object,
+            amount: registers[from as usize],
+        }),
         Command::Safe => Some(Demand::Safe),
         Command::Pause => Some(Demand::Pause),
         _ => None,
@@ -160,7 +164,7 @@ pub(crate) fn pass(context: &mut Context, demand: Demand)
     ensures { configuration_of context.new ≡ past_demand demand (configuration_of context.old) }
 {
     match demand {
-        Demand::Write { .. } | Demand::Safe | Demand::Pause => {
+        Demand::Write { .. } | Demand::Bump { .. } | Demand::Safe | Demand::Pause => {
             let next = context.place + 1;
             move_to(context, next);
         }

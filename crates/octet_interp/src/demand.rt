@@ -8,6 +8,8 @@ pub enum Demand {
     Read { object: u16 },
     /// The object is to get the value.
     Write { object: u16, value: u64 },
+    /// The amount is to be added to the object's value, modulo 2^64.
+    Bump { object: u16, amount: u64 },
     /// A safe point.
     Safe,
     /// The thread is to be marked blocked, and then unblocked again.

@@ -57,6 +57,7 @@ fn demands(alloc: Global, fuel: u32, commands: &[Command]) -> Result<Vec<Demand>
         match demand {
             Demand::Read { .. } => config.give(cell),
             Demand::Write { value, .. } => cell = value,
+            Demand::Bump { amount, .. } => cell = cell.wrapping_add(amount),
             Demand::Safe | Demand::Pause => {}
             Demand::Ended { .. } => return Ok(demands),
         }
@@ -75,6 +76,12 @@ fn write(from: u8) -> Command
     Command::Write { object: 0, from }
 }
 
+fn bump(from: u8) -> Command
+    ensures { result ≡ Command.Bump 0 from }
+{
+    Command::Bump { object: 0, from }
+}
+
 const READ: Demand = Demand::Read { object: 0 };
 
 const DONE: Demand = Demand::Ended { end: End::Done };
@@ -83,6 +90,10 @@ const SPENT: Demand = Demand::Ended { end: End::Spent };
 
 fn written(value: u64) -> Demand {
     Demand::Write { object: 0, value }
+}
+
+fn bumped(amount: u64) -> Demand {
+    Demand::Bump { object: 0, amount }
 }
 
 #[test]
@@ -104,6 +115,29 @@ fn fuel_is_judged_behind_the_last_place(rt: HostRuntime) -> Result<(), Fail> {
         [written(3), DONE].as_slice()
     );
     assert_eq!(rt; demands(alloc, 1, &short)?.as_slice(), [SPENT].as_slice());
+    Ok(())
+}
+
+#[test]
+fn bumps_give_no_value(rt: HostRuntime) -> Result<(), Fail> {
+    let alloc = rt.alloc();
+    let bumps = [
+        set(0, 2),
+        bump(0),
+        Command::Read { to: 1, object: 0 },
+        bump(1),
+        write(0),
+    ];
+    let next_demand = [bumped(2), READ, bumped(9), written(2), DONE];
+    assert_eq!(rt;
+        demands(alloc, 5, &bumps)?.as_slice(),
+        next_demand.as_slice()
+    );
+    assert_eq!(rt;
+        demands(alloc, 2, &bumps)?.as_slice(),
+        [bumped(2), SPENT].as_slice()
+    );
+    assert_eq!(rt; demands(alloc, 1, &bumps)?.as_slice(), [SPENT].as_slice());
     Ok(())
 }
 

@@ -3,7 +3,7 @@ use Rattle.std.proofs.Common.{◌≡◌, List, [], ◌∷◌, refl, lit<}
 use Rattle.std.specs.Prelude.{codes}
 use Rattle.std.specs.Fmt.{digits}
 use Rattle.octet_model.specs.declared.command.Command.{Command}
-use Rattle.octet_model.specs.declared.command.Command.TheVariants.{Set, Sub, Read, Write, Loop, Branch, Close}
+use Rattle.octet_model.specs.declared.command.Command.TheVariants.{Set, Sub, Read, Write, Bump, Loop, Branch, Close}
 use Rattle.octet_model.specs.declared.event.Mark.TheVariants.{Join, Draw, Fence}
 use Rattle.octet_model.specs.declared.outcome.End.TheVariants.{Done, Spent}
 use Rattle.octet_model.specs.declared.outcome.Outcome.{Outcome}
@@ -12,6 +12,7 @@ use Rattle.octet_model.specs.declared.log.ThreadLog.{ThreadLog}
 use Rattle.octet_model.specs.Thread.{matching_end, place_after_close}
 use Rattle.octet_model.specs.Journals.{log_of}
 use Rattle.octet_model.specs.Orders.{lowest_order, execution, journals_after}
+use Rattle.octet_model.specs.Totals.{added_to}
 use Rattle.octet_model.specs.Texts.{log_bytes, outcome_text}
 
 -- one thread reads
@@ -115,6 +116,36 @@ shared_reads_gives = refl
 
 shared_reads_log_again : log_of (journals_after shared_reads shared_reads_log (1 ∷ 1 ∷ 2 ∷ 2 ∷ 1 ∷ 1 ∷ 2 ∷ [])) ≡ shared_reads_log
 shared_reads_log_again = refl
+
+-- two threads bump one object, and what they add is its total
+abbrev bumps : Script
+bumps = record {
+  fuel = 16384;
+  objects = record { name = codes "n"; start = 5; fits = lit< tt } ∷ [];
+  threads = (Set 0 2 ∷ Bump 0 0 ∷ Bump 0 0 ∷ []) ∷ (Set 0 3 ∷ Bump 0 0 ∷ []) ∷ [];
+  valid = refl;
+}
+
+abbrev bumps_log : List ThreadLog
+bumps_log = record { accesses = 2; marks = [] } ∷ record { accesses = 1; marks = record { gap = 0; mark = Join 0 2 } ∷ [] } ∷ []
+
+bumps_give : execution bumps bumps_log (lowest_order bumps bumps_log) ≡ record { ends = Done ∷ Done ∷ []; reads = [] ∷ [] ∷ []; heap = 12 ∷ [] }
+bumps_give = refl
+
+bumps_add : added_to 0 (journals_after bumps bumps_log (lowest_order bumps bumps_log)) ≡ 7
+bumps_add = refl
+
+-- totals are modulo 2 ^ 64
+abbrev past_the_end : Script
+past_the_end = record {
+  fuel = 16384;
+  objects = record { name = codes "n"; start = 18446744073709551615; fits = lit< tt } ∷ [];
+  threads = (Set 0 2 ∷ Bump 0 0 ∷ []) ∷ [];
+  valid = refl;
+}
+
+past_the_end_gives : execution past_the_end (record { accesses = 1; marks = [] } ∷ []) (0 ∷ []) ≡ record { ends = Done ∷ []; reads = [] ∷ []; heap = 1 ∷ [] }
+past_the_end_gives = refl
 
 -- fuel runs out in a loop
 abbrev out_of_fuel : Script

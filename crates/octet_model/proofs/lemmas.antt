@@ -13,3 +13,4 @@ pub mod MarksSeen
 pub mod LowestFronts
 pub mod LawfulOrders
 pub mod LogLength
+pub mod Totals

@@ -3,7 +3,7 @@ use Rattle.std.specs.Prelude.{◌≡◌, ◌≢◌, ℕ, ◌≤◌, ◌⊎◌, L
 use Rattle.octet_model.specs.declared.event.Mark.{Mark}
 use Rattle.octet_model.specs.declared.event.Mark.TheVariants.{Join}
 use Rattle.octet_model.specs.declared.event.Event.{Event}
-use Rattle.octet_model.specs.declared.event.Event.TheVariants.{Read, Write, Marked}
+use Rattle.octet_model.specs.declared.event.Event.TheVariants.{Read, Write, Update, Marked}
 use Rattle.octet_model.specs.declared.event.Place.{Place}
 use Rattle.octet_model.specs.declared.limits.TheConstants.{MAX_MARKS_BEFORE_ACCESS}
 use Rattle.octet_model.specs.Machine.{Journals, journal_of}
@@ -14,6 +14,7 @@ abbrev pub marks_since : List Mark → List Event → List Mark
 marks_since marks [] = marks
 marks_since marks (Read object value ∷ journal) = marks_since [] journal
 marks_since marks (Write object value ∷ journal) = marks_since [] journal
+marks_since marks (Update object before after ∷ journal) = marks_since [] journal
 marks_since marks (Marked mark ∷ journal) = marks_since (marks ++ mark ∷ []) journal
 
 -- the marks after the last access of a journal

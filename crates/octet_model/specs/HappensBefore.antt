@@ -2,7 +2,7 @@
 use Rattle.std.specs.Prelude.{◌≡◌, ◌≢◌, ℕ, suc, ◌<◌, ◌≤◌, ◌⊎◌, Bool, true, false, ◌||◌, IsTrue, List, [], ◌∷◌, ◌++◌, Option, Some, None, slice_get}
 use Rattle.octet_model.specs.declared.event.Mark.TheVariants.{Join, Draw, Fence}
 use Rattle.octet_model.specs.declared.event.Event.{Event}
-use Rattle.octet_model.specs.declared.event.Event.TheVariants.{Read, Write, Marked}
+use Rattle.octet_model.specs.declared.event.Event.TheVariants.{Read, Write, Update, Marked}
 use Rattle.octet_model.specs.declared.event.Place.{Place}
 use Rattle.octet_model.specs.Machine.{Journals, journal_of}
 
@@ -39,10 +39,13 @@ pub record HappensBefore (journals : Journals) (a b : Place) : Type 0 where
 abbrev pub object_of : Event → Option ℕ
 object_of (Read object value) = Some object
 object_of (Write object value) = Some object
+object_of (Update object before after) = Some object
 object_of (Marked mark) = None
 
+-- a write or an update
 abbrev pub is_write : Event → Bool
 is_write (Write object value) = true
+is_write (Update object before after) = true
 is_write _ = false
 
 -- two accesses by different threads, of one object, of which at least one writes

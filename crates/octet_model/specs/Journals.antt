@@ -3,17 +3,18 @@ use Rattle.std.specs.Prelude.{ℕ, suc, Bool, true, false, ◌==◌, nat_lt, if�
 use Rattle.octet_model.specs.declared.command.Command.{Command}
 use Rattle.octet_model.specs.declared.event.Mark.{Mark}
 use Rattle.octet_model.specs.declared.event.Event.{Event}
-use Rattle.octet_model.specs.declared.event.Event.TheVariants.{Read, Write, Marked}
+use Rattle.octet_model.specs.declared.event.Event.TheVariants.{Read, Write, Update, Marked}
 use Rattle.octet_model.specs.declared.log.Gapped.{Gapped}
 use Rattle.octet_model.specs.declared.log.ThreadLog.{ThreadLog}
-use Rattle.octet_model.specs.Thread.{Configuration, AccessOrEnd, ToRead, ToWrite, ToEnd, demanded, configuration_after}
-use Rattle.octet_model.specs.Machine.{Journals, Next, Wants, Finished, NothingFits, MakeMark, MakeRead, MakeWrite}
+use Rattle.octet_model.specs.Thread.{Configuration, AccessOrEnd, ToRead, ToWrite, ToBump, ToEnd, added, demanded, configuration_after}
+use Rattle.octet_model.specs.Machine.{Journals, Next, Wants, Finished, NothingFits, MakeMark, MakeRead, MakeWrite, MakeUpdate}
 
 -- how many accesses
 abbrev pub access_count : List Event → ℕ
 access_count [] = 0
 access_count (Read object value ∷ journal) = suc (access_count journal)
 access_count (Write object value ∷ journal) = suc (access_count journal)
+access_count (Update object before after ∷ journal) = suc (access_count journal)
 access_count (Marked mark ∷ journal) = access_count journal
 
 -- how many marks
@@ -21,6 +22,7 @@ abbrev pub mark_count : List Event → ℕ
 mark_count [] = 0
 mark_count (Read object value ∷ journal) = mark_count journal
 mark_count (Write object value ∷ journal) = mark_count journal
+mark_count (Update object before after ∷ journal) = mark_count journal
 mark_count (Marked mark ∷ journal) = suc (mark_count journal)
 
 -- the accesses since the last mark; where there is none, those of the journal and those before it
@@ -28,6 +30,7 @@ abbrev pub gap_after : ℕ → List Event → ℕ
 gap_after before [] = before
 gap_after before (Read object value ∷ journal) = gap_after (suc before) journal
 gap_after before (Write object value ∷ journal) = gap_after (suc before) journal
+gap_after made (Update object before after ∷ journal) = gap_after (suc made) journal
 gap_after before (Marked mark ∷ journal) = gap_after 0 journal
 
 -- the marks with their gaps, where accesses stand before the journal
@@ -35,6 +38,7 @@ abbrev pub gapped_marks : ℕ → List Event → List Gapped
 gapped_marks before [] = []
 gapped_marks before (Read object value ∷ journal) = gapped_marks (suc before) journal
 gapped_marks before (Write object value ∷ journal) = gapped_marks (suc before) journal
+gapped_marks made (Update object before after ∷ journal) = gapped_marks (suc made) journal
 gapped_marks before (Marked mark ∷ journal) = record { gap = before; mark = mark } ∷ gapped_marks 0 journal
 
 -- the log of one journal, and of all
@@ -53,6 +57,7 @@ due_mark (Some next) gap = if next.gap == gap then Some next.mark else None
 abbrev pub next_access : AccessOrEnd → Bool → Bool → Next
 next_access (ToRead object) true mark_left = Wants (MakeRead object)
 next_access (ToWrite object value) true mark_left = Wants (MakeWrite object value)
+next_access (ToBump object amount) true mark_left = Wants (MakeUpdate object (added amount))
 next_access (ToEnd end) false false = Finished
 next_access _ _ _ = NothingFits
 

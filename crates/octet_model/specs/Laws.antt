@@ -17,6 +17,7 @@ use Rattle.octet_model.specs.Journals.{log_of}
 use Rattle.octet_model.specs.HappensBefore.{IsOrdered}
 use Rattle.octet_model.specs.Frugal.{IsFrugal}
 use Rattle.octet_model.specs.Orders.{IsLawfulFront, IsLawfulOrder, execution, journals_after, outcome_of, lowest_order, IsLowestFront, FitsScript, starting_heap, opening_state, by_log, IsFaithful}
+use Rattle.octet_model.specs.Totals.{AddsUp}
 use Rattle.octet_model.specs.Plays.{MakesAll, by_journals, operation_of, state_after_play, lowest_play, IsOneHistory}
 
 -- all lawful orders have one execution, where the journals of one are ordered
@@ -128,3 +129,8 @@ LawfulOrderFits = (script : Script) (log : List ThreadLog) (order : List ℕ)
 abbrev pub FaithfulLogIsShort : Type 0
 FaithfulLogIsShort = (script : Script) (log : List ThreadLog) (outcome : Outcome)
     → IsFaithful script log outcome → IsTrue (is_log log) → length (log_bytes log) ≤ 6 + 8 * MAX_THREADS + 14 * (MAX_MARKS_BEFORE_ACCESS * MAX_ACCESSES)
+
+-- in a faithful recording updates add up, by the journals of each lawful order
+abbrev pub FaithfulAddsUp : Type 0
+FaithfulAddsUp = (script : Script) (log : List ThreadLog) (outcome : Outcome) → IsFaithful script log outcome
+    → (order : List ℕ) → IsLawfulOrder script log order → AddsUp script (journals_after script log order) outcome.heap

@@ -10,6 +10,7 @@ pub mod Orders
 pub mod Plays
 pub mod Past
 pub mod Texts
+pub mod Totals
 pub mod Validity
 pub mod Laws
 pub mod PastLaws

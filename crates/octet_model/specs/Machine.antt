@@ -3,7 +3,7 @@ use Rattle.std.specs.Prelude.{◌≡◌, ℕ, suc, ◌<◌, Bool, true, false, �
 use Rattle.octet_model.specs.declared.event.Mark.{Mark}
 use Rattle.octet_model.specs.declared.event.Mark.TheVariants.{Join, Draw, Fence}
 use Rattle.octet_model.specs.declared.event.Event.{Event}
-use Rattle.octet_model.specs.declared.event.Event.TheVariants.{Read, Write, Marked}
+use Rattle.octet_model.specs.declared.event.Event.TheVariants.{Read, Write, Update, Marked}
 
 -- the journal of each thread
 abbrev pub Journals : Type 0
@@ -26,11 +26,12 @@ no_events threads = map (λ thread. []) threads
 abbrev pub starting_state : {A : Type 0} → List ℕ → List A → PlainState
 starting_state heap threads = record { heap = heap; journals = no_events threads; draws = 0 }
 
--- what one step makes: a mark, a read of an object, or a write of a value to an object
+-- what one step makes: a mark, a read of an object, a write of a value to an object, or an update of an object, that changes its value to another
 pub data Operation : Type 0 where
   MakeMark : (mark : Mark) → Operation
   MakeRead : (object : ℕ) → Operation
   MakeWrite : (object value : ℕ) → Operation
+  MakeUpdate : (object : ℕ) (change : ℕ → ℕ) → Operation
 
 -- what is next for a thread: an operation; nothing, since it is through; or nothing that fits
 pub data Next : Type 0 where
@@ -49,16 +50,19 @@ is_enabled s (MakeMark (Draw number)) = number == suc s.draws
 is_enabled s (MakeMark (Fence number)) = nat_le number s.draws
 is_enabled s (MakeRead object) = true
 is_enabled s (MakeWrite object value) = true
+is_enabled s (MakeUpdate object change) = true
 
--- the event that an operation makes. A read takes its value from the heap
+-- the event that an operation makes. A read takes its value from the heap, an update its value before
 abbrev pub event_made : Operation → List ℕ → Event
 event_made (MakeMark mark) heap = Marked mark
 event_made (MakeRead object) heap = Read object (slice_index heap object)
 event_made (MakeWrite object value) heap = Write object value
+event_made (MakeUpdate object change) heap = Update object (slice_index heap object) (change (slice_index heap object))
 
--- a write changes one place of the heap
+-- a write changes one place of the heap, and so does an update, which puts its value after there
 abbrev pub heap_after : Operation → List ℕ → List ℕ
 heap_after (MakeWrite object value) heap = slice_set heap object value
+heap_after (MakeUpdate object change) heap = slice_set heap object (change (slice_index heap object))
 heap_after _ heap = heap
 
 abbrev pub draws_after : Operation → ℕ → ℕ

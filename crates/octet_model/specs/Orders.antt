@@ -2,7 +2,7 @@
 use Rattle.std.specs.Prelude.{◌≡◌, ℕ, zero, suc, ◌+◌, ◌<◌, Bool, true, false, List, [], ◌∷◌, length, get_or, map, Option, Some, None, IsTrue, IsFalse, sum_by}
 use Rattle.octet_model.specs.declared.command.Command.{Command}
 use Rattle.octet_model.specs.declared.event.Event.{Event}
-use Rattle.octet_model.specs.declared.event.Event.TheVariants.{Read, Write, Marked}
+use Rattle.octet_model.specs.declared.event.Event.TheVariants.{Read, Write, Update, Marked}
 use Rattle.octet_model.specs.declared.outcome.End.{End}
 use Rattle.octet_model.specs.declared.outcome.End.TheVariants.{Spent}
 use Rattle.octet_model.specs.declared.outcome.Outcome.{Outcome}
@@ -53,6 +53,7 @@ abbrev pub values_read : List Event → List ℕ
 values_read [] = []
 values_read (Read object value ∷ journal) = value ∷ values_read journal
 values_read (Write object value ∷ journal) = values_read journal
+values_read (Update object before after ∷ journal) = values_read journal
 values_read (Marked mark ∷ journal) = values_read journal
 
 -- how a thread ended that demands its end

@@ -1,15 +1,16 @@
 -- Plays of journals, and one history of a growing run.
 use Rattle.std.specs.Prelude.{◌≡◌, ℕ, List, length, Option, Some, None, slice_get, sum_by}
 use Rattle.octet_model.specs.declared.event.Event.{Event}
-use Rattle.octet_model.specs.declared.event.Event.TheVariants.{Read, Write, Marked}
-use Rattle.octet_model.specs.Machine.{Journals, journal_of, PlainState, starting_state, Operation, MakeMark, MakeRead, MakeWrite, Next, Wants, Finished, Behavior, after, IsFront}
+use Rattle.octet_model.specs.declared.event.Event.TheVariants.{Read, Write, Update, Marked}
+use Rattle.octet_model.specs.Machine.{Journals, journal_of, PlainState, starting_state, Operation, MakeMark, MakeRead, MakeWrite, MakeUpdate, Next, Wants, Finished, Behavior, after, IsFront}
 use Rattle.octet_model.specs.HappensBefore.{IsOrdered}
 use Rattle.octet_model.specs.Orders.{lowest_front}
 
--- the operation that makes an event
+-- the operation that makes an event. That of an update puts the value after, whatever the value before
 abbrev pub operation_of : Event → Operation
 operation_of (Read object value) = MakeRead object
 operation_of (Write object value) = MakeWrite object value
+operation_of (Update object before after) = MakeUpdate object (λ value. after)
 operation_of (Marked mark) = MakeMark mark
 
 abbrev pub next_in : Option Event → Next
@@ -20,11 +21,11 @@ next_in (Some event) = Wants (operation_of event)
 abbrev pub by_journals : Journals → Behavior
 by_journals journals thread made = next_in (slice_get (journal_of journals thread) (length made))
 
--- after a play of journals, whose reads take what the heap holds
+-- after a play of journals, whose reads and updates take what the heap holds
 abbrev pub state_after_play : List ℕ → Journals → List ℕ → PlainState
 state_after_play heap journals play = after (by_journals journals) (starting_state heap journals) play
 
--- the play makes every event of the journals, and gives every read its value
+-- the play makes every event of the journals, and gives every read its value and every update its two values
 pub record MakesAll (heap : List ℕ) (journals : Journals) (play : List ℕ) : Type 0 where
   pub is_play : IsFront (by_journals journals) (starting_state heap journals) play
   pub makes : (state_after_play heap journals play).journals ≡ journals
@@ -33,7 +34,7 @@ pub record MakesAll (heap : List ℕ) (journals : Journals) (play : List ℕ) : 
 abbrev pub lowest_play : List ℕ → Journals → List ℕ
 lowest_play heap journals = lowest_front (by_journals journals) (sum_by (λ journal. length journal) journals) (starting_state heap journals)
 
--- one history: the lowest play makes every event and gives every read its value; it gives this heap, and this number of draws. The journals are ordered
+-- one history: the lowest play makes every event and gives every read its value and every update its two; it gives this heap, and this number of draws. The journals are ordered
 pub record IsOneHistory (starts : List ℕ) (journals : Journals) (heap : List ℕ) (draws : ℕ) : Type 0 where
   pub makes_all : MakesAll starts journals (lowest_play starts journals)
   pub gives : (state_after_play starts journals (lowest_play starts journals)).heap ≡ heap

@@ -3,7 +3,7 @@ use Rattle.std.specs.Prelude.{ℕ, zero, suc, ◌*◌, ◌^◌, ◌&&◌, List, 
 use Rattle.std.specs.List.{list_all, list_any}
 use Rattle.std.specs.Str.{bytes_eq}
 use Rattle.octet_model.specs.declared.command.Command.{Command}
-use Rattle.octet_model.specs.declared.command.Command.TheVariants.{Set, Copy, Add, Sub, Mul, Xor, Less, Same, Read, Write, Loop, Branch, Close, Safe, Pause}
+use Rattle.octet_model.specs.declared.command.Command.TheVariants.{Set, Copy, Add, Sub, Mul, Xor, Less, Same, Read, Write, Bump, Loop, Branch, Close, Safe, Pause}
 use Rattle.octet_model.specs.declared.limits.TheConstants.{MAX_FUEL, MAX_OBJECTS, MAX_THREADS, REGISTERS}
 use Rattle.octet_model.specs.declared.object.Object.{Object}
 
@@ -22,6 +22,7 @@ is_command objects (Less to left right) = is_register to && is_register left && 
 is_command objects (Same to left right) = is_register to && is_register left && is_register right
 is_command objects (Read to object) = is_register to && nat_lt object objects
 is_command objects (Write object from) = is_register from && nat_lt object objects
+is_command objects (Bump object from) = is_register from && nat_lt object objects
 is_command objects (Loop test) = is_register test
 is_command objects (Branch test) = is_register test
 is_command objects Close = true

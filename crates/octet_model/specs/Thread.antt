@@ -1,9 +1,9 @@
 -- How one thread of a script runs by itself.
 use Rattle.std.specs.Prelude.{◌≡◌, ℕ, zero, suc, pred, ◌+◌, ◌-◌, ◌*◌, ◌%◌, ◌^◌, Bool, true, false, if◌then◌else◌, ◌==◌, ◌&&◌, nat_lt, bit_xor, List, [], ◌∷◌, drop, replicate, Option, Some, None, slice_get, slice_index, slice_set}
 use Rattle.octet_model.specs.declared.command.Command.{Command}
-use Rattle.octet_model.specs.declared.command.Command.TheVariants.{Set, Copy, Add, Sub, Mul, Xor, Less, Same, Read, Write, Loop, Branch, Close}
+use Rattle.octet_model.specs.declared.command.Command.TheVariants.{Set, Copy, Add, Sub, Mul, Xor, Less, Same, Read, Write, Bump, Loop, Branch, Close}
 use Rattle.octet_model.specs.declared.event.Event.{Event}
-use Rattle.octet_model.specs.declared.event.Event.TheVariants.{Read, Write, Marked}
+use Rattle.octet_model.specs.declared.event.Event.TheVariants.{Read, Write, Update, Marked}
 use Rattle.octet_model.specs.declared.limits.TheConstants.{REGISTERS}
 use Rattle.octet_model.specs.declared.outcome.End.{End}
 use Rattle.octet_model.specs.declared.outcome.End.TheVariants.{Done, Spent}
@@ -17,10 +17,11 @@ pub record Configuration : Type 0 where
 abbrev pub starting_configuration : ℕ → Configuration
 starting_configuration fuel = record { place = 0; registers = replicate REGISTERS 0; fuel = fuel }
 
--- what a thread demands, with safe points and pauses left out: a read of an object, a write of a value to an object, or its end
+-- what a thread demands, with safe points and pauses left out: a read of an object, a write of a value to an object, an amount to be added to an object, or its end
 pub data AccessOrEnd : Type 0 where
   ToRead : (object : ℕ) → AccessOrEnd
   ToWrite : (object value : ℕ) → AccessOrEnd
+  ToBump : (object amount : ℕ) → AccessOrEnd
   ToEnd : (end : End) → AccessOrEnd
 
 abbrev pub is_opener : Command → Bool
@@ -72,7 +73,7 @@ with_register c to value = record { place = suc c.place; registers = slice_set c
 abbrev pub branched : List Command → Configuration → ℕ → Configuration
 branched commands c test = moved_to c (if slice_index c.registers test == 0 then suc (matching_end commands c.place) else suc c.place)
 
--- after one command that is neither a read nor a write
+-- after one command that is no access
 abbrev pub stepped : List Command → Configuration → Command → Configuration
 stepped commands c (Set to number) = with_register c to number
 stepped commands c (Copy to from) = with_register c to (slice_index c.registers from)
@@ -90,6 +91,7 @@ stepped commands c _ = moved_to c (suc c.place)
 abbrev pub is_access : Command → Bool
 is_access (Read to object) = true
 is_access (Write object from) = true
+is_access (Bump object from) = true
 is_access _ = false
 
 -- after all commands before the first at which it stops, or as many as there is fuel for
@@ -109,9 +111,10 @@ abbrev pub demand_at : Option Command → Configuration → AccessOrEnd
 demand_at None c = ToEnd Done
 demand_at (Some (Read to object)) c = elim c.fuel [ zero ↦ ToEnd Spent | suc fuel ↦ ToRead object ]
 demand_at (Some (Write object from)) c = elim c.fuel [ zero ↦ ToEnd Spent | suc fuel ↦ ToWrite object (slice_index c.registers from) ]
+demand_at (Some (Bump object from)) c = elim c.fuel [ zero ↦ ToEnd Spent | suc fuel ↦ ToBump object (slice_index c.registers from) ]
 demand_at (Some _) c = ToEnd Spent
 
--- what a configuration comes to after all commands that are neither a read nor a write
+-- what a configuration comes to after all commands that are no access
 abbrev pub demanded : List Command → Configuration → AccessOrEnd
 demanded commands c = let d = settled commands c in demand_at (slice_get commands d.place) d
 
@@ -128,13 +131,23 @@ abbrev pub configuration_after : List Command → Configuration → List Event �
 configuration_after commands c [] = c
 configuration_after commands c (Read object value ∷ journal) = configuration_after commands (past_demanded commands c value) journal
 configuration_after commands c (Write object value ∷ journal) = configuration_after commands (past_demanded commands c value) journal
+configuration_after commands c (Update object before after ∷ journal) = configuration_after commands (past_demanded commands c after) journal
 configuration_after commands c (Marked mark ∷ journal) = configuration_after commands c journal
+
+-- the sum of a value and an amount, in 64 bits
+abbrev pub added : ℕ → ℕ → ℕ
+added amount value = (value + amount) % 2 ^ 64
+
+-- an update of the object is demanded whose value after is its value before and the amount
+abbrev pub FitsUpdate : AccessOrEnd → ℕ → ℕ → ℕ → Type 0
+FitsUpdate demand object before after = (amount : ℕ) × (demand ≡ ToBump object amount) × (after ≡ added amount before)
 
 -- the journal's accesses, in order, are what the configuration demands
 abbrev pub FitsFrom : List Command → Configuration → List Event → Type 0
 FitsFrom commands c [] = Unit {0}
 FitsFrom commands c (Read object value ∷ journal) = (demanded commands c ≡ ToRead object) × FitsFrom commands (past_demanded commands c value) journal
 FitsFrom commands c (Write object value ∷ journal) = (demanded commands c ≡ ToWrite object value) × FitsFrom commands (past_demanded commands c value) journal
+FitsFrom commands c (Update object before after ∷ journal) = FitsUpdate (demanded commands c) object before after × FitsFrom commands (past_demanded commands c after) journal
 FitsFrom commands c (Marked mark ∷ journal) = FitsFrom commands c journal
 
 -- and after them the thread is at its end

@@ -2,7 +2,7 @@
 use Rattle.std.specs.Prelude.{◌≢◌, ◌≡◌, ℕ, ◌*◌, ◌^◌, ◌<◌, ◌≤◌, Bool, true, false, List, [], length, take, get_or, map}
 use Rattle.std.specs.List.{All, sum_by, count_by}
 use Rattle.octet_model.specs.declared.command.Command.{Command}
-use Rattle.octet_model.specs.declared.command.Command.TheVariants.{Set, Copy, Add, Sub, Mul, Xor, Less, Same, Read, Write, Loop, Branch, Close}
+use Rattle.octet_model.specs.declared.command.Command.TheVariants.{Set, Copy, Add, Sub, Mul, Xor, Less, Same, Read, Write, Bump, Loop, Branch, Close}
 use Rattle.octet_model.specs.declared.event.Mark.{Mark}
 use Rattle.octet_model.specs.declared.event.Mark.TheVariants.{Join, Draw, Fence}
 use Rattle.octet_model.specs.declared.limits.TheConstants.{MAX_ACCESSES, MAX_FUEL, MAX_OBJECTS, MAX_THREADS, REGISTERS}
@@ -31,6 +31,7 @@ HasRegisters (Less to left right) = IsRegister to × IsRegister left × IsRegist
 HasRegisters (Same to left right) = IsRegister to × IsRegister left × IsRegister right
 HasRegisters (Read to object) = IsRegister to
 HasRegisters (Write object from) = IsRegister from
+HasRegisters (Bump object from) = IsRegister from
 HasRegisters (Loop test) = IsRegister test
 HasRegisters (Branch test) = IsRegister test
 HasRegisters _ = Unit {0}
@@ -39,6 +40,7 @@ HasRegisters _ = Unit {0}
 abbrev pub HasObject : ℕ → Command → Type 0
 HasObject objects (Read to object) = object < objects
 HasObject objects (Write object from) = object < objects
+HasObject objects (Bump object from) = object < objects
 HasObject objects _ = Unit {0}
 
 -- the number that the command gives a register has 64 bits

@@ -21,6 +21,8 @@ pub enum Command {
     Read { to: u8, object: u16 },
     /// The object gets the register's value.
     Write { object: u16, from: u8 },
+    /// The register's value is added to the object's, as one access; the thread learns no value.
+    Bump { object: u16, from: u8 },
     /// Where the register is 0, goes on after its `Close`; its `Close` leads back here.
     Loop { test: u8 },
     /// Where the register is 0, goes on after its `Close`.

@@ -14,9 +14,23 @@ pub enum Mark {
 /// An event of a thread's journal. Objects are named by their place in the script.
 #[derive(Clone, Copy, Debug, PartialEq, Eq)]
 pub enum Event {
-    Read { object: u16, value: u64 },
-    Write { object: u16, value: u64 },
-    Marked { mark: Mark },
+    Read {
+        object: u16,
+        value: u64,
+    },
+    Write {
+        object: u16,
+        value: u64,
+    },
+    /// One access that reads and writes.
+    Update {
+        object: u16,
+        before: u64,
+        after: u64,
+    },
+    Marked {
+        mark: Mark,
+    },
 }
 
 /// Where an event stands: its thread, and its place in the thread's journal, counted from 0

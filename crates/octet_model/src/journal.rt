@@ -19,7 +19,7 @@ pub fn log_of_journal(alloc: Global, journal: &[Event]) -> Result<ThreadLog, Out
     let mut marks = List::new(alloc);
     for event in journal {
         match *event {
-            Event::Read { .. } | Event::Write { .. } => {
+            Event::Read { .. } | Event::Write { .. } | Event::Update { .. } => {
                 accesses += 1;
                 gap += 1;
             }

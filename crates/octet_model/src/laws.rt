@@ -1,5 +1,5 @@
 //! The laws over the definitions, each the contract of a function that does nothing.
-ghost use Rattle.octet_model.specs.Laws.{OneExecution, OneSetOfJournals, FrontsContinue, LowestPlayMakesAll, LowestPlayGivesHeap, LowestPlayIsLowestOrder, LowestFrontIsFront, OneLowestFront, LowestOrderIsLowest, LowestPlayIsLowest, LowestOrderIsLawful, HistoryBegins, HistoryGrows, PlayIsFaithful, HistoryIsFaithful, LawfulOrderHasItsLog, LawfulOrderFits, FaithfulLogIsShort, ScriptTestIsExact, LogTestIsExact};
+ghost use Rattle.octet_model.specs.Laws.{OneExecution, OneSetOfJournals, FrontsContinue, LowestPlayMakesAll, LowestPlayGivesHeap, LowestPlayIsLowestOrder, LowestFrontIsFront, OneLowestFront, LowestOrderIsLowest, LowestPlayIsLowest, LowestOrderIsLawful, HistoryBegins, HistoryGrows, PlayIsFaithful, HistoryIsFaithful, LawfulOrderHasItsLog, LawfulOrderFits, FaithfulLogIsShort, FaithfulAddsUp, ScriptTestIsExact, LogTestIsExact};
 ghost use Rattle.octet_model.specs.PastLaws.{PathsStay, PastsStay, PastsGainNothing, PastHasOwn, PastHappensBefore, PastIsClosed, PastGrows, PastHasJoined, PastHasDraws, DrawsDifferInHistory};
 
 /// Where the journals of one lawful order are ordered, all lawful orders have one execution and
@@ -12,8 +12,9 @@ pub fn one_outcome()
 {}
 
 /// Where journals are ordered and some play makes every event of them and gives every read its
-/// value, the lowest play does so too and ends with the same heap. Where they fit a script to
-/// its threads' ends, it is the lowest order of the script and the journals' log.
+/// value and every update its two values, the lowest play does so too and ends with the same
+/// heap. Where they fit a script to its threads' ends, it is the lowest order of the script and
+/// the journals' log.
 pub fn lowest_play_makes_all()
     ensures makes_all { LowestPlayMakesAll }
     ensures heap { LowestPlayGivesHeap }
@@ -55,17 +56,19 @@ pub fn laws_of_the_past()
 {}
 
 /// A step keeps one history. One history is what every state of a run keeps of its journals: the
-/// lowest play makes every event of them, gives every read its value and ends with the heap and
-/// the number of draws, and the journals are ordered. It holds of no event, and of one event
-/// more where heap and marks allow that event and the journals stay ordered.
+/// lowest play makes every event of them, gives every read its value and every update its two
+/// values and ends with the heap and the number of draws, and the journals are ordered. It holds
+/// of no event, and of one event more where heap and marks allow that event and the journals
+/// stay ordered.
 pub fn history_grows()
     ensures begins { HistoryBegins }
     ensures grows { HistoryGrows }
 {}
 
 /// Where journals are ordered and frugal and fit a script to its threads' ends, and some play
-/// makes every event of them and gives every read its value, their log and that play's outcome
-/// are a faithful recording. So are they where the journals have one history.
+/// makes every event of them and gives every read its value and every update its two values,
+/// their log and that play's outcome are a faithful recording. So are they where the journals
+/// have one history.
 pub fn recording_is_faithful()
     ensures play { PlayIsFaithful }
     ensures history { HistoryIsFaithful }
@@ -82,6 +85,13 @@ pub fn order_follows_its_log()
 /// access and none after the last: fewer than a log's file may have.
 pub fn faithful_log_is_short()
     ensures { FaithfulLogIsShort }
+{}
+
+/// In a faithful recording an object whose accesses are all reads and updates ends with its
+/// starting value and what its updates add, modulo 2^64, and each update adds the amount that
+/// its thread demands.
+pub fn faithful_adds_up()
+    ensures { FaithfulAddsUp }
 {}
 
 /// Scripts and logs are valid by their types, which rest on tests that compute. Each test is true

@@ -152,6 +152,9 @@ command_refused names n first verb.Read arguments cause count is =
 command_refused names n first verb.Write arguments cause count is =
     with_two (λ l. first_fault names (kinds (CommandWord verb.Write)) l ≡ Some cause → command_of names n (first ∷ l) verb.Write ≡ Err (Refused n cause))
     (λ a b e. step n (object_named names a) NoSuchObject cause _ _ e (λ object later. last_step n (register_of b) BadRegister cause (λ from. Ok (command.Write object from)) later)) arguments count is
+command_refused names n first verb.Bump arguments cause count is =
+    with_two (λ l. first_fault names (kinds (CommandWord verb.Bump)) l ≡ Some cause → command_of names n (first ∷ l) verb.Bump ≡ Err (Refused n cause))
+    (λ a b e. step n (object_named names a) NoSuchObject cause _ _ e (λ object later. last_step n (register_of b) BadRegister cause (λ from. Ok (command.Bump object from)) later)) arguments count is
 command_refused names n first verb.While arguments cause count is =
     with_one (λ l. first_fault names (kinds (CommandWord verb.While)) l ≡ Some cause → command_of names n (first ∷ l) verb.While ≡ Err (Refused n cause))
     (λ a e. last_step n (register_of a) BadRegister cause (λ test. Ok (command.Loop test)) e) arguments count is

@@ -230,6 +230,9 @@ good_command names (command.Read to object) are is =
 good_command names (command.Write object from) are is =
     let both = both_true (nat_lt from 16) (nat_lt object (length names)) is in
     (refl, (good_word names (codes "write") refl refl, (good_object names object are both.1, (good_register names from both.0, tt))))
+good_command names (command.Bump object from) are is =
+    let both = both_true (nat_lt from 16) (nat_lt object (length names)) is in
+    (refl, (good_word names (codes "bump") refl refl, (good_object names object are both.1, (good_register names from both.0, tt))))
 good_command names (command.Loop test) are is = (refl, (good_word names (codes "while") refl refl, (good_register names test is, tt)))
 good_command names (command.Branch test) are is = (refl, (good_word names (codes "if") refl refl, (good_register names test is, tt)))
 good_command names command.Close are is = (refl, (good_word names (codes "end") refl refl, tt))

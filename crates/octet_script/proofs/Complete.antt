@@ -70,6 +70,10 @@ command_judged p line (command.Write object from) first (a ∷ b ∷ []) started
 command_judged p line (command.Write object from) first ([]) started w = absurd w.1
 command_judged p line (command.Write object from) first (a ∷ []) started w = absurd w.1.1
 command_judged p line (command.Write object from) first (a ∷ b ∷ e ∷ more) started w = absurd w.1.1.1
+command_judged p line (command.Bump object from) first (a ∷ b ∷ []) started w = rw (w.0, started, w.1.0, w.1.1.0) refl
+command_judged p line (command.Bump object from) first ([]) started w = absurd w.1
+command_judged p line (command.Bump object from) first (a ∷ []) started w = absurd w.1.1
+command_judged p line (command.Bump object from) first (a ∷ b ∷ e ∷ more) started w = absurd w.1.1.1
 command_judged p line (command.Loop test) first (a ∷ []) started w = rw (w.0, started, w.1.0) refl
 command_judged p line (command.Loop test) first ([]) started w = absurd w.1
 command_judged p line (command.Loop test) first (a ∷ b ∷ more) started w = absurd w.1.1
@@ -114,6 +118,7 @@ command_taken p line (command.Less a b e) rest nested = plain_taken p line (comm
 command_taken p line (command.Same a b e) rest nested = plain_taken p line (command.Same a b e) rest refl nested
 command_taken p line (command.Read a b) rest nested = plain_taken p line (command.Read a b) rest refl nested
 command_taken p line (command.Write a b) rest nested = plain_taken p line (command.Write a b) rest refl nested
+command_taken p line (command.Bump a b) rest nested = plain_taken p line (command.Bump a b) rest refl nested
 command_taken p line command.Safe rest nested = plain_taken p line command.Safe rest refl nested
 command_taken p line command.Pause rest nested = plain_taken p line command.Pause rest refl nested
 

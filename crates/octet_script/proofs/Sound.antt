@@ -45,6 +45,7 @@ keyword_word (CommandWord verb.Set) = codes "set"
 keyword_word (CommandWord verb.Copy) = codes "copy"
 keyword_word (CommandWord verb.Read) = codes "read"
 keyword_word (CommandWord verb.Write) = codes "write"
+keyword_word (CommandWord verb.Bump) = codes "bump"
 keyword_word (CommandWord verb.While) = codes "while"
 keyword_word (CommandWord verb.If) = codes "if"
 keyword_word (CommandWord verb.End) = codes "end"
@@ -68,7 +69,7 @@ named_word [] word found are e = cc
 named_word ((own, k) ∷ more) word found are e = named_step own word k found (named_in more word) (bytes_eq word own) refl are.0 (named_word more word found are.1) e
 
 pub word_of_keyword : (word : List ℕ) (k : Keyword) → keyword word ≡ Some k → word ≡ keyword_word k
-word_of_keyword word k e = named_word keywords word k ((refl, (refl, (refl, (refl, (refl, (refl, (refl, (refl, (refl, (refl, (refl, (refl, (refl, (refl, (refl, (refl, (refl, (refl, tt))))))))))))))))))) e
+word_of_keyword word k e = named_word keywords word k ((refl, (refl, (refl, (refl, (refl, (refl, (refl, (refl, (refl, (refl, (refl, (refl, (refl, (refl, (refl, (refl, (refl, (refl, (refl, tt)))))))))))))))))))) e
 
 operation_form : (op : Arithmetic) (to left right : ℕ) → command_form (arithmetic_command op to left right) ≡ Word (arithmetic_word op) ∷ Register to ∷ Register left ∷ Register right ∷ []
 operation_form operation.Add to left right = refl
@@ -137,6 +138,15 @@ command_written names line first (a ∷ b ∷ []) verb.Write c word count is =
 command_written names line first ([]) verb.Write c word count is = absurd (omega arith)
 command_written names line first (a ∷ []) verb.Write c word count is = absurd (omega arith)
 command_written names line first (a ∷ b ∷ e ∷ more) verb.Write c word count is = absurd (omega arith)
+command_written names line first (a ∷ b ∷ []) verb.Bump c word count is =
+    let words = first ∷ a ∷ b ∷ [] in
+    let object = bind_ok (object_at names line words 1) (λ object. register_at line words 2 >>= λ from. Ok (command.Bump object from)) c is in
+    let from = bind_ok (register_at line words 2) (λ from. Ok (command.Bump object.0 from)) c object.2 in
+    let same : command.Bump object.0 from.0 ≡ c = cc in
+    subst (λ d. AllZip (IsPart names) (command_form d) words) same (word, (object_part names line words 1 object.0 object.1, (register_part line words 2 from.0 from.1, tt)))
+command_written names line first ([]) verb.Bump c word count is = absurd (omega arith)
+command_written names line first (a ∷ []) verb.Bump c word count is = absurd (omega arith)
+command_written names line first (a ∷ b ∷ e ∷ more) verb.Bump c word count is = absurd (omega arith)
 command_written names line first (a ∷ []) verb.While c word count is =
     let words = first ∷ a ∷ [] in
     let test = bind_ok (register_at line words 1) (λ test. Ok (command.Loop test)) c is in
@@ -316,6 +326,7 @@ command_adds p q line (command.Less a b e) is = plain_adds p q line (command.Les
 command_adds p q line (command.Same a b e) is = plain_adds p q line (command.Same a b e) refl is
 command_adds p q line (command.Read a b) is = plain_adds p q line (command.Read a b) refl is
 command_adds p q line (command.Write a b) is = plain_adds p q line (command.Write a b) refl is
+command_adds p q line (command.Bump a b) is = plain_adds p q line (command.Bump a b) refl is
 command_adds p q line command.Safe is = plain_adds p q line command.Safe refl is
 command_adds p q line command.Pause is = plain_adds p q line command.Pause refl is
 

@@ -163,6 +163,7 @@ plain_nested zero (command.Less a b e) is rest = refl
 plain_nested zero (command.Same a b e) is rest = refl
 plain_nested zero (command.Read a b) is rest = refl
 plain_nested zero (command.Write a b) is rest = refl
+plain_nested zero (command.Bump a b) is rest = refl
 plain_nested zero command.Safe is rest = refl
 plain_nested zero command.Pause is rest = refl
 plain_nested zero (command.Loop a) is rest = absurd (false≢true is)
@@ -178,6 +179,7 @@ plain_nested (suc depth) (command.Less a b e) is rest = refl
 plain_nested (suc depth) (command.Same a b e) is rest = refl
 plain_nested (suc depth) (command.Read a b) is rest = refl
 plain_nested (suc depth) (command.Write a b) is rest = refl
+plain_nested (suc depth) (command.Bump a b) is rest = refl
 plain_nested (suc depth) command.Safe is rest = refl
 plain_nested (suc depth) command.Pause is rest = refl
 plain_nested (suc depth) (command.Loop a) is rest = absurd (false≢true is)
@@ -203,6 +205,7 @@ with_plain p line (command.Less a b e) is = refl
 with_plain p line (command.Same a b e) is = refl
 with_plain p line (command.Read a b) is = refl
 with_plain p line (command.Write a b) is = refl
+with_plain p line (command.Bump a b) is = refl
 with_plain p line command.Safe is = refl
 with_plain p line command.Pause is = refl
 with_plain p line (command.Loop a) is = absurd (false≢true is)
@@ -257,6 +260,7 @@ command_valid p q line (command.Less a b e) is started good valid = plain_valid 
 command_valid p q line (command.Same a b e) is started good valid = plain_valid p q line (command.Same a b e) refl is started good valid
 command_valid p q line (command.Read a b) is started good valid = plain_valid p q line (command.Read a b) refl is started good valid
 command_valid p q line (command.Write a b) is started good valid = plain_valid p q line (command.Write a b) refl is started good valid
+command_valid p q line (command.Bump a b) is started good valid = plain_valid p q line (command.Bump a b) refl is started good valid
 command_valid p q line command.Safe is started good valid = plain_valid p q line command.Safe refl is started good valid
 command_valid p q line command.Pause is started good valid = plain_valid p q line command.Pause refl is started good valid
 
@@ -303,6 +307,11 @@ command_good names line words verb.Write c is =
     let object = bind_ok (object_at names line words 1) (λ object. register_at line words 2 >>= λ from. Ok (command.Write object from)) c is in
     let from = bind_ok (register_at line words 2) (λ from. Ok (command.Write object.0 from)) c object.2 in
     let same : command.Write object.0 from.0 ≡ c = cc in
+    ap (is_command (length names)) (sym same) ∙ rw (register_read line words 2 from.0 from.1, object_read names line words 1 object.0 object.1) refl
+command_good names line words verb.Bump c is =
+    let object = bind_ok (object_at names line words 1) (λ object. register_at line words 2 >>= λ from. Ok (command.Bump object from)) c is in
+    let from = bind_ok (register_at line words 2) (λ from. Ok (command.Bump object.0 from)) c object.2 in
+    let same : command.Bump object.0 from.0 ≡ c = cc in
     ap (is_command (length names)) (sym same) ∙ rw (register_read line words 2 from.0 from.1, object_read names line words 1 object.0 object.1) refl
 command_good names line words verb.While c is =
     let test = bind_ok (register_at line words 1) (λ test. Ok (command.Loop test)) c is in

@@ -103,6 +103,10 @@ command_changes p line words verb.Write c is =
     each_ok (object_at (names_of p) line words 1) _ (λ d. (q : Draft) → with_command p line d ≡ Ok q → Changes (CommandWord verb.Write) p line q) (λ object.
     each_ok (register_at line words 2) _ (λ d. (q : Draft) → with_command p line d ≡ Ok q → Changes (CommandWord verb.Write) p line q) (λ from.
     made (λ d. (q : Draft) → with_command p line d ≡ Ok q → Changes (CommandWord verb.Write) p line q) (command.Write object from) (added_plain p line (command.Write object from) refl))) c is
+command_changes p line words verb.Bump c is =
+    each_ok (object_at (names_of p) line words 1) _ (λ d. (q : Draft) → with_command p line d ≡ Ok q → Changes (CommandWord verb.Bump) p line q) (λ object.
+    each_ok (register_at line words 2) _ (λ d. (q : Draft) → with_command p line d ≡ Ok q → Changes (CommandWord verb.Bump) p line q) (λ from.
+    made (λ d. (q : Draft) → with_command p line d ≡ Ok q → Changes (CommandWord verb.Bump) p line q) (command.Bump object from) (added_plain p line (command.Bump object from) refl))) c is
 command_changes p line words verb.While c is =
     each_ok (register_at line words 1) _ (λ d. (q : Draft) → with_command p line d ≡ Ok q → Changes (CommandWord verb.While) p line q) (λ test.
     made (λ d. (q : Draft) → with_command p line d ≡ Ok q → Changes (CommandWord verb.While) p line q) (command.Loop test)
@@ -163,6 +167,7 @@ known (CommandWord (verb.Arithmetic operation.Less)) = refl
 known (CommandWord (verb.Arithmetic operation.Same)) = refl
 known (CommandWord verb.Read) = refl
 known (CommandWord verb.Write) = refl
+known (CommandWord verb.Bump) = refl
 known (CommandWord verb.While) = refl
 known (CommandWord verb.If) = refl
 known (CommandWord verb.End) = refl
@@ -190,6 +195,7 @@ plain_by (CommandWord verb.Copy) p q number no_while no_if no_end is = is.0
 plain_by (CommandWord (verb.Arithmetic op)) p q number no_while no_if no_end is = is.0
 plain_by (CommandWord verb.Read) p q number no_while no_if no_end is = is.0
 plain_by (CommandWord verb.Write) p q number no_while no_if no_end is = is.0
+plain_by (CommandWord verb.Bump) p q number no_while no_if no_end is = is.0
 plain_by (CommandWord verb.While) p q number no_while no_if no_end is = absurd (no_while refl)
 plain_by (CommandWord verb.If) p q number no_while no_if no_end is = absurd (no_if refl)
 plain_by (CommandWord verb.End) p q number no_while no_if no_end is = absurd (no_end refl)

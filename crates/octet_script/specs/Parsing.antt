@@ -13,7 +13,7 @@ use Rattle.octet_script.specs.declared.cause.ScriptFault.TheVariants.{Refused, O
 use Rattle.octet_script.specs.declared.keyword.Keyword.{Keyword}
 use Rattle.octet_script.specs.declared.keyword.Keyword.TheVariants.{Fuel, Object, Thread, Command as CommandWord}
 use Rattle.octet_script.specs.declared.keyword.Verb.{Verb}
-use Rattle.octet_script.specs.declared.keyword.Verb.TheVariants.{Set, Copy, Arithmetic, Read, Write, While, If, End, Safe, Pause}
+use Rattle.octet_script.specs.declared.keyword.Verb.TheVariants.{Set, Copy, Arithmetic, Read, Write, Bump, While, If, End, Safe, Pause}
 use Rattle.octet_script.specs.declared.keyword.Arithmetic.{Arithmetic as ArithmeticType}
 use Rattle.octet_script.specs.declared.keyword.Arithmetic.TheVariants.{Add, Sub, Mul, Xor, Less, Same}
 use Rattle.octet_script.specs.Words.{lines, is_line_end, words_of_line}
@@ -70,6 +70,7 @@ keywords =
     ∷ (codes "same", CommandWord (Arithmetic Same))
     ∷ (codes "read", CommandWord Read)
     ∷ (codes "write", CommandWord Write)
+    ∷ (codes "bump", CommandWord Bump)
     ∷ (codes "while", CommandWord While)
     ∷ (codes "if", CommandWord If)
     ∷ (codes "end", CommandWord End)
@@ -93,6 +94,7 @@ word_count (CommandWord Copy) = 3
 word_count (CommandWord (Arithmetic operation)) = 4
 word_count (CommandWord Read) = 3
 word_count (CommandWord Write) = 3
+word_count (CommandWord Bump) = 3
 word_count (CommandWord While) = 2
 word_count (CommandWord If) = 2
 word_count (CommandWord End) = 1
@@ -160,6 +162,10 @@ command_of names line words Write = do
   object ← object_at names line words 1
   from ← register_at line words 2
   Ok (command.Write object from)
+command_of names line words Bump = do
+  object ← object_at names line words 1
+  from ← register_at line words 2
+  Ok (command.Bump object from)
 command_of names line words While = do
   test ← register_at line words 1
   Ok (command.Loop test)

@@ -5,7 +5,7 @@ use Rattle.std.specs.Fmt.{decimal}
 use Rattle.std.specs.Str.{IsUtf8, bytes_eq, all_ascii_digits}
 use Rattle.std.specs.Str.Parse.{digits_value}
 use Rattle.octet_model.specs.declared.command.Command.{Command}
-use Rattle.octet_model.specs.declared.command.Command.TheVariants.{Set, Copy, Add, Sub, Mul, Xor, Less, Same, Read, Write, Loop, Branch, Close, Safe, Pause}
+use Rattle.octet_model.specs.declared.command.Command.TheVariants.{Set, Copy, Add, Sub, Mul, Xor, Less, Same, Read, Write, Bump, Loop, Branch, Close, Safe, Pause}
 use Rattle.octet_model.specs.declared.object.Object.{Object}
 use Rattle.octet_model.specs.declared.script.Script.{Script}
 use Rattle.octet_model.specs.declared.limits.TheConstants.{DEFAULT_FUEL}
@@ -62,6 +62,7 @@ command_form (Less to left right) = Word (codes "less") ∷ Register to ∷ Regi
 command_form (Same to left right) = Word (codes "same") ∷ Register to ∷ Register left ∷ Register right ∷ []
 command_form (Read to object) = Word (codes "read") ∷ Register to ∷ Known object ∷ []
 command_form (Write object from) = Word (codes "write") ∷ Known object ∷ Register from ∷ []
+command_form (Bump object from) = Word (codes "bump") ∷ Known object ∷ Register from ∷ []
 command_form (Loop test) = Word (codes "while") ∷ Register test ∷ []
 command_form (Branch test) = Word (codes "if") ∷ Register test ∷ []
 command_form Close = Word (codes "end") ∷ []

@@ -23,6 +23,7 @@ pub(crate) enum Verb {
     Arithmetic(Arithmetic),
     Read,
     Write,
+    Bump,
     While,
     If,
     End,
@@ -58,6 +59,7 @@ impl Keyword {
             b"same" => Some(Keyword::Command(Verb::Arithmetic(Arithmetic::Same))),
             b"read" => Some(Keyword::Command(Verb::Read)),
             b"write" => Some(Keyword::Command(Verb::Write)),
+            b"bump" => Some(Keyword::Command(Verb::Bump)),
             b"while" => Some(Keyword::Command(Verb::While)),
             b"if" => Some(Keyword::Command(Verb::If)),
             b"end" => Some(Keyword::Command(Verb::End)),
@@ -85,7 +87,7 @@ impl Verb {
         ensures { result ≡ word_count (Keyword.Command self) }
     {
         match self {
-            Verb::Set | Verb::Copy | Verb::Read | Verb::Write => 3,
+            Verb::Set | Verb::Copy | Verb::Read | Verb::Write | Verb::Bump => 3,
             Verb::Arithmetic(_) => 4,
             Verb::While | Verb::If => 2,
             Verb::End | Verb::Safe | Verb::Pause => 1,

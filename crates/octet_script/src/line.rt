@@ -191,6 +191,10 @@ impl<'l, 'a> Line<'l, 'a> {
                 object: self.object_at(objects, 1)?,
                 from: self.register_at(2)?,
             }),
+            Verb::Bump => Ok(Command::Bump {
+                object: self.object_at(objects, 1)?,
+                from: self.register_at(2)?,
+            }),
             Verb::While => Ok(Command::Loop {
                 test: self.register_at(1)?,
             }),

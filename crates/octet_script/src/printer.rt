@@ -61,6 +61,11 @@ fn push_words(out: &mut Vec<u8>, objects: &[Object], command: Command) -> Result
             push_name(out, objects, object)?;
             push_registers(out, b"", &[from])
         }
+        Command::Bump { object, from } => {
+            out.extend_from_slice(b"bump")?;
+            push_name(out, objects, object)?;
+            push_registers(out, b"", &[from])
+        }
         Command::Loop { test } => push_registers(out, b"while", &[test]),
         Command::Branch { test } => push_registers(out, b"if", &[test]),
         Command::Close => push_registers(out, b"end", &[]),

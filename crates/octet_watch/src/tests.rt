@@ -1,4 +1,4 @@
-//! Three threads, of which two read one object.
+//! Three threads, of which two read one object, and one adds to it.
 ghost use Rattle.std.specs.Prelude.{◌<◌};
 
 use crate::{Class, Classes};
@@ -26,6 +26,11 @@ fn journals_of(alloc: Global) -> Result<List<List<Event>>, OutOfMemory> {
         marked(Mark::Join { from: 1, upto: 1 }),
         marked(Mark::Draw { number: 1 }),
         READ,
+        Event::Update {
+            object: 0,
+            before: 9,
+            after: 11,
+        },
     ];
     let mut journals = List::new(alloc);
     journals.push(List::new(alloc))?;
@@ -39,7 +44,7 @@ fn kind_of(event: &Event) -> u32
 {
     match event {
         Event::Read { .. } => 0,
-        Event::Write { .. } => 1,
+        Event::Write { .. } | Event::Update { .. } => 1,
         Event::Marked { mark } => match mark {
             Mark::Join { .. } => 2,
             Mark::Draw { .. } => 3,
@@ -53,7 +58,7 @@ fn access_of(wanted: u16, event: &Event) -> u32
 {
     match event {
         Event::Read { object, .. } if *object == wanted => 0,
-        Event::Write { object, .. } if *object == wanted => 1,
+        Event::Write { object, .. } | Event::Update { object, .. } if *object == wanted => 1,
         _ => 2,
     }
 }
@@ -64,7 +69,7 @@ fn events_are_counted_by_kind(rt: HostRuntime) -> Result<(), Fail> {
     let journals = journals_of(alloc)?;
     let kinds = Classes::new(5, Box::new(alloc, |event: &Event| kind_of(event))?);
     let counts = kinds.tally(alloc, &journals)?;
-    assert_eq!(rt; counts.as_slice(), [3, 0, 2, 1, 1].as_slice());
+    assert_eq!(rt; counts.as_slice(), [3, 1, 2, 1, 1].as_slice());
     Ok(())
 }
 
@@ -72,7 +77,7 @@ fn events_are_counted_by_kind(rt: HostRuntime) -> Result<(), Fail> {
 fn accesses_of_an_object_are_counted(rt: HostRuntime) -> Result<(), Fail> {
     let alloc = rt.alloc();
     let journals = journals_of(alloc)?;
-    for (object, counts) in [(0, [3, 0, 4]), (1, [0, 0, 7])] {
+    for (object, counts) in [(0, [3, 1, 4]), (1, [0, 0, 8])] {
         let class: Class = Box::new(alloc, move |event: &Event| access_of(object, event))?;
         let counted = Classes::new(3, class).tally(alloc, &journals)?;
         assert_eq!(rt; counted.as_slice(), counts.as_slice());

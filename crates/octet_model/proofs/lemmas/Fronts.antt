@@ -1,13 +1,13 @@
 -- Every lawful front of a machine whose journals are ordered leads to one end.
-use Rattle.std.proofs.Common.{◌≡◌, ℕ, zero, suc, ◌<◌, ◌≤◌, ◌⊎◌, inl, inr, ◌||◌, List, [], ◌∷◌, ◌++◌, length, Some, IsTrue, slice_set, refl, sym, ap, ◌∙◌, subst, arith}
-use Rattle.std.proofs.lemmas.List.{get_or-set_other, set_comm}
+use Rattle.std.proofs.Common.{◌≡◌, ℕ, zero, suc, ◌<◌, ◌≤◌, ◌⊎◌, inl, inr, ◌||◌, List, [], ◌∷◌, ◌++◌, length, Some, IsTrue, slice_index, slice_set, refl, sym, ap, ◌∙◌, subst, arith}
+use Rattle.std.proofs.lemmas.List.{get_or-set_other, set_comm, set-get_or}
 use Rattle.std.proofs.lemmas.Bool.{cases_eq, cases_lt, leb-true, le-leb, eqb-true, eq-eqb}
 use Rattle.std.proofs.lemmas.Option.{slice_get_within}
 use Rattle.octet_model.specs.declared.event.Mark.TheVariants.{Join, Draw, Fence}
 use Rattle.octet_model.specs.declared.event.Event.{Event}
-use Rattle.octet_model.specs.declared.event.Event.TheVariants.{Read, Marked}
+use Rattle.octet_model.specs.declared.event.Event.TheVariants.{Read, Update, Marked}
 use Rattle.octet_model.specs.declared.event.Place.{Place}
-use Rattle.octet_model.specs.Machine.{Journals, journal_of, PlainState, Operation, MakeMark, MakeRead, MakeWrite, Wants, Behavior, is_enabled, event_made, heap_after, draws_after, appended, performed, next_of, may_step, step, after, IsFront, AllFinished, IsOrder, no_events, starting_state}
+use Rattle.octet_model.specs.Machine.{Journals, journal_of, PlainState, Operation, MakeMark, MakeRead, MakeWrite, MakeUpdate, Wants, Behavior, is_enabled, event_made, heap_after, draws_after, appended, performed, next_of, may_step, step, after, IsFront, AllFinished, IsOrder, no_events, starting_state}
 use Rattle.octet_model.specs.HappensBefore.{event_at, Edge, ProgramOrder, Joined, Drawn, Fenced, IsPath, object_of, is_write, Conflict, IsOrdered}
 use Rattle.octet_model.proofs.lemmas.Steps.{at, count, other_journal, grows, at_same, draws_grow, drawn_next, joined_upto, fenced_upto, Makes, makes_from, what_it_makes, as_many_step, stays_step, other_step, grows_step, made_there, counts_step, where_made}
 
@@ -108,34 +108,62 @@ record Clash (v w : Operation) : Type 0 where
   of_second : (heap : List ℕ) → object_of (event_made w heap) ≡ Some object
   one_writes : (heap heap' : List ℕ) → IsTrue (is_write (event_made v heap) || is_write (event_made w heap'))
 
+-- what an access makes follows from the value of its object, and it changes no other
+record IsAccessOf (object : ℕ) (v : Operation) : Type 0 where
+  stored : ℕ → ℕ
+  stores : (heap : List ℕ) → heap_after v heap ≡ slice_set heap object (stored (slice_index heap object))
+  follows : (heap other : List ℕ) → slice_index heap object ≡ slice_index other object → event_made v heap ≡ event_made v other
+  of_object : (heap : List ℕ) → object_of (event_made v heap) ≡ Some object
+
+reads : (o : ℕ) → IsAccessOf o (MakeRead o)
+reads o = record { stored = λ value. value; stores = λ h. sym (set-get_or h o 0); follows = λ h g same. ap (Read o) same; of_object = λ h. refl }
+
+writes : (o x : ℕ) → IsAccessOf o (MakeWrite o x)
+writes o x = record { stored = λ value. x; stores = λ h. refl; follows = λ h g same. refl; of_object = λ h. refl }
+
+updates : (o : ℕ) (f : ℕ → ℕ) → IsAccessOf o (MakeUpdate o f)
+updates o f = record { stored = f; stores = λ h. refl; follows = λ h g same. ap (λ (value : ℕ). Update o value (f value)) same; of_object = λ h. refl }
+
+module _ (o p : ℕ) (v w : Operation) (a : IsAccessOf o v) (b : IsAccessOf p w) where
+  -- the second leaves the first's object as it was
+  left_alone : (o ≡ p → ⊥) → (heap : List ℕ) → slice_index (heap_after w heap) o ≡ slice_index heap o
+  left_alone differ heap = ap (λ (h : List ℕ). slice_index h o) (b.stores heap) ∙ get_or-set_other heap p o (b.stored (slice_index heap p)) 0 differ
+
+  after_both : (o ≡ p → ⊥) → (heap : List ℕ) → heap_after v (heap_after w heap) ≡ slice_set (slice_set heap p (b.stored (slice_index heap p))) o (a.stored (slice_index heap o))
+  after_both differ heap = a.stores (heap_after w heap) ∙ λ i. slice_set (b.stores heap i) o (a.stored (left_alone differ heap i))
+
+apart_accesses : (o p : ℕ) (v w : Operation) → IsAccessOf o v → IsAccessOf p w → (o ≡ p → ⊥) → Apart v w
+apart_accesses o p v w a b differ = record {
+  heaps = λ h. after_both o p v w a b differ h ∙ set_comm h p o _ _ (λ e. differ (sym e)) ∙ sym (after_both p o w v b a (λ e. differ (sym e)) h);
+  first = λ h. a.follows (heap_after w h) h (left_alone o p v w a b differ h);
+  second = λ h. b.follows (heap_after v h) h (left_alone p o w v b a (λ e. differ (sym e)) h);
+}
+
+-- two accesses of which one writes
+by_objects : {o p : ℕ} {v w : Operation} → IsAccessOf o v → IsAccessOf p w → ((h h' : List ℕ) → IsTrue (is_write (event_made v h) || is_write (event_made w h'))) → Apart v w ⊎ Clash v w
+by_objects {o} {p} {v} {w} a b one_writes =
+    elim (cases_eq o p) [
+      | inl same ↦ inr (record { object = o; of_first = a.of_object; of_second = λ h. b.of_object h ∙ ap Some (sym same); one_writes = one_writes })
+      | inr differ ↦ inl (apart_accesses o p v w a b differ)
+    ]
+
 apart_or_clash : (v w : Operation) → Apart v w ⊎ Clash v w
-apart_or_clash (MakeRead o) (MakeWrite p x) =
-    elim (cases_eq o p) [
-      | inl same ↦ inr (record { object = p; of_first = λ h. ap Some same; of_second = λ h. refl; one_writes = λ h h'. refl })
-      | inr differ ↦ inl (record { heaps = λ h. refl; first = λ h. ap (λ y. Read o y) (get_or-set_other h p o x 0 differ); second = λ h. refl })
-    ]
-apart_or_clash (MakeWrite p x) (MakeRead o) =
-    elim (cases_eq o p) [
-      | inl same ↦ inr (record { object = p; of_first = λ h. refl; of_second = λ h. ap Some same; one_writes = λ h h'. refl })
-      | inr differ ↦ inl (record { heaps = λ h. refl; first = λ h. refl; second = λ h. ap (λ y. Read o y) (get_or-set_other h p o x 0 differ) })
-    ]
-apart_or_clash (MakeWrite o x) (MakeWrite p y) =
-    elim (cases_eq p o) [
-      | inl same ↦ inr (record { object = o; of_first = λ h. refl; of_second = λ h. ap Some same; one_writes = λ h h'. refl })
-      | inr differ ↦ inl (record { heaps = λ h. set_comm h p o y x differ; first = λ h. refl; second = λ h. refl })
-    ]
-apart_or_clash (MakeWrite o x) (MakeMark m) = inl (record { heaps = λ h. refl; first = λ h. refl; second = λ h. refl })
-apart_or_clash (MakeRead o) _ = inl (record { heaps = λ h. refl; first = λ h. refl; second = λ h. refl })
-apart_or_clash (MakeMark m) (MakeWrite p x) = inl (record { heaps = λ h. refl; first = λ h. refl; second = λ h. refl })
-apart_or_clash (MakeMark m) _ = inl (record { heaps = λ h. refl; first = λ h. refl; second = λ h. refl })
+apart_or_clash (MakeMark m) w = inl (record { heaps = λ h. refl; first = λ h. refl; second = λ h. refl })
+apart_or_clash v (MakeMark m) = inl (record { heaps = λ h. refl; first = λ h. refl; second = λ h. refl })
+apart_or_clash (MakeRead o) (MakeRead p) = inl (record { heaps = λ h. refl; first = λ h. refl; second = λ h. refl })
+apart_or_clash (MakeRead o) (MakeWrite p y) = by_objects (reads o) (writes p y) (λ h h'. refl)
+apart_or_clash (MakeRead o) (MakeUpdate p g) = by_objects (reads o) (updates p g) (λ h h'. refl)
+apart_or_clash (MakeWrite o x) (MakeRead p) = by_objects (writes o x) (reads p) (λ h h'. refl)
+apart_or_clash (MakeWrite o x) (MakeWrite p y) = by_objects (writes o x) (writes p y) (λ h h'. refl)
+apart_or_clash (MakeWrite o x) (MakeUpdate p g) = by_objects (writes o x) (updates p g) (λ h h'. refl)
+apart_or_clash (MakeUpdate o f) (MakeRead p) = by_objects (updates o f) (reads p) (λ h h'. refl)
+apart_or_clash (MakeUpdate o f) (MakeWrite p y) = by_objects (updates o f) (writes p y) (λ h h'. refl)
+apart_or_clash (MakeUpdate o f) (MakeUpdate p g) = by_objects (updates o f) (updates p g) (λ h h'. refl)
 
 -- an operation draws, or it does not
 draw_or_none : (w : Operation) → ((c : ℕ) × (w ≡ MakeMark (Draw c))) ⊎ ((n : ℕ) → draws_after w n ≡ n)
-draw_or_none (MakeMark (Join from upto)) = inr (λ n. refl)
 draw_or_none (MakeMark (Draw number)) = inl (number, refl)
-draw_or_none (MakeMark (Fence number)) = inr (λ n. refl)
-draw_or_none (MakeRead o) = inr (λ n. refl)
-draw_or_none (MakeWrite o x) = inr (λ n. refl)
+draw_or_none other = inr (λ n. refl)
 
 draws_swap : (v w : Operation) (n : ℕ) → draws_after v (draws_after w n) ≡ draws_after w (draws_after v n)
 draws_swap v w n =
@@ -176,8 +204,7 @@ enabled_still s u (MakeMark (Draw number)) w enabled once =
 enabled_still s u (MakeMark (Fence number)) w enabled once =
     let le : number ≤ s.draws = leb-true number s.draws enabled in
     le-leb number (draws_after w s.draws) (omega (arith, draws_grow w s.draws))
-enabled_still s u (MakeRead o) w enabled once = refl
-enabled_still s u (MakeWrite o x) w enabled once = refl
+enabled_still s u access w enabled once = refl
 
 -- an order from a state on, with one thread's step taken first
 pub record Pulled (behavior : Behavior) (s : PlainState) (t : ℕ) (order : List ℕ) : Type 0 where

@@ -1,5 +1,6 @@
 -- A run that makes one more event, and a run that is at its end.
-use Rattle.std.proofs.Common.{◌≡◌, ℕ, ◌<◌, ◌⊎◌, inl, inr, Bool, true, false, ◌||◌, List, [], ◌∷◌, ◌++◌, length, Option, Some, None, IsTrue, slice_get, refl, sym, ap, ◌∙◌, subst, arith, append-nil}
+use Rattle.std.proofs.Common.{◌≡◌, ℕ, ◌<◌, ◌⊎◌, inl, inr, List, [], ◌∷◌, ◌++◌, length, Option, Some, None, IsTrue, slice_get, refl, sym, ap, ◌∙◌, subst, arith, append-nil}
+use Rattle.std.proofs.Math.Bool.{or_comm}
 use Rattle.std.proofs.lemmas.List.{length-map}
 use Rattle.std.proofs.lemmas.Bool.{cases_lt}
 use Rattle.std.proofs.lemmas.Option.{slice_get_past, slice_get_within, slice_get-get_or}
@@ -16,7 +17,7 @@ use Rattle.octet_model.specs.Plays.{operation_of, next_in, by_journals, state_af
 use Rattle.octet_model.proofs.lemmas.Steps.{at, count, stays_appended, as_many, new_event, where_new, makes_from, what_it_makes}
 use Rattle.octet_model.proofs.lemmas.Fronts.{front_on, after_on, one_end, no_journal}
 use Rattle.octet_model.proofs.lemmas.Plays.{lowest_makes_all, total_none}
-use Rattle.octet_model.proofs.lemmas.LogsOfJournals.{may_same, step_same, next_same, same_start}
+use Rattle.octet_model.proofs.lemmas.LogsOfJournals.{IsNextFor, may_same, step_same, next_same, same_start}
 
 -- what is next in journals is next in longer ones
 next_longer : (js : Journals) (t u k : ℕ) (e : Event) (o : Operation) → next_in (at js u k) ≡ Wants o → next_in (at (appended js t e) u k) ≡ Wants o
@@ -25,6 +26,20 @@ next_longer js t u k e o wanted = go (at js u k) refl wanted
     go : (x : Option Event) → at js u k ≡ x → next_in x ≡ Wants o → next_in (at (appended js t e) u k) ≡ Wants o
     go None is wanted = absurd cc
     go (Some x) is wanted = ap next_in (stays_appended js t u k e x is) ∙ wanted
+
+-- a conflict is one from either side
+pub swapped : (journals : Journals) (a b : Place) → Conflict journals a b → Conflict journals b a
+swapped journals a b c = record {
+  first = c.second;
+  second = c.first;
+  object = c.object;
+  is_first = c.is_second;
+  is_second = c.is_first;
+  by_others = λ h. c.by_others (sym h);
+  of_one = c.of_same;
+  of_same = c.of_one;
+  one_writes = or_comm (is_write c.second) (is_write c.first) ∙ c.one_writes;
+}
 
 module _ (js : Journals) (t : ℕ) (e : Event) where
   -- a play of journals is a play of longer ones
@@ -55,25 +70,6 @@ module _ (js : Journals) (t : ℕ) (e : Event) where
   -- a path stays when journals grow
   pub path_longer : (a b : Place) → HappensBefore js a b → HappensBefore (appended js t e) a b
   path_longer a b p = record { between = p.between; is_path = places_longer p.between a b p.is_path }
-
-  swapped : (js' : Journals) (a b : Place) → Conflict js' a b → Conflict js' b a
-  swapped js' a b c = record {
-    first = c.second;
-    second = c.first;
-    object = c.object;
-    is_first = c.is_second;
-    is_second = c.is_first;
-    by_others = λ h. c.by_others (sym h);
-    of_one = c.of_same;
-    of_same = c.of_one;
-    one_writes = either (is_write c.first) (is_write c.second) c.one_writes;
-  }
-    where
-      either : (x y : Bool) → (x || y) ≡ true → (y || x) ≡ true
-      either true true h = refl
-      either true false h = refl
-      either false true h = refl
-      either false false h = h
 
   abbrev pub new : Place
   new = record { thread = t; event = count js t }
@@ -146,7 +142,7 @@ module _ (script : Script) (journals : Journals) (fit : FitsScript script journa
   play_by_log [] s is front = (tt, refl)
   play_by_log (t ∷ order) s is front =
       let V = by_log script (log_of journals) in
-      let same = step_same script journals fit (t ∷ order) s t is (what_it_makes (by_journals journals) s t front.0).1.within in
+      let same = step_same script journals fit order s t is front.0 in
       let r = play_by_log order (step (by_journals journals) s t) is front.1 in (
         (may_same script journals fit (t ∷ order) s is t ∙ front.0, subst (λ (x : PlainState). IsFront V x order) (sym same) r.0),
         ap (λ (x : PlainState). after V x order) same ∙ r.1,
@@ -165,8 +161,9 @@ faithful_from_play script journals play ordered frugal all threads fit =
     let through : AllFinished V s1 = λ t lt.
     let here = ap (λ (js : Journals). journal_of js t) (sym all.makes) ∙ sym (append-nil (journal_of s1.journals t)) in
     let lt' : t < length journals = omega (arith, ap (λ (js : Journals). length js) all.makes) in
-    next_same script journals fit s1 t [] lt' here
-    ∙ ap next_in (ap (λ (j : List Event). slice_get (journal_of journals t) (length j)) (ap (λ (js : Journals). journal_of js t) all.makes) ∙ slice_get_past (journal_of journals t) (length (journal_of journals t)) (omega arith)) in
+    subst (λ (x : Option Event). IsNextFor x (by_log script (log_of journals) t (journal_of s1.journals t)))
+    (ap (λ (j : List Event). slice_get (journal_of journals t) (length j)) (ap (λ (js : Journals). journal_of js t) all.makes) ∙ slice_get_past (journal_of journals t) (length (journal_of journals t)) (omega arith))
+    (next_same script journals fit s1 t [] lt' here) in
     let Q : PlainState → Type 0 = λ z. IsOrder V z play × (after V z play ≡ s1) in
     let q = subst Q (ap (λ (n : Journals). record (starting_state starts journals) { journals = n }) (same_start journals script.threads (sym threads)))
     ((r.0, subst (λ (x : PlainState). AllFinished V x) (sym r.1) through), r.1) in

@@ -1,60 +1,41 @@
 -- The journals of a lawful order have the log that the order follows, and fit its script.
-use Rattle.std.proofs.Common.{◌≡◌, ℕ, suc, ◌<◌, ◌≤◌, inl, inr, Bool, true, false, nat_lt, ◌==◌, cond, List, [], ◌∷◌, ◌++◌, length, Option, Some, None, IsTrue, slice_get, refl, sym, ap, ◌∙◌, subst, arith, append-nil, append_assoc, length-append}
+use Rattle.std.proofs.Common.{◌≡◌, ℕ, suc, ◌<◌, ◌≤◌, inl, inr, Bool, true, false, nat_lt, ◌==◌, cond, List, [], ◌∷◌, ◌++◌, length, Option, Some, None, IsTrue, slice_get, slice_index, refl, sym, ap, ◌∙◌, subst, arith, append-nil, append_assoc, length-append}
 use Rattle.std.proofs.lemmas.Bool.{cases_lt, ltb-true, lt-ltb, eqb-true}
 use Rattle.std.proofs.lemmas.List.{length-map}
 use Rattle.octet_model.specs.declared.command.Command.{Command}
 use Rattle.octet_model.specs.declared.event.Event.{Event}
-use Rattle.octet_model.specs.declared.event.Event.TheVariants.{Write, Marked}
+use Rattle.octet_model.specs.declared.event.Event.TheVariants.{Marked}
 use Rattle.octet_model.specs.declared.event.Mark.{Mark}
 use Rattle.octet_model.specs.declared.log.Gapped.{Gapped}
 use Rattle.octet_model.specs.declared.log.ThreadLog.{ThreadLog}
 use Rattle.octet_model.specs.declared.outcome.End.{End}
 use Rattle.octet_model.specs.declared.script.Script.{Script}
-use Rattle.octet_model.specs.Thread.{Configuration, AccessOrEnd, ToRead, ToWrite, ToEnd, demanded, configuration_after, starting_configuration, FitsFrom, FitsToEnd}
+use Rattle.octet_model.specs.Thread.{Configuration, AccessOrEnd, ToRead, ToWrite, ToBump, ToEnd, demanded, configuration_after, starting_configuration, FitsFrom, FitsToEnd}
 use Rattle.octet_model.specs.Journals.{access_count, mark_count, gap_after, gapped_marks, log_of_journal, log_of, due_mark, next_access, mark_first, next_by_log}
-use Rattle.octet_model.specs.Machine.{Journals, journal_of, PlainState, Operation, MakeMark, MakeRead, MakeWrite, Wants, Finished, event_made, may_step, step, after, IsFront}
+use Rattle.octet_model.specs.Machine.{Journals, journal_of, PlainState, Operation, MakeMark, MakeUpdate, Wants, Finished, event_made, may_step, step, after, IsFront}
 use Rattle.octet_model.specs.Orders.{commands_of, thread_log_of, by_log, opening_state, journals_after, IsLawfulOrder, FitsScript}
 use Rattle.octet_model.specs.Laws.{LawfulOrderHasItsLog, LawfulOrderFits}
 use Rattle.octet_model.proofs.lemmas.Fronts.{no_journal}
 use Rattle.octet_model.proofs.lemmas.Splits.{accesses_split, gapped_marks_split, length-gapped_marks, fits_join}
 use Rattle.octet_model.proofs.lemmas.Lists.{slice_get_split}
 use Rattle.octet_model.proofs.lemmas.LogsOfJournals.{as_many_after}
-use Rattle.octet_model.proofs.lemmas.LowestFronts.{by_mark, by_access, each_journal}
+use Rattle.octet_model.proofs.lemmas.LowestFronts.{IsNext, next_by, each_journal}
 
--- what a next operation by a log tells of the demand
-by_read : (o : Option Mark) (d : AccessOrEnd) (a m : Bool) (object : ℕ) → mark_first o (next_access d a m) ≡ Wants (MakeRead object) → d ≡ ToRead object
-by_read (Some k) d a m object is = absurd cc
-by_read None (ToRead other) true m object is = cc
-by_read None (ToRead other) false m object is = absurd cc
-by_read None (ToWrite other value) true m object is = absurd cc
-by_read None (ToWrite other value) false m object is = absurd cc
-by_read None (ToEnd end) true m object is = absurd cc
-by_read None (ToEnd end) false true object is = absurd cc
-by_read None (ToEnd end) false false object is = absurd cc
+-- a thread that is finished demands its end, and no access and no mark of its log is left
+pub record IsFinished (d : AccessOrEnd) (a m : Bool) : Type 0 where
+  pub end : End
+  pub demands : d ≡ ToEnd end
+  pub no_access : a ≡ false
+  pub no_mark : m ≡ false
 
-by_write : (o : Option Mark) (d : AccessOrEnd) (a m : Bool) (object value : ℕ) → mark_first o (next_access d a m) ≡ Wants (MakeWrite object value) → d ≡ ToWrite object value
-by_write (Some k) d a m object value is = absurd cc
-by_write None (ToRead other) true m object value is = absurd cc
-by_write None (ToRead other) false m object value is = absurd cc
-by_write None (ToWrite other number) true m object value is = cc
-by_write None (ToWrite other number) false m object value is = absurd cc
-by_write None (ToEnd end) true m object value is = absurd cc
-by_write None (ToEnd end) false true object value is = absurd cc
-by_write None (ToEnd end) false false object value is = absurd cc
-
--- a thread that is through is at its end, and no access and no mark of its log is left
-record IsThrough (d : AccessOrEnd) (a m : Bool) : Type 0 where
-  end : End
-  demands : d ≡ ToEnd end
-  no_access : a ≡ false
-  no_mark : m ≡ false
-
-by_finish : (o : Option Mark) (d : AccessOrEnd) (a m : Bool) → mark_first o (next_access d a m) ≡ Finished → IsThrough d a m
+pub by_finish : (o : Option Mark) (d : AccessOrEnd) (a m : Bool) → mark_first o (next_access d a m) ≡ Finished → IsFinished d a m
 by_finish (Some k) d a m is = absurd cc
 by_finish None (ToRead object) true m is = absurd cc
 by_finish None (ToRead object) false m is = absurd cc
 by_finish None (ToWrite object value) true m is = absurd cc
 by_finish None (ToWrite object value) false m is = absurd cc
+by_finish None (ToBump object amount) true m is = absurd cc
+by_finish None (ToBump object amount) false m is = absurd cc
 by_finish None (ToEnd end) true m is = absurd cc
 by_finish None (ToEnd end) false true is = absurd cc
 by_finish None (ToEnd end) false false is = record { end = end; demands = refl; no_access = refl; no_mark = refl }
@@ -121,25 +102,27 @@ module _ (commands : List Command) (c : Configuration) (log : ThreadLog) (journa
       }
 
   begun_more : (o : Operation) → next_by_log commands c log journal ≡ Wants o → IsBegun commands c log journal → IsBegun commands c log (journal ++ event_made o heap ∷ [])
-  begun_more (MakeMark mark) is begun = more_mark mark (by_mark due demand access_left mark_left mark is) begun
-  begun_more (MakeRead object) is begun =
-      more_access (event_made (MakeRead object) heap) refl refl (by_read due demand access_left mark_left object is, tt) (by_access due demand access_left mark_left (rw is tt)) begun
-  begun_more (MakeWrite object value) is begun =
-      more_access (Write object value) refl refl (by_write due demand access_left mark_left object value is, tt) (by_access due demand access_left mark_left (rw is tt)) begun
+  begun_more o is begun = go o (next_by commands c log journal o is)
+    where
+      go : (o : Operation) → IsNext due demand access_left o → IsBegun commands c log (journal ++ event_made o heap ∷ [])
+      go (MakeMark mark) next = more_mark mark next begun
+      go (MakeUpdate object change) next =
+          more_access (event_made (MakeUpdate object change) heap) refl refl ((next.0.0, next.0.1, ap (λ (f : ℕ → ℕ). f (slice_index heap object)) next.0.2), tt) next.1 begun
+      go access next = more_access (event_made access heap) refl refl (next.0, tt) next.1 begun
 
   -- at the end the log is the journal's
   whole : next_by_log commands c log journal ≡ Finished → IsBegun commands c log journal → log_of_journal journal ≡ log
   whole is begun =
-      let through = by_finish due demand access_left mark_left is in
+      let finished = by_finish due demand access_left mark_left is in
       let accesses : access_count journal ≡ log.accesses =
       elim (cases_lt (access_count journal) log.accesses) [
-        | inl lt ↦ absurd (let left = lt-ltb (access_count journal) log.accesses lt in let none = through.no_access in cc)
+        | inl lt ↦ absurd (let left = lt-ltb (access_count journal) log.accesses lt in let none = finished.no_access in cc)
         | inr past ↦ omega (arith, begun.accesses)
       ] in
       let made = gapped_marks 0 journal in
       let none_left : begun.rest ≡ [] =
       elim (cases_lt (mark_count journal) (length log.marks)) [
-        | inl lt ↦ absurd (let left = lt-ltb (mark_count journal) (length log.marks) lt in let none = through.no_mark in cc)
+        | inl lt ↦ absurd (let left = lt-ltb (mark_count journal) (length log.marks) lt in let none = finished.no_mark in cc)
         | inr past ↦ empty begun.rest (omega (arith, ap (λ (marks : List Gapped). length marks) begun.marks, length-append made begun.rest, length-gapped_marks 0 journal))
       ] in
       let marks : made ≡ log.marks = sym (begun.marks ∙ ap (λ (rest : List Gapped). made ++ rest) none_left ∙ append-nil made) in
@@ -150,7 +133,7 @@ module _ (commands : List Command) (c : Configuration) (log : ThreadLog) (journa
       empty (g ∷ rest) none = absurd (omega arith)
 
   fits_to_end : next_by_log commands c log journal ≡ Finished → IsBegun commands c log journal → FitsToEnd commands c journal
-  fits_to_end is begun = let through = by_finish due demand access_left mark_left is in (begun.fits, (through.end, through.demands))
+  fits_to_end is begun = let finished = by_finish due demand access_left mark_left is in (begun.fits, (finished.end, finished.demands))
 
 logs_alike : (journals : Journals) (log : List ThreadLog) → length journals ≡ length log → ((t : ℕ) → t < length journals → log_of_journal (journal_of journals t) ≡ thread_log_of log t) → log_of journals ≡ log
 logs_alike [] [] many alike = refl

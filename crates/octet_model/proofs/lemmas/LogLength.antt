@@ -4,7 +4,7 @@ use Rattle.std.specs.List.{flat_map, sum_by}
 use Rattle.std.specs.Int.{to_be_bytes, w32}
 use Rattle.std.proofs.lemmas.List.Sums.{sum_by-cons}
 use Rattle.octet_model.specs.declared.event.Event.{Event}
-use Rattle.octet_model.specs.declared.event.Event.TheVariants.{Read, Write, Marked}
+use Rattle.octet_model.specs.declared.event.Event.TheVariants.{Marked}
 use Rattle.octet_model.specs.declared.event.Mark.{Mark}
 use Rattle.octet_model.specs.declared.event.Mark.TheVariants.{Join, Draw, Fence}
 use Rattle.octet_model.specs.declared.log.Gapped.{Gapped}
@@ -28,14 +28,11 @@ AreFew marks journal = (place object : ℕ) (event : Event) → slice_get journa
 
 marks_are_few : (marks : List Mark) (journal : List Event) → AreFew marks journal → marks_since marks journal ≡ [] → length marks + mark_count journal ≤ MAX_MARKS_BEFORE_ACCESS * access_count journal
 marks_are_few marks [] few none = omega (arith, ap (λ (l : List Mark). length l) none)
-marks_are_few marks (Read object value ∷ journal) few none =
-    let here : length marks ≤ MAX_MARKS_BEFORE_ACCESS = few 0 object (Read object value) refl refl in
-    omega (arith, here, marks_are_few [] journal (λ place o event at is. few (suc place) o event at is) none)
-marks_are_few marks (Write object value ∷ journal) few none =
-    let here : length marks ≤ MAX_MARKS_BEFORE_ACCESS = few 0 object (Write object value) refl refl in
-    omega (arith, here, marks_are_few [] journal (λ place o event at is. few (suc place) o event at is) none)
 marks_are_few marks (Marked mark ∷ journal) few none =
     omega (arith, length-append marks (mark ∷ []), marks_are_few (marks ++ mark ∷ []) journal (λ place o event at is. few (suc place) o event at is) none)
+marks_are_few marks (access ∷ journal) few none =
+    let here : length marks ≤ MAX_MARKS_BEFORE_ACCESS = few 0 _ access refl refl in
+    omega (arith, here, marks_are_few [] journal (λ place o event at is. few (suc place) o event at is) none)
 
 -- of frugal journals, for each thread
 few_marks : (journals : Journals) (thread : ℕ) → IsFrugal journals → mark_count (journal_of journals thread) ≤ MAX_MARKS_BEFORE_ACCESS * access_count (journal_of journals thread)

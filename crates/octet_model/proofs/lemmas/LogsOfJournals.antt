@@ -1,44 +1,62 @@
 -- A log of journals asks for the events of the journals, where these fit.
-use Rattle.std.proofs.Common.{◌≡◌, ℕ, zero, suc, ◌+◌, ◌<◌, inl, inr, Bool, true, false, ◌&&◌, ltb, cond, List, [], ◌∷◌, ◌++◌, length, Option, Some, None, IsTrue, slice_get, refl, sym, ap, ◌∙◌, subst, arith, append-nil, append_assoc}
+use Rattle.std.proofs.Common.{◌≡◌, ℕ, zero, suc, ◌+◌, ◌<◌, inl, inr, Bool, true, false, ◌&&◌, ltb, cond, List, [], ◌∷◌, ◌++◌, length, Option, Some, None, IsTrue, slice_get, slice_index, slice_set, refl, sym, ap, ◌∙◌, subst, subst₂, arith, append-nil, append_assoc}
 use Rattle.std.proofs.lemmas.Bool.{cases_eq, cases_lt, eq-eqb, ne_eqb, lt-ltb, le-ltb}
 use Rattle.std.proofs.lemmas.List.{set_past, get_or-map}
 use Rattle.std.proofs.lemmas.List.Sums.{sum_by-cons}
 use Rattle.octet_model.specs.declared.command.Command.{Command}
 use Rattle.octet_model.specs.declared.event.Event.{Event}
-use Rattle.octet_model.specs.declared.event.Event.TheVariants.{Read, Write, Marked}
+use Rattle.octet_model.specs.declared.event.Event.TheVariants.{Read, Write, Update, Marked}
 use Rattle.octet_model.specs.declared.event.Mark.{Mark}
 use Rattle.octet_model.specs.declared.log.Gapped.{Gapped}
 use Rattle.octet_model.specs.declared.log.ThreadLog.{ThreadLog}
 use Rattle.octet_model.specs.declared.script.Script.{Script}
-use Rattle.octet_model.specs.Thread.{Configuration, AccessOrEnd, ToRead, ToWrite, ToEnd, demanded, configuration_after, starting_configuration, FitsToEnd}
+use Rattle.octet_model.specs.Thread.{Configuration, AccessOrEnd, ToRead, ToWrite, ToBump, ToEnd, added, demanded, configuration_after, starting_configuration, FitsToEnd}
 use Rattle.octet_model.specs.Journals.{access_count, mark_count, gap_after, gapped_marks, log_of_journal, log_of, due_mark, next_access, mark_first, next_by_log}
-use Rattle.octet_model.specs.Machine.{Journals, journal_of, PlainState, no_events, starting_state, Next, Behavior, event_made, appended, next_of, may_proceed, proceeded, may_step, step, after, IsFront, AllFinished}
+use Rattle.octet_model.specs.Machine.{Journals, journal_of, PlainState, no_events, starting_state, Operation, MakeUpdate, Next, Wants, Finished, Behavior, event_made, appended, performed, next_of, may_proceed, proceeded, may_step, step, after, IsFront, AllFinished}
 use Rattle.octet_model.specs.HappensBefore.{IsOrdered}
 use Rattle.octet_model.specs.Orders.{commands_of, by_log, starting_heap, opening_state, event_total, lowest_order, lowest, go_on, lowest_front, FitsScript}
-use Rattle.octet_model.specs.Plays.{next_in, by_journals, MakesAll, lowest_play}
+use Rattle.octet_model.specs.Plays.{operation_of, next_in, by_journals, MakesAll, lowest_play}
 use Rattle.octet_model.proofs.lemmas.Lists.{slice_get_split}
 use Rattle.octet_model.proofs.lemmas.Splits.{accesses_split, marks_split, length_parts, length-gapped_marks, configuration_split, fits_split}
-use Rattle.octet_model.proofs.lemmas.Steps.{same_journal, other_journal, what_it_makes, by_step, as_many_step}
-use Rattle.octet_model.proofs.lemmas.Fronts.{IsDownClosed, down_closed_at_start, remains}
+use Rattle.octet_model.proofs.lemmas.Steps.{at, count, same_journal, other_journal, what_it_makes, by_step, as_many_step, made_there}
+use Rattle.octet_model.proofs.lemmas.Fronts.{stays, IsDownClosed, down_closed_at_start, remains}
 use Rattle.octet_model.proofs.lemmas.LowestThread.{first_same, lowest_may}
 use Rattle.octet_model.proofs.lemmas.Plays.{total, total_cons, all_finished}
 
 -- the next mark of a log is the first of what is left of the journal
 next_gapped : (before : ℕ) (pre post : List Event) → slice_get (gapped_marks before (pre ++ post)) (mark_count pre) ≡ slice_get (gapped_marks (gap_after before pre) post) 0
 next_gapped before [] post = refl
-next_gapped before (Read object value ∷ pre) post = next_gapped (suc before) pre post
-next_gapped before (Write object value ∷ pre) post = next_gapped (suc before) pre post
 next_gapped before (Marked mark ∷ pre) post = next_gapped 0 pre post
+next_gapped before (access ∷ pre) post = next_gapped (suc before) pre post
 
 -- a mark after an access is not due before it
 not_due_mark : (gap more : ℕ) (post : List Event) → gap < more → due_mark (slice_get (gapped_marks more post) 0) gap ≡ None
 not_due_mark gap more [] lt = refl
-not_due_mark gap more (Read object value ∷ post) lt = not_due_mark gap (suc more) post (omega arith)
-not_due_mark gap more (Write object value ∷ post) lt = not_due_mark gap (suc more) post (omega arith)
 not_due_mark gap more (Marked mark ∷ post) lt = ap (λ (b : Bool). cond b (Some mark) None) (ne_eqb more gap (λ e. omega arith))
+not_due_mark gap more (access ∷ post) lt = not_due_mark gap (suc more) post (omega arith)
 
 is_due : (gap : ℕ) (mark : Mark) → due_mark (Some (record { gap = gap; mark = mark })) gap ≡ Some mark
 is_due gap mark = ap (λ (b : Bool). cond b (Some mark) None) (eq-eqb gap gap refl)
+
+-- what is next by a log where this event is next by the journals. An update takes what it adds from the demand, and not from the journal
+abbrev pub IsNextFor : Option Event → Next → Type 0
+IsNextFor None next = next ≡ Finished
+IsNextFor (Some (Update object before after)) next = (amount : ℕ) × (next ≡ Wants (MakeUpdate object (added amount))) × (after ≡ added amount before)
+IsNextFor (Some event) next = next ≡ Wants (operation_of event)
+
+-- whether it may be made does not depend on that
+proceeds_alike : (s : PlainState) (event : Option Event) (next : Next) → IsNextFor event next → may_proceed s next ≡ may_proceed s (next_in event)
+proceeds_alike s None next is = ap (may_proceed s) is
+proceeds_alike s (Some (Update object before after)) next is = ap (may_proceed s) is.1
+proceeds_alike s (Some other) next is = ap (may_proceed s) is
+
+-- and where the heap gives the event its values, it is made alike
+made_alike : (s : PlainState) (t : ℕ) (event : Event) (next : Next) → IsNextFor (Some event) next → event_made (operation_of event) s.heap ≡ event → proceeded s t next ≡ performed s t (operation_of event)
+made_alike s t (Update object before after) next is held =
+    let holds : slice_index s.heap object ≡ before = cc in
+    ap (proceeded s t) is.1
+    ∙ ap (λ (y : ℕ). record { heap = slice_set s.heap object y; journals = appended s.journals t (Update object (slice_index s.heap object) y); draws = s.draws }) (ap (added is.0) holds ∙ sym is.2)
+made_alike s t other next is held = ap (proceeded s t) is
 
 module _ (commands : List Command) where
   -- what is next by the log, from the four things that decide it
@@ -54,8 +72,19 @@ module _ (commands : List Command) where
       ∙ ap (λ (b : Bool). mark_first mark (next_access d b (ltb (mark_count journal) (length log.marks)))) r
       ∙ ap (λ (b : Bool). mark_first mark (next_access d a b)) s
 
+  -- no mark is due before an access
+  access_next : (c : Configuration) (pre post : List Event) (e : Event) (d : AccessOrEnd) → due_mark (slice_get (gapped_marks (gap_after 0 pre) (e ∷ post)) 0) (gap_after 0 pre) ≡ None
+      → access_count (e ∷ post) ≡ suc (access_count post) → demanded commands (configuration_after commands c pre) ≡ d
+      → next_by_log commands c (log_of_journal (pre ++ e ∷ post)) pre ≡ next_access d true (ltb (mark_count pre) (length (gapped_marks 0 (pre ++ e ∷ post))))
+  access_next c pre post e d none one demands =
+      next_parts c (log_of_journal (pre ++ e ∷ post)) pre None d true _
+      (ap (λ (o : Option Gapped). due_mark o (gap_after 0 pre)) (next_gapped 0 pre (e ∷ post)) ∙ none)
+      demands
+      (lt-ltb (access_count pre) (access_count (pre ++ e ∷ post)) (omega (arith, accesses_split pre (e ∷ post), one)))
+      refl
+
   same_next : (c : Configuration) (pre post : List Event) → FitsToEnd commands c (pre ++ post)
-      → next_by_log commands c (log_of_journal (pre ++ post)) pre ≡ next_in (slice_get post 0)
+      → IsNextFor (slice_get post 0) (next_by_log commands c (log_of_journal (pre ++ post)) pre)
   same_next c pre [] fits =
       next_parts c (log_of_journal (pre ++ [])) pre None (ToEnd fits.1.0) false false
       (ap (λ (o : Option Gapped). due_mark o (gap_after 0 pre)) (next_gapped 0 pre []))
@@ -63,17 +92,12 @@ module _ (commands : List Command) where
       (le-ltb (access_count pre) (access_count (pre ++ [])) (omega (arith, accesses_split pre [])))
       (le-ltb (mark_count pre) (length (gapped_marks 0 (pre ++ []))) (omega (arith, marks_split pre [], length-gapped_marks 0 (pre ++ []))))
   same_next c pre (Read object value ∷ post) fits =
-      next_parts c (log_of_journal (pre ++ Read object value ∷ post)) pre None (ToRead object) true (ltb (mark_count pre) (length (gapped_marks 0 (pre ++ Read object value ∷ post))))
-      (ap (λ (o : Option Gapped). due_mark o (gap_after 0 pre)) (next_gapped 0 pre (Read object value ∷ post)) ∙ not_due_mark (gap_after 0 pre) (suc (gap_after 0 pre)) post (omega arith))
-      (fits_split commands c pre (Read object value ∷ post) fits.0).0
-      (lt-ltb (access_count pre) (access_count (pre ++ Read object value ∷ post)) (omega (arith, accesses_split pre (Read object value ∷ post))))
-      refl
+      access_next c pre post (Read object value) (ToRead object) (not_due_mark (gap_after 0 pre) (suc (gap_after 0 pre)) post (omega arith)) refl (fits_split commands c pre (Read object value ∷ post) fits.0).0
   same_next c pre (Write object value ∷ post) fits =
-      next_parts c (log_of_journal (pre ++ Write object value ∷ post)) pre None (ToWrite object value) true (ltb (mark_count pre) (length (gapped_marks 0 (pre ++ Write object value ∷ post))))
-      (ap (λ (o : Option Gapped). due_mark o (gap_after 0 pre)) (next_gapped 0 pre (Write object value ∷ post)) ∙ not_due_mark (gap_after 0 pre) (suc (gap_after 0 pre)) post (omega arith))
-      (fits_split commands c pre (Write object value ∷ post) fits.0).0
-      (lt-ltb (access_count pre) (access_count (pre ++ Write object value ∷ post)) (omega (arith, accesses_split pre (Write object value ∷ post))))
-      refl
+      access_next c pre post (Write object value) (ToWrite object value) (not_due_mark (gap_after 0 pre) (suc (gap_after 0 pre)) post (omega arith)) refl (fits_split commands c pre (Write object value ∷ post) fits.0).0
+  same_next c pre (Update object before after ∷ post) fits =
+      let fit = (fits_split commands c pre (Update object before after ∷ post) fits.0).0 in
+      (fit.0, access_next c pre post (Update object before after) (ToBump object fit.0) (not_due_mark (gap_after 0 pre) (suc (gap_after 0 pre)) post (omega arith)) refl fit.1, fit.2)
   same_next c pre (Marked mark ∷ post) fits =
       next_parts c (log_of_journal (pre ++ Marked mark ∷ post)) pre (Some mark) _ _ _
       (ap (λ (o : Option Gapped). due_mark o (gap_after 0 pre)) (next_gapped 0 pre (Marked mark ∷ post)) ∙ is_due (gap_after 0 pre) mark)
@@ -115,34 +139,47 @@ same_start (x ∷ xs) (y ∷ ys) e = ap (λ (js : Journals). [] ∷ js) (same_st
 
 module _ (script : Script) (journals : Journals) (fit : FitsScript script journals) where
   pub next_same : (s : PlainState) (t : ℕ) (more : List Event) → t < length journals → journal_of journals t ≡ journal_of s.journals t ++ more
-      → next_of (by_log script (log_of journals)) s t ≡ next_of (by_journals journals) s t
+      → IsNextFor (at journals t (count s.journals t)) (next_of (by_log script (log_of journals)) s t)
   next_same s t more lt is =
       let pre = journal_of s.journals t in
       let commands = commands_of script t in
       let c = starting_configuration script.fuel in
-      ap (λ (l : ThreadLog). next_by_log commands c l pre) (get_or-map log_of_journal journals t [] (record { accesses = 0; marks = [] }) lt ∙ ap log_of_journal is)
-      ∙ same_next commands c pre more (subst (λ (j : List Event). FitsToEnd commands c j) is (fit t lt))
-      ∙ ap next_in (sym (slice_get_split pre more) ∙ ap (λ (j : List Event). slice_get j (length pre)) (sym is))
+      subst₂ IsNextFor (sym (slice_get_split pre more) ∙ ap (λ (j : List Event). slice_get j (length pre)) (sym is))
+      (sym (ap (λ (l : ThreadLog). next_by_log commands c l pre) (get_or-map log_of_journal journals t [] (record { accesses = 0; marks = [] }) lt ∙ ap log_of_journal is)))
+      (same_next commands c pre more (subst (λ (j : List Event). FitsToEnd commands c j) is (fit t lt)))
+
+  next_on_way : (order : List ℕ) (s : PlainState) → (after (by_journals journals) s order).journals ≡ journals → (t : ℕ) → t < length s.journals
+      → IsNextFor (at journals t (count s.journals t)) (next_of (by_log script (log_of journals)) s t)
+  next_on_way order s is t lt =
+      let g = grown (by_journals journals) order s t in
+      next_same s t g.0 (omega (arith, as_many_after (by_journals journals) order s, ap (λ (js : Journals). length js) is)) (ap (λ (js : Journals). journal_of js t) (sym is) ∙ g.1)
 
   pub may_same : (order : List ℕ) (s : PlainState) → (after (by_journals journals) s order).journals ≡ journals → (t : ℕ)
       → may_step (by_log script (log_of journals)) s t ≡ may_step (by_journals journals) s t
   may_same order s is t =
       elim (cases_lt t (length s.journals)) [
-        | inl lt ↦
-            let g = grown (by_journals journals) order s t in
-            let lt' : t < length journals = omega (arith, as_many_after (by_journals journals) order s, ap (λ (js : Journals). length js) is) in
-            ap (λ (n : Next). ltb t (length s.journals) && may_proceed s n) (next_same s t g.0 lt' (ap (λ (js : Journals). journal_of js t) (sym is) ∙ g.1))
+        | inl lt ↦ ap (λ (b : Bool). ltb t (length s.journals) && b) (proceeds_alike s (at journals t (count s.journals t)) (next_of (by_log script (log_of journals)) s t) (next_on_way order s is t lt))
         | inr past ↦
             ap (λ (b : Bool). b && may_proceed s (next_of (by_log script (log_of journals)) s t)) (le-ltb t (length s.journals) past)
             ∙ sym (ap (λ (b : Bool). b && may_proceed s (next_of (by_journals journals) s t)) (le-ltb t (length s.journals) past))
       ]
 
-  pub step_same : (order : List ℕ) (s : PlainState) (t : ℕ) → (after (by_journals journals) s order).journals ≡ journals → t < length s.journals
+  -- a step on the way to all journals
+  pub step_same : (order : List ℕ) (s : PlainState) (t : ℕ) → (after (by_journals journals) s (t ∷ order)).journals ≡ journals → IsTrue (may_step (by_journals journals) s t)
       → step (by_log script (log_of journals)) s t ≡ step (by_journals journals) s t
-  step_same order s t is lt =
-      let g = grown (by_journals journals) order s t in
-      let lt' : t < length journals = omega (arith, as_many_after (by_journals journals) order s, ap (λ (js : Journals). length js) is) in
-      ap (λ (n : Next). elim (ltb t (length s.journals) && may_proceed s n) [ true ↦ proceeded s t n | false ↦ s ]) (next_same s t g.0 lt' (ap (λ (js : Journals). journal_of js t) (sym is) ∙ g.1))
+  step_same order s t is may =
+      let W = by_journals journals in
+      let V = by_log script (log_of journals) in
+      let m = what_it_makes W s t may in
+      let event = event_made m.0 s.heap in
+      let here : at journals t (count s.journals t) ≡ Some event =
+      ap (λ (js : Journals). at js t (count s.journals t)) (sym is) ∙ stays W order (step W s t) t (count s.journals t) event (made_there W s t m.0 m.1) in
+      let by_event : operation_of event ≡ m.0 = let wanted = ap next_in (sym here) ∙ m.1.wanted in cc in
+      let next = subst (λ (x : Option Event). IsNextFor x (next_of V s t)) here (next_on_way (t ∷ order) s is t m.1.within) in
+      let may' : IsTrue (may_step V s t) = may_same (t ∷ order) s is t ∙ may in
+      ap (λ (b : Bool). elim b [ true ↦ proceeded s t (next_of V s t) | false ↦ s ]) may'
+      ∙ made_alike s t event (next_of V s t) next (ap (λ (o : Operation). event_made o s.heap) by_event)
+      ∙ ap (performed s t) by_event ∙ sym m.1.stepped
 
   front_same : (steps : ℕ) (order : List ℕ) (s : PlainState) → (after (by_journals journals) s order).journals ≡ journals → IsDownClosed journals s.journals → IsOrdered journals
       → IsFront (by_journals journals) s order → AllFinished (by_journals journals) (after (by_journals journals) s order)
@@ -153,7 +190,7 @@ module _ (script : Script) (journals : Journals) (fit : FitsScript script journa
       let closed' = subst (λ (js : Journals). IsDownClosed js s.journals) (sym is) closed in
       let m = remains W order s t closed' (subst IsOrdered (sym is) ordered) front through may in
       let ends : (after W (step W s t) m.pulled.rest).journals ≡ journals = ap (λ (x : PlainState). x.journals) m.pulled.ends ∙ is in
-      ap (λ (x : PlainState). lowest_front V steps x) (step_same order s t is (what_it_makes W s t may).1.within)
+      ap (λ (x : PlainState). lowest_front V steps x) (step_same m.pulled.rest s t ends may)
       ∙ front_same steps m.pulled.rest (step W s t) ends (subst (λ (js : Journals). IsDownClosed js (step W s t).journals) ends m.closed) ordered m.pulled.front m.through)
     where
       W : Behavior

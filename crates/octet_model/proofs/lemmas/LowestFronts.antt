@@ -6,14 +6,14 @@ use Rattle.std.proofs.lemmas.List.{length-map}
 use Rattle.std.proofs.lemmas.List.Sums.{sum_by-cons}
 use Rattle.octet_model.specs.declared.command.Command.{Command}
 use Rattle.octet_model.specs.declared.event.Event.{Event}
-use Rattle.octet_model.specs.declared.event.Event.TheVariants.{Write, Marked}
+use Rattle.octet_model.specs.declared.event.Event.TheVariants.{Marked}
 use Rattle.octet_model.specs.declared.event.Mark.{Mark}
 use Rattle.octet_model.specs.declared.log.Gapped.{Gapped}
 use Rattle.octet_model.specs.declared.log.ThreadLog.{ThreadLog}
 use Rattle.octet_model.specs.declared.script.Script.{Script}
-use Rattle.octet_model.specs.Thread.{Configuration, AccessOrEnd, ToRead, ToWrite, ToEnd, demanded, configuration_after, starting_configuration}
+use Rattle.octet_model.specs.Thread.{Configuration, AccessOrEnd, ToRead, ToWrite, ToBump, ToEnd, added, demanded, configuration_after, starting_configuration}
 use Rattle.octet_model.specs.Journals.{access_count, mark_count, gap_after, due_mark, next_access, mark_first, next_by_log}
-use Rattle.octet_model.specs.Machine.{Journals, journal_of, PlainState, starting_state, Operation, MakeMark, MakeRead, MakeWrite, Next, Wants, Behavior, event_made, may_step, step, after, IsFront, IsOrder}
+use Rattle.octet_model.specs.Machine.{Journals, journal_of, PlainState, starting_state, Operation, MakeMark, MakeRead, MakeWrite, MakeUpdate, Wants, Behavior, event_made, may_step, step, after, IsFront, IsOrder}
 use Rattle.octet_model.specs.Orders.{commands_of, starting_heap, journals_after, IsLawfulOrder, thread_log_of, by_log, opening_state, state_after, event_total, lowest_order, lowest, go_on, lowest_front, IsLowestFront}
 use Rattle.octet_model.specs.HappensBefore.{IsOrdered}
 use Rattle.octet_model.specs.Plays.{next_in, by_journals, lowest_play}
@@ -44,33 +44,34 @@ module _ (behavior : Behavior) (Kept : PlainState → Type 0) (most : ℕ)
       by_lowest None is next = rw is is
       by_lowest (Some t) is next = rw is (next t (lowest_may behavior s t is))
 
--- what a next operation by a log tells of the log
-pub by_mark : (o : Option Mark) (d : AccessOrEnd) (a m : Bool) (mark : Mark) → mark_first o (next_access d a m) ≡ Wants (MakeMark mark) → o ≡ Some mark
-by_mark (Some k) d a m mark is = cc
-by_mark None (ToRead object) true m mark is = absurd cc
-by_mark None (ToRead object) false m mark is = absurd cc
-by_mark None (ToWrite object value) true m mark is = absurd cc
-by_mark None (ToWrite object value) false m mark is = absurd cc
-by_mark None (ToEnd end) true m mark is = absurd cc
-by_mark None (ToEnd end) false true mark is = absurd cc
-by_mark None (ToEnd end) false false mark is = absurd cc
+-- what is next by a log: its due mark, or the access that is demanded, where the log has one left
+abbrev pub IsNext : Option Mark → AccessOrEnd → Bool → Operation → Type 0
+IsNext due demand left (MakeMark mark) = due ≡ Some mark
+IsNext due demand left (MakeRead object) = (demand ≡ ToRead object) × (left ≡ true)
+IsNext due demand left (MakeWrite object value) = (demand ≡ ToWrite object value) × (left ≡ true)
+IsNext due demand left (MakeUpdate object change) = ((amount : ℕ) × (demand ≡ ToBump object amount) × (change ≡ added amount)) × (left ≡ true)
 
-abbrev pub IsAccess : Next → Type 0
-IsAccess (Wants (MakeRead object)) = Unit {0}
-IsAccess (Wants (MakeWrite object value)) = Unit {0}
-IsAccess _ = ⊥
+same_operation : (v w : Operation) → Wants v ≡ Wants w → v ≡ w
+same_operation v w is = cc
 
-pub by_access : (o : Option Mark) (d : AccessOrEnd) (a m : Bool) → IsAccess (mark_first o (next_access d a m)) → a ≡ true
-by_access (Some k) d a m is = absurd is
-by_access None (ToRead object) true m is = refl
-by_access None (ToRead object) false m is = absurd is
-by_access None (ToWrite object value) true m is = refl
-by_access None (ToWrite object value) false m is = absurd is
-by_access None (ToEnd end) true m is = absurd is
-by_access None (ToEnd end) false true is = absurd is
-by_access None (ToEnd end) false false is = absurd is
+pub is_next : (due : Option Mark) (d : AccessOrEnd) (a m : Bool) (o : Operation) → mark_first due (next_access d a m) ≡ Wants o → IsNext due d a o
+is_next (Some mark) d a m o is = subst (IsNext (Some mark) d a) (same_operation (MakeMark mark) o is) refl
+is_next None (ToRead object) true m o is = subst (IsNext None (ToRead object) true) (same_operation (MakeRead object) o is) (refl, refl)
+is_next None (ToWrite object value) true m o is = subst (IsNext None (ToWrite object value) true) (same_operation (MakeWrite object value) o is) (refl, refl)
+is_next None (ToBump object amount) true m o is = subst (IsNext None (ToBump object amount) true) (same_operation (MakeUpdate object (added amount)) o is) ((amount, refl, refl), refl)
+is_next None (ToRead object) false m o is = absurd cc
+is_next None (ToWrite object value) false m o is = absurd cc
+is_next None (ToBump object amount) false m o is = absurd cc
+is_next None (ToEnd end) true m o is = absurd cc
+is_next None (ToEnd end) false true o is = absurd cc
+is_next None (ToEnd end) false false o is = absurd cc
 
-due_within : (marks : List Gapped) (k gap : ℕ) (mark : Mark) → due_mark (slice_get marks k) gap ≡ Some mark → k < length marks
+pub next_by : (commands : List Command) (c : Configuration) (log : ThreadLog) (journal : List Event) (o : Operation) → next_by_log commands c log journal ≡ Wants o
+    → IsNext (due_mark (slice_get log.marks (mark_count journal)) (gap_after 0 journal)) (demanded commands (configuration_after commands c journal)) (nat_lt (access_count journal) log.accesses) o
+next_by commands c log journal o is =
+    is_next (due_mark (slice_get log.marks (mark_count journal)) (gap_after 0 journal)) (demanded commands (configuration_after commands c journal)) (nat_lt (access_count journal) log.accesses) (nat_lt (mark_count journal) (length log.marks)) o is
+
+pub due_within : (marks : List Gapped) (k gap : ℕ) (mark : Mark) → due_mark (slice_get marks k) gap ≡ Some mark → k < length marks
 due_within marks k gap mark is = go (slice_get marks k) refl is
   where
     go : (o : Option Gapped) → slice_get marks k ≡ o → due_mark o gap ≡ Some mark → k < length marks
@@ -78,32 +79,29 @@ due_within marks k gap mark is = go (slice_get marks k) refl is
     go (Some g) at is = slice_get_within marks k g at
 
 -- a journal within its log
-record Within (journal : List Event) (log : ThreadLog) : Type 0 where
-  accesses : access_count journal ≤ log.accesses
-  marks : mark_count journal ≤ length log.marks
+pub record IsWithin (log : ThreadLog) (journal : List Event) : Type 0 where
+  pub accesses : access_count journal ≤ log.accesses
+  pub marks : mark_count journal ≤ length log.marks
 
-within_more : (commands : List Command) (c : Configuration) (log : ThreadLog) (journal : List Event) (heap : List ℕ) (o : Operation)
-    → next_by_log commands c log journal ≡ Wants o → Within journal log → Within (journal ++ event_made o heap ∷ []) log
-within_more commands c log journal heap (MakeMark mark) is within =
-    let due_is = by_mark (due_mark (slice_get log.marks (mark_count journal)) (gap_after 0 journal)) (demanded commands (configuration_after commands c journal)) (nat_lt (access_count journal) log.accesses) (nat_lt (mark_count journal) (length log.marks)) mark is in
-    record {
+pub within_more : (commands : List Command) (c : Configuration) (log : ThreadLog) (journal : List Event) (heap : List ℕ) (o : Operation)
+    → next_by_log commands c log journal ≡ Wants o → IsWithin log journal → IsWithin log (journal ++ event_made o heap ∷ [])
+within_more commands c log journal heap o is within =
+    go o (next_by commands c log journal o is)
+  where
+    more : (e : Event) → access_count (e ∷ []) ≡ 1 → mark_count (e ∷ []) ≡ 0 → nat_lt (access_count journal) log.accesses ≡ true → IsWithin log (journal ++ e ∷ [])
+    more e one none left = record {
+      accesses = omega (arith, accesses_split journal (e ∷ []), one, ltb-true (access_count journal) log.accesses left);
+      marks = omega (arith, marks_split journal (e ∷ []), none, within.marks);
+    }
+
+    go : (o : Operation) → IsNext (due_mark (slice_get log.marks (mark_count journal)) (gap_after 0 journal)) (demanded commands (configuration_after commands c journal)) (nat_lt (access_count journal) log.accesses) o → IsWithin log (journal ++ event_made o heap ∷ [])
+    go (MakeMark mark) due = record {
       accesses = omega (arith, accesses_split journal (Marked mark ∷ []), within.accesses);
-      marks = omega (arith, marks_split journal (Marked mark ∷ []), due_within log.marks (mark_count journal) (gap_after 0 journal) mark due_is);
+      marks = omega (arith, marks_split journal (Marked mark ∷ []), due_within log.marks (mark_count journal) (gap_after 0 journal) mark due);
     }
-within_more commands c log journal heap (MakeRead object) is within =
-    let left = by_access (due_mark (slice_get log.marks (mark_count journal)) (gap_after 0 journal)) (demanded commands (configuration_after commands c journal)) (nat_lt (access_count journal) log.accesses) (nat_lt (mark_count journal) (length log.marks)) (rw is tt) in
-    record {
-      accesses = omega (arith, accesses_split journal (event_made (MakeRead object) heap ∷ []), ltb-true (access_count journal) log.accesses left);
-      marks = omega (arith, marks_split journal (event_made (MakeRead object) heap ∷ []), within.marks);
-    }
-within_more commands c log journal heap (MakeWrite object value) is within =
-    let left = by_access (due_mark (slice_get log.marks (mark_count journal)) (gap_after 0 journal)) (demanded commands (configuration_after commands c journal)) (nat_lt (access_count journal) log.accesses) (nat_lt (mark_count journal) (length log.marks)) (rw is tt) in
-    record {
-      accesses = omega (arith, accesses_split journal (Write object value ∷ []), ltb-true (access_count journal) log.accesses left);
-      marks = omega (arith, marks_split journal (Write object value ∷ []), within.marks);
-    }
+    go access next = more (event_made access heap) refl refl next.1
 
-total_within : (js : Journals) (log : List ThreadLog) → length js ≡ length log → ((t : ℕ) → Within (journal_of js t) (thread_log_of log t)) → total js ≤ event_total log
+total_within : (js : Journals) (log : List ThreadLog) → length js ≡ length log → ((t : ℕ) → IsWithin (thread_log_of log t) (journal_of js t)) → total js ≤ event_total log
 total_within [] log same within = omega arith
 total_within (j ∷ js) [] same within = absurd (omega arith)
 total_within (j ∷ js) (l ∷ log) same within =
@@ -112,7 +110,7 @@ total_within (j ∷ js) (l ∷ log) same within =
 -- as many journals as logs, each within its log
 record AllWithin (log : List ThreadLog) (s : PlainState) : Type 0 where
   as_many : length s.journals ≡ length log
-  each : (t : ℕ) → Within (journal_of s.journals t) (thread_log_of log t)
+  each : (t : ℕ) → IsWithin (thread_log_of log t) (journal_of s.journals t)
 
 -- after a step the thread's journal has one event more
 module _ (behavior : Behavior) (s : PlainState) (t : ℕ) (may : IsTrue (may_step behavior s t)) where
@@ -135,7 +133,7 @@ module _ (script : Script) (log : List ThreadLog) where
   step_within s t may within =
       record {
         as_many = as_many_step (by_log script log) s t ∙ within.as_many;
-        each = each_journal (by_log script log) s t may (λ u j. Within j (thread_log_of log u)) within.each
+        each = each_journal (by_log script log) s t may (λ u j. IsWithin (thread_log_of log u) j) within.each
             (λ o m. within_more (commands_of script t) (starting_configuration script.fuel) (thread_log_of log t) (journal_of s.journals t) s.heap o m.wanted (within.each t));
       }
 
@@ -147,7 +145,7 @@ lowest_order_is_full script log same =
     (event_total log) (opening_state script)
     (record {
       as_many = length-map script.threads (λ (c : List Command). []) ∙ same;
-      each = λ u. subst (λ (j : List Event). Within j (thread_log_of log u)) (sym (no_journal script.threads u)) (record { accesses = omega arith; marks = omega arith });
+      each = λ u. subst (λ (j : List Event). IsWithin (thread_log_of log u) j) (sym (no_journal script.threads u)) (record { accesses = omega arith; marks = omega arith });
     })
     (omega arith)
 

@@ -5,11 +5,11 @@ use Rattle.octet_model.specs.declared.event.Mark.TheVariants.{Join, Draw, Fence}
 use Rattle.octet_model.specs.declared.event.Event.{Event}
 use Rattle.octet_model.specs.declared.event.Event.TheVariants.{Read, Marked}
 use Rattle.octet_model.specs.declared.event.Place.{Place}
-use Rattle.octet_model.specs.Machine.{Journals, journal_of, PlainState, no_events, Operation, MakeMark, MakeRead, MakeWrite, Behavior, is_enabled, event_made, draws_after, appended, step, after, IsFront}
+use Rattle.octet_model.specs.Machine.{Journals, journal_of, PlainState, no_events, Operation, MakeMark, is_enabled, event_made, draws_after, appended, after}
 use Rattle.octet_model.specs.HappensBefore.{event_at, Edge, ProgramOrder, Joined, Drawn, Fenced, IsEvent, IsPath}
 use Rattle.octet_model.specs.Plays.{operation_of, by_journals, lowest_play, IsOneHistory}
 use Rattle.octet_model.specs.Past.{Reaches, InPast, DrawsDiffer}
-use Rattle.octet_model.proofs.lemmas.Steps.{count, stays_appended, new_event, grows, draws_grow, drawn_next, joined_upto, fenced_upto, what_it_makes}
+use Rattle.octet_model.proofs.lemmas.Steps.{count, stays_appended, new_event, grows, draws_grow, drawn_next, joined_upto, fenced_upto, by_front}
 use Rattle.octet_model.proofs.lemmas.Fronts.{no_journal}
 use Rattle.octet_model.proofs.lemmas.Growth.{new, old_or_new}
 
@@ -21,11 +21,8 @@ pub record MarksSeen (journals : Journals) (draws : ℕ) : Type 0 where
   pub differ : DrawsDiffer journals
 
 draws_one : (o : Operation) (heap : List ℕ) (c n : ℕ) → event_made o heap ≡ Marked (Draw c) → draws_after o n ≡ suc n
-draws_one (MakeMark (Join from upto)) heap c n is = absurd cc
 draws_one (MakeMark (Draw number)) heap c n is = refl
-draws_one (MakeMark (Fence number)) heap c n is = absurd cc
-draws_one (MakeRead object) heap c n is = absurd cc
-draws_one (MakeWrite object value) heap c n is = absurd cc
+draws_one other heap c n is = absurd cc
 
 module _ (s : PlainState) (t : ℕ) (o : Operation) (lt : t < length s.journals) (enabled : IsTrue (is_enabled s o)) (seen : MarksSeen s.journals s.draws) where
   abbrev made : Event
@@ -145,14 +142,6 @@ module _ (s : PlainState) (t : ℕ) (o : Operation) (lt : t < length s.journals)
           let old = path_before p.between a near p.is_path old_near in
           record { is_event = old.0; near = h.near; below = h.below; reaches = inr (record { between = p.between; is_path = old.1 }) }
 
-module _ (behavior : Behavior) where
-  marks_seen_after : (order : List ℕ) (s : PlainState) → IsFront behavior s order → MarksSeen s.journals s.draws → MarksSeen (after behavior s order).journals (after behavior s order).draws
-  marks_seen_after [] s front seen = seen
-  marks_seen_after (t ∷ order) s front seen =
-      let m = what_it_makes behavior s t front.0 in
-      let more = marks_seen_longer s t m.0 m.1.within m.1.enabled seen in
-      marks_seen_after order (step behavior s t) front.1 (subst (λ (x : PlainState). MarksSeen x.journals x.draws) (sym m.1.stepped) more)
-
 none_seen : {A : Type 0} (threads : List A) → MarksSeen (no_events threads) 0
 none_seen threads = record {
   joined = λ b from upto is. absurd (none b (Marked (Join from upto)) is);
@@ -168,7 +157,7 @@ none_seen threads = record {
 pub history_marks_seen : (starts : List ℕ) (js : Journals) (heap : List ℕ) (draws : ℕ) → IsOneHistory starts js heap draws → MarksSeen js draws
 history_marks_seen starts js heap draws h =
     let low = lowest_play starts js in
-    let seen = marks_seen_after (by_journals js) low (record { heap = starts; journals = no_events js; draws = 0 }) h.makes_all.is_play (none_seen js) in
+    let seen = by_front (by_journals js) (λ (s : PlainState). MarksSeen s.journals s.draws) (λ s t o m seen. marks_seen_longer s t o m.within m.enabled seen) low (record { heap = starts; journals = no_events js; draws = 0 }) h.makes_all.is_play (none_seen js) in
     let is : MarksSeen js (after (by_journals js) (record { heap = starts; journals = no_events js; draws = 0 }) low).draws = subst (λ (n : Journals). MarksSeen n (after (by_journals js) (record { heap = starts; journals = no_events js; draws = 0 }) low).draws) h.makes_all.makes seen in
     subst (λ (n : ℕ). MarksSeen js n) h.counts is
 

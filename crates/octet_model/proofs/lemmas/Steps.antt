@@ -5,7 +5,7 @@ use Rattle.std.proofs.lemmas.Bool.{cases_eq, cases_lt, and_parts, and_from, ltb-
 use Rattle.octet_model.specs.declared.event.Mark.TheVariants.{Join, Draw, Fence}
 use Rattle.octet_model.specs.declared.event.Event.{Event}
 use Rattle.octet_model.specs.declared.event.Event.TheVariants.{Marked}
-use Rattle.octet_model.specs.Machine.{Journals, journal_of, PlainState, Operation, MakeMark, MakeRead, MakeWrite, Next, Wants, Finished, NothingFits, Behavior, is_enabled, event_made, draws_after, appended, performed, next_of, may_proceed, may_step, proceeded, step}
+use Rattle.octet_model.specs.Machine.{Journals, journal_of, PlainState, Operation, MakeMark, Next, Wants, Finished, NothingFits, Behavior, is_enabled, event_made, draws_after, appended, performed, next_of, may_proceed, may_step, proceeded, step, after, IsFront}
 use Rattle.octet_model.proofs.lemmas.Lists.{slice_get-append, slice_get_last}
 
 -- the event of thread u at k
@@ -65,19 +65,13 @@ at_same js t u n k e f = rw (e, f)
 
 -- draws only grow
 pub draws_grow : (o : Operation) (n : ℕ) → n ≤ draws_after o n
-draws_grow (MakeMark (Join from upto)) n = omega arith
 draws_grow (MakeMark (Draw number)) n = omega arith
-draws_grow (MakeMark (Fence number)) n = omega arith
-draws_grow (MakeRead object) n = omega arith
-draws_grow (MakeWrite object value) n = omega arith
+draws_grow other n = omega arith
 
 -- what a mark that may be made tells
 pub drawn_next : (s : PlainState) (o : Operation) (heap : List ℕ) (c : ℕ) → IsTrue (is_enabled s o) → event_made o heap ≡ Marked (Draw c) → c ≡ suc s.draws
-drawn_next s (MakeMark (Join from upto)) heap c enabled is = absurd cc
 drawn_next s (MakeMark (Draw number)) heap c enabled is = cc (eqb-true number (suc s.draws) enabled)
-drawn_next s (MakeMark (Fence number)) heap c enabled is = absurd cc
-drawn_next s (MakeRead object) heap c enabled is = absurd cc
-drawn_next s (MakeWrite object value) heap c enabled is = absurd cc
+drawn_next s other heap c enabled is = absurd cc
 
 pub joined_upto : (s : PlainState) (o : Operation) (heap : List ℕ) (u p : ℕ) → IsTrue (is_enabled s o) → event_made o heap ≡ Marked (Join u p) → p ≤ count s.journals u
 joined_upto s (MakeMark (Join from upto)) heap u p enabled is =
@@ -85,20 +79,14 @@ joined_upto s (MakeMark (Join from upto)) heap u p enabled is =
     let f : from ≡ u = cc in
     let n : upto ≡ p = cc in
     omega (arith, ap (λ (i : ℕ). count s.journals i) f)
-joined_upto s (MakeMark (Draw number)) heap u p enabled is = absurd cc
-joined_upto s (MakeMark (Fence number)) heap u p enabled is = absurd cc
-joined_upto s (MakeRead object) heap u p enabled is = absurd cc
-joined_upto s (MakeWrite object value) heap u p enabled is = absurd cc
+joined_upto s other heap u p enabled is = absurd cc
 
 pub fenced_upto : (s : PlainState) (o : Operation) (heap : List ℕ) (n : ℕ) → IsTrue (is_enabled s o) → event_made o heap ≡ Marked (Fence n) → n ≤ s.draws
-fenced_upto s (MakeMark (Join from upto)) heap n enabled is = absurd cc
-fenced_upto s (MakeMark (Draw number)) heap n enabled is = absurd cc
 fenced_upto s (MakeMark (Fence number)) heap n enabled is =
     let le : number ≤ s.draws = leb-true number s.draws enabled in
     let e : number ≡ n = cc in
     omega arith
-fenced_upto s (MakeRead object) heap n enabled is = absurd cc
-fenced_upto s (MakeWrite object value) heap n enabled is = absurd cc
+fenced_upto s other heap n enabled is = absurd cc
 
 -- the operation is the next of a thread that is there, and may be made; so it is the thread's step
 pub record Makes (behavior : Behavior) (s : PlainState) (t : ℕ) (o : Operation) : Type 0 where
@@ -135,6 +123,12 @@ module _ (behavior : Behavior) where
       go : (b : Bool) → may_step behavior s t ≡ b → P (step behavior s t)
       go true may = let m = what_it_makes s t may in subst P (sym m.1.stepped) (kept m.0)
       go false may_not = subst P (sym (ap (chosen s t) may_not)) holds
+
+  -- and what is kept by each that may be made holds after a front
+  pub by_front : (P : PlainState → Type 0) → ((s : PlainState) (t : ℕ) (o : Operation) → Makes behavior s t o → P s → P (performed s t o))
+      → (order : List ℕ) (s : PlainState) → IsFront behavior s order → P s → P (after behavior s order)
+  by_front P kept [] s front holds = holds
+  by_front P kept (t ∷ order) s front holds = let m = what_it_makes s t front.0 in by_front P kept order (step behavior s t) front.1 (subst P (sym m.1.stepped) (kept s t m.0 m.1 holds))
 
   pub as_many_step : (s : PlainState) (t : ℕ) → length (step behavior s t).journals ≡ length s.journals
   as_many_step s t = by_step (λ (x : PlainState). length x.journals ≡ length s.journals) s t (λ o. as_many s.journals t (event_made o s.heap)) refl

@@ -10,7 +10,7 @@ use Rattle.std.specs.Bool.{Decides}
 use Rattle.std.specs.List.{HoldsAt, list_all, list_any, sum_by, count_by}
 use Rattle.std.specs.Str.{bytes_eq}
 use Rattle.octet_model.specs.declared.command.Command.{Command}
-use Rattle.octet_model.specs.declared.command.Command.TheVariants.{Set, Copy, Add, Sub, Mul, Xor, Less, Same, Read, Write, Loop, Branch, Close, Safe, Pause}
+use Rattle.octet_model.specs.declared.command.Command.TheVariants.{Set, Copy, Add, Sub, Mul, Xor, Less, Same, Read, Write, Bump, Loop, Branch, Close, Safe, Pause}
 use Rattle.octet_model.specs.declared.event.Mark.{Mark}
 use Rattle.octet_model.specs.declared.event.Mark.TheVariants.{Join, Draw, Fence}
 use Rattle.octet_model.specs.declared.log.Gapped.{Gapped}
@@ -51,6 +51,7 @@ command_decides objects (Less to left right) = three_registers to left right
 command_decides objects (Same to left right) = three_registers to left right
 command_decides objects (Read to object) = Decides-like _ (λ h. (h.0, tt, h.1)) (λ h. (h.0, h.2)) (Decides-and _ _ (Decides-ltb to REGISTERS) (Decides-ltb object objects))
 command_decides objects (Write object from) = Decides-like _ (λ h. (h.0, tt, h.1)) (λ h. (h.0, h.2)) (Decides-and _ _ (Decides-ltb from REGISTERS) (Decides-ltb object objects))
+command_decides objects (Bump object from) = Decides-like _ (λ h. (h.0, tt, h.1)) (λ h. (h.0, h.2)) (Decides-and _ _ (Decides-ltb from REGISTERS) (Decides-ltb object objects))
 command_decides objects (Loop test) = registers_alone (Decides-ltb test REGISTERS)
 command_decides objects (Branch test) = registers_alone (Decides-ltb test REGISTERS)
 command_decides objects Close = always

@@ -1,0 +1,44 @@
+-- What updates add up to.
+use Rattle.std.specs.Prelude.{◌≡◌, ◌≢◌, ℕ, ◌+◌, ◌-◌, ◌%◌, ◌^◌, ◌<◌, ◌==◌, if◌then◌else◌, List, length, take, Some, slice_index, sum_by}
+use Rattle.octet_model.specs.declared.event.Event.{Event}
+use Rattle.octet_model.specs.declared.event.Event.TheVariants.{Write, Update}
+use Rattle.octet_model.specs.declared.event.Place.{Place}
+use Rattle.octet_model.specs.declared.script.Script.{Script}
+use Rattle.octet_model.specs.Thread.{AccessOrEnd, ToBump, starting_configuration, demanded, configuration_after, FitsUpdate}
+use Rattle.octet_model.specs.Machine.{Journals, journal_of}
+use Rattle.octet_model.specs.HappensBefore.{event_at}
+use Rattle.octet_model.specs.Orders.{commands_of, starting_heap}
+
+-- all accesses of the object are reads and updates
+abbrev pub OnlyBumped : Journals → ℕ → Type 0
+OnlyBumped journals object = (place : Place) (value : ℕ) → event_at journals place ≢ Some (Write object value)
+
+-- the value after less the value before, modulo 2 ^ 64
+abbrev pub difference : ℕ → ℕ → ℕ
+difference before after = (after + 2 ^ 64 - before % 2 ^ 64) % 2 ^ 64
+
+-- what an event adds to an object: an update of it its difference
+abbrev pub added_by : ℕ → Event → ℕ
+added_by object (Update other before after) = if other == object then difference before after else 0
+added_by object _ = 0
+
+-- what all events together add to it
+abbrev pub added_to : ℕ → Journals → ℕ
+added_to object journals = sum_by (λ journal. sum_by (added_by object) journal) journals
+
+-- what a thread of a script demands at a place of its journal
+abbrev pub demanded_at : Script → Journals → Place → AccessOrEnd
+demanded_at script journals place =
+    let commands = commands_of script place.thread in
+    demanded commands (configuration_after commands (starting_configuration script.fuel) (take place.event (journal_of journals place.thread)))
+
+abbrev pub amount_of : AccessOrEnd → ℕ
+amount_of (ToBump object amount) = amount
+amount_of _ = 0
+
+-- exact totals: an object that is not written ends with its starting value and what its updates add, modulo 2 ^ 64; and each update is what its thread demands there, so that it adds the amount
+pub record AddsUp (script : Script) (journals : Journals) (heap : List ℕ) : Type 0 where
+  pub totals : (object : ℕ) → object < length script.objects → OnlyBumped journals object
+      → slice_index heap object ≡ (slice_index (starting_heap script) object + added_to object journals) % 2 ^ 64
+  pub each : (place : Place) (object before after : ℕ) → event_at journals place ≡ Some (Update object before after)
+      → FitsUpdate (demanded_at script journals place) object before after × (difference before after ≡ amount_of (demanded_at script journals place) % 2 ^ 64)
