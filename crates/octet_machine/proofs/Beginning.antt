@@ -58,7 +58,7 @@ opening_is_running script =
           (subst (λ (j : List Event). IsAt script t j (starting_thread script t)) (sym (no_journal (replicate n unstarted) t)) (starts_at script t)));
     }
 
--- what is made of vectors of so many equal items
+-- what is made of vectors of equal items
 pub opens : (m : Memory) (threads number : ℕ) (thread : ProtocolThread) (starts : List ℕ) → m.counter ≡ 0 → m.statuses.items ≡ replicate threads resting → m.states.items ≡ replicate number (WrEx 0) → number ≡ length starts → m.cells.items ≡ starts
     → m.threads.items ≡ replicate threads thread → thread_in thread ≡ unstarted → map (λ j. j.events.items) m.journals.items ≡ replicate threads [] → held starts m ≡ opening threads starts
 opens m threads number thread starts none statuses states many cells stands start journals =

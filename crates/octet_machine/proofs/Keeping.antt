@@ -5,13 +5,14 @@ use Rattle.octet_model.specs.declared.event.Event.{Event}
 use Rattle.octet_model.specs.declared.event.Event.TheVariants as event
 use Rattle.octet_model.specs.declared.outcome.End.{End}
 use Rattle.octet_model.specs.Machine.{journal_of}
+use Rattle.octet_model.specs.Thread.{added}
 use Rattle.octet_model.specs.Journals.{access_count}
 use Rattle.octet_interp.specs.declared.demand.Demand.{Demand}
 use Rattle.octet_interp.specs.declared.demand.Demand.TheVariants as demand
 use Rattle.octet_interp.specs.Demands.{ThreadState, next_demand, after_demand, given}
 use Rattle.octet_state.specs.declared.state_word.StateWord.{StateWord}
 use Rattle.octet_state.specs.declared.act.Mode.{Mode}
-use Rattle.octet_state.specs.declared.act.Mode.TheVariants.{Read, Write}
+use Rattle.octet_state.specs.declared.act.Mode.TheVariants.{Read, Write, Update}
 use Rattle.octet_state.specs.declared.act.Act.{Act}
 use Rattle.octet_state.specs.declared.act.Act.TheVariants as act
 use Rattle.octet_state.specs.declared.phase.Phase.{Phase}
@@ -22,7 +23,7 @@ use Rattle.octet_state.specs.Words.{unpacked_state, unpacked_status, packed_stat
 use Rattle.octet_state.specs.Table.{decided}
 use Rattle.octet_state.specs.State.{Thread, ProtocolState, thread_of, now}
 use Rattle.octet_state.specs.Asking.{whom_to_ask, number_to_ask, next_to_ask, answers}
-use Rattle.octet_state.specs.Steps.{Kind, ToGlance, ToAnswer, ToBlock, ToUnblock, ToAsk, ToLook, ToLoad, ToRead, ToWrite, ToClaim, ToSettle, ToDraw, ToFence, ToRaise, ToShare, step, told, after, made, ended_by, target, settling, owning, wins, claimed, passing, lost, one_done, one_asked, joined_by_share, state_in, is_safe_point, most_accesses, May}
+use Rattle.octet_state.specs.Steps.{Kind, ToGlance, ToAnswer, ToBlock, ToUnblock, ToAsk, ToLook, ToLoad, ToRead, ToWrite, ToBump, ToClaim, ToSettle, ToDraw, ToFence, ToRaise, ToShare, step, told, after, made, ended_by, target, settling, owning, wins, claimed, passing, lost, one_done, one_asked, joined_by_share, state_in, is_safe_point, most_accesses, May}
 use Rattle.octet_state.specs.NextStep.{kind_by_due, exchange_of, pursuit_of}
 use Rattle.octet_state.specs.Form.{is_nothing, is_exchange, HoldsPhase}
 use Rattle.octet_state.specs.Laws.{IsLawful, Stands}
@@ -31,7 +32,7 @@ use Rattle.octet_state.proofs.lemmas.Laws.{answer_is_lawful, block_is_lawful, un
 use Rattle.octet_state.proofs.lemmas.Laws.{ask_is_lawful}
 use Rattle.octet_state.proofs.lemmas.Laws.{look_is_lawful}
 use Rattle.octet_state.proofs.lemmas.Laws.{load_is_lawful}
-use Rattle.octet_state.proofs.lemmas.Laws.{read_is_lawful, write_is_lawful}
+use Rattle.octet_state.proofs.lemmas.Laws.{read_is_lawful, write_is_lawful, bump_is_lawful}
 use Rattle.octet_state.proofs.lemmas.Laws.{claim_is_lawful}
 use Rattle.octet_state.proofs.lemmas.Laws.{settle_of_claim_is_lawful}
 use Rattle.octet_state.proofs.lemmas.Laws.{settle_of_share_is_lawful}
@@ -44,9 +45,9 @@ use Rattle.octet_machine.specs.Machine.{MachineState, runner_of, no_runner, kind
 use Rattle.octet_machine.specs.Running.{IsAt, StandsBy, KeepsUp, IsRunning, demand_for, demand_in}
 use Rattle.octet_machine.specs.Laws.{TurnsKeepRunning, NextStepsMayBeTaken}
 use Rattle.octet_machine.proofs.Going.{kind_here, ends_by, kind_is, after_is}
-use Rattle.octet_machine.proofs.Journals.{IsMarking, marked, past_safe, past_pause, at_end, wants, past_read, past_write, leaves_fuel, names_object, NamesObject}
+use Rattle.octet_machine.proofs.Journals.{IsMarking, marked, past_safe, past_pause, at_end, wants, past_read, past_write, past_bump, leaves_fuel, names_object, NamesObject}
 use Rattle.octet_model.proofs.lemmas.Validity.{valid_script}
-use Rattle.octet_machine.proofs.Phases.{AboutSame, done_same, asked_same, lost_same, either_same, either_marks, share_marks, fence_reads, share_reads, load_same}
+use Rattle.octet_machine.proofs.Phases.{AboutSame, done_same, asked_same, lost_same, either_same, either_marks, share_marks, serves_reads, only_reads, load_same}
 
 module _ (m : MachineState) (me : ℕ) (r : IsRunning m) (there : me < length m.runners) (alive : (runner_of m me).end ≡ None) where
   abbrev s : ProtocolState
@@ -157,7 +158,7 @@ module _ (m : MachineState) (me : ℕ) (r : IsRunning m) (there : me < length m.
 
   -- loads
   fence_only_reads : (o : ℕ) (mode : Mode) → decided (state_in (unpacked_state (told (ToLoad o mode) me s))) me mode X.count ≡ act.Fence → mode ≡ Read
-  fence_only_reads o mode is = fence_reads (state_in (unpacked_state (told (ToLoad o mode) me s))) me mode X.count is
+  fence_only_reads o mode is = only_reads (state_in (unpacked_state (told (ToLoad o mode) me s))) me mode X.count (ap serves_reads is)
 
   on_load : (o : ℕ) (mode : Mode) → X.due ≡ Nothing → X.phase ≡ Want o mode None → Goes (ToLoad o mode) (ends_by m me (ToLoad o mode) Nothing (Want o mode None))
   on_load o mode due phase =
@@ -179,7 +180,7 @@ module _ (m : MachineState) (me : ℕ) (r : IsRunning m) (there : me < length m.
           on_the_way ToRaise _ _ (raise_is_lawful s me _ _ _ o mode seen r.sound inside (due, phase) is refl refl refl) tt
           (either_same (wins (told ToRaise me s) X.phase) (passing X.phase) (lost X.phase) X.phase Nothing Glance X R.value (about (Want o mode (Some seen)) passing phase refl) (lost_same X.phase R.value))
       go (act.Share from upto) is ok =
-          let reads = (share_reads seen me mode X.count from upto is).reads in
+          let reads = only_reads seen me mode X.count (ap serves_reads is) in
           on_the_way ToShare _ _ (share_is_lawful s me _ _ _ o mode seen from upto r.sound inside (due, phase) is refl refl refl)
           (either_marks (wins (told ToShare me s) X.phase) (joined_by_share X.phase) (share_marks X.phase))
           (either_same (wins (told ToShare me s) X.phase) (Sharing (target X.phase) None) (lost X.phase) X.phase Nothing Glance X R.value
@@ -198,13 +199,26 @@ module _ (m : MachineState) (me : ℕ) (r : IsRunning m) (there : me < length m.
       (subst (λ (t : ℕ). IsAt m.script me (J ++ event.Read t word ∷ []) (given R.config word)) (sym (ap target phase))
       (subst (λ (st : ThreadState). IsAt m.script me (J ++ event.Read o word ∷ []) (given st word)) (sym by.stands) (past_read m.script me J by.before by.at o word by.tells))))
 
+  -- past an access that gives the thread no value, with its event
+  past_change : (o : ℕ) (mode : Mode) (e : ℕ → Event) → X.phase ≡ Pass o mode
+      → ((st : ThreadState) → IsAt m.script me J st → next_demand st ≡ demand_for o mode R.value → IsAt m.script me (J ++ e o ∷ []) (after_demand st))
+      → KeepsUp m.script me (J ++ e (target X.phase) ∷ []) Idle R.value R.end R.config
+  past_change o mode e phase past =
+      let by = by_phase (Pass o mode) phase in
+      going (J ++ e (target X.phase) ∷ []) Idle R.value R.config
+      (subst (λ (t : ℕ). IsAt m.script me (J ++ e t ∷ []) R.config) (sym (ap target phase))
+      (subst (λ (st : ThreadState). IsAt m.script me (J ++ e o ∷ []) st) (sym by.stands) (past by.before by.at by.tells)))
+
   on_write : (o : ℕ) → X.due ≡ Nothing → X.phase ≡ Pass o Write → Goes (ToWrite R.value) (ends_by m me (ToWrite R.value) Nothing (Pass o Write))
   on_write o due phase =
-      let by = by_phase (Pass o Write) phase in
       runs_on (ToWrite R.value) _ _ (write_is_lawful s me _ o R.value r.sound inside (due, phase) refl) R
-      (going (J ++ event.Write (target X.phase) R.value ∷ []) Idle R.value R.config
-      (subst (λ (t : ℕ). IsAt m.script me (J ++ event.Write t R.value ∷ []) R.config) (sym (ap target phase))
-      (subst (λ (st : ThreadState). IsAt m.script me (J ++ event.Write o R.value ∷ []) st) (sym by.stands) (past_write m.script me J by.before by.at o R.value by.tells))))
+      (past_change o Write (λ (t : ℕ). event.Write t R.value) phase (λ st at. past_write m.script me J st at o R.value))
+
+  on_bump : (o : ℕ) → X.due ≡ Nothing → X.phase ≡ Pass o Update → Goes (ToBump R.value) (ends_by m me (ToBump R.value) Nothing (Pass o Update))
+  on_bump o due phase =
+      let before = told (ToBump R.value) me s in
+      runs_on (ToBump R.value) _ _ (bump_is_lawful s me _ o R.value r.sound inside (due, phase) refl) R
+      (past_change o Update (λ (t : ℕ). event.Update t before (added R.value before)) phase (λ st at. past_bump m.script me J st at o R.value before))
 
   on_fence : (o n : ℕ) → X.due ≡ Nothing → X.phase ≡ FenceDue o n → Goes ToFence (ends_by m me ToFence Nothing (FenceDue o n))
   on_fence o n due phase = on_the_way ToFence _ _ (fence_is_lawful s me _ o n r.sound inside (due, phase) refl) tt (about (FenceDue o n) passing phase refl)
@@ -285,6 +299,7 @@ module _ (m : MachineState) (me : ℕ) (r : IsRunning m) (there : me < length m.
       go : (d : Demand) → next_demand R.config ≡ d → Goes (kind_of_demand d) (record { protocol = step (kind_of_demand d) me m.protocol; runners = slice_set m.runners me (taken_up d R); script = m.script })
       go (demand.Read o) is = load o Read R.value is (subst (NamesObject (length m.script.objects)) is named)
       go (demand.Write o value) is = load o Write value is (subst (NamesObject (length m.script.objects)) is named)
+      go (demand.Bump o amount) is = load o Update amount is (subst (NamesObject (length m.script.objects)) is named)
       go demand.Safe is =
           runs_on ToGlance _ _ (glance_is_lawful s me _ r.sound inside (λ answer. let never : Nothing ≡ Answer = sym due ∙ answer in cc (never)) (subst (λ (q : Phase). IsTrue (is_safe_point q)) (sym phase) refl) refl)
           (record { config = after_demand R.config; value = R.value; end = R.end })
@@ -305,6 +320,7 @@ module _ (m : MachineState) (me : ℕ) (r : IsRunning m) (there : me < length m.
   on_phase (Want o mode (Some seen)) due phase = on_exchange o mode seen due phase
   on_phase (Pass o Read) due phase = on_read o due phase
   on_phase (Pass o Write) due phase = on_write o due phase
+  on_phase (Pass o Update) due phase = on_bump o due phase
   on_phase (FenceDue o n) due phase = on_fence o n due phase
   on_phase (Claimed o mode prior done asked) due phase = on_claim o mode prior done asked due phase
   on_phase (Sharing o None) due phase = on_draw o due phase

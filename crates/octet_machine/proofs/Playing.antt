@@ -30,7 +30,7 @@ turns_keep_script : (m : MachineState) (threads : List ℕ) → (after_turns m t
 turns_keep_script m [] = refl
 turns_keep_script m (thread ∷ threads) = turns_keep_script (after_turn m thread) threads ∙ turn_keeps_script m thread
 
--- after so many rounds, before each of which some thread had not ended
+-- after rounds before each of which some thread had not ended
 abbrev pub IsUnderway : MachineState → MachineState → Type 0
 IsUnderway before after = (rounds : ℕ) × (after ≡ after_rounds before rounds) × ((fewer : ℕ) → fewer < rounds → have_ended (after_rounds before fewer) ≡ false)
 

@@ -1,6 +1,8 @@
 -- What is done to the memory, piece by piece, is the step.
-use Rattle.std.proofs.Common.{◌≡◌, ℕ, zero, suc, ◌<◌, Bool, true, false, ◌==◌, if◌then◌else◌, IsFalse, bit_or, ◌^◌, List, [], ◌∷◌, length, get_or, slice_set, Option, Some, None, sym, ap, ◌∙◌, arith}
-use Rattle.octet_model.specs.declared.event.Event.TheVariants.{Read, Write, Marked}
+use Rattle.std.proofs.Common.{◌≡◌, ℕ, zero, suc, ◌<◌, Bool, true, false, ◌==◌, if◌then◌else◌, IsFalse, bit_or, ◌^◌, List, [], ◌∷◌, length, get_or, Option, Some, None, sym, ap, ◌∙◌, arith}
+use Rattle.octet_model.specs.Thread.{added}
+use Rattle.octet_model.specs.declared.event.Event.{Event}
+use Rattle.octet_model.specs.declared.event.Event.TheVariants.{Read, Write, Update, Marked}
 use Rattle.octet_model.specs.declared.event.Mark.TheVariants.{Join, Draw, Fence}
 use Rattle.octet_state.specs.declared.state_word.StateWord.{StateWord}
 use Rattle.octet_state.specs.declared.state_word.StateWord.TheVariants.{WrEx, RdEx, RdSh, ShInt}
@@ -18,10 +20,10 @@ use Rattle.octet_state.specs.Words.{packed_state, unpacked_state, packed_status,
 use Rattle.octet_state.specs.Table.{decided, is_changed_by}
 use Rattle.octet_state.specs.Asking.{answers}
 use Rattle.octet_state.specs.State.{Thread, ProtocolState, thread_of, status_of, state_of, cell_of, now}
-use Rattle.octet_state.specs.Steps.{ToGlance, ToAnswer, ToBlock, ToUnblock, ToAsk, ToLook, ToLoad, ToRead, ToWrite, ToClaim, ToSettle, ToDraw, ToFence, ToRaise, ToShare, step, told, moved, counted, target, mode_of, one_done, one_asked, wins, lost, claimed, claiming, owning, settling, passing, joined_by_share, loaded, shown, asked_by, with_status, with_state, exchanged, proceeded, state_in}
+use Rattle.octet_state.specs.Steps.{ToGlance, ToAnswer, ToBlock, ToUnblock, ToAsk, ToLook, ToLoad, ToRead, ToWrite, ToBump, ToClaim, ToSettle, ToDraw, ToFence, ToRaise, ToShare, step, told, moved, counted, target, mode_of, done_of, one_done, one_asked, wins, lost, claimed, claiming, owning, settling, passing, joined_by_share, loaded, shown, asked_by, with_cell, with_status, with_state, exchanged, proceeded, state_in}
 use Rattle.octet_state.proofs.lemmas.Packing.{state_in_back, status_back}
 use Rattle.octet_state.specs.NextStep.{waits, held_by, word_seen, changed}
-use Rattle.octet_machine.specs.Memory.{due_by, blocked_in, with_thread, with_event, HasFewDone, IsClaimOf}
+use Rattle.octet_machine.specs.Memory.{due_by, blocked_in, with_thread, with_event, IsClaimOf}
 
 pub fits_here : (s : ProtocolState) (object : ℕ) (state : StateWord) → state ≡ state_of s object → FitsStateWord (state_of s object) → FitsStateWord state
 fits_here s object state same fits = rw same fits
@@ -29,7 +31,7 @@ fits_here s object state same fits = rw same fits
 pub others_here : (s : ProtocolState) (object me : ℕ) (state : StateWord) → state ≡ state_of s object → IsFalse (is_changed_by (state_of s object) me) → IsFalse (is_changed_by state me)
 others_here s object me state same others = rw same others
 
-pub few_here : (s : ProtocolState) (me : ℕ) (x : Thread) → x ≡ thread_of s me → HasFewDone (thread_of s me).phase → HasFewDone x.phase
+pub few_here : (s : ProtocolState) (me : ℕ) (x : Thread) → x ≡ thread_of s me → done_of (thread_of s me).phase < 255 → done_of x.phase < 255
 few_here s me x same few = rw same few
 
 pub position_here : (s : ProtocolState) (whom : ℕ) (status : StatusWord) → status ≡ status_of s whom → FitsStatusWord (status_of s whom) → status.upto < 2 ^ 47
@@ -166,13 +168,27 @@ module _ (s : ProtocolState) (me : ℕ) where
   pub reads_told : (object value : ℕ) → X.phase ≡ Pass object mode.Read → value ≡ cell_of s object → value ≡ told ToRead me s
   reads_told object value phase is = is ∙ sym (ap (λ (p : Phase). cell_of s (target p)) phase)
 
-  abbrev write_ends : ℕ → Phase → ProtocolState
-  write_ends value p = proceeded (record s { cells = slice_set s.cells (target p) value }) me (moved Idle Nothing X) (Some (Write (target p) value))
+  -- another value is put into the cell, with the event of the access
+  module _ (value : ℕ → ℕ) (e : ℕ → Event) where
+    abbrev change_ends : Phase → ProtocolState
+    change_ends p = proceeded (with_cell s (target p) (value (target p))) me (moved Idle Nothing X) (Some (e (target p)))
+
+    changes : (s1 s2 : ProtocolState) (object : ℕ) (m : Mode) → X.phase ≡ Pass object m
+        → s1 ≡ with_event s me (e object) → s2 ≡ idles (with_cell s1 object (value object)) → s2 ≡ change_ends X.phase
+    changes s1 s2 object m phase makes moves =
+        moves ∙ ap (λ (z : ProtocolState). idles (with_cell z object (value object))) makes ∙ sym (ap change_ends phase)
 
   pub writes : (s1 s2 : ProtocolState) (object value : ℕ) → X.phase ≡ Pass object mode.Write
-      → s1 ≡ with_event s me (Write object value) → s2 ≡ idles (record s1 { cells = slice_set s1.cells object value }) → s2 ≡ step (ToWrite value) me s
-  writes s1 s2 object value phase makes moves =
-      moves ∙ ap (λ (z : ProtocolState). idles (record z { cells = slice_set z.cells object value })) makes ∙ sym (ap (write_ends value) phase)
+      → s1 ≡ with_event s me (Write object value) → s2 ≡ idles (with_cell s1 object value) → s2 ≡ step (ToWrite value) me s
+  writes s1 s2 object value = changes (λ o. value) (λ o. Write o value) s1 s2 object mode.Write
+
+  pub bumps : (s1 s2 : ProtocolState) (object amount before after : ℕ) → X.phase ≡ Pass object mode.Update → before ≡ cell_of s object → after ≡ added amount before
+      → s1 ≡ with_event s me (Update object before after) → s2 ≡ idles (with_cell s1 object after) → s2 ≡ step (ToBump amount) me s
+  bumps s1 s2 object amount before after phase is adds makes moves =
+      let sum : after ≡ added amount (cell_of s object) = adds ∙ ap (added amount) is in
+      changes (λ o. added amount (cell_of s o)) (λ o. Update o (cell_of s o) (added amount (cell_of s o))) s1 s2 object mode.Update phase
+      (makes ∙ ap (λ (b : ℕ). with_event s me (Update object b after)) is ∙ ap (λ (a : ℕ). with_event s me (Update object (cell_of s object) a)) sum)
+      (moves ∙ ap (λ (a : ℕ). idles (with_cell s1 object a)) sum)
 
   module _ (object : ℕ) (mode : Mode) (state : StateWord) (act : Act) (count : ℕ) (fits : FitsStateWord (state_of s object)) (is : state ≡ state_of s object) (acts : act ≡ decided state me mode count) (counts : count ≡ X.count) where
     state_there : state ≡ state_in (unpacked_state (packed_state (state_of s object)))

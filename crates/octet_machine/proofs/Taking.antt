@@ -138,12 +138,14 @@ then_asks me done next prior whom asked how is follows same =
 -- a run with another configuration, by the demand that it has told
 abbrev pub taken_with : Demand → ThreadState → Runner → Runner
 taken_with (demand.Write object value) config x = record { config = config; value = value; end = x.end }
+taken_with (demand.Bump object amount) config x = record { config = config; value = amount; end = x.end }
 taken_with (demand.Ended end) config x = record { config = config; value = x.value; end = Some end }
 taken_with _ config x = record { config = config; value = x.value; end = x.end }
 
 taken_is : (d : Demand) (x : Runner) → taken_with d (after_demand x.config) x ≡ taken_up d x
 taken_is (demand.Read object) x = refl
 taken_is (demand.Write object value) x = refl
+taken_is (demand.Bump object amount) x = refl
 taken_is demand.Safe x = refl
 taken_is demand.Pause x = refl
 taken_is (demand.Ended end) x = refl

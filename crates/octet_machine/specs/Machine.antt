@@ -10,7 +10,7 @@ use Rattle.octet_model.specs.Orders.{starting_heap}
 use Rattle.octet_interp.specs.declared.demand.Demand.{Demand}
 use Rattle.octet_interp.specs.declared.demand.Demand.TheVariants as demand
 use Rattle.octet_interp.specs.Demands.{ThreadState, starting_thread, next_demand, after_demand, given}
-use Rattle.octet_state.specs.declared.act.Mode.TheVariants.{Read, Write}
+use Rattle.octet_state.specs.declared.act.Mode.TheVariants.{Read, Write, Update}
 use Rattle.octet_state.specs.declared.phase.Phase.{Phase}
 use Rattle.octet_state.specs.declared.phase.Phase.TheVariants.{Idle, Pass}
 use Rattle.octet_state.specs.declared.phase.Due.{Due}
@@ -41,7 +41,7 @@ no_runner = starting_runner (record { commands = []; at = record { place = 0; re
 abbrev pub runner_of : MachineState → ℕ → Runner
 runner_of m thread = slice_index_or m.runners thread no_runner
 
--- the first so many threads of a script, each at its start
+-- the first `many` threads of a script, each at its start
 abbrev pub starting_runners : Script → ℕ → List Runner
 starting_runners script many = map (λ thread. starting_runner (starting_thread script thread)) (range_with_len 0 many)
 
@@ -57,6 +57,7 @@ opening_machine script = record {
 abbrev pub kind_of_demand : Demand → Kind
 kind_of_demand (demand.Read object) = ToLoad object Read
 kind_of_demand (demand.Write object value) = ToLoad object Write
+kind_of_demand (demand.Bump object amount) = ToLoad object Update
 kind_of_demand demand.Safe = ToGlance
 kind_of_demand demand.Pause = ToBlock false
 kind_of_demand (demand.Ended end) = ToBlock true
@@ -69,6 +70,7 @@ next_kind m me = let runner = runner_of m me in
 -- a thread that was told what its script demands next
 abbrev pub taken_up : Demand → Runner → Runner
 taken_up (demand.Write object value) runner = record { config = after_demand runner.config; value = value; end = runner.end }
+taken_up (demand.Bump object amount) runner = record { config = after_demand runner.config; value = amount; end = runner.end }
 taken_up (demand.Ended end) runner = record { config = after_demand runner.config; value = runner.value; end = Some end }
 taken_up _ runner = record { config = after_demand runner.config; value = runner.value; end = runner.end }
 
@@ -130,6 +132,7 @@ plain_state s = record { heap = s.cells; journals = s.journals; draws = s.counte
 abbrev pub is_access : Demand → Bool
 is_access (demand.Read object) = true
 is_access (demand.Write object value) = true
+is_access (demand.Bump object amount) = true
 is_access _ = false
 
 abbrev pub is_idle : Phase → Bool

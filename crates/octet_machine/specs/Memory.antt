@@ -71,11 +71,6 @@ with_event s me event = record s { journals = appended s.journals me event }
 abbrev pub HasRoom : Memory → ℕ → Type 0
 HasRoom m me = now (held [] m) me < get_or (shape m).rooms me 0
 
--- fewer are done than there may be threads
-abbrev pub HasFewDone : Phase → Type 0
-HasFewDone (Claimed object mode prior done asked) = done < 16
-HasFewDone _ = Unit {0}
-
 -- what is due after a glance that finds this status
 abbrev pub due_by : StatusWord → Due
 due_by status = if status.asked == 0 then Nothing else Answer

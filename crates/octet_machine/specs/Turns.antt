@@ -20,7 +20,7 @@ after_picks m picks = after_turns m (map (λ pick. pick % length m.runners) pick
 abbrev pub after_round : MachineState → MachineState
 after_round m = after_turns m (range_with_len 0 (length m.runners))
 
--- after so many rounds
+-- after a number of rounds
 abbrev pub after_rounds : MachineState → ℕ → MachineState
 after_rounds m zero = m
 after_rounds m (suc fewer) = after_round (after_rounds m fewer)

@@ -13,7 +13,7 @@ use octet_model::{OutOfMemory, Script};
 use octet_state::{Due, Phase, StateWord, StatusWord};
 use std::alloc::Global;
 
-// Empty journals, each with room for so many events.
+// An empty journal for each of `threads` threads, with room for `room` events.
 fn empty_journals(alloc: Global, threads: u8, room: usize) -> Result<Vec<Journal>, OutOfMemory>
     ensures items { IfOk result (λ journals. map (λ j. j.events.items) journals.items ≡ replicate threads []) }
     ensures rooms { IfOk result (λ journals. map (λ j. vec_capacity j.events) journals.items ≡ replicate threads room) }
@@ -26,7 +26,7 @@ fn empty_journals(alloc: Global, threads: u8, room: usize) -> Result<Vec<Journal
 }
 
 impl Memory {
-    /// Every thread off, with room for so many events each, and every object write-exclusive of
+    /// Every thread off, with room for `room` events each, and every object write-exclusive of
     /// thread 0.
     fn new(alloc: Global, threads: u8, room: usize, cells: Vec<u64>) -> Result<Memory, OutOfMemory>
         ensures state { IfOk result (λ m. held cells.items m ≡ opening threads cells.items) }

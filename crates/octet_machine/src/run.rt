@@ -14,7 +14,7 @@ use octet_state::{Act, Due, Mode, Phase, StateWord, Why, decide};
 #[derive(Debug, Drop)]
 pub(crate) struct Runner {
     pub(crate) config: Config,
-    /// What it is to write, while it wants to write.
+    /// What it is to write or to add, while it wants to write or to update.
     pub(crate) value: u64,
     /// How it ended, if it has.
     pub(crate) end: Option<End>,
@@ -32,7 +32,7 @@ fn is_access(demand: Demand) -> bool
     ensures { result ≡ is_access demand }
 {
     match demand {
-        Demand::Read { .. } | Demand::Write { .. } => true,
+        Demand::Read { .. } | Demand::Write { .. } | Demand::Bump { .. } => true,
         _ => false,
     }
 }
@@ -161,6 +161,10 @@ impl Run {
                 runner.value = value;
                 self.memory.load(me, object, Mode::Write)
             }
+            Demand::Bump { object, amount } => {
+                runner.value = amount;
+                self.memory.load(me, object, Mode::Update)
+            }
             Demand::Safe => {
                 self.memory.glance(me);
                 None
@@ -205,6 +209,10 @@ impl Run {
             Mode::Write => {
                 let value = self.runners[me as usize].value;
                 self.memory.write(me, object, value);
+            }
+            Mode::Update => {
+                let amount = self.runners[me as usize].value;
+                self.memory.bump(me, object, amount);
             }
         }
     }

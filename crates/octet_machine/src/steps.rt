@@ -10,9 +10,9 @@ ghost use Rattle.octet_state.specs.declared.why.Why.TheVariants.{Changed};
 ghost use Rattle.octet_state.specs.State.{Thread, thread_of, status_of, state_of, now};
 ghost use Rattle.octet_state.specs.Table.{is_changed_by};
 ghost use Rattle.octet_state.specs.Words.{packed_state, FitsStateWord, FitsStatusWord};
-ghost use Rattle.octet_state.specs.Steps.{ToGlance, ToAnswer, ToBlock, ToUnblock, ToAsk, ToLook, ToLoad, ToRead, ToWrite, ToClaim, ToSettle, ToDraw, ToFence, ToRaise, ToShare, claiming, owning, loaded, moved, number_of, one_done, one_asked, shown, with_status, told};
+ghost use Rattle.octet_state.specs.Steps.{ToGlance, ToAnswer, ToBlock, ToUnblock, ToAsk, ToLook, ToLoad, ToRead, ToWrite, ToBump, ToClaim, ToSettle, ToDraw, ToFence, ToRaise, ToShare, claiming, owning, loaded, moved, done_of, shown, with_status, told};
 ghost use Rattle.octet_state.specs.NextStep.{held_by};
-ghost use Rattle.octet_machine.specs.Memory.{blocked_in, due_by, held, shape, thread_here, waits_here, with_thread, with_event, IsClaimOf, IsThread, IsObject, HasRoom, HasFewDone, TakesStep};
+ghost use Rattle.octet_machine.specs.Memory.{blocked_in, due_by, held, shape, thread_here, waits_here, with_thread, with_event, IsClaimOf, IsThread, IsObject, HasRoom, TakesStep};
 
 use crate::memory::{Memory, ProtocolThread};
 use octet_model::{Event, Mark};
@@ -50,11 +50,11 @@ fn claiming(me: u8, mode: Mode) -> StateWord
 {
     match mode {
         Mode::Read => StateWord::RdInt { by: me },
-        Mode::Write => StateWord::WrInt { by: me },
+        Mode::Write | Mode::Update => StateWord::WrInt { by: me },
     }
 }
 
-// The state of an object that a thread has taken after so many events.
+// The state of an object that a thread has taken after its first `events` events.
 fn owning(me: u8, events: u64, mode: Mode) -> StateWord
     ensures { result ≡ owning me events mode }
 {
@@ -63,62 +63,7 @@ fn owning(me: u8, events: u64, mode: Mode) -> StateWord
             owner: me,
             upto: events,
         },
-        Mode::Write => StateWord::WrEx { owner: me },
-    }
-}
-
-// A phase with one more thread done.
-fn one_done(phase: Phase) -> Phase
-    requires { HasFewDone phase }
-    ensures { result ≡ one_done phase }
-{
-    match phase {
-        Phase::Claimed {
-            object,
-            mode,
-            prior,
-            done,
-            ..
-        } => Phase::Claimed {
-            object,
-            mode,
-            prior,
-            done: done + 1,
-            asked: false,
-        },
-        _ => phase,
-    }
-}
-
-// A phase with the next thread asked.
-fn one_asked(phase: Phase) -> Phase
-    ensures { result ≡ one_asked phase }
-{
-    match phase {
-        Phase::Claimed {
-            object,
-            mode,
-            prior,
-            done,
-            ..
-        } => Phase::Claimed {
-            object,
-            mode,
-            prior,
-            done,
-            asked: true,
-        },
-        _ => phase,
-    }
-}
-
-// The number of a read-shared state.
-fn number_of(state: StateWord) -> u64
-    ensures { result ≡ number_of state }
-{
-    match state {
-        StateWord::RdSh { number } => number,
-        _ => 0,
+        Mode::Write | Mode::Update => StateWord::WrEx { owner: me },
     }
 }
 
@@ -129,7 +74,7 @@ fn loaded(act: Act, object: u16, mode: Mode, state: StateWord) -> (Phase, Due)
     match act {
         Act::Pass => (Phase::Pass { object, mode }, Due::Nothing),
         Act::Fence => {
-            let number = number_of(state);
+            let number = state.number();
             (Phase::FenceDue { object, number }, Due::Nothing)
         }
         Act::Held { .. } => {
@@ -232,7 +177,7 @@ impl Memory {
         requires whom { IsThread (shape self.old) whom }
         requires room { HasRoom self.old me }
         requires fits { FitsStatusWord (status_of (held [] self.old) whom) }
-        requires few { HasFewDone (thread_here self.old me).phase }
+        requires few { done_of (thread_here self.old me).phase < 255 }
         ensures step { TakesStep (ToAsk whom) me self.old self.new }
         ensures shape { shape self.new ≡ shape self.old }
         ensures waits { result ≡ waits_here (ToAsk whom) me self.old }
@@ -246,11 +191,11 @@ impl Memory {
         if status.blocked {
             self.join(me, whom, status.upto);
             self.set_status(whom, asked);
-            self.move_to(me, one_done(phase), Due::Nothing);
+            self.move_to(me, phase.one_done(), Due::Nothing);
             return None;
         }
         self.set_status(whom, asked);
-        self.move_to(me, one_asked(phase), Due::Glance);
+        self.move_to(me, phase.one_asked(), Due::Glance);
         Some(Why::Unanswered {
             by: whom,
             word: asked.pack(),
@@ -263,7 +208,7 @@ impl Memory {
         requires whom { IsThread (shape self.old) whom }
         requires room { HasRoom self.old me }
         requires fits { FitsStatusWord (status_of (held [] self.old) whom) }
-        requires few { HasFewDone (thread_here self.old me).phase }
+        requires few { done_of (thread_here self.old me).phase < 255 }
         ensures step { TakesStep (ToLook whom) me self.old self.new }
         ensures shape { shape self.new ≡ shape self.old }
         ensures waits { result ≡ waits_here (ToLook whom) me self.old }
@@ -272,7 +217,7 @@ impl Memory {
         let phase = self.thread(me).phase;
         if status.answers(me) {
             self.join(me, whom, status.upto);
-            self.move_to(me, one_done(phase), Due::Nothing);
+            self.move_to(me, phase.one_done(), Due::Nothing);
             return None;
         }
         self.move_to(me, phase, Due::Glance);
@@ -328,6 +273,27 @@ impl Memory {
     {
         self.append(me, Event::Write { object, value });
         self.cells[object as usize] = value;
+        self.move_to(me, Phase::Idle, Due::Nothing);
+    }
+
+    /// Adds to the cell that the thread may update.
+    pub(crate) fn bump(&mut self, me: u8, object: u16, amount: u64)
+        requires thread { IsThread (shape self.old) me }
+        requires object { IsObject (shape self.old) object }
+        requires room { HasRoom self.old me }
+        requires phase { (thread_here self.old me).phase ≡ Pass object Mode.Update }
+        ensures step { TakesStep (ToBump amount) me self.old self.new }
+        ensures shape { shape self.new ≡ shape self.old }
+    {
+        let before = self.cells[object as usize];
+        let after = before.wrapping_add(amount);
+        let update = Event::Update {
+            object,
+            before,
+            after,
+        };
+        self.append(me, update);
+        self.cells[object as usize] = after;
         self.move_to(me, Phase::Idle, Due::Nothing);
     }
 
@@ -404,8 +370,8 @@ impl Memory {
         None
     }
 
-    /// Begins to make read-shared an object that was read-exclusive of a thread, since its first
-    /// so many events.
+    /// Begins to make read-shared an object that was read-exclusive of `owner`, since its first
+    /// `upto` events.
     pub(crate) fn share(
         &mut self,
         me: u8,

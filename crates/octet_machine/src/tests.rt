@@ -4,7 +4,9 @@ ghost use Rattle.std.specs.List.{list_all};
 ghost use Rattle.octet_model.specs.Script.{is_thread};
 
 use crate::{Machine, Turned, play};
-use octet_model::{Command, Gapped, List, Mark, Name, Object, OutOfMemory, Script, outcome_text};
+use octet_model::{
+    Command, Gapped, List, Mark, Name, Object, OutOfMemory, Script, outcome_text, push_number,
+};
 use octet_state::Why;
 use std::alloc::Global;
 use std::sync::Wait;
@@ -53,9 +55,7 @@ fn three_threads(
 ) -> Result<List<List<Command>>, OutOfMemory>
     ensures { IfOk result (λ threads. threads ≡ first.now ∷ second.now ∷ third.now ∷ []) }
 {
-    let mut threads = List::new(alloc);
-    threads.push(List::from_vec(Vec::from_slice(alloc, first)?))?;
-    threads.push(List::from_vec(Vec::from_slice(alloc, second)?))?;
+    let mut threads = two_threads(alloc, first, second)?;
     threads.push(List::from_vec(Vec::from_slice(alloc, third)?))?;
     Ok(threads)
 }
@@ -155,33 +155,78 @@ fn races(alloc: Global) -> Result<Script, OutOfMemory> {
     Ok(script_with_x(one_object(alloc, 0)?, threads))
 }
 
+// Thread 0 adds 2 to x twice, and thread 1 adds 3.
+fn bumps(alloc: Global) -> Result<Script, OutOfMemory> {
+    let bump_twice = [
+        Command::Set { to: 0, number: 2 },
+        Command::Bump { object: 0, from: 0 },
+        Command::Bump { object: 0, from: 0 },
+    ];
+    let bump_once = [
+        Command::Set { to: 0, number: 3 },
+        Command::Bump { object: 0, from: 0 },
+    ];
+    let threads = two_threads(alloc, &bump_twice, &bump_once)?;
+    Ok(script_with_x(one_object(alloc, 5)?, threads))
+}
+
+// A script that is run.
+#[derive(Clone, Copy)]
+enum Case {
+    WritesAndReads,
+    Shares,
+    Crosses,
+    Pauses,
+    Races,
+    Bumps,
+}
+
+fn script_of(alloc: Global, case: Case) -> Result<Script, OutOfMemory> {
+    match case {
+        Case::WritesAndReads => writes_and_reads(alloc),
+        Case::Shares => shares(alloc),
+        Case::Crosses => crosses(alloc),
+        Case::Pauses => pauses(alloc),
+        Case::Races => races(alloc),
+        Case::Bumps => bumps(alloc),
+    }
+}
+
+fn push_word(text: &mut Vec<u8>, word: &str, number: u64) -> Result<(), OutOfMemory> {
+    text.extend_from_slice(word.as_bytes())?;
+    push_number(text, number)
+}
+
 // The marks of a thread, each with its gap.
-fn push_marks(alloc: Global, text: &mut Vec<u8>, marks: &[Gapped]) -> Result<(), OutOfMemory> {
+fn push_marks(text: &mut Vec<u8>, marks: &[Gapped]) -> Result<(), OutOfMemory> {
     for gapped in marks {
-        let gap = gapped.gap;
-        let mark = match gapped.mark {
-            Mark::Join { from, upto } => format!(in alloc; " [{gap} join {from} {upto}]")?,
-            Mark::Draw { number } => format!(in alloc; " [{gap} draw {number}]")?,
-            Mark::Fence { number } => format!(in alloc; " [{gap} fence {number}]")?,
-        };
-        text.extend_from_slice(mark.as_bytes())?;
+        push_word(text, " [", gapped.gap as u64)?;
+        match gapped.mark {
+            Mark::Join { from, upto } => {
+                push_word(text, " join ", from as u64)?;
+                push_word(text, " ", upto)?;
+            }
+            Mark::Draw { number } => push_word(text, " draw ", number)?,
+            Mark::Fence { number } => push_word(text, " fence ", number)?,
+        }
+        text.extend_from_slice(b"]")?;
     }
     Ok(())
 }
 
-// A line for each thread with its accesses and its marks, and then the outcome.
+// A line for each thread with its accesses and its marks, and then the outcome. Each pick is a
+// digit, whose code modulo 2 or 3 is the thread of that number.
 fn played_text<R: Wait>(
     rt: &R,
     alloc: Global,
     script: &Script,
-    picks: &[u8],
+    picks: &str,
 ) -> Result<Vec<u8>, OutOfMemory> {
-    let recorded = play(rt, alloc, script, picks)?;
+    let recorded = play(rt, alloc, script, picks.as_bytes())?;
     let mut text = Vec::new(alloc);
     for thread in recorded.log.threads.as_slice() {
-        let accesses = format!(in alloc; "{}", thread.accesses)?;
-        text.extend_from_slice(accesses.as_bytes())?;
-        push_marks(alloc, &mut text, thread.marks.as_slice())?;
+        push_number(&mut text, thread.accesses as u64)?;
+        push_marks(&mut text, thread.marks.as_slice())?;
         text.extend_from_slice(b"\n")?;
     }
     let outcome = outcome_text(alloc, script, &recorded.outcome)?;
@@ -192,52 +237,67 @@ fn played_text<R: Wait>(
 #[test]
 fn runs_by_picks_and_then_by_rounds(rt: HostRuntime) -> Result<(), Fail> {
     let alloc = rt.alloc();
-    for (script, picks, expected) in [
+    for (case, picks, expected) in [
         (
-            writes_and_reads(alloc)?,
-            [0, 0, 0, 0].as_slice(),
+            Case::WritesAndReads,
+            "0000",
             "1\n1 [0 join 0 1]\nthread 0 done\nthread 1 done 7\nobject x 7\n",
         ),
         (
-            writes_and_reads(alloc)?,
-            [1, 1, 1, 1, 1, 1, 1].as_slice(),
+            Case::WritesAndReads,
+            "1111111",
             "1 [0 join 1 2]\n1 [0 join 0 0]\nthread 0 done\nthread 1 done 5\nobject x 7\n",
         ),
         (
-            shares(alloc)?,
-            [1, 1, 1, 1, 1, 1, 2, 2, 2, 2, 2, 2, 2].as_slice(),
+            Case::Shares,
+            "1111112222222",
             "0\n2 [0 join 0 0] [1 fence 1]\n1 [0 join 1 1] [0 draw 1]\nthread 0 done\nthread 1 done 9 9\nthread 2 done 9\nobject x 9\n",
         ),
         (
-            crosses(alloc)?,
-            [1, 1, 1, 1, 1, 1, 0, 0, 1, 0, 1, 0, 1, 0, 0, 1, 1, 0, 1].as_slice(),
+            Case::Crosses,
+            "1111110010101001101",
             "1 [0 join 1 2]\n2 [0 join 0 0] [1 join 0 0]\nthread 0 done\nthread 1 done\nobject x 2\nobject y 1\n",
         ),
         (
-            pauses(alloc)?,
-            [0, 0, 0, 0, 1, 1, 1, 1, 1, 1, 0, 0, 0, 0, 1, 0, 0].as_slice(),
+            Case::Pauses,
+            "00001111110000100",
             "2 [1 join 1 2]\n1 [0 join 0 1]\nthread 0 done\nthread 1 done\nobject x 1\n",
         ),
         (
-            races(alloc)?,
-            [1, 2, 1, 2, 1, 2, 1, 1, 1, 1].as_slice(),
+            Case::Races,
+            "1212121111",
             "0\n1 [0 join 0 0]\n1 [0 join 1 2]\nthread 0 done\nthread 1 done\nthread 2 done\nobject x 2\n",
         ),
+        (
+            Case::Bumps,
+            "000000",
+            "2\n1 [0 join 0 2]\nthread 0 done\nthread 1 done\nobject x 12\n",
+        ),
+        (
+            Case::Bumps,
+            "00011110001111",
+            "2 [1 join 1 2]\n1 [0 join 0 1]\nthread 0 done\nthread 1 done\nobject x 12\n",
+        ),
     ] {
+        let script = script_of(alloc, case)?;
         let text = played_text(&rt, alloc, &script, picks)?;
         assert_eq!(rt; text.as_slice(), expected.as_bytes());
     }
     Ok(())
 }
 
-// What the last of these turns comes to.
-fn last_of_turns(alloc: Global, script: &Script, picks: &[u8]) -> Result<Turned, OutOfMemory> {
+// The machine after turns by these picks, and what the last of them came to.
+fn after_turns(
+    alloc: Global,
+    script: &Script,
+    picks: &str,
+) -> Result<(Machine, Turned), OutOfMemory> {
     let mut machine = Machine::new(alloc, script)?;
     let mut last = Turned::Moved;
-    for pick in picks {
+    for pick in picks.as_bytes() {
         last = machine.turn(pick % machine.threads());
     }
-    Ok(last)
+    Ok((machine, last))
 }
 
 #[test]
@@ -252,39 +312,17 @@ fn words_show_why_a_thread_waits(rt: HostRuntime) -> Result<(), Fail> {
         found: 0x6100_0000_0000_0000,
     };
     let asked = Why::Unanswered { by: 0, word: 2 };
-    for (script, picks, turned) in [
-        (
-            races(alloc)?,
-            [1, 2, 1, 1, 2].as_slice(),
-            Turned::Waits { why: held },
-        ),
-        (
-            races(alloc)?,
-            [1, 2, 1, 2, 1, 2].as_slice(),
-            Turned::Waits { why: changed },
-        ),
-        (
-            crosses(alloc)?,
-            [0, 1, 1, 1, 1].as_slice(),
-            Turned::Waits { why: asked },
-        ),
-        (
-            crosses(alloc)?,
-            [0, 1, 1, 1, 1, 1, 1].as_slice(),
-            Turned::Waits { why: asked },
-        ),
-        (
-            writes_and_reads(alloc)?,
-            [0, 0, 0, 0].as_slice(),
-            Turned::Moved,
-        ),
-        (
-            writes_and_reads(alloc)?,
-            [0, 0, 0, 0, 0].as_slice(),
-            Turned::Ended,
-        ),
+    for (case, picks, turned) in [
+        (Case::Races, "12112", Turned::Waits { why: held }),
+        (Case::Races, "121212", Turned::Waits { why: changed }),
+        (Case::Crosses, "01111", Turned::Waits { why: asked }),
+        (Case::Crosses, "0111111", Turned::Waits { why: asked }),
+        (Case::WritesAndReads, "0000", Turned::Moved),
+        (Case::WritesAndReads, "00000", Turned::Ended),
     ] {
-        assert_eq!(rt; last_of_turns(alloc, &script, picks)?, turned);
+        let script = script_of(alloc, case)?;
+        let (_, last) = after_turns(alloc, &script, picks)?;
+        assert_eq!(rt; last, turned);
     }
     Ok(())
 }
@@ -292,19 +330,27 @@ fn words_show_why_a_thread_waits(rt: HostRuntime) -> Result<(), Fail> {
 #[test]
 fn tells_what_a_thread_wants(rt: HostRuntime) -> Result<(), Fail> {
     let alloc = rt.alloc();
+    for (picks, wanted) in [
+        ("", None),
+        ("1", Some(0)),
+        ("11", None),
+        ("111111", Some(1)),
+        ("11111111111", None),
+    ] {
+        let script = crosses(alloc)?;
+        let (machine, _) = after_turns(alloc, &script, picks)?;
+        let last = machine.threads() - 1;
+        assert_eq!(rt; machine.wants(last), wanted);
+    }
+    Ok(())
+}
+
+#[test]
+fn knows_its_script(rt: HostRuntime) -> Result<(), Fail> {
+    let alloc = rt.alloc();
     let script = pauses(alloc)?;
-    let mut machine = Machine::new(alloc, &script)?;
+    let machine = Machine::new(alloc, &script)?;
     assert!(rt; machine.is_of(&script));
     assert!(rt; !machine.is_of(&races(alloc)?));
-    assert_eq!(rt; machine.wants(0), None);
-    machine.turn(0);
-    assert_eq!(rt; machine.wants(0), Some(0));
-    machine.turn(0);
-    assert_eq!(rt; machine.wants(0), None);
-    machine.turn(0);
-    assert_eq!(rt; machine.wants(0), None);
-    machine.turn(0);
-    machine.turn(0);
-    assert_eq!(rt; machine.wants(0), Some(1));
     Ok(())
 }

@@ -12,7 +12,7 @@ use Rattle.octet_state.specs.declared.state_word.StateWord.{StateWord}
 use Rattle.octet_state.specs.declared.state_word.StateWord.TheVariants.{WrEx, RdEx, RdSh, WrInt, RdInt, ShInt}
 use Rattle.octet_state.specs.declared.status_word.StatusWord.{StatusWord}
 use Rattle.octet_state.specs.declared.act.Mode.{Mode}
-use Rattle.octet_state.specs.declared.act.Mode.TheVariants.{Read, Write}
+use Rattle.octet_state.specs.declared.act.Mode.TheVariants.{Read}
 use Rattle.octet_state.specs.declared.act.Whom.{Whom}
 use Rattle.octet_state.specs.declared.act.Whom.TheVariants.{One, All}
 use Rattle.octet_state.specs.declared.phase.Phase.{Phase}
@@ -196,12 +196,12 @@ module _ (s : ProtocolState) (t object : ℕ) (mode : Mode) (prior : StateWord) 
   hands_on (ShInt by) same h = h
 
   elsewhere : (m : Mode) (a : Bool) (o : ℕ) → o ≢ object → change_by (Claimed object m prior done a) t o ≡ None
-  elsewhere Write a o differ = ap (λ (b : Bool). if b then Some (WrInt t) else None) (ne_eqb object o (λ same. differ (sym same)))
   elsewhere Read a o differ = ap (λ (b : Bool). if b then Some (RdInt t) else None) (ne_eqb object o (λ same. differ (sym same)))
+  elsewhere _ a o differ = ap (λ (b : Bool). if b then Some (WrInt t) else None) (ne_eqb object o (λ same. differ (sym same)))
 
   same_change : (m : Mode) → change_by (Claimed object m prior done false) t object ≡ change_by (Claimed object m prior done true) t object
-  same_change Write = refl
   same_change Read = refl
+  same_change _ = refl
 
   well : ChangesWell s t object (state_of s object) waiting
   well = record {

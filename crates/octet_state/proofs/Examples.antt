@@ -5,9 +5,9 @@ use Rattle.octet_model.specs.declared.event.Event.TheVariants as event
 use Rattle.octet_model.specs.Machine.{Journals}
 use Rattle.octet_state.specs.declared.state_word.StateWord.{StateWord}
 use Rattle.octet_state.specs.declared.state_word.StateWord.TheVariants.{WrEx, RdEx, RdSh}
-use Rattle.octet_state.specs.declared.act.Mode.TheVariants.{Read, Write}
+use Rattle.octet_state.specs.declared.act.Mode.TheVariants.{Read, Write, Update}
 use Rattle.octet_state.specs.State.{ProtocolState, opening}
-use Rattle.octet_state.specs.Steps.{Kind, ToGlance, ToAnswer, ToBlock, ToUnblock, ToAsk, ToLook, ToLoad, ToRead, ToWrite, ToClaim, ToSettle, ToDraw, ToFence, ToShare, ThreadStep, after_run}
+use Rattle.octet_state.specs.Steps.{Kind, ToGlance, ToAnswer, ToBlock, ToUnblock, ToAsk, ToLook, ToLoad, ToRead, ToWrite, ToBump, ToClaim, ToSettle, ToDraw, ToFence, ToShare, ThreadStep, after_run}
 
 abbrev by : ℕ → Kind → ThreadStep
 by thread kind = record { thread = thread; kind = kind }
@@ -36,6 +36,15 @@ share_with_draw_and_fence : Leaves
     ([] ∷ (event.Marked (Join 0 0) ∷ event.Read 0 9 ∷ event.Marked (Fence 1) ∷ event.Read 0 9 ∷ []) ∷ (event.Marked (Join 1 1) ∷ event.Marked (Draw 1) ∷ event.Read 0 9 ∷ []) ∷ [])
     (RdSh 1 ∷ []) (9 ∷ [])
 share_with_draw_and_fence = record { in_journals = refl; in_states = refl; in_cells = refl }
+
+-- thread 0 adds 2 twice and ends; thread 1 takes the object from it, after its two events, and adds 3
+three_bumps : Leaves
+    (after_run (opening 2 (5 ∷ [])) (
+    by 0 ToUnblock ∷ by 0 (ToLoad 0 Update) ∷ by 0 (ToBump 2) ∷ by 0 (ToLoad 0 Update) ∷ by 0 (ToBump 2) ∷ by 0 (ToBlock true)
+    ∷ by 1 ToUnblock ∷ by 1 (ToLoad 0 Update) ∷ by 1 ToClaim ∷ by 1 (ToAsk 0) ∷ by 1 ToSettle ∷ by 1 (ToBump 3) ∷ by 1 (ToBlock true) ∷ []))
+    ((event.Update 0 5 7 ∷ event.Update 0 7 9 ∷ []) ∷ (event.Marked (Join 0 2) ∷ event.Update 0 9 12 ∷ []) ∷ [])
+    (WrEx 1 ∷ []) (12 ∷ [])
+three_bumps = record { in_journals = refl; in_states = refl; in_cells = refl }
 
 -- thread 1 has taken object 1; then each wants what the other has, has asked it, and answers while it waits
 explicit_handovers : Leaves

@@ -3,7 +3,7 @@ use Rattle.std.proofs.Common.{ℕ, ◌<◌, ◌^◌, inl, inr, true, false, [], 
 use Rattle.octet_state.specs.Words.{packed_state, packed_status}
 use Rattle.octet_state.specs.State.{ProtocolState, now, counter_place, status_place, state_place, cell_place}
 use Rattle.octet_state.specs.declared.state_word.StateWord.TheVariants.{WrEx, RdSh, ShInt}
-use Rattle.octet_state.specs.Steps.{Kind, ToGlance, ToAnswer, ToBlock, ToUnblock, ToAsk, ToLook, ToLoad, ToRead, ToWrite, ToClaim, ToSettle, ToDraw, ToFence, ToRaise, ToShare, May, step, shown, claiming, owning}
+use Rattle.octet_state.specs.Steps.{Kind, ToGlance, ToAnswer, ToBlock, ToUnblock, ToAsk, ToLook, ToLoad, ToRead, ToWrite, ToBump, ToClaim, ToSettle, ToDraw, ToFence, ToRaise, ToShare, May, step, shown, claiming, owning}
 use Rattle.octet_state.specs.Soundness.{IsSound}
 use Rattle.octet_state.specs.Laws.{RunIsSound}
 use Rattle.octet_state.proofs.Glancing.{glance_is_lawful}
@@ -11,7 +11,7 @@ use Rattle.octet_state.proofs.Swapping.{answer_is_lawful, block_is_lawful, unblo
 use Rattle.octet_state.proofs.Asking.{ask_is_lawful}
 use Rattle.octet_state.proofs.Looking.{look_is_lawful}
 use Rattle.octet_state.proofs.Loading.{load_is_lawful}
-use Rattle.octet_state.proofs.ReadsAndWrites.{read_is_lawful, write_is_lawful}
+use Rattle.octet_state.proofs.ReadsAndWrites.{read_is_lawful, write_is_lawful, bump_is_lawful}
 use Rattle.octet_state.proofs.Claiming.{claim_is_lawful}
 use Rattle.octet_state.proofs.Settling.{settle_of_claim_is_lawful}
 use Rattle.octet_state.proofs.SharesSettled.{settle_of_share_is_lawful}
@@ -34,6 +34,7 @@ step_is_sound (ToLoad object mode) t s sound inside (due, there, inl (idle, few)
 step_is_sound (ToLoad object mode) t s sound inside (due, there, inr (seen, wants)) = (load_is_lawful s t (state_place s object) object mode sound inside there (inr (seen, (due, wants))) refl).sound
 step_is_sound ToRead t s sound inside (due, (object, is)) = (read_is_lawful s t (cell_place s object) object sound inside (due, is) refl).sound
 step_is_sound (ToWrite value) t s sound inside (due, (object, is)) = (write_is_lawful s t (cell_place s object) object value sound inside (due, is) refl).sound
+step_is_sound (ToBump amount) t s sound inside (due, (object, is)) = (bump_is_lawful s t (cell_place s object) object amount sound inside (due, is) refl).sound
 step_is_sound ToClaim t s sound inside (due, (object, mode, seen, whom, is, takes)) =
     (claim_is_lawful s t (state_place s object) (packed_state seen) (packed_state (claiming t mode)) object mode seen whom sound inside (due, is) takes refl refl refl).sound
 step_is_sound ToSettle t s sound inside (due, inl (object, mode, prior, asked, is)) =

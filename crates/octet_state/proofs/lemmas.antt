@@ -2,4 +2,5 @@ pub mod Packing
 pub mod Places
 pub mod Accesses
 pub mod Widths
+pub mod ValidLogs
 pub mod Laws

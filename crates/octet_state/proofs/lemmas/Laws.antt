@@ -1,11 +1,11 @@
 -- The laws of the protocol, which the crates above cite.
-use Rattle.octet_state.specs.Laws.{GlanceIsLawful, AnswerIsLawful, BlockIsLawful, UnblockIsLawful, AskIsLawful, LookIsLawful, LoadIsLawful, ReadIsLawful, WriteIsLawful, ClaimIsLawful, SettleOfClaimIsLawful, SettleOfShareIsLawful, DrawIsLawful, FenceIsLawful, RaiseIsLawful, ShareIsLawful, OpeningIsSound, RunIsSound, RejoiningIsSound, JournalsAreShort, CounterIsSmall, WordsFit, OffIsFrugal}
+use Rattle.octet_state.specs.Laws.{GlanceIsLawful, AnswerIsLawful, BlockIsLawful, UnblockIsLawful, AskIsLawful, LookIsLawful, LoadIsLawful, ReadIsLawful, WriteIsLawful, BumpIsLawful, ClaimIsLawful, SettleOfClaimIsLawful, SettleOfShareIsLawful, DrawIsLawful, FenceIsLawful, RaiseIsLawful, ShareIsLawful, OpeningIsSound, RunIsSound, RejoiningIsSound, JournalsAreShort, CounterIsSmall, WordsFit, OffIsFrugal}
 use Rattle.octet_state.proofs.Glancing.{glance_is_lawful as glance_proved}
 use Rattle.octet_state.proofs.Swapping.{answer_is_lawful as answer_proved, block_is_lawful as block_proved, unblock_is_lawful as unblock_proved, rejoining_is_sound as rejoining_proved}
 use Rattle.octet_state.proofs.Asking.{ask_is_lawful as ask_proved}
 use Rattle.octet_state.proofs.Looking.{look_is_lawful as look_proved}
 use Rattle.octet_state.proofs.Loading.{load_is_lawful as load_proved}
-use Rattle.octet_state.proofs.ReadsAndWrites.{read_is_lawful as read_proved, write_is_lawful as write_proved}
+use Rattle.octet_state.proofs.ReadsAndWrites.{read_is_lawful as read_proved, write_is_lawful as write_proved, bump_is_lawful as bump_proved}
 use Rattle.octet_state.proofs.Claiming.{claim_is_lawful as claim_proved}
 use Rattle.octet_state.proofs.Settling.{settle_of_claim_is_lawful as settle_of_claim_proved}
 use Rattle.octet_state.proofs.SharesSettled.{settle_of_share_is_lawful as settle_of_share_proved}
@@ -45,6 +45,9 @@ read_is_lawful = read_proved
 
 pub write_is_lawful : WriteIsLawful
 write_is_lawful = write_proved
+
+pub bump_is_lawful : BumpIsLawful
+bump_is_lawful = bump_proved
 
 pub claim_is_lawful : ClaimIsLawful
 claim_is_lawful = claim_proved
