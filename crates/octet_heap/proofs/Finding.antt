@@ -1,14 +1,14 @@
 -- What a poll has found is why it is pending.
 use Rattle.std.proofs.Common.{◌≡◌, ◌≢◌, ◌∙◌, ℕ, ◌⊎◌, inl, inr, ⊎_elim, Bool, true, false, List, [], ◌∷◌, ◌++◌, length, drop, Option, Some, None, IsTrue, sym, refl, ap, subst, append_assoc, append-nil}
-use Rattle.std.specs.Prelude.{IsFalse, ◌==◌, ◌||◌, not, nat_le, if◌then◌else◌}
+use Rattle.std.specs.Prelude.{◌==◌, ◌||◌, not, nat_le, if◌then◌else◌}
 use Rattle.std.proofs.lemmas.Bool.{eqb-true, eq-eqb, ne_eqb}
 use Rattle.octet_state.specs.declared.act.Whom.TheVariants.{One}
 use Rattle.octet_state.specs.declared.act.Act.{Act}
 use Rattle.octet_state.specs.declared.act.Act.TheVariants as act
 use Rattle.octet_state.specs.declared.act.Mode.{Mode}
-use Rattle.octet_state.specs.declared.act.Mode.TheVariants.{Read, Write}
+use Rattle.octet_state.specs.declared.act.Mode.TheVariants.{Read, Write, Update}
 use Rattle.octet_state.specs.declared.phase.Phase.{Phase}
-use Rattle.octet_state.specs.declared.phase.Phase.TheVariants.{Off, Idle, Want, Pass, FenceDue, Claimed, Sharing, Blocked}
+use Rattle.octet_state.specs.declared.phase.Phase.TheVariants.{Off, Want, Pass, Claimed, Sharing, Blocked}
 use Rattle.octet_state.specs.declared.phase.Due.{Due}
 use Rattle.octet_state.specs.declared.phase.Due.TheVariants.{Nothing, Glance, Answer}
 use Rattle.octet_state.specs.declared.state_word.StateWord.{StateWord}
@@ -19,15 +19,15 @@ use Rattle.octet_state.specs.Words.{packed_state, packed_status, unpacked_state,
 use Rattle.octet_state.specs.Table.{decided, is_changed_by}
 use Rattle.octet_state.specs.Asking.{answers, has_bit, whom_to_ask, number_to_ask, next_to_ask}
 use Rattle.octet_state.specs.State.{Thread}
-use Rattle.octet_state.specs.Steps.{Kind, ToGlance, ToAnswer, ToBlock, ToUnblock, ToAsk, ToLook, ToLoad, ToRead, ToWrite, ToClaim, ToSettle, ToDraw, ToFence, ToRaise, ToShare, after, moved, loaded, state_in, claimed, lost, passing, target, wins, one_done, one_asked, asked_by}
+use Rattle.octet_state.specs.Steps.{Kind, ToGlance, ToAnswer, ToBlock, ToUnblock, ToAsk, ToLook, ToLoad, ToRead, ToWrite, ToBump, ToClaim, ToSettle, ToDraw, ToFence, ToRaise, ToShare, after, moved, loaded, state_in, claimed, lost, passing, target, wins, one_done, one_asked, asked_by}
 use Rattle.octet_state.specs.NextStep.{kind_by_due, kind_in_phase, pursuit_of, waits, held_by, changed, word_seen}
 use Rattle.octet_rule.specs.Views.{SeatView, Taken, stepped_by}
 use Rattle.octet_rule.specs.Rule.{Steps}
 use Rattle.octet_rule.proofs.Known.{state_found, is_not_mine}
 use Rattle.octet_heap.specs.declared.wish.Wish.{Wish}
 use Rattle.octet_heap.specs.declared.poll.Poll.{Poll}
-use Rattle.octet_heap.specs.declared.poll.Poll.TheVariants.{Ready, Pending}
-use Rattle.octet_heap.specs.Polls.{next_step, answer_by, answer_to, after_steps, IsNext, GoesBy, PaysBy}
+use Rattle.octet_heap.specs.declared.poll.Poll.TheVariants.{Pending}
+use Rattle.octet_heap.specs.Polls.{answer_by, answer_to, after_steps, IsNext, GoesBy, PaysBy}
 use Rattle.octet_heap.specs.Waiting.{HasBegun}
 use Rattle.octet_heap.specs.Standing.{IsAbout}
 use Rattle.octet_heap.specs.Workers.{IsPoll}
@@ -61,21 +61,10 @@ held_at (why.Unanswered by word) = (by, word)
 
 waits_so : (o : Option Why) (k : Kind) (word : ℕ) (why : Why) → answer_by o k word ≡ Some (Pending why) → o ≡ Some why
 waits_so (Some w) k word why e = ap (λ (o : Option Poll). Some (why_in why o)) e
-waits_so None ToGlance word why e = absurd cc
-waits_so None ToAnswer word why e = absurd cc
-waits_so None (ToBlock ends) word why e = absurd cc
-waits_so None ToUnblock word why e = absurd cc
-waits_so None (ToAsk whom) word why e = absurd cc
-waits_so None (ToLook whom) word why e = absurd cc
-waits_so None (ToLoad object mode) word why e = absurd cc
 waits_so None ToRead word why e = absurd (let f : true ≡ false = ap is_ready e in cc)
 waits_so None (ToWrite value) word why e = absurd (let f : true ≡ false = ap is_ready e in cc)
-waits_so None ToClaim word why e = absurd cc
-waits_so None ToSettle word why e = absurd cc
-waits_so None ToDraw word why e = absurd cc
-waits_so None ToFence word why e = absurd cc
-waits_so None ToRaise word why e = absurd cc
-waits_so None ToShare word why e = absurd cc
+waits_so None (ToBump amount) word why e = absurd (let f : true ≡ false = ap is_ready e in cc)
+waits_so None _ word why e = absurd cc
 
 never_waits : (o : Option Why) (k : Kind) (word : ℕ) (why : Why) → answer_by o k word ≡ None → o ≡ Some why → ⊥
 never_waits (Some w) k word why none is = cc
@@ -120,15 +109,7 @@ held_so (ToLook whom) me told x by word e = absurd (differ _ _ (λ z. cc) (if_so
 held_so ToClaim me told x by word e = absurd (differ _ _ (λ z. cc) (if_some (wins told x.phase) (why.Changed (word_seen x.phase) told) (why.Held by word) e).1)
 held_so ToRaise me told x by word e = absurd (differ _ _ (λ z. cc) (if_some (wins told x.phase) (why.Changed (word_seen x.phase) told) (why.Held by word) e).1)
 held_so ToShare me told x by word e = absurd (differ _ _ (λ z. cc) (if_some (wins told x.phase) (why.Changed (word_seen x.phase) told) (why.Held by word) e).1)
-held_so ToGlance me told x by word e = absurd cc
-held_so ToAnswer me told x by word e = absurd cc
-held_so (ToBlock ends) me told x by word e = absurd cc
-held_so ToUnblock me told x by word e = absurd cc
-held_so ToRead me told x by word e = absurd cc
-held_so (ToWrite value) me told x by word e = absurd cc
-held_so ToSettle me told x by word e = absurd cc
-held_so ToDraw me told x by word e = absurd cc
-held_so ToFence me told x by word e = absurd cc
+held_so _ me told x by word e = absurd cc
 
 -- a state by which a load is held is an intermediate one, and the other way round
 abbrev holder : Act → ℕ
@@ -145,9 +126,9 @@ changes_by (RdInt b) me by count mode e = eq-eqb b by (ap holder e)
 changes_by (ShInt b) me by count mode e = eq-eqb b by (ap holder e)
 changes_by (WrEx owner) me by count mode e = absurd (if_not_held (owner == me) act.Pass (act.Take (One owner)) by refl refl e)
 changes_by (RdEx owner upto) me by count Read e = absurd (if_not_held (owner == me) act.Pass (act.Share owner upto) by refl refl e)
-changes_by (RdEx owner upto) me by count Write e = absurd (if_not_held (owner == me) act.Raise (act.Take (One owner)) by refl refl e)
+changes_by (RdEx owner upto) me by count _ e = absurd (if_not_held (owner == me) act.Raise (act.Take (One owner)) by refl refl e)
 changes_by (RdSh number) me by count Read e = absurd (if_not_held (nat_le number count) act.Pass act.Fence by refl refl e)
-changes_by (RdSh number) me by count Write e = absurd (let f : None ≡ Some (why.Held by 0) = ap (λ (z : Act). held_by z 0) e in cc)
+changes_by (RdSh number) me by count _ e = absurd (let f : None ≡ Some (why.Held by 0) = ap (λ (z : Act). held_by z 0) e in cc)
 
 held_by_state : (state : StateWord) (me by count told : ℕ) (mode : Mode) → IsTrue (is_changed_by state by) → held_by (decided state me mode count) told ≡ Some (why.Held by told)
 held_by_state (WrInt b) me by count told mode h = ap (λ (n : ℕ). Some (why.Held n told)) (eqb-true b by h)
@@ -183,15 +164,7 @@ changed_so ToShare me told x seen found e = by_exchange ToShare told x.phase see
 changed_so (ToLoad object mode) me told x seen found e = absurd (by_act_never (decided (state_in (unpacked_state told)) me mode x.count) told seen found e)
 changed_so (ToAsk whom) me told x seen found e = absurd (differ _ _ (λ z. cc) (if_some (unpacked_status told).blocked (why.Unanswered whom (packed_status (asked_by me (unpacked_status told)))) (why.Changed seen found) e).1)
 changed_so (ToLook whom) me told x seen found e = absurd (differ _ _ (λ z. cc) (if_some (answers (unpacked_status told) me) (why.Unanswered whom told) (why.Changed seen found) e).1)
-changed_so ToGlance me told x seen found e = absurd cc
-changed_so ToAnswer me told x seen found e = absurd cc
-changed_so (ToBlock ends) me told x seen found e = absurd cc
-changed_so ToUnblock me told x seen found e = absurd cc
-changed_so ToRead me told x seen found e = absurd cc
-changed_so (ToWrite value) me told x seen found e = absurd cc
-changed_so ToSettle me told x seen found e = absurd cc
-changed_so ToDraw me told x seen found e = absurd cc
-changed_so ToFence me told x seen found e = absurd cc
+changed_so _ me told x seen found e = absurd cc
 
 -- an exchange of the state that a thread wants, which finds another word
 record WantsState (p : Phase) : Type 0 where
@@ -209,33 +182,19 @@ exchange_in : (threads me count : ℕ) (wish : Wish) (due : Due) (p : Phase) →
 exchange_in threads me count wish Glance p e = absurd cc
 exchange_in threads me count wish Answer p e = absurd cc
 exchange_in threads me count wish Nothing (Want object mode (Some state)) e = record { object = object; mode = mode; state = state; is = refl }
-exchange_in threads me count wish Nothing (Want object mode None) e = absurd cc
-exchange_in threads me count wish Nothing Off e = absurd cc
-exchange_in threads me count wish Nothing Idle e = absurd cc
-exchange_in threads me count wish Nothing Blocked e = absurd cc
 exchange_in threads me count wish Nothing (Pass object Read) e = absurd cc
 exchange_in threads me count wish Nothing (Pass object Write) e = absurd cc
-exchange_in threads me count wish Nothing (FenceDue object number) e = absurd cc
+exchange_in threads me count wish Nothing (Pass object Update) e = absurd cc
 exchange_in threads me count wish Nothing (Claimed object mode prior done asked) e = absurd (not_pursuit (done == number_to_ask (whom_to_ask prior) threads) asked (next_to_ask (whom_to_ask prior) me done) e)
 exchange_in threads me count wish Nothing (Sharing object None) e = absurd cc
 exchange_in threads me count wish Nothing (Sharing object (Some number)) e = absurd cc
+exchange_in threads me count wish Nothing _ e = absurd cc
 
 exchange_waits : (k : Kind) (me told : ℕ) (x : Thread) → is_exchange k ≡ true → waits k me told x ≡ changed x.phase told
 exchange_waits ToClaim me told x e = refl
 exchange_waits ToRaise me told x e = refl
 exchange_waits ToShare me told x e = refl
-exchange_waits ToGlance me told x e = absurd cc
-exchange_waits ToAnswer me told x e = absurd cc
-exchange_waits (ToBlock ends) me told x e = absurd cc
-exchange_waits ToUnblock me told x e = absurd cc
-exchange_waits (ToAsk whom) me told x e = absurd cc
-exchange_waits (ToLook whom) me told x e = absurd cc
-exchange_waits (ToLoad object mode) me told x e = absurd cc
-exchange_waits ToRead me told x e = absurd cc
-exchange_waits (ToWrite value) me told x e = absurd cc
-exchange_waits ToSettle me told x e = absurd cc
-exchange_waits ToDraw me told x e = absurd cc
-exchange_waits ToFence me told x e = absurd cc
+exchange_waits _ me told x e = absurd cc
 
 lost_waits : (p : Phase) (told seen : ℕ) (w : WantsState p) → packed_state w.state ≡ seen → told ≢ seen → changed p told ≡ Some (why.Changed seen told)
 lost_waits p told seen w is other =
@@ -267,51 +226,19 @@ unanswered_so (ToLoad object mode) me told x by word e = absurd (by_act_neither 
 unanswered_so ToClaim me told x by word e = absurd (differ _ _ (λ z. cc) (if_some (wins told x.phase) (why.Changed (word_seen x.phase) told) (why.Unanswered by word) e).1)
 unanswered_so ToRaise me told x by word e = absurd (differ _ _ (λ z. cc) (if_some (wins told x.phase) (why.Changed (word_seen x.phase) told) (why.Unanswered by word) e).1)
 unanswered_so ToShare me told x by word e = absurd (differ _ _ (λ z. cc) (if_some (wins told x.phase) (why.Changed (word_seen x.phase) told) (why.Unanswered by word) e).1)
-unanswered_so ToGlance me told x by word e = absurd cc
-unanswered_so ToAnswer me told x by word e = absurd cc
-unanswered_so (ToBlock ends) me told x by word e = absurd cc
-unanswered_so ToUnblock me told x by word e = absurd cc
-unanswered_so ToRead me told x by word e = absurd cc
-unanswered_so (ToWrite value) me told x by word e = absurd cc
-unanswered_so ToSettle me told x by word e = absurd cc
-unanswered_so ToDraw me told x by word e = absurd cc
-unanswered_so ToFence me told x by word e = absurd cc
+unanswered_so _ me told x by word e = absurd cc
 
 no_answer_waits : (k : Kind) (me told : ℕ) (x : Thread) (by word : ℕ) → IsNoAnswer me by word k told → waits k me told x ≡ Some (why.Unanswered by word)
 no_answer_waits (ToAsk whom) me told x by word h =
     ap (λ (b : Bool). if b then None else Some (why.Unanswered whom (packed_status (asked_by me (unpacked_status told))))) h.1 ∙ λ i. Some (why.Unanswered (h.0 i) (sym h.2 i))
 no_answer_waits (ToLook whom) me told x by word h =
     (λ i. if h.1 i || not (h.2 i) then None else Some (why.Unanswered whom told)) ∙ λ i. Some (why.Unanswered (h.0 i) (sym h.3 i))
-no_answer_waits (ToLoad object mode) me told x by word h = absurd h
-no_answer_waits ToClaim me told x by word h = absurd h
-no_answer_waits ToRaise me told x by word h = absurd h
-no_answer_waits ToShare me told x by word h = absurd h
-no_answer_waits ToGlance me told x by word h = absurd h
-no_answer_waits ToAnswer me told x by word h = absurd h
-no_answer_waits (ToBlock ends) me told x by word h = absurd h
-no_answer_waits ToUnblock me told x by word h = absurd h
-no_answer_waits ToRead me told x by word h = absurd h
-no_answer_waits (ToWrite value) me told x by word h = absurd h
-no_answer_waits ToSettle me told x by word h = absurd h
-no_answer_waits ToDraw me told x by word h = absurd h
-no_answer_waits ToFence me told x by word h = absurd h
+no_answer_waits _ me told x by word h = absurd h
 
 met_so : (k : Kind) (me told by word : ℕ) → IsNoAnswer me by word k told → status_met k told ≡ Some (record { kind = k; word = told })
 met_so (ToAsk whom) me told by word h = refl
 met_so (ToLook whom) me told by word h = refl
-met_so (ToLoad object mode) me told by word h = absurd h
-met_so ToClaim me told by word h = absurd h
-met_so ToRaise me told by word h = absurd h
-met_so ToShare me told by word h = absurd h
-met_so ToGlance me told by word h = absurd h
-met_so ToAnswer me told by word h = absurd h
-met_so (ToBlock ends) me told by word h = absurd h
-met_so ToUnblock me told by word h = absurd h
-met_so ToRead me told by word h = absurd h
-met_so (ToWrite value) me told by word h = absurd h
-met_so ToSettle me told by word h = absurd h
-met_so ToDraw me told by word h = absurd h
-met_so ToFence me told by word h = absurd h
+met_so _ me told by word h = absurd h
 
 -- the step that a meeting is
 met_back : (k : Kind) (word : ℕ) (taken : Taken) → status_met k word ≡ Some taken → (k ≡ taken.kind) × (word ≡ taken.word)
@@ -325,19 +252,7 @@ met_back (ToLook whom) word taken e = (ap (λ (o : Option Taken). (in_some o).ki
     in_some : Option Taken → Taken
     in_some (Some t) = t
     in_some None = record { kind = ToLook whom; word = word }
-met_back (ToLoad object mode) word taken e = absurd cc
-met_back ToClaim word taken e = absurd cc
-met_back ToRaise word taken e = absurd cc
-met_back ToShare word taken e = absurd cc
-met_back ToGlance word taken e = absurd cc
-met_back ToAnswer word taken e = absurd cc
-met_back (ToBlock ends) word taken e = absurd cc
-met_back ToUnblock word taken e = absurd cc
-met_back ToRead word taken e = absurd cc
-met_back (ToWrite value) word taken e = absurd cc
-met_back ToSettle word taken e = absurd cc
-met_back ToDraw word taken e = absurd cc
-met_back ToFence word taken e = absurd cc
+met_back _ word taken e = absurd cc
 
 loaded_back : (k : Kind) (word n : ℕ) → state_loaded k word ≡ Some n → (object : ℕ) × (mode : Mode) × (k ≡ ToLoad object mode) × (word ≡ n)
 loaded_back (ToLoad object mode) word n e = (object, mode, refl, ap (λ (o : Option ℕ). in_some o) e)
@@ -345,20 +260,7 @@ loaded_back (ToLoad object mode) word n e = (object, mode, refl, ap (λ (o : Opt
     in_some : Option ℕ → ℕ
     in_some (Some m) = m
     in_some None = 0
-loaded_back (ToAsk whom) word n e = absurd cc
-loaded_back (ToLook whom) word n e = absurd cc
-loaded_back ToClaim word n e = absurd cc
-loaded_back ToRaise word n e = absurd cc
-loaded_back ToShare word n e = absurd cc
-loaded_back ToGlance word n e = absurd cc
-loaded_back ToAnswer word n e = absurd cc
-loaded_back (ToBlock ends) word n e = absurd cc
-loaded_back ToUnblock word n e = absurd cc
-loaded_back ToRead word n e = absurd cc
-loaded_back (ToWrite value) word n e = absurd cc
-loaded_back ToSettle word n e = absurd cc
-loaded_back ToDraw word n e = absurd cc
-loaded_back ToFence word n e = absurd cc
+loaded_back _ word n e = absurd cc
 
 -- the last of a list in two parts
 later_none : {A : Type 0} (x : Option A) → later x None ≡ x
@@ -411,55 +313,23 @@ Sees steps _ = Unit {0}
 
 sees_same : (steps more : List Taken) (p : Phase) → last_of state_loaded more ≡ last_of state_loaded steps → Sees steps p → Sees more p
 sees_same steps more (Want object mode (Some state)) same h = same ∙ h
-sees_same steps more (Want object mode None) same h = tt
-sees_same steps more Off same h = tt
-sees_same steps more Idle same h = tt
-sees_same steps more (Pass object mode) same h = tt
-sees_same steps more (FenceDue object number) same h = tt
-sees_same steps more (Claimed object mode prior done asked) same h = tt
-sees_same steps more (Sharing object drawn) same h = tt
-sees_same steps more Blocked same h = tt
+sees_same steps more _ same h = tt
 
 sees_done : (steps : List Taken) (p : Phase) → Sees steps p → Sees steps (one_done p)
-sees_done steps (Want object mode seen) h = h
-sees_done steps Off h = h
-sees_done steps Idle h = h
-sees_done steps (Pass object mode) h = h
-sees_done steps (FenceDue object number) h = h
 sees_done steps (Claimed object mode prior done asked) h = tt
-sees_done steps (Sharing object drawn) h = h
-sees_done steps Blocked h = h
+sees_done steps _ h = h
 
 sees_asked : (steps : List Taken) (p : Phase) → Sees steps p → Sees steps (one_asked p)
-sees_asked steps (Want object mode seen) h = h
-sees_asked steps Off h = h
-sees_asked steps Idle h = h
-sees_asked steps (Pass object mode) h = h
-sees_asked steps (FenceDue object number) h = h
 sees_asked steps (Claimed object mode prior done asked) h = tt
-sees_asked steps (Sharing object drawn) h = h
-sees_asked steps Blocked h = h
+sees_asked steps _ h = h
 
 sees_lost : (steps : List Taken) (p : Phase) → Sees steps p → Sees steps (lost p)
 sees_lost steps (Want object mode seen) h = tt
-sees_lost steps Off h = h
-sees_lost steps Idle h = h
-sees_lost steps (Pass object mode) h = h
-sees_lost steps (FenceDue object number) h = h
-sees_lost steps (Claimed object mode prior done asked) h = h
-sees_lost steps (Sharing object drawn) h = h
-sees_lost steps Blocked h = h
+sees_lost steps _ h = h
 
 sees_claimed : (steps : List Taken) (p : Phase) → Sees steps p → Sees steps (claimed p)
 sees_claimed steps (Want object mode (Some seen)) h = tt
-sees_claimed steps (Want object mode None) h = h
-sees_claimed steps Off h = h
-sees_claimed steps Idle h = h
-sees_claimed steps (Pass object mode) h = h
-sees_claimed steps (FenceDue object number) h = h
-sees_claimed steps (Claimed object mode prior done asked) h = h
-sees_claimed steps (Sharing object drawn) h = h
-sees_claimed steps Blocked h = h
+sees_claimed steps _ h = h
 
 sees_if : (steps : List Taken) (b : Bool) (p q : Phase) (d e : Due) (x : Thread) → Sees steps p → Sees steps q → Sees steps (if b then moved p d x else moved q e x).phase
 sees_if steps true p q d e x h k = h
@@ -490,6 +360,7 @@ module _ (steps more : List Taken) (me told : ℕ) (x : Thread) (h : Sees steps 
   sees_by (ToLook whom) last packs = let s = sees_same steps more x.phase last h in sees_if more (answers (unpacked_status told) me) (one_done x.phase) x.phase Nothing Glance x (sees_done more x.phase s) s
   sees_by ToRead last packs = tt
   sees_by (ToWrite value) last packs = tt
+  sees_by (ToBump amount) last packs = tt
   sees_by ToClaim last packs = let s = sees_same steps more x.phase last h in sees_if more (wins told x.phase) (claimed x.phase) (lost x.phase) Nothing Glance x (sees_claimed more x.phase s) (sees_lost more x.phase s)
   sees_by ToSettle last packs = tt
   sees_by ToDraw last packs = tt
@@ -568,15 +439,8 @@ module _ (wish : Wish) where
 
 -- at first the thread holds no state
 begins_unseen : (threads : ℕ) (wish : Wish) (p : Phase) → HasBegun threads wish p → Sees [] p
-begins_unseen threads wish Idle h = tt
-begins_unseen threads wish (Want object mode None) h = tt
 begins_unseen threads wish (Want object mode (Some seen)) h = absurd h
-begins_unseen threads wish (Claimed object mode prior done asked) h = tt
-begins_unseen threads wish Off h = tt
-begins_unseen threads wish Blocked h = tt
-begins_unseen threads wish (Pass object mode) h = tt
-begins_unseen threads wish (FenceDue object number) h = tt
-begins_unseen threads wish (Sharing object drawn) h = tt
+begins_unseen threads wish _ h = tt
 
 module _ (wish : Wish) (v w : SeatView) (answer : Poll) (begins : Sees [] v.thread.phase) (p : IsPoll wish v answer w) where
   abbrev u : SeatView

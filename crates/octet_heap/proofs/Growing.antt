@@ -7,9 +7,9 @@ use Rattle.octet_model.specs.declared.event.Event.{Event}
 use Rattle.octet_model.specs.declared.event.Event.TheVariants.{Marked}
 use Rattle.octet_state.specs.declared.act.Act.{Act}
 use Rattle.octet_state.specs.declared.act.Act.TheVariants as act
-use Rattle.octet_state.specs.declared.act.Whom.TheVariants.{One, All}
+use Rattle.octet_state.specs.declared.act.Whom.TheVariants.{One}
 use Rattle.octet_state.specs.declared.act.Mode.{Mode}
-use Rattle.octet_state.specs.declared.act.Mode.TheVariants.{Read, Write}
+use Rattle.octet_state.specs.declared.act.Mode.TheVariants.{Read, Write, Update}
 use Rattle.octet_state.specs.declared.phase.Phase.{Phase}
 use Rattle.octet_state.specs.declared.phase.Phase.TheVariants.{Off, Idle, Want, Pass, FenceDue, Claimed, Sharing, Blocked}
 use Rattle.octet_state.specs.declared.phase.Due.{Due}
@@ -21,13 +21,13 @@ use Rattle.octet_state.specs.Words.{unpacked_state, unpacked_status, packed_stat
 use Rattle.octet_state.specs.Table.{decided}
 use Rattle.octet_state.specs.Asking.{whom_to_ask, number_to_ask, next_to_ask, answers}
 use Rattle.octet_state.specs.State.{Thread}
-use Rattle.octet_state.specs.Steps.{Kind, ToGlance, ToAnswer, ToBlock, ToUnblock, ToAsk, ToLook, ToLoad, ToRead, ToWrite, ToClaim, ToSettle, ToDraw, ToFence, ToRaise, ToShare, after, made, ended_by, moved, loaded, state_in, claimed, lost, passing, target, wins, one_done, one_asked, joined_by_share}
-use Rattle.octet_state.specs.NextStep.{next_kind, kind_by_due, kind_in_phase, exchange_of, pursuit_of, waits, held_by}
+use Rattle.octet_state.specs.Steps.{Kind, ToAsk, ToLook, ToLoad, ToRead, ToWrite, ToBump, ToClaim, ToDraw, ToFence, ToRaise, ToShare, after, made, ended_by, moved, loaded, state_in, wins, one_done, one_asked, joined_by_share}
+use Rattle.octet_state.specs.NextStep.{next_kind, kind_by_due, kind_in_phase, exchange_of, access_of, pursuit_of, waits, held_by}
 use Rattle.octet_rule.specs.Views.{SeatView, Taken, stepped_by}
 use Rattle.octet_heap.specs.declared.wish.Wish.{Wish}
 use Rattle.octet_heap.specs.declared.poll.Poll.{Poll}
 use Rattle.octet_heap.specs.declared.poll.Poll.TheVariants.{Ready, Pending}
-use Rattle.octet_heap.specs.Polls.{next_step, answer_by, answer_to, after_steps, IsNext, GoesBy, PaysBy}
+use Rattle.octet_heap.specs.Polls.{answer_by, after_steps, GoesBy, PaysBy}
 use Rattle.octet_heap.specs.Waiting.{HasBegun}
 use Rattle.octet_heap.specs.Standing.{IsAbout}
 use Rattle.octet_heap.specs.Workers.{IsPoll}
@@ -50,14 +50,8 @@ IsFor wish Blocked = ⊥
 pub begun_for : (threads : ℕ) (wish : Wish) (p : Phase) → HasBegun threads wish p → IsFor wish p
 begun_for threads wish Idle h = tt
 begun_for threads wish (Want object mode None) h = h
-begun_for threads wish (Want object mode (Some seen)) h = absurd h
 begun_for threads wish (Claimed object mode prior done true) h = (h.0, h.1)
-begun_for threads wish (Claimed object mode prior done false) h = absurd h
-begun_for threads wish Off h = absurd h
-begun_for threads wish Blocked h = absurd h
-begun_for threads wish (Pass object mode) h = absurd h
-begun_for threads wish (FenceDue object number) h = absurd h
-begun_for threads wish (Sharing object drawn) h = absurd h
+begun_for threads wish _ h = absurd h
 
 -- marks are added
 abbrev marked : List Mark → List Event
@@ -86,100 +80,48 @@ by_test j false mark = none_added j
 by_share : (j : List Event) (b : Bool) (p : Phase) → AddsMarks j (ended_by j (if b then joined_by_share p else None))
 by_share j false p = none_added j
 by_share j true (Want object mode (Some (RdEx owner upto))) = one_added j (Join owner upto)
-by_share j true (Want object mode (Some (WrEx owner))) = none_added j
-by_share j true (Want object mode (Some (RdSh number))) = none_added j
-by_share j true (Want object mode (Some (WrInt by))) = none_added j
-by_share j true (Want object mode (Some (RdInt by))) = none_added j
-by_share j true (Want object mode (Some (ShInt by))) = none_added j
-by_share j true (Want object mode None) = none_added j
-by_share j true Off = none_added j
-by_share j true Idle = none_added j
-by_share j true (Pass object mode) = none_added j
-by_share j true (FenceDue object number) = none_added j
-by_share j true (Claimed object mode prior done asked) = none_added j
-by_share j true (Sharing object drawn) = none_added j
-by_share j true Blocked = none_added j
+by_share j true _ = none_added j
 
 -- a step that is no access makes one mark at most
 abbrev is_access : Kind → Bool
 is_access ToRead = true
 is_access (ToWrite value) = true
+is_access (ToBump amount) = true
 is_access _ = false
 
 adds_marks : (k : Kind) (me told : ℕ) (x : Thread) (j : List Event) → is_access k ≡ false → AddsMarks j (ended_by j (made k me told x))
-adds_marks ToGlance me told x j e = none_added j
-adds_marks ToAnswer me told x j e = none_added j
-adds_marks (ToBlock ends) me told x j e = none_added j
-adds_marks ToUnblock me told x j e = none_added j
 adds_marks (ToAsk whom) me told x j e = by_test j (unpacked_status told).blocked (Join whom (unpacked_status told).upto)
 adds_marks (ToLook whom) me told x j e = by_test j (answers (unpacked_status told) me) (Join whom (unpacked_status told).upto)
-adds_marks (ToLoad object mode) me told x j e = none_added j
 adds_marks ToRead me told x j e = absurd cc
 adds_marks (ToWrite value) me told x j e = absurd cc
-adds_marks ToClaim me told x j e = none_added j
-adds_marks ToSettle me told x j e = none_added j
+adds_marks (ToBump amount) me told x j e = absurd cc
 adds_marks ToDraw me told x j e = one_added j (Draw (suc told))
 adds_marks ToFence me told x j e = one_added j (Fence told)
-adds_marks ToRaise me told x j e = none_added j
 adds_marks ToShare me told x j e = by_share j (wins told x.phase) x.phase
+adds_marks _ me told x j e = none_added j
 
 -- a step by which the poll goes on, or by which it is pending, is no access
 no_access : (k : Kind) (me told : ℕ) (x : Thread) → answer_by (waits k me told x) k told ≡ None → is_access k ≡ false
-no_access ToGlance me told x e = refl
-no_access ToAnswer me told x e = refl
-no_access (ToBlock ends) me told x e = refl
-no_access ToUnblock me told x e = refl
-no_access (ToAsk whom) me told x e = refl
-no_access (ToLook whom) me told x e = refl
-no_access (ToLoad object mode) me told x e = refl
 no_access ToRead me told x e = absurd cc
 no_access (ToWrite value) me told x e = absurd cc
-no_access ToClaim me told x e = refl
-no_access ToSettle me told x e = refl
-no_access ToDraw me told x e = refl
-no_access ToFence me told x e = refl
-no_access ToRaise me told x e = refl
-no_access ToShare me told x e = refl
+no_access (ToBump amount) me told x e = absurd cc
+no_access _ me told x e = refl
 
 abbrev pub is_ready : Option Poll → Bool
 is_ready (Some (Ready value)) = true
 is_ready _ = false
 
 not_pending : (k : Kind) (me told : ℕ) (x : Thread) (why : Why) → answer_by (waits k me told x) k told ≡ Some (Pending why) → is_access k ≡ false
-not_pending ToGlance me told x why e = refl
-not_pending ToAnswer me told x why e = refl
-not_pending (ToBlock ends) me told x why e = refl
-not_pending ToUnblock me told x why e = refl
-not_pending (ToAsk whom) me told x why e = refl
-not_pending (ToLook whom) me told x why e = refl
-not_pending (ToLoad object mode) me told x why e = refl
 not_pending ToRead me told x why e = absurd (let f : true ≡ false = ap is_ready e in cc)
 not_pending (ToWrite value) me told x why e = absurd (let f : true ≡ false = ap is_ready e in cc)
-not_pending ToClaim me told x why e = refl
-not_pending ToSettle me told x why e = refl
-not_pending ToDraw me told x why e = refl
-not_pending ToFence me told x why e = refl
-not_pending ToRaise me told x why e = refl
-not_pending ToShare me told x why e = refl
+not_pending (ToBump amount) me told x why e = absurd (let f : true ≡ false = ap is_ready e in cc)
+not_pending _ me told x why e = refl
 
 -- only an access is ready
 ready_by : (o : Option Why) (k : Kind) (word value : ℕ) → is_access k ≡ false → answer_by o k word ≡ Some (Ready value) → ⊥
 ready_by (Some why) k word value e h = let f : false ≡ true = ap is_ready h in cc
-ready_by None ToGlance word value e h = cc
-ready_by None ToAnswer word value e h = cc
-ready_by None (ToBlock ends) word value e h = cc
-ready_by None ToUnblock word value e h = cc
-ready_by None (ToAsk whom) word value e h = cc
-ready_by None (ToLook whom) word value e h = cc
-ready_by None (ToLoad object mode) word value e h = cc
 ready_by None ToRead word value e h = cc
-ready_by None (ToWrite v) word value e h = cc
-ready_by None ToClaim word value e h = cc
-ready_by None ToSettle word value e h = cc
-ready_by None ToDraw word value e h = cc
-ready_by None ToFence word value e h = cc
-ready_by None ToRaise word value e h = cc
-ready_by None ToShare word value e h = cc
+ready_by None _ word value e h = cc
 
 exchange_no_access : (a : Act) → is_access (exchange_of a) ≡ false
 exchange_no_access act.Pass = refl
@@ -215,9 +157,9 @@ module _ (wish : Wish) (me count object : ℕ) (o : object ≡ wish.object) (x :
   load_for : (mode : Mode) (state : StateWord) → mode ≡ wish.mode → IsFor wish (loaded (decided state me mode count) object mode state x).phase
   load_for mode (WrEx owner) m = load_if mode (WrEx owner) (owner == me) act.Pass (act.Take (One owner)) (o, m) (o, m)
   load_for Read (RdEx owner upto) m = load_if Read (RdEx owner upto) (owner == me) act.Pass (act.Share owner upto) (o, m) (o, m)
-  load_for Write (RdEx owner upto) m = load_if Write (RdEx owner upto) (owner == me) act.Raise (act.Take (One owner)) (o, m) (o, m)
+  load_for mode (RdEx owner upto) m = load_if mode (RdEx owner upto) (owner == me) act.Raise (act.Take (One owner)) (o, m) (o, m)
   load_for Read (RdSh number) m = load_if Read (RdSh number) (nat_le number count) act.Pass act.Fence (o, m) (o, m)
-  load_for Write (RdSh number) m = (o, m)
+  load_for _ (RdSh number) m = (o, m)
   load_for mode (WrInt by) m = (o, m)
   load_for mode (RdInt by) m = (o, m)
   load_for mode (ShInt by) m = (o, m)
@@ -247,9 +189,9 @@ module _ (wish : Wish) (me told count object : ℕ) (o : object ≡ wish.object)
   exchange_for : (mode : Mode) (seen : StateWord) → mode ≡ wish.mode → Exchanged mode seen (decided seen me mode count)
   exchange_for mode (WrEx owner) m = exchange_if mode (WrEx owner) (owner == me) act.Pass (act.Take (One owner)) (claims mode (WrEx owner) m) (claims mode (WrEx owner) m)
   exchange_for Read (RdEx owner upto) m = exchange_if Read (RdEx owner upto) (owner == me) act.Pass (act.Share owner upto) (claims Read (RdEx owner upto) m) (shares Read (RdEx owner upto) m m)
-  exchange_for Write (RdEx owner upto) m = exchange_if Write (RdEx owner upto) (owner == me) act.Raise (act.Take (One owner)) (raises Write (RdEx owner upto) m) (claims Write (RdEx owner upto) m)
+  exchange_for mode (RdEx owner upto) m = exchange_if mode (RdEx owner upto) (owner == me) act.Raise (act.Take (One owner)) (raises mode (RdEx owner upto) m) (claims mode (RdEx owner upto) m)
   exchange_for Read (RdSh number) m = exchange_if Read (RdSh number) (nat_le number count) act.Pass act.Fence (claims Read (RdSh number) m) (claims Read (RdSh number) m)
-  exchange_for Write (RdSh number) m = claims Write (RdSh number) m
+  exchange_for mode (RdSh number) m = claims mode (RdSh number) m
   exchange_for mode (WrInt by) m = claims mode (WrInt by) m
   exchange_for mode (RdInt by) m = claims mode (RdInt by) m
   exchange_for mode (ShInt by) m = claims mode (ShInt by) m
@@ -276,6 +218,7 @@ goes_for wish threads me told count Nothing (Want object mode None) h none = loa
 goes_for wish threads me told count Nothing (Want object mode (Some seen)) h none = exchange_for wish me told count object h.0 mode seen h.1
 goes_for wish threads me told count Nothing (Pass object Read) h none = absurd cc
 goes_for wish threads me told count Nothing (Pass object Write) h none = absurd cc
+goes_for wish threads me told count Nothing (Pass object Update) h none = absurd cc
 goes_for wish threads me told count Nothing (FenceDue object number) h none = h
 goes_for wish threads me told count Nothing (Claimed object mode prior done asked) h none =
     pursuit_for wish me told count object mode prior done asked (done == number_to_ask (whom_to_ask prior) threads) asked (next_to_ask (whom_to_ask prior) me done) h
@@ -284,13 +227,23 @@ goes_for wish threads me told count Nothing (Sharing object (Some number)) h non
 
 -- the step that makes the access
 record Makes (wish : Wish) (k : Kind) (me told : ℕ) (x : Thread) (value : ℕ) : Type 0 where
-  pub access : (j : List Event) → ended_by j (made k me told x) ≡ j ++ access_made wish (Ready value)
-  pub answers_value : AnswersValue wish (Ready value)
+  pub access : (j : List Event) → ended_by j (made k me told x) ≡ j ++ access_made wish told (Ready value)
+  pub answers_value : AnswersValue wish told (Ready value)
   pub owes_nothing : (after k me told x).due ≡ Nothing
 
 abbrev value_in : Option Poll → ℕ
 value_in (Some (Ready value)) = value
 value_in _ = 0
+
+made_by : (wish : Wish) (me told count object : ℕ) (mode : Mode) (value : ℕ) → (object ≡ wish.object) × (mode ≡ wish.mode)
+    → made (access_of mode wish.value) me told (at (Pass object mode) Nothing count) ≡ Some (access_event mode object wish.value told)
+    → (after (access_of mode wish.value) me told (at (Pass object mode) Nothing count)).due ≡ Nothing → value ≡ value_by mode wish.value told
+    → Makes wish (access_of mode wish.value) me told (at (Pass object mode) Nothing count) value
+made_by wish me told count object mode value h makes owes is = record {
+  access = λ j. ap (ended_by j) makes ∙ λ i. j ++ access_event (h.1 i) (h.0 i) wish.value told ∷ [];
+  answers_value = subst (λ (m : Mode). value ≡ value_by m wish.value told) h.1 is;
+  owes_nothing = owes;
+}
 
 makes : (wish : Wish) (threads me told count : ℕ) (due : Due) (p : Phase) (value : ℕ) → IsFor wish p
     → answer_by (waits (next threads me wish (at p due count)) me told (at p due count)) (next threads me wish (at p due count)) told ≡ Some (Ready value)
@@ -303,16 +256,9 @@ makes wish threads me told count Nothing Idle value h is = absurd (ready_by (hel
 makes wish threads me told count Nothing (Want object mode None) value h is = absurd (ready_by (held_by (decided (state_in (unpacked_state told)) me mode count) told) (ToLoad object mode) told value refl is)
 makes wish threads me told count Nothing (Want object mode (Some seen)) value h is =
     absurd (ready_by (waits (exchange_of (decided seen me mode count)) me told (at (Want object mode (Some seen)) Nothing count)) (exchange_of (decided seen me mode count)) told value (exchange_no_access (decided seen me mode count)) is)
-makes wish threads me told count Nothing (Pass object Read) value h is = let e : told ≡ value = ap value_in is in record {
-  access = λ j. λ i. j ++ access_event (h.1 i) (h.0 i) (e i) ∷ [];
-  answers_value = subst (λ (m : Mode). value ≡ value_by m wish.value value) h.1 refl;
-  owes_nothing = refl;
-}
-makes wish threads me told count Nothing (Pass object Write) value h is = let e : wish.value ≡ value = ap value_in is in record {
-  access = λ j. λ i. j ++ access_event (h.1 i) (h.0 i) (e i) ∷ [];
-  answers_value = subst (λ (m : Mode). value ≡ value_by m wish.value value) h.1 (sym e);
-  owes_nothing = refl;
-}
+makes wish threads me told count Nothing (Pass object Read) value h is = made_by wish me told count object Read value h refl refl (sym (ap value_in is))
+makes wish threads me told count Nothing (Pass object Write) value h is = made_by wish me told count object Write value h refl refl (sym (ap value_in is))
+makes wish threads me told count Nothing (Pass object Update) value h is = made_by wish me told count object Update value h refl refl (sym (ap value_in is))
 makes wish threads me told count Nothing (FenceDue object number) value h is = absurd cc
 makes wish threads me told count Nothing (Claimed object mode prior done asked) value h is =
     let k = pursuit_of (done == number_to_ask (whom_to_ask prior) threads) asked (next_to_ask (whom_to_ask prior) me done) in
@@ -351,6 +297,7 @@ module _ (wish : Wish) (v w : SeatView) (about : IsFor wish v.thread.phase) wher
       let all = both_added v.journal x.journal (after_steps p.at_safe_point x).journal (both_added v.journal u.journal x.journal g.1 last) (paying_adds wish x p.at_safe_point p.pays) in
       let is : w.journal ≡ (after_steps p.at_safe_point x).journal = ap (λ (y : SeatView). y.journal) (p.after ∙ after_both p.going (p.last ∷ p.at_safe_point) v) in record {
         marks = all.0;
+        told = 0;
         grown = is ∙ (all.1 ∙ ap (λ (l : List Event). v.journal ++ l) (sym (append-nil (marked all.0))));
         value = tt;
       }
@@ -362,7 +309,8 @@ module _ (wish : Wish) (v w : SeatView) (about : IsFor wish v.thread.phase) wher
       let none : p.at_safe_point ≡ [] = nothing_after wish x p.at_safe_point p.pays m.owes_nothing in
       let is : w.journal ≡ x.journal = ap (λ (y : SeatView). y.journal) (p.after ∙ (after_both p.going (p.last ∷ p.at_safe_point) v ∙ ap (λ (l : List Taken). after_steps l x) none)) in record {
         marks = g.1.0;
-        grown = is ∙ (m.access u.journal ∙ (ap (λ (l : List Event). l ++ access_made wish (Ready value)) g.1.1 ∙ append_assoc v.journal (marked g.1.0) (access_made wish (Ready value))));
+        told = p.last.word;
+        grown = is ∙ (m.access u.journal ∙ (ap (λ (l : List Event). l ++ access_made wish p.last.word (Ready value)) g.1.1 ∙ append_assoc v.journal (marked g.1.0) (access_made wish p.last.word (Ready value))));
         value = m.answers_value;
       }
 

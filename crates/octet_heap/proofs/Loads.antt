@@ -1,9 +1,9 @@
 -- The stretch after a load.
-use Rattle.std.proofs.Common.{◌≡◌, ◌∙◌, ℕ, Some, None, sym, refl, ap, arith, subst}
+use Rattle.std.proofs.Common.{◌≡◌, ◌∙◌, ℕ, None, sym, refl, ap, arith, subst}
 use Rattle.octet_state.specs.declared.act.Act.{Act}
-use Rattle.octet_state.specs.declared.act.Act.TheVariants.{Pass, Held}
+use Rattle.octet_state.specs.declared.act.Act.TheVariants.{Held}
 use Rattle.octet_state.specs.declared.phase.Phase.{Phase}
-use Rattle.octet_state.specs.declared.phase.Phase.TheVariants.{Off, Idle, Want, Pass, FenceDue, Claimed, Sharing, Blocked}
+use Rattle.octet_state.specs.declared.phase.Phase.TheVariants.{Idle, Want}
 use Rattle.octet_state.specs.declared.phase.Due.TheVariants.{Nothing}
 use Rattle.octet_state.specs.declared.state_word.StateWord.{StateWord}
 use Rattle.octet_state.specs.declared.why.Why.TheVariants as why
@@ -24,13 +24,7 @@ use Rattle.octet_heap.proofs.Going.{next_in, goes_one, comes_by}
 loads_next : (threads me count : ℕ) (wish : Wish) (p : Phase) → IsToLoad wish p → kind_in_phase threads me count (ToLoad wish.object wish.mode) wish.value p ≡ ToLoad wish.object wish.mode
 loads_next threads me count wish Idle h = refl
 loads_next threads me count wish (Want object mode None) h = λ i. ToLoad (h.0 i) (h.1 i)
-loads_next threads me count wish (Want object mode (Some seen)) h = absurd h
-loads_next threads me count wish Off h = absurd h
-loads_next threads me count wish Blocked h = absurd h
-loads_next threads me count wish (Pass object mode) h = absurd h
-loads_next threads me count wish (FenceDue object number) h = absurd h
-loads_next threads me count wish (Claimed object mode prior done asked) h = absurd h
-loads_next threads me count wish (Sharing object drawn) h = absurd h
+loads_next threads me count wish _ h = absurd h
 
 module _ (wish : Wish) (v u : SeatView) (word : ℕ) (state : StateWord) (act : Act) (took : Steps (ToLoad wish.object wish.mode) v word u)
     (holds : state ≡ state_in (unpacked_state word)) (says : act ≡ decided state v.number wish.mode v.thread.count) where

@@ -3,7 +3,7 @@ use Rattle.std.proofs.Common.{◌≡◌, ◌∙◌, ℕ, List, [], ◌∷◌, �
 use Rattle.octet_state.specs.declared.act.Act.{Act}
 use Rattle.octet_state.specs.declared.act.Act.TheVariants.{Pass}
 use Rattle.octet_state.specs.declared.act.Mode.{Mode}
-use Rattle.octet_state.specs.declared.act.Mode.TheVariants.{Read, Write}
+use Rattle.octet_state.specs.declared.act.Mode.TheVariants.{Read, Write, Update}
 use Rattle.octet_state.specs.declared.phase.Phase.TheVariants.{Pass}
 use Rattle.octet_state.specs.declared.phase.Due.TheVariants.{Nothing}
 use Rattle.octet_state.specs.Words.{unpacked_state}
@@ -28,13 +28,15 @@ abbrev head_or : Taken → List Taken → Taken
 head_or none [] = none
 head_or none (taken ∷ more) = taken
 
-access_answers : (mode : Mode) (value : ℕ) (v : SeatView) (taken : Taken) → taken.kind ≡ access_of mode value → answer_to v taken ≡ Some (Ready (value_by mode value taken.word))
+pub access_answers : (mode : Mode) (value : ℕ) (v : SeatView) (taken : Taken) → taken.kind ≡ access_of mode value → answer_to v taken ≡ Some (Ready (value_by mode value taken.word))
 access_answers Read value v taken is = ap (λ (k : Kind). answer_by (waits k v.number taken.word v.thread) k taken.word) is
 access_answers Write value v taken is = ap (λ (k : Kind). answer_by (waits k v.number taken.word v.thread) k taken.word) is
+access_answers Update value v taken is = ap (λ (k : Kind). answer_by (waits k v.number taken.word v.thread) k taken.word) is
 
 access_owes_nothing : (mode : Mode) (value : ℕ) (v : SeatView) (taken : Taken) → taken.kind ≡ access_of mode value → (stepped_by taken.kind taken.word v).thread.due ≡ Nothing
 access_owes_nothing Read value v taken is = ap (λ (k : Kind). (after k v.number taken.word v.thread).due) is
 access_owes_nothing Write value v taken is = ap (λ (k : Kind). (after k v.number taken.word v.thread).due) is
+access_owes_nothing Update value v taken is = ap (λ (k : Kind). (after k v.number taken.word v.thread).due) is
 
 pub nothing_after : (wish : Wish) (v : SeatView) (at_safe_point : List Taken) → PaysBy wish v at_safe_point → v.thread.due ≡ Nothing → at_safe_point ≡ []
 nothing_after wish v [] pays due = refl

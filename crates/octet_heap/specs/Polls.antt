@@ -1,8 +1,9 @@
 -- The steps of a poll.
 use Rattle.std.specs.Prelude.{◌≡◌, ◌≢◌, ℕ, ◌+◌, ◌<◌, List, [], ◌∷◌, length, Option, Some, None}
+use Rattle.octet_model.specs.Thread.{added}
 use Rattle.octet_state.specs.declared.phase.Due.TheVariants.{Nothing}
 use Rattle.octet_state.specs.declared.why.Why.{Why}
-use Rattle.octet_state.specs.Steps.{Kind, ToLoad, ToRead, ToWrite}
+use Rattle.octet_state.specs.Steps.{Kind, ToLoad, ToRead, ToWrite, ToBump}
 use Rattle.octet_state.specs.NextStep.{next_kind, waits}
 use Rattle.octet_rule.specs.Views.{SeatView, Taken, stepped_by}
 use Rattle.octet_rule.specs.Rule.{Steps}
@@ -19,6 +20,7 @@ abbrev pub answer_by : Option Why → Kind → ℕ → Option Poll
 answer_by (Some why) kind word = Some (Pending why)
 answer_by None ToRead word = Some (Ready word)
 answer_by None (ToWrite value) word = Some (Ready value)
+answer_by None (ToBump amount) word = Some (Ready (added amount word))
 answer_by None _ word = None
 
 abbrev pub answer_to : SeatView → Taken → Option Poll
@@ -44,7 +46,7 @@ abbrev pub PaysBy : Wish → SeatView → List Taken → Type 0
 PaysBy wish v [] = v.thread.due ≡ Nothing
 PaysBy wish v (taken ∷ more) = (v.thread.due ≢ Nothing) × IsNext wish v taken × PaysBy wish (stepped_by taken.kind taken.word v) more
 
--- fewer than so many steps by which the poll goes on
+-- fewer than `steps` steps by which the poll goes on
 pub record Goes (wish : Wish) (v : SeatView) (steps : ℕ) (w : SeatView) : Type 0 where
   pub going : List Taken
   pub goes : GoesBy wish v going
@@ -56,7 +58,7 @@ abbrev pub owed : Poll → ℕ
 owed (Ready value) = 0
 owed (Pending why) = 2
 
--- steps by which the poll goes on, and one more, by which it answers; with those that are due then at most so many
+-- steps by which the poll goes on, and one more, by which it answers; with those that are due then at most `steps`
 pub record Comes (wish : Wish) (v : SeatView) (answer : Poll) (steps : ℕ) (w : SeatView) : Type 0 where
   pub going : List Taken
   pub last : Taken

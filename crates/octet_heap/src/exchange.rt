@@ -1,7 +1,7 @@
 //! The exchanges of an object's state, and what comes after them.
 ghost use Rattle.std.specs.Prelude.{◌≡◌, ◌<◌, Some, None};
 ghost use Rattle.octet_state.specs.declared.act.Act.TheVariants.{Raise as RaiseIt, Share as ShareIt, Take as TakeIt};
-ghost use Rattle.octet_state.specs.declared.act.Mode.TheVariants.{Read as ForRead, Write as ForWrite};
+ghost use Rattle.octet_state.specs.declared.act.Mode.TheVariants.{Read as ForRead};
 ghost use Rattle.octet_state.specs.declared.phase.Phase.TheVariants.{Want};
 ghost use Rattle.octet_state.specs.Words.{packed_state};
 ghost use Rattle.octet_state.specs.Table.{decided};
@@ -41,7 +41,6 @@ impl Heap {
         requires more { recorder.old.log.accesses < recorder.old.fuel }
         requires stands { StandsIn (Want wish.object wish.mode (Some state)) (view recorder.old.seat) }
         requires word { packed_state state ≡ seen }
-        requires mode { ForWrite ≡ wish.mode }
         requires says { decided state (view recorder.old.seat).number wish.mode (view recorder.old.seat).thread.count ≡ RaiseIt }
         ensures own { IsSeatOf self.now.words recorder.new.seat × (recorder.new.fuel ≡ recorder.old.fuel) }
         ensures counts { recorder.new.log.accesses ≡ counted result recorder.old.log.accesses }

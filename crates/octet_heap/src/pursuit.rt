@@ -26,7 +26,7 @@ fn unanswered(by: u8, word: u64) -> Poll
 }
 
 impl Heap {
-    // Asks those that come after so many, and then settles.
+    // Asks those that come after the first `from`, and then settles.
     pub(crate) fn ask_on(
         &self,
         recorder: &mut Recorder,

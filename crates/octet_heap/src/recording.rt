@@ -1,10 +1,10 @@
 //! Steps on the words, each with the entry that it makes in the log.
 ghost use Rattle.std.specs.Prelude.{◌≡◌, ◌+◌, ◌<◌, ℕ, IsTrue};
 ghost use Rattle.octet_state.specs.declared.act.Act.TheVariants.{Raise as RaiseIt, Share as ShareIt};
-ghost use Rattle.octet_state.specs.declared.act.Mode.TheVariants.{Read as ForRead, Write as ForWrite};
+ghost use Rattle.octet_state.specs.declared.act.Mode.TheVariants.{Read as ForRead, Write as ForWrite, Update as ForUpdate};
 ghost use Rattle.octet_state.specs.declared.phase.Due.TheVariants.{Nothing};
 ghost use Rattle.octet_state.specs.Words.{unpacked_state};
-ghost use Rattle.octet_state.specs.Steps.{state_in, ToLoad, ToRead, ToWrite, ToClaim, ToSettle, ToDraw, ToFence, ToRaise, ToShare};
+ghost use Rattle.octet_state.specs.Steps.{state_in, ToLoad, ToRead, ToWrite, ToBump, ToClaim, ToSettle, ToDraw, ToFence, ToRaise, ToShare};
 ghost use Rattle.octet_state.specs.Words.{packed_state};
 ghost use Rattle.octet_rule.specs.Conditions.{MayLoad, MayPass, HoldsWord, MaySettle, MayDraw, MayFence, AsksNext, HasAsked, decision, is_take, found_by, IsLost};
 ghost use Rattle.octet_rule.specs.Rule.{Steps};
@@ -46,6 +46,22 @@ impl Recorder {
         self.log.add_write();
     }
 
+    /// Answers the value before.
+    pub(crate) fn bump(&mut self, words: &Words, object: u16, amount: u64) -> u64
+        requires own { IsSeatOf words.now self.old.seat }
+        requires object { object < objects_of words.now }
+        requires due { (view self.old.seat).thread.due ≡ Nothing }
+        requires phase { MayPass object ForUpdate (view self.old.seat).thread.phase }
+        requires more { self.old.log.accesses < self.old.fuel }
+        ensures own { IsSeatOf words.now self.new.seat × (self.new.fuel ≡ self.old.fuel) }
+        ensures counts { self.new.log.accesses ≡ self.old.log.accesses + 1 }
+        ensures step { Steps (ToBump amount) (view self.old.seat) result (view self.new.seat) }
+    {
+        let before = words.bump(&mut self.seat, object, amount);
+        self.log.add_write();
+        before
+    }
+
     pub(crate) fn fence(&mut self, words: &Words)
         requires own { IsSeatOf words.now self.old.seat }
         requires due { (view self.old.seat).thread.due ≡ Nothing }
@@ -72,7 +88,7 @@ impl Recorder {
         self.log.add_mark(Mark::Draw { number: last + 1 });
     }
 
-    /// Of a state that thread `from` took for reading, after so many of its events.
+    /// Of a state that thread `from` took for reading, after the first `upto` of its events.
     pub(crate) fn share(
         &mut self,
         words: &Words,

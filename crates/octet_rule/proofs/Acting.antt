@@ -7,13 +7,13 @@ use Rattle.octet_state.specs.declared.act.Act.TheVariants.{Raise}
 use Rattle.octet_state.specs.declared.phase.Phase.TheVariants.{Idle}
 use Rattle.octet_state.specs.declared.phase.Due.TheVariants.{Nothing, Answer}
 use Rattle.octet_state.specs.declared.act.Mode.{Mode}
-use Rattle.octet_state.specs.declared.act.Mode.TheVariants.{Read, Write}
+use Rattle.octet_state.specs.declared.act.Mode.TheVariants.{Read, Write, Update}
 use Rattle.octet_state.specs.declared.phase.Phase.{Phase}
 use Rattle.octet_state.specs.declared.state_word.StateWord.TheVariants.{WrEx, ShInt}
 use Rattle.octet_state.specs.Words.{packed_state, packed_status}
 use Rattle.octet_state.specs.State.{status_place}
 use Rattle.octet_state.specs.NextStep.{word_seen}
-use Rattle.octet_state.specs.Steps.{Kind, ToGlance, ToAnswer, ToBlock, ToUnblock, ToAsk, ToLook, ToLoad, ToRead, ToWrite, ToClaim, ToSettle, ToDraw, ToFence, ToRaise, ToShare, shown, target, mode_of, claiming, settling, is_safe_point}
+use Rattle.octet_state.specs.Steps.{Kind, ToGlance, ToAnswer, ToBlock, ToUnblock, ToAsk, ToLook, ToLoad, ToRead, ToWrite, ToBump, ToClaim, ToSettle, ToDraw, ToFence, ToRaise, ToShare, shown, target, mode_of, claiming, settling, is_safe_point}
 use Rattle.octet_rule.specs.Views.{SeatView}
 use Rattle.octet_rule.specs.Rule.{IsRuled, Plays, Acts, IsOperationOf, operation_on, state_place, cell_place}
 use Rattle.octet_rule.specs.Conditions.{IsResting, AsksNext, HasAsked, MayLoad, MayPass, HoldsWord, decision, is_take, is_share, MaySettle, MayDraw, MayFence}
@@ -62,6 +62,9 @@ module _ (v : SeatView) (slots place : ℕ) where
   by_write : (object value : ℕ) → MayPass object Write v.thread.phase → place ≡ cell_place v object → IsOperationOf (ToWrite value) v (operation_on slots place value 0)
   by_write object value may at = record { place = at ∙ ap (λ (p : Phase). cell_place v (target p)) (sym (may_pass object Write v.thread.phase may)); first = refl; second = refl }
 
+  by_bump : (object amount : ℕ) → MayPass object Update v.thread.phase → place ≡ cell_place v object → IsOperationOf (ToBump amount) v (operation_on slots place amount 0)
+  by_bump object amount may at = record { place = at ∙ ap (λ (p : Phase). cell_place v (target p)) (sym (may_pass object Update v.thread.phase may)); first = refl; second = refl }
+
   by_claim : (old new object : ℕ) (mode : Mode) → HoldsWord object mode old v.thread.phase → place ≡ state_place v object → new ≡ packed_state (claiming v.number mode) → IsOperationOf ToClaim v (operation_on slots place old new)
   by_claim old new object mode holds at is = let want = holding object mode old v.thread.phase holds in record {
     place = at ∙ ap (λ (p : Phase). state_place v (target p)) (sym want.wants);
@@ -69,8 +72,8 @@ module _ (v : SeatView) (slots place : ℕ) where
     second = is ∙ ap (λ (p : Phase). packed_state (claiming v.number (mode_of p))) (sym want.wants);
   }
 
-  by_raise : (old new object : ℕ) → HoldsWord object Write old v.thread.phase → place ≡ state_place v object → new ≡ packed_state (WrEx v.number) → IsOperationOf ToRaise v (operation_on slots place old new)
-  by_raise old new object holds at is = let want = holding object Write old v.thread.phase holds in record {
+  by_raise : (old new object : ℕ) (mode : Mode) → HoldsWord object mode old v.thread.phase → place ≡ state_place v object → new ≡ packed_state (WrEx v.number) → IsOperationOf ToRaise v (operation_on slots place old new)
+  by_raise old new object mode holds at is = let want = holding object mode old v.thread.phase holds in record {
     place = at ∙ ap (λ (p : Phase). state_place v (target p)) (sym want.wants);
     first = want.is_word ∙ ap word_seen (sym want.wants);
     second = is;
@@ -154,6 +157,12 @@ module _ (threads : ℕ) (starts : List ℕ) (slots id : ℕ) (me : Me (Unit {0}
       storing (IsRuled threads starts) slots id me place (λ word. value) (ToWrite value) (operation_on slots place value 0) value (by_write me.0 slots place object value may (at_cell place object known is))
       (allowed.writes threads starts slots id me live place object value due may is)
 
+  pub bumps : (place object amount : ℕ) → me.0.thread.due ≡ Nothing → MayPass object Update me.0.thread.phase → me.0.threads ≡ threads → place ≡ 8 * (1 + (threads + object)) + 1
+      → Allows (IsRuled threads starts) slots id me place (λ word. (word + amount) % 2 ^ 64) (Acts (ToBump amount) (operation_on slots place amount 0) me)
+  bumps place object amount due may known is =
+      acting (IsRuled threads starts) slots id me place (λ word. (word + amount) % 2 ^ 64) (ToBump amount) (operation_on slots place amount 0) (by_bump me.0 slots place object amount may (at_cell place object known is))
+      (allowed.bumps threads starts slots id me live place object amount due may is)
+
   pub claims : (place old new object : ℕ) (mode : Mode) → me.0.thread.due ≡ Nothing → HoldsWord object mode old me.0.thread.phase → IsTrue (is_take (decision me.0)) → me.0.threads ≡ threads → place ≡ 8 * (1 + (threads + object)) → new ≡ packed_state (claiming me.0.number mode)
       → Allows (IsRuled threads starts) slots id me place (λ word. either (word == old) new word) (Acts ToClaim (operation_on slots place old new) me)
   claims place old new object mode due holds takes known is stored =
@@ -174,11 +183,11 @@ module _ (threads : ℕ) (starts : List ℕ) (slots id : ℕ) (me : Me (Unit {0}
   fences due may =
       acting (IsRuled threads starts) slots id me 0 (λ word. word) ToFence (operation_on slots 0 0 0) (record { place = refl; first = refl; second = refl }) (allowed.fences threads starts slots id me live due may)
 
-  pub raises : (place old new object : ℕ) → me.0.thread.due ≡ Nothing → HoldsWord object Write old me.0.thread.phase → decision me.0 ≡ Raise → me.0.threads ≡ threads → place ≡ 8 * (1 + (threads + object)) → new ≡ packed_state (WrEx me.0.number)
+  pub raises : (place old new object : ℕ) (mode : Mode) → me.0.thread.due ≡ Nothing → HoldsWord object mode old me.0.thread.phase → decision me.0 ≡ Raise → me.0.threads ≡ threads → place ≡ 8 * (1 + (threads + object)) → new ≡ packed_state (WrEx me.0.number)
       → Allows (IsRuled threads starts) slots id me place (λ word. either (word == old) new word) (Acts ToRaise (operation_on slots place old new) me)
-  raises place old new object due holds says known is stored =
-      acting (IsRuled threads starts) slots id me place (λ word. either (word == old) new word) ToRaise (operation_on slots place old new) (by_raise me.0 slots place old new object holds (at_state place object known is) stored)
-      (allowed.raises threads starts slots id me live place old new object due holds says is stored)
+  raises place old new object mode due holds says known is stored =
+      acting (IsRuled threads starts) slots id me place (λ word. either (word == old) new word) ToRaise (operation_on slots place old new) (by_raise me.0 slots place old new object mode holds (at_state place object known is) stored)
+      (allowed.raises threads starts slots id me live place old new object mode due holds says is stored)
 
   pub shares : (place old new object : ℕ) → me.0.thread.due ≡ Nothing → HoldsWord object Read old me.0.thread.phase → IsTrue (is_share (decision me.0)) → me.0.threads ≡ threads → place ≡ 8 * (1 + (threads + object)) → new ≡ packed_state (ShInt me.0.number)
       → Allows (IsRuled threads starts) slots id me place (λ word. either (word == old) new word) (Acts ToShare (operation_on slots place old new) me)

@@ -1,5 +1,5 @@
 -- What a seat's calls know by the steps that they take.
-use Rattle.std.proofs.Common.{◌≡◌, ℕ, ◌+◌, ◌*◌, ◌^◌, ◌<◌, ◌≤◌, ⊎_elim, Bool, true, false, List, [], ◌∷◌, length, Option, Some, None, sym, refl, ap, ◌∙◌, subst, arith, length-append, eq-eqb}
+use Rattle.std.proofs.Common.{◌≡◌, ◌≢◌, ℕ, ◌+◌, ◌*◌, ◌^◌, ◌<◌, ◌≤◌, ⊎_elim, Bool, true, false, List, [], ◌∷◌, length, Option, Some, None, sym, refl, ap, ◌∙◌, subst, arith, length-append, eq-eqb}
 use Rattle.std.specs.Prelude.{IsFalse, IsTrue, ◌%◌, ◌==◌, nat_le, if◌then◌else◌}
 use Rattle.octet_model.specs.declared.event.Mark.TheVariants.{Join}
 use Rattle.octet_model.specs.declared.event.Event.{Event}
@@ -8,7 +8,7 @@ use Rattle.octet_state.specs.declared.act.Act.{Act}
 use Rattle.octet_state.specs.declared.act.Act.TheVariants.{Pass, Fence, Take}
 use Rattle.octet_state.specs.declared.act.Whom.TheVariants.{One}
 use Rattle.octet_state.specs.declared.act.Mode.{Mode}
-use Rattle.octet_state.specs.declared.act.Mode.TheVariants.{Read, Write}
+use Rattle.octet_state.specs.declared.act.Mode.TheVariants.{Read, Write, Update}
 use Rattle.octet_state.specs.declared.phase.Phase.{Phase}
 use Rattle.octet_state.specs.declared.phase.Phase.TheVariants.{Off, Idle, Want, Pass, FenceDue, Claimed, Sharing, Blocked}
 use Rattle.octet_state.specs.declared.state_word.StateWord.{StateWord}
@@ -19,8 +19,9 @@ use Rattle.octet_state.specs.Table.{is_changed_by, decided}
 use Rattle.octet_state.specs.Asking.{answers}
 use Rattle.octet_state.specs.State.{ProtocolState, state_of}
 use Rattle.octet_state.specs.Intermediate.{change_of, change_by}
-use Rattle.octet_state.specs.Steps.{Kind, made, ended_by, ToAsk, ToLook, ToLoad, ToDraw, ToShare, state_in, settling, moved, loaded, mode_of, wins, joined_by_share, one_done, one_asked, step}
+use Rattle.octet_state.specs.Steps.{Kind, made, ended_by, ToAsk, ToLook, ToLoad, ToClaim, ToDraw, ToShare, state_in, settling, moved, loaded, mode_of, wins, claimed, lost, joined_by_share, one_done, one_asked, step}
 use Rattle.std.proofs.lemmas.Nat.{pow_below}
+use Rattle.std.proofs.lemmas.Bool.{ne_eqb}
 use Rattle.octet_state.proofs.lemmas.Packing.{state_back}
 use Rattle.octet_state.proofs.lemmas.Widths.{few_events, state_fits}
 use Rattle.octet_state.proofs.lemmas.Laws.{counter_is_small}
@@ -67,10 +68,13 @@ settled_fits me events (Sharing object (Some number)) h k fits = fits
 settled_fits me events (Sharing object None) h k fits = (h, k)
 settled_fits me events (Want object Read seen) h k fits = (h, k)
 settled_fits me events (Want object Write seen) h k fits = h
+settled_fits me events (Want object Update seen) h k fits = h
 settled_fits me events (Pass object Read) h k fits = (h, k)
 settled_fits me events (Pass object Write) h k fits = h
+settled_fits me events (Pass object Update) h k fits = h
 settled_fits me events (Claimed object Read prior done asked) h k fits = (h, k)
 settled_fits me events (Claimed object Write prior done asked) h k fits = h
+settled_fits me events (Claimed object Update prior done asked) h k fits = h
 settled_fits me events Off h k fits = (h, k)
 settled_fits me events Idle h k fits = (h, k)
 settled_fits me events (FenceDue object number) h k fits = (h, k)
@@ -113,6 +117,13 @@ looked_waits whom v told w took is = (
   ap (λ (x : SeatView). x.thread) took.moves ∙ ap (λ (b : Bool). if b then moved (one_done v.thread.phase) Nothing v.thread else moved v.thread.phase Glance v.thread) is,
   stays (ToLook whom) v told w took (ap (λ (b : Bool). if b then Some (Marked (Join whom (unpacked_status told).upto)) else None) is),
 )
+
+-- a claim that finds another word than the thread has loaded
+pub claim_lost : (object seen : ℕ) (mode : Mode) (v : SeatView) (told : ℕ) (w : SeatView) → Steps ToClaim v told w → HoldsWord object mode seen v.thread.phase → told ≢ seen
+    → w.thread ≡ moved (lost v.thread.phase) Glance v.thread
+claim_lost object seen mode v told w took holds other = let want = holding object mode seen v.thread.phase holds in
+    let loses : wins told v.thread.phase ≡ false = ap (wins told) want.wants ∙ ne_eqb told (packed_state want.seen) (λ e. other (e ∙ sym want.is_word)) in
+    ap (λ (x : SeatView). x.thread) took.moves ∙ ap (λ (b : Bool). if b then moved (claimed v.thread.phase) Nothing v.thread else moved (lost v.thread.phase) Glance v.thread) loses
 
 -- where the table says to share, the state is another's read-exclusive one, so a share that goes through makes a Join
 neither : (b : Bool) (x y : Act) → is_share x ≡ false → is_share y ≡ false → IsTrue (is_share (if b then x else y)) → ⊥

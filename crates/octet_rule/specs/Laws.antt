@@ -1,11 +1,11 @@
 -- What the steps of seats say of the states at which they are taken.
 use Rattle.std.specs.Prelude.{◌≡◌, ℕ, ◌+◌, ◌*◌, ◌≤◌, IsTrue, length}
 use Rattle.octet_state.specs.declared.act.Mode.{Mode}
-use Rattle.octet_state.specs.declared.act.Mode.TheVariants.{Read, Write}
+use Rattle.octet_state.specs.declared.act.Mode.TheVariants.{Read, Write, Update}
 use Rattle.octet_state.specs.declared.phase.Phase.TheVariants.{Pass}
 use Rattle.octet_state.specs.State.{ProtocolState, state_of}
 use Rattle.octet_state.specs.Passing.{may_pass}
-use Rattle.octet_state.specs.Steps.{Kind, ToRead, ToWrite, most_accesses}
+use Rattle.octet_state.specs.Steps.{Kind, ToRead, ToWrite, ToBump, most_accesses}
 use Rattle.octet_rule.specs.Views.{SeatView}
 use Rattle.octet_rule.specs.Rule.{Steps}
 
@@ -22,6 +22,10 @@ ReadIsLetPass = (v : SeatView) (told : ℕ) (w : SeatView) (took : Steps ToRead 
 -- and it is written only where that lets the thread write it
 abbrev pub WriteIsLetPass : Type 0
 WriteIsLetPass = (value : ℕ) (v : SeatView) (told : ℕ) (w : SeatView) (took : Steps (ToWrite value) v told w) → IsLetPass Write v took.before
+
+-- and it is updated only where that lets the thread update it
+abbrev pub BumpIsLetPass : Type 0
+BumpIsLetPass = (amount : ℕ) (v : SeatView) (told : ℕ) (w : SeatView) (took : Steps (ToBump amount) v told w) → IsLetPass Update v took.before
 
 -- a step on the cell, taken where the object's state lets the thread make such an access
 pub record IsAllowedAccess (mode : Mode) (k : Kind) (v : SeatView) (told : ℕ) (w : SeatView) : Type 0 where

@@ -11,7 +11,7 @@ use Rattle.octet_state.specs.Words.{packed_state, packed_status}
 use Rattle.octet_state.specs.State.{ProtocolState, thread_of, unstarted, words, counter_place, status_place}
 use Rattle.octet_state.specs.Steps as steps
 use Rattle.octet_state.specs.NextStep.{word_seen}
-use Rattle.octet_state.specs.Steps.{Kind, May, step, ToAnswer, ToBlock, ToUnblock, ToAsk, ToLook, ToLoad, ToRead, ToWrite, ToClaim, ToSettle, ToDraw, ToFence, ToRaise, ToShare, target, shown, mode_of, claiming, settling}
+use Rattle.octet_state.specs.Steps.{Kind, May, step, ToAnswer, ToBlock, ToUnblock, ToAsk, ToLook, ToLoad, ToRead, ToWrite, ToBump, ToClaim, ToSettle, ToDraw, ToFence, ToRaise, ToShare, target, shown, mode_of, claiming, settling}
 use Rattle.octet_state.specs.Soundness.{IsSound}
 use Rattle.octet_rule.specs.Views.{SeatView, new_view, stepped_by}
 
@@ -93,6 +93,7 @@ place_by (ToLook whom) v = status_place whom
 place_by (ToLoad object mode) v = state_place v object
 place_by ToRead v = cell_place v (target v.thread.phase)
 place_by (ToWrite value) v = cell_place v (target v.thread.phase)
+place_by (ToBump amount) v = cell_place v (target v.thread.phase)
 place_by ToClaim v = state_place v (target v.thread.phase)
 place_by ToSettle v = state_place v (target v.thread.phase)
 place_by ToRaise v = state_place v (target v.thread.phase)
@@ -101,13 +102,14 @@ place_by ToDraw v = counter_place
 place_by ToFence v = counter_place
 place_by _ v = status_place v.number
 
--- what its operation is given: the word that it stores, the bit that it sets, the 1 that it adds, or the word that it exchanges
+-- what its operation is given: the word that it stores, the bit that it sets, what it adds, or the word that it exchanges
 abbrev pub first_given : Kind → SeatView → ℕ
 first_given ToAnswer v = packed_status (shown false (length v.journal))
 first_given (ToBlock ends) v = packed_status (shown true (length v.journal))
 first_given ToUnblock v = packed_status (shown false (length v.journal))
 first_given (ToAsk whom) v = 2 ^ v.number
 first_given (ToWrite value) v = value
+first_given (ToBump amount) v = amount
 first_given ToSettle v = packed_state (settling v.number (length v.journal) v.thread.phase)
 first_given ToDraw v = 1
 first_given ToClaim v = word_seen v.thread.phase

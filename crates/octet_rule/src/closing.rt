@@ -69,7 +69,7 @@ impl Words {
     }
 }
 
-// The cells after the lines of so many threads.
+// The cells of `objects` objects, after the lines of `threads` threads.
 fn read_cells(
     alloc: Global,
     closed: &Closed<(), Global>,

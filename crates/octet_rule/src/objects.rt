@@ -1,10 +1,10 @@
 //! Steps on the states of objects, and on their cells.
 ghost use Rattle.std.specs.Prelude.{◌≡◌, ◌+◌, ◌-◌, ◌*◌, ◌/◌, ◌<◌, Some, length, IsTrue, IsFalse};
-ghost use Rattle.octet_state.specs.declared.act.Mode.TheVariants.{Read as ForRead, Write as ForWrite};
+ghost use Rattle.octet_state.specs.declared.act.Mode.TheVariants.{Read as ForRead, Write as ForWrite, Update as ForUpdate};
 ghost use Rattle.octet_state.specs.declared.phase.Due.TheVariants.{Nothing};
 ghost use Rattle.octet_state.specs.Table.{is_changed_by};
 ghost use Rattle.octet_state.specs.Words.{packed_state, unpacked_state};
-ghost use Rattle.octet_state.specs.Steps.{ToLoad, ToRead, ToWrite, ToClaim, ToSettle, state_in, settling};
+ghost use Rattle.octet_state.specs.Steps.{ToLoad, ToRead, ToWrite, ToBump, ToClaim, ToSettle, state_in, settling};
 ghost use Rattle.atomic_table.specs.Table.{Allows};
 ghost use Rattle.octet_rule.specs.Rule.{IsRuled, Acts, operation_on, Steps};
 ghost use Rattle.octet_rule.specs.Laws.{IsAllowedAccess};
@@ -78,6 +78,26 @@ impl Words {
         seat.events += 1;
     }
 
+    /// Adds the amount to the cell, modulo 2^64, in one access. Answers the value before.
+    pub fn bump(&self, seat: &mut Seat, object: u16, amount: u64) -> u64
+        requires own { IsSeatOf self.now seat.old }
+        requires object { object < objects_of self.now }
+        requires due { (view seat.old).thread.due ≡ Nothing }
+        requires phase { MayPass object ForUpdate (view seat.old).thread.phase }
+        ensures own { IsSeatOf self.now seat.new }
+        ensures step { Steps (ToBump amount) (view seat.old) result (view seat.new) }
+        ensures allowed { IsAllowedAccess ForUpdate (ToBump amount) (view seat.old) result (view seat.new) }
+    {
+        let place = self.cell_place(object);
+        let before = self
+            .table
+            .shared
+            .fetch_add::<plays::Bump>(&mut seat.inner, place, amount);
+        seat.phase = Phase::Idle;
+        seat.events += 1;
+        before
+    }
+
     /// Takes the object, where its word is still the one that was loaded.
     pub fn claim(&self, seat: &mut Seat, object: u16, mode: &Mode, seen: u64) -> Tried
         requires own { IsSeatOf self.now seat.old }
@@ -92,7 +112,7 @@ impl Words {
         let place = self.state_place(object);
         let claiming = match *mode {
             Mode::Read => StateWord::RdInt { by: seat.thread },
-            Mode::Write => StateWord::WrInt { by: seat.thread },
+            Mode::Write | Mode::Update => StateWord::WrInt { by: seat.thread },
         };
         let found = self
             .table
@@ -141,6 +161,7 @@ impl Words {
         match *mode {
             Mode::Read => self.table.shared.load::<plays::LoadToRead>(inner, place),
             Mode::Write => self.table.shared.load::<plays::LoadToWrite>(inner, place),
+            Mode::Update => self.table.shared.load::<plays::LoadToUpdate>(inner, place),
         }
     }
 }

@@ -2,8 +2,8 @@
 //! step, on its word and with its operands. The object or the thread that a step names is read
 //! off the place of its word.
 ghost use Rattle.std.specs.Prelude.{◌-◌, ◌+◌, ◌/◌, false};
-ghost use Rattle.octet_state.specs.declared.act.Mode.TheVariants.{Read as ForRead, Write as ForWrite};
-ghost use Rattle.octet_state.specs.Steps.{ToGlance, ToAnswer, ToBlock, ToUnblock, ToAsk, ToLook, ToLoad, ToRead, ToWrite, ToClaim, ToSettle, ToDraw, ToFence, ToRaise, ToShare};
+ghost use Rattle.octet_state.specs.declared.act.Mode.TheVariants.{Read as ForRead, Write as ForWrite, Update as ForUpdate};
+ghost use Rattle.octet_state.specs.Steps.{ToGlance, ToAnswer, ToBlock, ToUnblock, ToAsk, ToLook, ToLoad, ToRead, ToWrite, ToBump, ToClaim, ToSettle, ToDraw, ToFence, ToRaise, ToShare};
 ghost use Rattle.octet_rule.specs.Rule.{Acts};
 ghost use Rattle.octet_rule.specs.Views.{after_split, split_off, after_join, spent};
 
@@ -59,6 +59,12 @@ impl Play<(), View> for LoadToWrite {
     ghost then = { λ step me told next. Acts (ToLoad (step.word / 8 - (1 + me.0.threads)) ForWrite) step me told next };
 }
 
+pub(crate) struct LoadToUpdate;
+
+impl Play<(), View> for LoadToUpdate {
+    ghost then = { λ step me told next. Acts (ToLoad (step.word / 8 - (1 + me.0.threads)) ForUpdate) step me told next };
+}
+
 pub(crate) struct Read;
 
 impl Play<(), View> for Read {
@@ -69,6 +75,12 @@ pub(crate) struct Write;
 
 impl Play<(), View> for Write {
     ghost then = { λ step me told next. Acts (ToWrite step.first) step me told next };
+}
+
+pub(crate) struct Bump;
+
+impl Play<(), View> for Bump {
+    ghost then = { λ step me told next. Acts (ToBump step.first) step me told next };
 }
 
 pub(crate) struct Claim;

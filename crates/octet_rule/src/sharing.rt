@@ -1,9 +1,9 @@
 //! Steps on the counter of draws, and on states of shared objects.
 ghost use Rattle.std.specs.Prelude.{◌≡◌, ◌+◌, ◌*◌, ◌<◌, IsTrue};
 ghost use Rattle.octet_state.specs.declared.act.Act.TheVariants.{Raise as RaiseIt};
-ghost use Rattle.octet_state.specs.declared.act.Mode.TheVariants.{Read as ForRead, Write as ForWrite};
+ghost use Rattle.octet_state.specs.declared.act.Mode.TheVariants.{Read as ForRead};
 ghost use Rattle.octet_state.specs.declared.phase.Due.TheVariants.{Nothing};
-ghost use Rattle.octet_state.specs.Steps.{ToDraw, ToFence, ToRaise, ToShare};
+ghost use Rattle.octet_state.specs.Steps.{ToDraw, ToFence, ToRaise, ToShare, mode_of};
 ghost use Rattle.octet_rule.specs.Rule.{Steps};
 ghost use Rattle.octet_rule.specs.Conditions.{MayDraw, MayFence, HoldsWord, decision, is_share, found_by, IsLost};
 ghost use Rattle.octet_rule.specs.Seats.{view, IsSeatOf, objects_of};
@@ -59,7 +59,7 @@ impl Words {
         requires own { IsSeatOf self.now seat.old }
         requires object { object < objects_of self.now }
         requires due { (view seat.old).thread.due ≡ Nothing }
-        requires phase { HoldsWord object ForWrite seen (view seat.old).thread.phase }
+        requires phase { HoldsWord object (mode_of (view seat.old).thread.phase) seen (view seat.old).thread.phase }
         requires raises { decision (view seat.old) ≡ RaiseIt }
         ensures own { IsSeatOf self.now seat.new }
         ensures step { Steps ToRaise (view seat.old) (found_by seen result) (view seat.new) }

@@ -2,7 +2,7 @@
 //! here, the thread gives up.
 ghost use Rattle.std.specs.Prelude.{◌≡◌, ◌+◌, ◌<◌, ◌∷◌, [], IfOk, IfSome, IsTrue, true};
 ghost use Rattle.octet_model.specs.Journals.{access_count};
-ghost use Rattle.octet_state.specs.declared.act.Mode.TheVariants.{Read as ForRead, Write as ForWrite};
+ghost use Rattle.octet_state.specs.declared.act.Mode.TheVariants.{Read as ForRead};
 ghost use Rattle.octet_state.specs.declared.phase.Due.TheVariants.{Nothing};
 ghost use Rattle.octet_state.specs.declared.phase.Phase.TheVariants.{Off, Idle, Claimed};
 ghost use Rattle.octet_state.specs.declared.state_word.StateWord.TheVariants.{WrEx};
@@ -16,67 +16,70 @@ use octet_state::{Act, Mode, Phase, StateWord, StatusWord, Whom, decide};
 use std::alloc::Global;
 use std::test::*;
 
-/// Whether the state has let the thread pass to a write of the object.
-fn passes_to_write(seat: &Seat, object: u16) -> bool
-    ensures { IsTrue result → MayPass object ForWrite (view seat.now).thread.phase }
-{
-    match seat.phase() {
-        Phase::Pass {
-            object: passed,
-            mode: Mode::Write,
-        } => passed == object,
-        _ => false,
-    }
-}
-
-/// Writes its own object, where the state lets it.
-fn write_own(words: &Words, seat: &mut Seat, object: u16, value: u64) -> bool
+/// Loads the state of an object, and takes it where another thread has it that is blocked. Whether
+/// the thread then passes to the access.
+fn reach(words: &Words, seat: &mut Seat, object: u16, mode: &Mode) -> bool
     requires own { IsSeatOf words.now seat.old }
     requires object { object < objects_of words.now }
     requires idle { ((view seat.old).thread.due ≡ Nothing) × ((view seat.old).thread.phase ≡ Idle) }
     requires room { access_count (view seat.old).journal < most_accesses }
     ensures own { IsSeatOf words.now seat.new }
     ensures same { (view seat.new).number ≡ (view seat.old).number }
-    ensures idle { IsTrue result → ((view seat.new).thread.due ≡ Nothing) × ((view seat.new).thread.phase ≡ Idle) }
+    ensures passes { IsTrue result → ((view seat.new).thread.due ≡ Nothing) × MayPass object mode.now (view seat.new).thread.phase }
 {
-    words.load(seat, object, &Mode::Write);
-    if !passes_to_write(seat, object) {
-        return false;
-    }
-    words.write(seat, object, value);
-    true
-}
-
-/// Takes an object from the thread that has it, where that is blocked, and writes it.
-fn take_over(words: &Words, seat: &mut Seat, object: u16, value: u64) -> bool
-    requires own { IsSeatOf words.now seat.old }
-    requires object { object < objects_of words.now }
-    requires idle { ((view seat.old).thread.due ≡ Nothing) × ((view seat.old).thread.phase ≡ Idle) }
-    requires room { access_count (view seat.old).journal < most_accesses }
-    ensures own { IsSeatOf words.now seat.new }
-    ensures same { (view seat.new).number ≡ (view seat.old).number }
-    ensures idle { IsTrue result → ((view seat.new).thread.due ≡ Nothing) × ((view seat.new).thread.phase ≡ Idle) }
-{
-    let word = words.load(seat, object, &Mode::Write);
+    let word = words.load(seat, object, mode);
     let Some(state) = StateWord::unpack(word) else {
         return false;
     };
-    match decide(&state, seat.thread(), &Mode::Write, seat.count()) {
+    match decide(&state, seat.thread(), mode, seat.count()) {
+        Act::Pass => true,
         Act::Take {
             whom: Whom::One { thread },
-        } => match words.claim(seat, object, &Mode::Write, word) {
+        } => match words.claim(seat, object, mode, word) {
             Tried::Won => {
                 if !StatusWord::unpack(words.ask(seat, thread)).blocked {
                     return false;
                 }
                 words.settle(seat, object);
-                words.write(seat, object, value);
                 true
             }
             Tried::Lost { .. } => false,
         },
         _ => false,
     }
+}
+
+/// Writes an object that it reaches.
+fn write(words: &Words, seat: &mut Seat, object: u16, value: u64) -> bool
+    requires own { IsSeatOf words.now seat.old }
+    requires object { object < objects_of words.now }
+    requires idle { ((view seat.old).thread.due ≡ Nothing) × ((view seat.old).thread.phase ≡ Idle) }
+    requires room { access_count (view seat.old).journal < most_accesses }
+    ensures own { IsSeatOf words.now seat.new }
+    ensures same { (view seat.new).number ≡ (view seat.old).number }
+    ensures idle { IsTrue result → ((view seat.new).thread.due ≡ Nothing) × ((view seat.new).thread.phase ≡ Idle) }
+{
+    if !reach(words, seat, object, &Mode::Write) {
+        return false;
+    }
+    words.write(seat, object, value);
+    true
+}
+
+/// Adds to an object that it reaches. Answers the value before.
+fn bump(words: &Words, seat: &mut Seat, object: u16, amount: u64) -> Option<u64>
+    requires own { IsSeatOf words.now seat.old }
+    requires object { object < objects_of words.now }
+    requires idle { ((view seat.old).thread.due ≡ Nothing) × ((view seat.old).thread.phase ≡ Idle) }
+    requires room { access_count (view seat.old).journal < most_accesses }
+    ensures own { IsSeatOf words.now seat.new }
+    ensures same { (view seat.new).number ≡ (view seat.old).number }
+    ensures idle { IfSome result (λ _. ((view seat.new).thread.due ≡ Nothing) × ((view seat.new).thread.phase ≡ Idle)) }
+{
+    if !reach(words, seat, object, &Mode::Update) {
+        return None;
+    }
+    Some(words.bump(seat, object, amount))
 }
 
 /// Thread 0 writes its object, and thread 1 takes it over.
@@ -93,12 +96,12 @@ fn taken_over(
     requires fresh { ((view first).journal ≡ []) × ((view second).journal ≡ []) }
 {
     words.unblock(&mut first);
-    if !write_own(&words, &mut first, 0, 7) {
+    if !write(&words, &mut first, 0, 7) {
         return Ok(List::new(alloc));
     }
     words.block(&mut first);
     words.unblock(&mut second);
-    if !take_over(&words, &mut second, 0, 9) {
+    if !write(&words, &mut second, 0, 9) {
         return Ok(List::new(alloc));
     }
     words.block(&mut second);
@@ -117,6 +120,50 @@ fn a_thread_takes_an_object_over(rt: HostRuntime) -> Result<(), OutOfMemory> {
     let first = seats.remove(0);
     let values = taken_over(words, rt.alloc(), first, second)?;
     assert_eq!(rt; values.as_slice(), [9].as_slice());
+    Ok(())
+}
+
+/// Thread 0 adds to its object, thread 1 takes it over and adds to it, and thread 2 takes it over
+/// and reads it. Answers the values that they find.
+fn added_up(
+    words: &Words,
+    first: &mut Seat,
+    second: &mut Seat,
+    third: &mut Seat,
+) -> Option<(u64, u64, u64)>
+    requires words { objects_of words.now ≡ 1 }
+    requires own { IsSeatOf words.now first.old × IsSeatOf words.now second.old × IsSeatOf words.now third.old }
+    requires off { ((view first.old).thread.phase ≡ Off) × ((view second.old).thread.phase ≡ Off) × ((view third.old).thread.phase ≡ Off) }
+    requires due { ((view first.old).thread.due ≡ Nothing) × ((view second.old).thread.due ≡ Nothing) × ((view third.old).thread.due ≡ Nothing) }
+    requires fresh { ((view first.old).journal ≡ []) × ((view second.old).journal ≡ []) × ((view third.old).journal ≡ []) }
+{
+    words.unblock(first);
+    let Some(start) = bump(words, first, 0, 2) else {
+        return None;
+    };
+    words.block(first);
+    words.unblock(second);
+    let Some(between) = bump(words, second, 0, 3) else {
+        return None;
+    };
+    words.block(second);
+    words.unblock(third);
+    if !reach(words, third, 0, &Mode::Read) {
+        return None;
+    }
+    Some((start, between, words.read(third, 0)))
+}
+
+#[test]
+fn bumps_add_up_and_wrap(rt: HostRuntime) -> Result<(), OutOfMemory> {
+    let starts = List::from_vec(Vec::from_slice(rt.alloc(), &[u64::MAX])?);
+    let (words, seats) = Words::new(rt.alloc(), 3, &starts)?;
+    let mut seats = seats.into_vec();
+    let mut third = seats.remove(2);
+    let mut second = seats.remove(1);
+    let mut first = seats.remove(0);
+    let found = added_up(&words, &mut first, &mut second, &mut third);
+    assert_eq!(rt; found, Some((u64::MAX, 1, 4)));
     Ok(())
 }
 
@@ -220,7 +267,7 @@ fn hand_over(words: &Words, owner: &mut Seat, reader: &mut Seat) -> Option<(u64,
     ensures own { IsSeatOf words.now owner.new × IsSeatOf words.now reader.new }
 {
     words.unblock(owner);
-    if !write_own(words, owner, 0, 7) {
+    if !write(words, owner, 0, 7) {
         return None;
     }
     words.unblock(reader);

@@ -19,6 +19,7 @@ use Rattle.octet_interp.specs.declared.demand.Demand.TheVariants as demand
 use Rattle.octet_interp.specs.Demands.{ThreadState, next_demand, after_demand}
 use Rattle.octet_interp.specs.Laws.{IsJournalOf, IsJournalPast}
 use Rattle.octet_interp.proofs.Journaled.{keep_up}
+use Rattle.octet_state.proofs.lemmas.ValidLogs.{log_valid}
 use Rattle.octet_rule.specs.declared.words.Seat.{Seat}
 use Rattle.octet_rule.specs.Seats.{view, threads_of}
 use Rattle.octet_heap.specs.declared.closed.Closed.{Closed}
@@ -32,7 +33,6 @@ use Rattle.octet_threads.specs.Runners.{HasEnded, IsEnd, IsOf, AreOf, IsHeapOf, 
 use Rattle.octet_threads.specs.Carrying.{start_of}
 use Rattle.octet_threads.proofs.Props.{journal_prop}
 use Rattle.octet_threads.proofs.Fuel.{fuel_left}
-use Rattle.octet_threads.proofs.ValidLogs.{log_valid}
 
 -- a journal that leaves a thread at its end
 ends_with : (start : Configuration) (journal : List Event) (s : ThreadState) → IsJournalOf start journal s → IsEnd (next_demand s)

@@ -1,11 +1,11 @@
 -- A thread has fuel for each access of a journal that fits it.
 use Rattle.std.proofs.Common.{◌≡◌, ℕ, zero, suc, pred, ◌+◌, ◌<◌, ◌≤◌, true, List, [], ◌∷◌, Option, Some, None, slice_get, slice_index, refl, sym, ap, subst, arith}
 use Rattle.octet_model.specs.declared.command.Command.{Command}
-use Rattle.octet_model.specs.declared.command.Command.TheVariants.{Read, Write}
+use Rattle.octet_model.specs.declared.command.Command.TheVariants.{Read, Write, Bump}
 use Rattle.octet_model.specs.declared.event.Event.{Event}
 use Rattle.octet_model.specs.declared.event.Event.TheVariants as event
 use Rattle.octet_model.specs.declared.outcome.End.TheVariants.{Spent}
-use Rattle.octet_model.specs.Thread.{Configuration, AccessOrEnd, ToRead, ToWrite, ToEnd, is_access, settled, demand_at, demanded, past_access, past_demanded, configuration_after, FitsFrom}
+use Rattle.octet_model.specs.Thread.{Configuration, AccessOrEnd, ToRead, ToWrite, ToBump, ToEnd, is_access, settled, demand_at, demanded, past_access, past_demanded, configuration_after, FitsFrom}
 use Rattle.octet_model.specs.Journals.{access_count}
 use Rattle.octet_interp.specs.declared.demand.Demand.{Demand}
 use Rattle.octet_interp.specs.declared.demand.Demand.TheVariants as demand
@@ -31,6 +31,7 @@ fuelled_at command d (suc fuel) is wants = omega arith
 fuelled_at None d zero is wants = absurd wants
 fuelled_at (Some (Read to object)) d zero is wants = absurd (subst IsAccess (ap (λ (n : ℕ). elim n as (λ k. AccessOrEnd) [ zero ↦ ToEnd Spent | suc k ↦ ToRead object ]) is) wants)
 fuelled_at (Some (Write object from)) d zero is wants = absurd (subst IsAccess (ap (λ (n : ℕ). elim n as (λ k. AccessOrEnd) [ zero ↦ ToEnd Spent | suc k ↦ ToWrite object (slice_index d.registers from) ]) is) wants)
+fuelled_at (Some (Bump object from)) d zero is wants = absurd (subst IsAccess (ap (λ (n : ℕ). elim n as (λ k. AccessOrEnd) [ zero ↦ ToEnd Spent | suc k ↦ ToBump object (slice_index d.registers from) ]) is) wants)
 fuelled_at (Some _) d zero is wants = absurd wants
 
 fuelled : (commands : List Command) (c : Configuration) → IsAccess (demanded commands c) → 0 < (settled commands c).fuel
@@ -54,11 +55,14 @@ fuel_left commands c (event.Read object value ∷ journal) fits =
     omega (arith, takes_fuel commands c value (subst IsAccess (sym fits.0) tt), fuel_left commands (past_demanded commands c value) journal fits.1)
 fuel_left commands c (event.Write object value ∷ journal) fits =
     omega (arith, takes_fuel commands c value (subst IsAccess (sym fits.0) tt), fuel_left commands (past_demanded commands c value) journal fits.1)
+fuel_left commands c (event.Update object before after ∷ journal) fits =
+    omega (arith, takes_fuel commands c after (subst IsAccess (sym fits.0.1) tt), fuel_left commands (past_demanded commands c after) journal fits.1)
 fuel_left commands c (event.Marked mark ∷ journal) fits = fuel_left commands c journal fits
 
 wants_access : (d : Demand) (s t : ThreadState) → demands_access d ≡ true → Agrees d s t → IsAccess (demanded s.commands s.at)
 wants_access (demand.Read object) s t is agrees = subst IsAccess (sym agrees.0) tt
 wants_access (demand.Write object value) s t is agrees = subst IsAccess (sym agrees.0) tt
+wants_access (demand.Bump object amount) s t is agrees = subst IsAccess (sym agrees.0) tt
 wants_access _ s t is agrees = absurd cc
 
 -- where one more access is demanded, there is fuel for it

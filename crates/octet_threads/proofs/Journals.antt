@@ -1,7 +1,7 @@
 -- A worker's journal keeps up with its thread.
 use Rattle.std.proofs.Common.{◌≡◌, ◌∙◌, ℕ, false, List, [], ◌∷◌, ◌++◌, map, sym, refl, ap, subst, append_assoc, append-nil}
 use Rattle.octet_model.specs.declared.command.Command.{Command}
-use Rattle.octet_model.specs.declared.command.Command.TheVariants.{Read, Write}
+use Rattle.octet_model.specs.declared.command.Command.TheVariants.{Read, Write, Bump}
 use Rattle.octet_model.specs.declared.event.Mark.{Mark}
 use Rattle.octet_model.specs.declared.event.Event.{Event}
 use Rattle.octet_model.specs.declared.event.Event.TheVariants as event
@@ -18,7 +18,7 @@ use Rattle.octet_state.specs.declared.act.Mode.TheVariants as mode
 use Rattle.octet_rule.specs.Views.{SeatView}
 use Rattle.octet_heap.specs.declared.wish.Wish.{Wish}
 use Rattle.octet_heap.specs.declared.poll.Poll.TheVariants.{Ready}
-use Rattle.octet_heap.specs.Growth.{AddsAccess}
+use Rattle.octet_heap.specs.Growth.{access_event, AddsAccess}
 use Rattle.octet_threads.specs.Carrying.{TellsAgain}
 
 -- marks change nothing
@@ -33,27 +33,34 @@ module _ (start : Configuration) (s : ThreadState) where
   past d journal is kept = subst (λ (x : Demand). IsJournalPast start journal x (after_demand s)) is (keep_up start journal s kept)
 
   -- the journal that has grown by an access
-  grown_by : (wish : Wish) (v w : SeatView) (value : ℕ) (made : Event) (a : AddsAccess wish v (Ready value) w)
-      → w.journal ≡ v.journal ++ (map (λ mark. event.Marked mark) a.marks ++ made ∷ []) → w.journal ≡ (v.journal ++ map (λ mark. event.Marked mark) a.marks) ++ made ∷ []
-  grown_by wish v w value made a is = is ∙ sym (append_assoc v.journal (map (λ mark. event.Marked mark) a.marks) (made ∷ []))
+  grown_by : (wish : Wish) (v w : SeatView) (value : ℕ) (a : AddsAccess wish v (Ready value) w)
+      → w.journal ≡ (v.journal ++ map (λ mark. event.Marked mark) a.marks) ++ access_event wish.mode wish.object wish.value a.told ∷ []
+  grown_by wish v w value a = a.grown ∙ sym (append_assoc v.journal (map (λ mark. event.Marked mark) a.marks) (access_event wish.mode wish.object wish.value a.told ∷ []))
 
   -- past a read, with its value
   pub read_kept : (object value : ℕ) (v w : SeatView) → next_demand s ≡ demand.Read object → AddsAccess (record { object = object; mode = mode.Read; value = 0 }) v (Ready value) w
       → IsJournalOf start v.journal s → IsJournalOf start w.journal (given (after_demand s) value)
   read_kept object value v w is a kept =
       let wish : Wish = record { object = object; mode = mode.Read; value = 0 } in
-      subst (λ (j : List Event). IsJournalOf start j (given (after_demand s) value)) (sym (grown_by wish v w value (event.Read object value) a a.grown))
-      (past (demand.Read object) (v.journal ++ map (λ mark. event.Marked mark) a.marks) is (marks_kept start s a.marks v.journal kept) value)
+      subst (λ (j : List Event). IsJournalOf start j (given (after_demand s) value)) (sym (grown_by wish v w value a))
+      (subst (λ (n : ℕ). IsJournalOf start ((v.journal ++ map (λ mark. event.Marked mark) a.marks) ++ event.Read object a.told ∷ []) (given (after_demand s) n)) (sym a.value)
+      (past (demand.Read object) (v.journal ++ map (λ mark. event.Marked mark) a.marks) is (marks_kept start s a.marks v.journal kept) a.told))
 
   -- past a write
   pub write_kept : (object value told : ℕ) (v w : SeatView) → next_demand s ≡ demand.Write object value → AddsAccess (record { object = object; mode = mode.Write; value = value }) v (Ready told) w
       → IsJournalOf start v.journal s → IsJournalOf start w.journal (after_demand s)
   write_kept object value told v w is a kept =
       let wish : Wish = record { object = object; mode = mode.Write; value = value } in
-      let written : told ≡ value = a.value in
-      let same : w.journal ≡ v.journal ++ (map (λ mark. event.Marked mark) a.marks ++ event.Write object value ∷ []) = a.grown ∙ ap (λ (n : ℕ). v.journal ++ (map (λ mark. event.Marked mark) a.marks ++ event.Write object n ∷ [])) written in
-      subst (λ (j : List Event). IsJournalOf start j (after_demand s)) (sym (grown_by wish v w told (event.Write object value) a same))
+      subst (λ (j : List Event). IsJournalOf start j (after_demand s)) (sym (grown_by wish v w told a))
       (past (demand.Write object value) (v.journal ++ map (λ mark. event.Marked mark) a.marks) is (marks_kept start s a.marks v.journal kept))
+
+  -- past an update
+  pub bump_kept : (object amount after : ℕ) (v w : SeatView) → next_demand s ≡ demand.Bump object amount → AddsAccess (record { object = object; mode = mode.Update; value = amount }) v (Ready after) w
+      → IsJournalOf start v.journal s → IsJournalOf start w.journal (after_demand s)
+  bump_kept object amount after v w is a kept =
+      let wish : Wish = record { object = object; mode = mode.Update; value = amount } in
+      subst (λ (j : List Event). IsJournalOf start j (after_demand s)) (sym (grown_by wish v w after a))
+      (past (demand.Bump object amount) (v.journal ++ map (λ mark. event.Marked mark) a.marks) is (marks_kept start s a.marks v.journal kept) a.told)
 
   -- past a safe point or a pause
   pub safe_kept : (v w : SeatView) → next_demand s ≡ demand.Safe → w.journal ≡ v.journal → IsJournalOf start v.journal s → IsJournalOf start w.journal (after_demand s)
@@ -72,6 +79,7 @@ settles_alike commands c =
     no_access : (command : Command) → is_demand command ≡ false → is_access command ≡ false
     no_access (Read to object) is = absurd cc
     no_access (Write object from) is = absurd cc
+    no_access (Bump object from) is = absurd cc
     no_access _ is = refl
 
 -- at its end it stays where it is

@@ -4,6 +4,5 @@ pub mod Doing
 pub mod Polling
 pub mod Journals
 pub mod Fuel
-pub mod ValidLogs
 pub mod Ending
 pub mod Opening

@@ -6,7 +6,7 @@ use Rattle.octet_model.specs.declared.event.Event.TheVariants.{Marked}
 use Rattle.octet_state.specs.declared.phase.Due.{Due}
 use Rattle.octet_state.specs.declared.phase.Due.TheVariants.{Nothing, Glance, Answer}
 use Rattle.octet_state.specs.declared.why.Why.{Why}
-use Rattle.octet_state.specs.Steps.{Kind, ToLoad, ToRead, ToWrite}
+use Rattle.octet_state.specs.Steps.{Kind, ToLoad, ToRead, ToWrite, ToBump}
 use Rattle.octet_state.specs.NextStep.{kind_by_due, kind_in_phase, waits}
 use Rattle.octet_rule.specs.Views.{SeatView, Taken, stepped_by}
 use Rattle.octet_heap.specs.declared.wish.Wish.{Wish}
@@ -24,12 +24,14 @@ goes_off_cell : (why : Option Why) (k : Kind) (word : ℕ) → answer_by why k w
 goes_off_cell (Some why) k word e = absurd cc
 goes_off_cell None ToRead word e = absurd cc
 goes_off_cell None (ToWrite value) word e = absurd cc
+goes_off_cell None (ToBump amount) word e = absurd cc
 goes_off_cell None _ word e = refl
 
 -- nor is one that waits
 waits_off_cell : (k : Kind) (me word : ℕ) (v : SeatView) (why : Why) → answer_by (waits k me word v.thread) k word ≡ Some (Pending why) → is_on_cell k word ≡ false
 waits_off_cell ToRead me word v why e = absurd cc
 waits_off_cell (ToWrite value) me word v why e = absurd cc
+waits_off_cell (ToBump amount) me word v why e = absurd cc
 waits_off_cell _ me word v why e = refl
 
 -- the one that makes the access is
@@ -37,12 +39,14 @@ makes_on_cell : (why : Option Why) (k : Kind) (word value : ℕ) → answer_by w
 makes_on_cell (Some why) k word value e = absurd cc
 makes_on_cell None ToRead word value e = refl
 makes_on_cell None (ToWrite written) word value e = refl
+makes_on_cell None (ToBump amount) word value e = refl
 makes_on_cell None _ word value e = absurd cc
 
 -- after it nothing is due
 leaves_nothing : (k : Kind) (word : ℕ) (v : SeatView) → is_on_cell k word ≡ true → (stepped_by k word v).thread.due ≡ Nothing
 leaves_nothing ToRead word v e = refl
 leaves_nothing (ToWrite value) word v e = refl
+leaves_nothing (ToBump amount) word v e = refl
 leaves_nothing _ word v e = absurd cc
 
 -- a glance or an answer is none on the cell
@@ -123,6 +127,7 @@ adds_more wish u v w why a b =
 pub adds_last : (wish : Wish) (u v w : SeatView) (answer : Poll) → AddsMarks u v → AddsAccess wish v answer w → AddsAccess wish u answer w
 adds_last wish u v w answer a b = record {
   marks = a.0 ++ b.marks;
-  grown = adds_then u.journal v.journal w.journal a.0 b.marks (access_made wish answer) a.1 b.grown;
+  told = b.told;
+  grown = adds_then u.journal v.journal w.journal a.0 b.marks (access_made wish b.told answer) a.1 b.grown;
   value = b.value;
 }

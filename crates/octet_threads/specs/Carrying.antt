@@ -3,7 +3,7 @@ use Rattle.std.specs.Prelude.{◌≡◌, ◌<◌, Bool, true, false, None}
 use Rattle.octet_model.specs.Journals.{access_count}
 use Rattle.octet_model.specs.Thread.{Configuration, starting_configuration}
 use Rattle.octet_interp.specs.declared.demand.Demand.{Demand}
-use Rattle.octet_interp.specs.declared.demand.Demand.TheVariants.{Read, Write, Ended}
+use Rattle.octet_interp.specs.declared.demand.Demand.TheVariants.{Read, Write, Bump, Ended}
 use Rattle.octet_interp.specs.Demands.{ThreadState, next_demand}
 use Rattle.octet_interp.specs.Laws.{IsJournalOf}
 use Rattle.octet_state.specs.declared.phase.Phase.TheVariants.{Blocked}
@@ -14,6 +14,7 @@ use Rattle.octet_heap.specs.Workers.{seat_of, IsIdle}
 abbrev pub is_access : Demand → Bool
 is_access (Read object) = true
 is_access (Write object value) = true
+is_access (Bump object amount) = true
 is_access _ = false
 
 -- the thread may make one more access, or demands none

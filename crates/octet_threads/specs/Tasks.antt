@@ -2,16 +2,16 @@
 use Rattle.std.specs.Prelude.{◌≡◌, ℕ, Bool, true, false, ◌==◌, List, [], ◌∷◌, ◌++◌}
 use Rattle.octet_interp.specs.declared.demand.Demand.{Demand}
 use Rattle.octet_interp.specs.declared.demand.Demand.TheVariants as demand
-use Rattle.octet_state.specs.declared.act.Mode.TheVariants.{Read, Write}
+use Rattle.octet_state.specs.declared.act.Mode.TheVariants.{Read, Write, Update}
 use Rattle.octet_state.specs.Words.{unpacked_status}
-use Rattle.octet_state.specs.Steps.{Kind, ToGlance, ToAnswer, ToBlock, ToUnblock, ToLoad, ToRead, ToWrite}
+use Rattle.octet_state.specs.Steps.{Kind, ToGlance, ToAnswer, ToBlock, ToUnblock, ToLoad, ToRead, ToWrite, ToBump}
 use Rattle.octet_state.specs.NextStep.{next_kind}
 use Rattle.octet_rule.specs.Views.{SeatView, Taken, stepped_by}
 use Rattle.octet_rule.specs.Rule.{Steps}
 use Rattle.octet_heap.specs.declared.wish.Wish.{Wish}
 use Rattle.octet_heap.specs.Polls.{after_steps}
 
--- what an idle thread is to do: the first step of it, the value that a write stores, and the step that does it, by the word that it is told
+-- what an idle thread is to do: the first step of it, the value that a write stores or an update adds, and the step that does it, by the word that it is told
 pub record Task : Type 0 where
   pub first : Kind
   pub value : ℕ
@@ -21,6 +21,7 @@ pub record Task : Type 0 where
 abbrev pub is_on_cell : Kind → ℕ → Bool
 is_on_cell ToRead word = true
 is_on_cell (ToWrite value) word = true
+is_on_cell (ToBump amount) word = true
 is_on_cell _ word = false
 
 -- a safe point is over with a glance that finds no bit, else with the answer
@@ -45,6 +46,7 @@ access_task wish = record { first = ToLoad wish.object wish.mode; value = wish.v
 abbrev pub task_of : Demand → Task
 task_of (demand.Read object) = access_task (record { object = object; mode = Read; value = 0 })
 task_of (demand.Write object value) = access_task (record { object = object; mode = Write; value = value })
+task_of (demand.Bump object amount) = access_task (record { object = object; mode = Update; value = amount })
 task_of demand.Safe = record { first = ToGlance; value = 0; is_done_by = ends_safe_point }
 task_of demand.Pause = record { first = ToBlock false; value = 0; is_done_by = is_unblock }
 task_of (demand.Ended end) = record { first = ToBlock false; value = 0; is_done_by = is_block }

@@ -12,8 +12,8 @@ ghost use Rattle.octet_threads.specs.Tasks.{access_task, task_of, Does};
 ghost use Rattle.octet_threads.specs.Carrying.{HasAccessLeft, IsLeftBy, IsSameThread, TellsAgain, KeepsUp};
 
 use crate::gate::HeapGate;
-use crossbeam_utils::Backoff;
-use octet_heap::{Heap, Poll, Wish, Worker};
+use crate::patience::Patience;
+use octet_heap::{Heap, Poll, Worker};
 use octet_interp::{Config, Demand};
 use octet_state::Mode;
 use std::sync::Wait;
@@ -29,38 +29,40 @@ fn make<R: Wait>(rt: &R, heap: &Heap, worker: &mut Worker) -> u64
     ensures steps { (wish : TheWish) → worker.old.wish ≡ Some wish → Does (access_task wish) (seat_of worker.old) (seat_of worker.new) }
     ensures journal { (wish : TheWish) → worker.old.wish ≡ Some wish → AddsAccess wish (seat_of worker.old) (Ready result) (seat_of worker.new) }
 {
-    let backoff = Backoff::new();
+    let mut patience = Patience::new();
     for _ in rt.forever() {
         match heap.poll(worker) {
             Poll::Ready { value } => return value,
-            Poll::Pending { .. } => backoff.snooze(),
+            Poll::Pending { why } => patience.wait(why),
         }
     }
     unreachable!()
 }
 
-// Makes an access, and answers the value that it read or wrote.
+// Makes an access, and answers the value that it read or wrote, or that an update left.
 fn access<R: Threads + Wait + Sync, G: HeapGate>(
     rt: &R,
     heap: &Heap,
     worker: &mut Worker,
     gate: &G,
-    wish: Wish,
+    object: u16,
+    mode: Mode,
+    value: u64,
 ) -> u64
     requires own { IsWorkerOf heap.now worker.old }
     requires idle { IsIdle worker.old }
-    requires object { wish.object < objects_of heap.now.words }
+    requires object { object < objects_of heap.now.words }
     requires more { access_count (seat_of worker.old).journal < heap.now.fuel }
     ensures own { IsWorkerOf heap.now worker.new }
     ensures idle { IsIdle worker.new }
     ensures number { (seat_of worker.new).number ≡ (seat_of worker.old).number }
-    ensures steps { Does (access_task wish) (seat_of worker.old) (seat_of worker.new) }
-    ensures journal { AddsAccess wish (seat_of worker.old) (Ready result) (seat_of worker.new) }
+    ensures steps { Does (access_task (record { object = object; mode = mode; value = value })) (seat_of worker.old) (seat_of worker.new) }
+    ensures journal { AddsAccess (record { object = object; mode = mode; value = value }) (seat_of worker.old) (Ready result) (seat_of worker.new) }
 {
     let thread = worker.thread();
     gate.pass(rt, thread, worker.accesses());
     gate.note(thread, worker);
-    heap.begin(worker, wish.object, wish.mode, wish.value);
+    heap.begin(worker, object, mode, value);
     make(rt, heap, worker)
 }
 
@@ -93,21 +95,14 @@ pub fn carry<R: Threads + Wait + Sync, G: HeapGate>(
     let demand = config.next();
     match demand {
         Demand::Read { object } => {
-            let wish = Wish {
-                object,
-                mode: Mode::Read,
-                value: 0,
-            };
-            let value = access(rt, heap, worker, gate, wish);
+            let value = access(rt, heap, worker, gate, object, Mode::Read, 0);
             config.give(value);
         }
         Demand::Write { object, value } => {
-            let wish = Wish {
-                object,
-                mode: Mode::Write,
-                value,
-            };
-            access(rt, heap, worker, gate, wish);
+            access(rt, heap, worker, gate, object, Mode::Write, value);
+        }
+        Demand::Bump { object, amount } => {
+            access(rt, heap, worker, gate, object, Mode::Update, amount);
         }
         Demand::Safe => {
             heap.safe_point(worker);

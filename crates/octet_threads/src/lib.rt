@@ -6,6 +6,7 @@
 mod carrying;
 mod gate;
 mod locked;
+mod patience;
 mod recording;
 mod runner;
 mod running;

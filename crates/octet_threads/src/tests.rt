@@ -130,6 +130,22 @@ fn reads_untouched(alloc: Global) -> Result<Script, OutOfMemory> {
     Ok(script_with_x_and_y(two_objects(alloc, 0, 3)?, threads))
 }
 
+// Both threads add to x, and thread 0 takes y past the end of a u64.
+fn adds_to_both(alloc: Global) -> Result<Script, OutOfMemory> {
+    let first = [
+        Command::Set { to: 0, number: 2 },
+        Command::Bump { object: 0, from: 0 },
+        Command::Bump { object: 0, from: 0 },
+        Command::Bump { object: 1, from: 0 },
+    ];
+    let second = [
+        Command::Set { to: 0, number: 3 },
+        Command::Bump { object: 0, from: 0 },
+    ];
+    let threads = two_threads(alloc, &first, &second)?;
+    Ok(script_with_x_and_y(two_objects(alloc, 5, u64::MAX)?, threads))
+}
+
 // A line for each thread with its accesses and its marks, one for each thread with what it read,
 // and then the ends and the heap.
 fn text_of(alloc: Global, recorded: &Recorded) -> Result<Vec<u8>, OutOfMemory> {
@@ -161,6 +177,21 @@ fn reads_untouched_whatever_the_schedule(rt: HostRuntime) -> Result<(), Fail> {
     assert_eq!(rt; text_of(alloc, &recorded)?.as_slice(), expected.as_bytes());
     let recorded = run_locked(&rt, alloc, &script, &OpenGate)?;
     assert_eq!(rt; text_of(alloc, &recorded)?.as_slice(), expected.as_bytes());
+    Ok(())
+}
+
+#[test]
+fn updates_add_up_whatever_the_schedule(rt: HostRuntime) -> Result<(), Fail> {
+    let alloc = rt.alloc();
+    let script = adds_to_both(alloc)?;
+    for on_heap in [true, false] {
+        let recorded = if on_heap {
+            run(&rt, alloc, &script, &OpenGate)?
+        } else {
+            run_locked(&rt, alloc, &script, &OpenGate)?
+        };
+        assert_eq!(rt; recorded.outcome.heap.as_slice(), [12u64, 1].as_slice());
+    }
     Ok(())
 }
 

@@ -1,13 +1,13 @@
 use Rattle.std.proofs.Common.{rules, ◌≡◌, ◌∙◌, sym, subst}
 use Rattle.octet_interp.specs.declared.demand.Demand.{Demand}
-use Rattle.octet_interp.specs.declared.demand.Demand.TheVariants.{Read, Write}
+use Rattle.octet_interp.specs.declared.demand.Demand.TheVariants.{Read, Write, Bump}
 use Rattle.octet_interp.specs.Demands.{ThreadState, next_demand, after_demand, given}
 use Rattle.octet_interp.specs.Laws.{IsJournalOf}
 use Rattle.octet_heap.specs.Workers.{seat_of}
 use Rattle.octet_threads.specs.Tasks.{task_of, Does}
 use Rattle.octet_threads.specs.Carrying.{TellsAgain}
 use Rattle.octet_threads.proofs.Doing.{pauses}
-use Rattle.octet_threads.proofs.Journals.{read_kept, write_kept, safe_kept, pause_kept, end_kept, end_told_again}
+use Rattle.octet_threads.proofs.Journals.{read_kept, write_kept, bump_kept, safe_kept, pause_kept, end_kept, end_told_again}
 use Rattle.octet_threads.proofs.carrying.carry.Goals as goal
 
 pub returns-in-Read-clause-journal : goal.returns-in-Read-clause-journal
@@ -24,6 +24,13 @@ returns-in-Write-clause-journal g c = λ start kept.
     let tells : next_demand s ≡ Write c.in-Write.object c.in-Write.value = sym c.next-demand.ensures.demand ∙ c.in-Write.is in
     subst (λ (t : ThreadState). IsJournalOf start (seat_of c.access.new.worker).journal t) (sym c.next-demand.ensures.state)
     (write_kept start s c.in-Write.object c.in-Write.value c.access.result (seat_of c.args.worker.now) (seat_of c.access.new.worker) tells c.access.ensures.journal kept)
+
+pub returns-in-Bump-clause-journal : goal.returns-in-Bump-clause-journal
+returns-in-Bump-clause-journal g c = λ start kept.
+    let s = c.args.config.now in
+    let tells : next_demand s ≡ Bump c.in-Bump.object c.in-Bump.amount = sym c.next-demand.ensures.demand ∙ c.in-Bump.is in
+    subst (λ (t : ThreadState). IsJournalOf start (seat_of c.access-in-Bump.new.worker).journal t) (sym c.next-demand.ensures.state)
+    (bump_kept start s c.in-Bump.object c.in-Bump.amount c.access-in-Bump.result (seat_of c.args.worker.now) (seat_of c.access-in-Bump.new.worker) tells c.access-in-Bump.ensures.journal kept)
 
 pub returns-in-Safe-clause-journal : goal.returns-in-Safe-clause-journal
 returns-in-Safe-clause-journal g c = λ start kept.
