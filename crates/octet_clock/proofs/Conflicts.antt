@@ -5,7 +5,7 @@ use Rattle.std.proofs.lemmas.List.{get_or_past}
 use Rattle.std.proofs.lemmas.Option.{slice_get_within}
 use Rattle.octet_model.specs.declared.event.Mark.{Mark}
 use Rattle.octet_model.specs.declared.event.Event.{Event}
-use Rattle.octet_model.specs.declared.event.Event.TheVariants.{Read, Write, Marked}
+use Rattle.octet_model.specs.declared.event.Event.TheVariants.{Read, Write, Update, Marked}
 use Rattle.octet_model.specs.declared.event.Place.{Place}
 use Rattle.octet_model.specs.Machine.{Journals}
 use Rattle.octet_model.specs.HappensBefore.{event_at, IsEvent, HappensBefore, object_of, is_write, Conflict}
@@ -23,21 +23,25 @@ use Rattle.octet_clock.proofs.Edges.{unmarked_adds}
 conflicts_with_read : (object : ℕ) (e : Event) → conflicts_with object false e ≡ is_write_of object e
 conflicts_with_read object (Read other value) = refl
 conflicts_with_read object (Write other value) = refl
+conflicts_with_read object (Update other before after) = refl
 conflicts_with_read object (Marked mark) = refl
 
 no_conflict : (object : ℕ) (e : Event) → is_read_of object e ≡ false → is_write_of object e ≡ false → conflicts_with object true e ≡ false
 no_conflict object (Read other value) r w = r
 no_conflict object (Write other value) r w = w
+no_conflict object (Update other before after) r w = w
 no_conflict object (Marked mark) r w = refl
 
 read_conflicts : (object : ℕ) (e : Event) → is_read_of object e ≡ true → conflicts_with object true e ≡ true
 read_conflicts object (Read other value) r = r
 read_conflicts object (Write other value) r = absurd cc
+read_conflicts object (Update other before after) r = absurd cc
 read_conflicts object (Marked mark) r = absurd cc
 
 write_conflicts : (object : ℕ) (e : Event) → is_write_of object e ≡ true → conflicts_with object true e ≡ true
 write_conflicts object (Read other value) w = absurd cc
 write_conflicts object (Write other value) w = w
+write_conflicts object (Update other before after) w = w
 write_conflicts object (Marked mark) w = absurd cc
 
 module _ (js : Journals) (object t now : ℕ) where
@@ -65,18 +69,21 @@ from_conflict : (e x : Event) (object o : ℕ) (writing : Bool) → object_of e 
 from_conflict e (Read other value) object o true of does of_x of_e one = let same : other ≡ object = cc in eq-eqb other object same
 from_conflict e (Read other value) object o false of does of_x of_e one = absurd cc
 from_conflict e (Write other value) object o writing of does of_x of_e one = let same : other ≡ object = cc in eq-eqb other object same
+from_conflict e (Update other before after) object o writing of does of_x of_e one = let same : other ≡ object = cc in eq-eqb other object same
 from_conflict e (Marked mark) object o writing of does of_x of_e one = absurd cc
 
 same_object : (x : Event) (object : ℕ) (writing : Bool) → conflicts_with object writing x ≡ true → object_of x ≡ Some object
 same_object (Read other value) object true is = ap Some (eqb-true other object is)
 same_object (Read other value) object false is = absurd cc
 same_object (Write other value) object writing is = ap Some (eqb-true other object is)
+same_object (Update other before after) object writing is = ap Some (eqb-true other object is)
 same_object (Marked mark) object writing is = absurd cc
 
 one_writes_of : (x : Event) (object : ℕ) (writing : Bool) → conflicts_with object writing x ≡ true → IsTrue (is_write x || writing)
 one_writes_of (Read other value) object true is = refl
 one_writes_of (Read other value) object false is = absurd cc
 one_writes_of (Write other value) object writing is = refl
+one_writes_of (Update other before after) object writing is = refl
 one_writes_of (Marked mark) object writing is = absurd cc
 
 module _ (js : Journals) (play : List ℕ) (i t object : ℕ) (writing : Bool) (known : Clock) (at : IsAccessStep js play i t object writing known) where

@@ -6,6 +6,7 @@ use Rattle.octet_model.specs.declared.event.Event.TheVariants.{Marked}
 use Rattle.octet_model.specs.declared.event.Place.{Place}
 use Rattle.octet_model.specs.Machine.{Journals}
 use Rattle.octet_model.specs.HappensBefore.{Edge, ProgramOrder, Joined, Drawn, Fenced, IsPath, HappensBefore, is_write, Conflict, IsOrdered}
+use Rattle.octet_model.proofs.lemmas.Growth.{swapped}
 use Rattle.octet_clock.specs.Play.{made_by, step_place, IsMadeBefore, IsWholePlay}
 use Rattle.octet_clock.specs.Verdict.{FollowsConflicts, IsFirstUnordered}
 use Rattle.octet_clock.proofs.Walk.{index_in, index_of, step_at_place, made_one, made_grows, join_names, draw_is_next, fence_names, drawn_is_made}
@@ -46,26 +47,6 @@ module _ (js : Journals) (play : List ℕ) (whole : IsWholePlay js play) where
   pub before_step : (a b : Place) (i : ℕ) → i < length play → step_place play i ≡ b → HappensBefore js a b → IsMadeBefore play i a
   before_step a b i lt is path = path_to_step path.between a b i lt is path.is_path
 
-  -- a conflict, seen from the other side
-  swapped : (a b : Place) → Conflict js a b → Conflict js b a
-  swapped a b c = record {
-    first = c.second;
-    second = c.first;
-    object = c.object;
-    is_first = c.is_second;
-    is_second = c.is_first;
-    by_others = λ h. c.by_others (sym h);
-    of_one = c.of_same;
-    of_same = c.of_one;
-    one_writes = either (is_write c.first) (is_write c.second) c.one_writes;
-  }
-    where
-      either : (x y : Bool) → (x || y) ≡ true → (y || x) ≡ true
-      either true true h = refl
-      either true false h = refl
-      either false true h = refl
-      either false false h = h
-
   -- where each step is joined up, the journals are ordered
   pub ordered_by_steps : ((i : ℕ) → i < length play → FollowsConflicts js play i) → IsOrdered js
   ordered_by_steps joined a b c =
@@ -77,7 +58,7 @@ module _ (js : Journals) (play : List ℕ) (whole : IsWholePlay js play) where
             inl (subst (λ (p : Place). HappensBefore js a p) j.2 (joined j.0 j.1 a (record { earlier = is_made i.0 j.0 a below (omega (arith, j.1)) i.2; conflict = c' })))
         | inr above ↦ elim (cases_lt j.0 i.0) [
           | inl below ↦
-              let c' = subst (λ (p : Place). Conflict js b p) (sym i.2) (swapped a b c) in
+              let c' = subst (λ (p : Place). Conflict js b p) (sym i.2) (swapped js a b c) in
               inr (subst (λ (p : Place). HappensBefore js b p) i.2 (joined i.0 i.1 b (record { earlier = is_made j.0 i.0 b below (omega (arith, i.1)) j.2; conflict = c' })))
           | inr same ↦
               let e : i.0 ≡ j.0 = omega arith in

@@ -5,7 +5,7 @@ use Rattle.std.proofs.lemmas.Option.{slice_get_within}
 use Rattle.octet_model.specs.declared.event.Mark.{Mark}
 use Rattle.octet_model.specs.declared.event.Mark.TheVariants.{Join, Draw, Fence}
 use Rattle.octet_model.specs.declared.event.Event.{Event}
-use Rattle.octet_model.specs.declared.event.Event.TheVariants.{Read, Write, Marked}
+use Rattle.octet_model.specs.declared.event.Event.TheVariants.{Read, Write, Update, Marked}
 use Rattle.octet_model.specs.declared.event.Place.{Place}
 use Rattle.octet_model.specs.Machine.{Journals}
 use Rattle.octet_model.specs.HappensBefore.{event_at, object_of, is_write}
@@ -127,12 +127,14 @@ of_read : (e : Event) (object : ℕ) → object_of e ≡ Some object → is_writ
     → (is_read_of object e ≡ true) × ((o : ℕ) → (o ≡ object → ⊥) → is_read_of o e ≡ false) × ((o : ℕ) → is_write_of o e ≡ false)
 of_read (Read other value) object of does = let same : other ≡ object = cc in (eq-eqb other object same, λ o differ. ne_eqb other o (λ is. differ (sym is ∙ same)), λ o. refl)
 of_read (Write other value) object of does = absurd cc
+of_read (Update other before after) object of does = absurd cc
 of_read (Marked mark) object of does = absurd cc
 
 of_write : (e : Event) (object : ℕ) → object_of e ≡ Some object → is_write e ≡ true
     → (is_write_of object e ≡ true) × ((o : ℕ) → (o ≡ object → ⊥) → is_write_of o e ≡ false) × ((o : ℕ) → is_read_of o e ≡ false)
 of_write (Read other value) object of does = absurd cc
 of_write (Write other value) object of does = let same : other ≡ object = cc in (eq-eqb other object same, λ o differ. ne_eqb other o (λ is. differ (sym is ∙ same)), λ o. refl)
+of_write (Update other before after) object of does = let same : other ≡ object = cc in (eq-eqb other object same, λ o differ. ne_eqb other o (λ is. differ (sym is ∙ same)), λ o. refl)
 of_write (Marked mark) object of does = absurd cc
 
 module _ (js : Journals) (play : List ℕ) (i t : ℕ) (e : Event) (next : IsNextStep js play i t e) where

@@ -5,7 +5,7 @@ use Rattle.std.proofs.lemmas.List.Sums.{sum_by-cons}
 use Rattle.std.proofs.lemmas.Option.{slice_get_within}
 use Rattle.octet_model.specs.declared.event.Mark.TheVariants.{Join, Draw, Fence}
 use Rattle.octet_model.specs.declared.event.Event.{Event}
-use Rattle.octet_model.specs.declared.event.Event.TheVariants.{Read, Write, Marked}
+use Rattle.octet_model.specs.declared.event.Event.TheVariants.{Read, Write, Update, Marked}
 use Rattle.octet_model.specs.declared.event.Place.{Place}
 use Rattle.octet_model.specs.Machine.{Journals, journal_of, PlainState, starting_state, Operation, Wants, Behavior, is_enabled, draws_after, may_step, step, after, IsFront}
 use Rattle.octet_model.specs.HappensBefore.{event_at, IsEvent}
@@ -164,6 +164,7 @@ module _ (js : Journals) (play : List ℕ) (whole : IsWholePlay js play) where
       go : (e : Event) → ((c : ℕ) → e ≡ Marked (Draw c) → ⊥) → (n : ℕ) → draws_after (operation_of e) n ≡ n
       go (Read object value) none n = refl
       go (Write object value) none n = refl
+      go (Update object before after) none n = refl
       go (Marked (Join from upto)) none n = refl
       go (Marked (Draw number)) none n = absurd (none number refl)
       go (Marked (Fence number)) none n = refl

@@ -8,15 +8,15 @@ use Rattle.octet_model.specs.declared.event.Mark.TheVariants.{Join, Draw, Fence}
 use Rattle.octet_model.specs.declared.event.Event.{Event}
 use Rattle.octet_model.specs.declared.script.Script.{Script}
 use Rattle.octet_model.specs.declared.log.ThreadLog.{ThreadLog}
-use Rattle.octet_model.specs.Machine.{Journals, PlainState, starting_state, Operation, MakeMark, MakeRead, MakeWrite, Wants, Behavior, is_enabled, event_made, draws_after, appended, next_of, step, after, IsFront}
+use Rattle.octet_model.specs.Machine.{Journals, PlainState, starting_state, Operation, MakeMark, MakeRead, MakeWrite, MakeUpdate, Wants, Behavior, is_enabled, event_made, draws_after, appended, next_of, step, after, IsFront}
 use Rattle.octet_model.specs.Orders.{by_log, opening_state, lowest_order, journals_after}
-use Rattle.octet_model.specs.Plays.{next_in, by_journals}
+use Rattle.octet_model.specs.Plays.{operation_of, next_in, by_journals}
 use Rattle.octet_model.proofs.lemmas.Steps.{at, count, new_event, Makes, what_it_makes, makes_from, as_many_step, other_step, counts_step, made_there}
 use Rattle.octet_model.proofs.lemmas.Fronts.{stays, after_on, no_journal}
 use Rattle.octet_model.proofs.lemmas.LogsOfJournals.{as_many_after}
 use Rattle.octet_model.proofs.lemmas.LowestFronts.{lowest_is_front, lowest_order_is_lowest}
 use Rattle.octet_replay.specs.ReplayState.{state_at}
-use Rattle.octet_replay.proofs.lemmas.EventsMade.{same_operation}
+use Rattle.octet_replay.proofs.lemmas.EventsMade.{do_alike}
 use Rattle.octet_clock.specs.Play.{made_by, IsWholePlay, IsStep}
 use Rattle.octet_clock.proofs.Walk.{counts_are}
 
@@ -32,11 +32,12 @@ enabled_alike s s' (MakeMark (Draw number)) alike = ap (λ (n : ℕ). eqb number
 enabled_alike s s' (MakeMark (Fence number)) alike = ap (λ (n : ℕ). nat_le number n) alike.draws
 enabled_alike s s' (MakeRead object) alike = refl
 enabled_alike s s' (MakeWrite object value) alike = refl
+enabled_alike s s' (MakeUpdate object change) alike = refl
 
 module _ (V : Behavior) (js : Journals) where
   record Both (s s' : PlainState) (t : ℕ) (o : Operation) : Type 0 where
     here : Makes V s t o
-    there : Makes (by_journals js) s' t o
+    there : Makes (by_journals js) s' t (operation_of (event_made o s.heap))
 
   -- the first step of a front makes the same in the play
   both : (t : ℕ) (order : List ℕ) (s s' : PlainState) → IsFront V s (t ∷ order) → (after V s (t ∷ order)).journals ≡ js → Alike s s' → (o : Operation) × Both s s' t o
@@ -44,21 +45,24 @@ module _ (V : Behavior) (js : Journals) where
       let m = what_it_makes V s t front.0 in
       let made : at js t (count s.journals t) ≡ Some (event_made m.0 s.heap) =
       ap (λ (j : Journals). at j t (count s.journals t)) (sym is) ∙ stays V order (step V s t) t (count s.journals t) (event_made m.0 s.heap) (made_there V s t m.0 m.1) in
-      let next : next_of (by_journals js) s' t ≡ Wants m.0 =
-      ap next_in (ap (λ (n : ℕ). at js t n) (sym (alike.counts t)) ∙ made) ∙ ap Wants (same_operation m.0 s.heap) in
-      (m.0, record { here = m.1; there = makes_from (by_journals js) s' t m.0 (omega (arith, m.1.within, alike.as_many)) next (sym (enabled_alike s s' m.0 alike) ∙ m.1.enabled) })
+      let o = operation_of (event_made m.0 s.heap) in
+      let next : next_of (by_journals js) s' t ≡ Wants o = ap next_in (ap (λ (n : ℕ). at js t n) (sym (alike.counts t)) ∙ made) in
+      let enabled = sym (enabled_alike s s' o alike) ∙ (do_alike m.0 s.heap).enabled s ∙ m.1.enabled in
+      (m.0, record { here = m.1; there = makes_from (by_journals js) s' t o (omega (arith, m.1.within, alike.as_many)) next enabled })
 
   step_alike : (s s' : PlainState) (t : ℕ) (o : Operation) → Both s s' t o → Alike s s' → Alike (step V s t) (step (by_journals js) s' t)
   step_alike s s' t o b alike = record {
     as_many = as_many_step V s t ∙ alike.as_many ∙ sym (as_many_step (by_journals js) s' t);
     counts = λ u. elim (cases_eq u t) [
       | inl same ↦
-          let one : count (step V s t).journals t ≡ count (step (by_journals js) s' t).journals t = omega (arith, counts_step V s t o b.here, counts_step (by_journals js) s' t o b.there, alike.counts t) in
+          let one : count (step V s t).journals t ≡ count (step (by_journals js) s' t).journals t = omega (arith, counts_step V s t o b.here, counts_step (by_journals js) s' t (operation_of (event_made o s.heap)) b.there, alike.counts t) in
           ap (λ (v : ℕ). count (step V s t).journals v) same ∙ one ∙ sym (ap (λ (v : ℕ). count (step (by_journals js) s' t).journals v) same)
       | inr differ ↦
           ap (λ (j : List Event). length j) (other_step V s t u differ) ∙ alike.counts u ∙ sym (ap (λ (j : List Event). length j) (other_step (by_journals js) s' t u differ))
     ];
-    draws = ap (λ (x : PlainState). x.draws) b.here.stepped ∙ ap (draws_after o) alike.draws ∙ sym (ap (λ (x : PlainState). x.draws) b.there.stepped);
+    draws =
+        ap (λ (x : PlainState). x.draws) b.here.stepped ∙ ap (draws_after o) alike.draws ∙ sym ((do_alike o s.heap).draws s'.draws)
+        ∙ sym (ap (λ (x : PlainState). x.draws) b.there.stepped);
   }
 
   is_front : (order : List ℕ) (s s' : PlainState) → IsFront V s order → (after V s order).journals ≡ js → Alike s s' → IsFront (by_journals js) s' order

@@ -1,7 +1,7 @@
 -- Of each object, the last access by each thread.
 use Rattle.std.specs.Prelude.{◌≡◌, ℕ, suc, ◌<◌, ◌≤◌, ◌⊎◌, ◌≢◌, max, Bool, true, false, ◌==◌, List, Some, None, length, slice_get}
 use Rattle.octet_model.specs.declared.event.Event.{Event}
-use Rattle.octet_model.specs.declared.event.Event.TheVariants.{Read, Write, Marked}
+use Rattle.octet_model.specs.declared.event.Event.TheVariants.{Read, Write, Update, Marked}
 use Rattle.octet_model.specs.Machine.{Journals}
 use Rattle.octet_model.specs.HappensBefore.{event_at}
 use Rattle.octet_clock.specs.declared.clock.Clock.{Clock}
@@ -17,18 +17,20 @@ pub record IsNoted (before : List Clock) (object thread count : ℕ) (after : Li
   pub own : last_in after object thread ≡ max (last_in before object thread) count
   pub others : (other by : ℕ) → (other ≢ object) ⊎ (by ≢ thread) → last_in after other by ≡ last_in before other by
 
--- the reads, the writes, and the accesses in conflict with a read or a write of an object
+-- the reads, the writes and updates, and the accesses in conflict with a read or a write of an object
 abbrev pub is_read_of : ℕ → Event → Bool
 is_read_of object (Read other value) = other == object
 is_read_of object _ = false
 
 abbrev pub is_write_of : ℕ → Event → Bool
 is_write_of object (Write other value) = other == object
+is_write_of object (Update other before after) = other == object
 is_write_of object _ = false
 
 abbrev pub conflicts_with : ℕ → Bool → Event → Bool
 conflicts_with object writes (Read other value) = elim writes [ true ↦ other == object | false ↦ false ]
 conflicts_with object writes (Write other value) = other == object
+conflicts_with object writes (Update other before after) = other == object
 conflicts_with object writes (Marked mark) = false
 
 -- among a thread's first `now` events, the last that passes a test is the last of its first `upto`; `upto` is 0 where none passes

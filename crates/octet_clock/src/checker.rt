@@ -122,7 +122,9 @@ impl Checker {
     {
         match event {
             Event::Read { object, .. } => self.take_access(thread, object, false),
-            Event::Write { object, .. } => self.take_access(thread, object, true),
+            Event::Write { object, .. } | Event::Update { object, .. } => {
+                self.take_access(thread, object, true)
+            }
             Event::Marked { mark } => self.take_mark(thread, mark),
         }
     }

@@ -62,6 +62,8 @@ const WRITE_Y: Command = Command::Write { object: 1, from: 0 };
 
 const READ_X: Command = Command::Read { to: 0, object: 0 };
 
+const BUMP_X: Command = Command::Bump { object: 0, from: 0 };
+
 const NO_MARKS: &[Gapped] = &[];
 
 fn after(gap: u32, mark: Mark) -> Gapped
@@ -143,6 +145,23 @@ fn last_conflict_of_the_lower_thread_is_named(rt: HostRuntime) -> Result<(), Fai
     let script = two_threads(alloc, &[WRITE_X, READ_X], &[WRITE_X])?;
     let log = log_of_two(alloc, 2, NO_MARKS, 1, NO_MARKS)?;
     assert_eq!(rt; verify(alloc, &script, &log)?, unordered(0, 1, 1, 0));
+    Ok(())
+}
+
+#[test]
+fn updates_are_judged_as_writes(rt: HostRuntime) -> Result<(), Fail> {
+    let alloc = rt.alloc();
+    let script = two_threads(alloc, &[BUMP_X, BUMP_X], &[BUMP_X])?;
+    let after_both = after(0, Mark::Join { from: 0, upto: 2 });
+    let log = log_of_two(alloc, 2, NO_MARKS, 1, &[after_both])?;
+    assert_eq!(rt; verify(alloc, &script, &log)?, Verdict::Ordered);
+    let log = log_of_two(alloc, 2, NO_MARKS, 1, NO_MARKS)?;
+    assert_eq!(rt; verify(alloc, &script, &log)?, unordered(0, 1, 1, 0));
+    let log = log_of_two(alloc, 1, NO_MARKS, 1, NO_MARKS)?;
+    let script = two_threads(alloc, &[BUMP_X], &[READ_X])?;
+    assert_eq!(rt; verify(alloc, &script, &log)?, unordered(0, 0, 1, 0));
+    let script = two_threads(alloc, &[READ_X], &[BUMP_X])?;
+    assert_eq!(rt; verify(alloc, &script, &log)?, unordered(0, 0, 1, 0));
     Ok(())
 }
 

@@ -15,7 +15,7 @@ mod PieceMarks
 mod PieceLists
 mod Second
 mod Spelled
-mod Sizes
 mod Words
 mod PieceRefused
+mod PieceCuts
 mod ShortRefused

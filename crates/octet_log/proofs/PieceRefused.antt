@@ -34,7 +34,7 @@ not_second bytes other =
       | false ↦ λ is. refl
     ] refl
 
-first_fails : (bytes : List ℕ) (cause : LogCause) → take 5 bytes ≢ second_word → decoded bytes ≡ Err cause → loaded bytes ≡ Err cause
+pub first_fails : (bytes : List ℕ) (cause : LogCause) → take 5 bytes ≢ second_word → decoded bytes ≡ Err cause → loaded bytes ≡ Err cause
 unfolding loaded
 first_fails bytes cause other fails = rw (not_second bytes other, fails) refl
 

@@ -7,6 +7,7 @@ use Rattle.octet_model.specs.declared.limits.TheConstants.{MAX_ACCESSES, MAX_THR
 use Rattle.octet_model.specs.Log.{is_mark, is_log}
 use Rattle.octet_log.specs.declared.cause.LogCause.TheVariants.{NoMagic, BadVersion, BadThreads, CutShort, BadMark, TooManyAccesses, Trailing, BadNumber, BadPiece, GapsOver, TooManyMarks}
 use Rattle.octet_log.specs.declared.limits.TheConstants.{MAX_MARKS}
+use Rattle.octet_log.specs.Laws.{cut_cause}
 use Rattle.octet_log.specs.Short.{number_of_groups, EndsAtLast, IsShortest, short_bytes, short_at}
 use Rattle.octet_log.specs.Pieces.{head_bytes, short_mark_bytes, Piece, piece_bytes, ArePieces, marks_of, IsSpelling}
 use Rattle.octet_log.specs.Loading.{loaded}
@@ -91,6 +92,10 @@ NoMarkIsBad = (threads : ℕ) (digest : List ℕ) (pieces : List Piece) (thread 
 -- a byte after a spelling, in either version, is trailing, at its place
 abbrev pub ByteAfterSpellingIsTrailing : Type 0
 ByteAfterSpellingIsTrailing = (bytes : List ℕ) (digest : Option (List ℕ)) (logs : List ThreadLog) (next : ℕ) (rest : List ℕ) → IsTrue (is_log logs) → IsSpelling bytes digest logs → loaded (bytes ++ next ∷ rest) ≡ Err (Trailing (length bytes))
+
+-- a spelling without some of its last bytes lacks its word, or is cut where it ends
+abbrev pub FrontOfSpellingIsCut : Type 0
+FrontOfSpellingIsCut = (front : List ℕ) (next : ℕ) (rest : List ℕ) (digest : Option (List ℕ)) (logs : List ThreadLog) → IsTrue (is_log logs) → IsSpelling (front ++ next ∷ rest) digest logs → loaded front ≡ Err (cut_cause front)
 
 -- no byte is the last
 abbrev pub GoesOn : List ℕ → Type 0

@@ -91,7 +91,8 @@ fn read_marks(
     ensures judged { Gives (λ x. (x.0.items, x.1.now)) result (marks_at total threads thread accesses count bytes.now) }
     ensures shorter { IfOk result (λ x. length x.1.now ≤ length bytes.now) }
 {
-    let mut marks = Vec::new(alloc);
+    let room = (count as usize).min(bytes.len() / MARK_LEN);
+    let mut marks = Vec::with_capacity(alloc, room)?;
     let mut left = accesses;
     let mut rest = bytes;
     for _ in 0..count {
@@ -182,8 +183,8 @@ pub(crate) fn read_log(alloc: Global, bytes: &[u8]) -> Result<Vec<ThreadLog>, Lo
 }
 
 /// The log that the bytes spell in version 1, all of them; else the first refusal from the front, with its
-/// place. The bytes are at most 67,108,864. Room is taken as marks are met, and not by a number
-/// that the bytes merely claim.
+/// place. The bytes are at most 67,108,864. Room is taken for no more marks than the bytes can
+/// hold, whatever number they claim.
 pub fn decode_v1(alloc: Global, bytes: &[u8]) -> Result<Log, LogFault>
     requires { length bytes.now ≤ MAX_LOG_FILE }
 

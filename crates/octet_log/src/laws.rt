@@ -2,7 +2,7 @@
 ghost use Rattle.std.specs.Prelude.{◌^◌};
 ghost use Rattle.std.specs.Int.{w32, w64};
 ghost use Rattle.octet_log.specs.Refusals.{LacksMagic, OtherVersionIsBad, ThreadsAreBad, HeadIsCut, AccessesAreCut, CountIsCut, MarkIsCut, MarkIsBad, AccessesAreTooMany};
-ghost use Rattle.octet_log.specs.PieceRefusals.{BytesLackMagic, NoVersionIsBad, NoThreadsAreBad, DigestIsCut, NoThreadIsBadPiece, NoMarkIsBadPiece, MarksAreTooMany, NoMarkIsBad, NoShortIsBad, ShortIsCut, TailHasTooMany, GapsPassAccesses, ByteAfterSpellingIsTrailing};
+ghost use Rattle.octet_log.specs.PieceRefusals.{BytesLackMagic, NoVersionIsBad, NoThreadsAreBad, DigestIsCut, NoThreadIsBadPiece, NoMarkIsBadPiece, MarksAreTooMany, NoMarkIsBad, NoShortIsBad, ShortIsCut, TailHasTooMany, GapsPassAccesses, FrontOfSpellingIsCut, ByteAfterSpellingIsTrailing};
 ghost use Rattle.octet_log.specs.LoadingLaws.{ShortHasOneSpelling, ShortIsReadAgain, LoadsLogs, SpellingsSpellOneLog, NoSpellingIsAPrefix};
 ghost use Rattle.octet_log.specs.Laws.{NumberIsReadAgain, NumberHasOneSpelling, DecodesLogs, BytesSpellOneLog, NoLogIsAPrefix, FrontIsCut, ByteAfterIsTrailing};
 
@@ -125,6 +125,12 @@ pub fn bad_short_number_is_refused()
 pub fn bad_tail_is_refused()
     ensures sum { TailHasTooMany }
     ensures gaps { GapsPassAccesses }
+{}
+
+/// A spelling of a log, in either version, without some of its last bytes is refused as cut, where
+/// it ends; below four bytes it has no magic.
+pub fn front_of_spelling_is_cut()
+    ensures { FrontOfSpellingIsCut }
 {}
 
 /// A spelling of a log, in either version, with more bytes is refused for the first of these, at

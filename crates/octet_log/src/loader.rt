@@ -58,6 +58,7 @@ fn empty_logs(alloc: Global, threads: u8) -> Result<Vec<ThreadLog>, OutOfMemory>
 
 // Adds the marks of the pieces up to the byte that ends them.
 fn read_pieces<'a>(
+    alloc: Global,
     total: usize,
     threads: u8,
     logs: &mut Vec<ThreadLog>,
@@ -82,6 +83,7 @@ fn read_pieces<'a>(
         }
         let log = &mut logs[usize::from(thread)];
         let (count, after) = read_piece(
+            alloc,
             total,
             threads,
             place,
@@ -175,7 +177,7 @@ fn read_second(
     }
     let (digest, rest) = read_digest(total, rest)?;
     let mut logs = empty_logs(alloc, threads)?;
-    let rest = read_pieces(total, threads, &mut logs, rest)?;
+    let rest = read_pieces(alloc, total, threads, &mut logs, rest)?;
     let rest = read_tail(total, threads, &mut logs, rest)?;
     if !rest.is_empty() {
         let at = (total - rest.len()) as u64;
@@ -203,7 +205,7 @@ fn read_either(alloc: Global, bytes: &[u8]) -> Result<(List<ThreadLog>, Option<D
 
 /// The log that the bytes spell, all of them, in version 1 or 2, with its digest in version 2;
 /// else the first refusal from the front, with its place. The bytes are at most 67,108,864. Room
-/// is taken as marks are met, and not by a number that the bytes merely claim.
+/// is taken for no more marks than the bytes can hold, whatever number they claim.
 pub fn decode(alloc: Global, bytes: &[u8]) -> Result<Loaded, LogFault>
     requires { length bytes.now ≤ MAX_LOG_FILE }
 

@@ -8,6 +8,11 @@ use crate::field::read_u8;
 use crate::short::read_short;
 use crate::{LogCause, LogFault, MAX_MARKS};
 use octet_model::{Gapped, List, MAX_ACCESSES, Mark};
+use std::alloc::Global;
+use std::mem;
+
+/// The fewest bytes of a mark: its kind, its gap and its number.
+const SHORTEST_MARK: usize = 3;
 
 fn bad_mark(place: usize) -> LogFault
     ensures { result ≡ LogFault.Refused (LogCause.BadMark place) }
@@ -107,6 +112,7 @@ fn read_mark(
 }
 
 fn read_marks<'a>(
+    alloc: Global,
     total: usize,
     threads: u8,
     thread: u8,
@@ -119,12 +125,15 @@ fn read_marks<'a>(
     ensures shorter { IfOk result (λ rest. length rest.now ≤ length bytes.now) }
     ensures count { IfOk result (λ rest. length marks.new ≡ length marks.old + count) }
 {
+    let mut all = mem::replace(marks, List::new(alloc)).into_vec();
+    all.reserve((count as usize).min(bytes.len() / SHORTEST_MARK))?;
     let mut rest = bytes;
     for _ in 0..count {
         let (gapped, after) = read_mark(total, threads, thread, rest)?;
-        marks.push(gapped)?;
+        all.push(gapped)?;
         rest = after;
     }
+    *marks = List::from_vec(all);
     Ok(rest)
 }
 
@@ -132,6 +141,7 @@ fn read_marks<'a>(
 /// marks, and gives how many they are.
 #[tactic(auto, unfolding(crate::specs::Loading::piece_at))]
 pub(crate) fn read_piece<'a>(
+    alloc: Global,
     total: usize,
     threads: u8,
     place: usize,
@@ -156,6 +166,6 @@ pub(crate) fn read_piece<'a>(
         return Err(LogCause::TooManyMarks.into());
     }
     let count = count as u32;
-    let rest = read_marks(total, threads, thread, count, marks, rest)?;
+    let rest = read_marks(alloc, total, threads, thread, count, marks, rest)?;
     Ok((count, rest))
 }

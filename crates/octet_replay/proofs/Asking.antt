@@ -2,14 +2,15 @@
 use Rattle.std.proofs.Common.{◌≡◌, ℕ, ◌⊎◌, inl, inr, false, List, sym, ap, ◌∙◌, subst}
 use Rattle.octet_model.specs.declared.command.Command.{Command}
 use Rattle.octet_model.specs.declared.outcome.End.{End}
-use Rattle.octet_model.specs.Thread.{Configuration, settled}
+use Rattle.octet_model.specs.Thread.{Configuration, settled, demanded, past_demanded}
 use Rattle.octet_interp.specs.declared.demand.Demand.{Demand}
-use Rattle.octet_interp.specs.declared.demand.Demand.TheVariants.{Read, Write, Safe, Pause, Ended}
-use Rattle.octet_interp.specs.Demands.{ThreadState, next_demand, after_demand, is_read}
+use Rattle.octet_interp.specs.declared.demand.Demand.TheVariants.{Read, Write, Bump, Safe, Pause, Ended}
+use Rattle.octet_interp.specs.Demands.{ThreadState, next_demand, after_demand, given, is_read}
 use Rattle.octet_interp.specs.Laws.{Agrees}
 use Rattle.octet_interp.proofs.Agreement.{agrees, follows}
-use Rattle.octet_replay.specs.declared.thread.NextDemand.TheVariants.{Read as ReadNext, Write as WriteNext, Ended as EndNext}
-use Rattle.octet_replay.specs.NextDemand.{IsDemandedNext}
+use Rattle.octet_replay.specs.declared.thread.NextDemand.{NextDemand}
+use Rattle.octet_replay.specs.declared.thread.NextDemand.TheVariants.{Read as ReadNext, Write as WriteNext, Bump as BumpNext, Ended as EndNext}
+use Rattle.octet_replay.specs.NextDemand.{demand_of, IsBeforeDemand, IsDemandedNext}
 
 -- the thread settles as the configuration does, and was next_demand this
 pub record Asked (commands : List Command) (c : Configuration) (s : ThreadState) (demand : Demand) (after : ThreadState) : Type 0 where
@@ -25,23 +26,26 @@ module _ (commands : List Command) (c : Configuration) (s after : ThreadState) w
       let at_demand : Agrees demand s after = subst (λ (d : Demand). Agrees d s after) (sym a.tells) at_told in
       subst (λ (x : List Command). Agrees demand (record s { commands = x }) after) a.runs at_demand
 
-  pub asked_read : (object : ℕ) → Asked commands c s (Read object) after → IsDemandedNext commands c (ReadNext object) after
-  asked_read object a =
-      let here = agrees_here (Read object) a in
+  -- an access that is told is the one that is demanded, and the thread goes on past it as past that one
+  asked_access : (demand : Demand) (up_next : NextDemand) (past : ℕ → Configuration)
+      → ((after.waits ≡ is_read demand) × ((value : ℕ) → past value ≡ past_demanded commands c value) → IsBeforeDemand commands c up_next after)
+      → (demanded commands s.at ≡ demand_of up_next) × ((value : ℕ) → past value ≡ past_demanded commands s.at value)
+      → Asked commands c s demand after → IsDemandedNext commands c up_next after
+  asked_access demand up_next past stands here a =
       let on = follows commands s.at c a.settles in
       record {
         demands = sym on.0 ∙ here.0;
-        stands = (ap (λ (x : ThreadState). x.waits) a.stands ∙ ap is_read (sym a.tells), λ value. here.1 value ∙ on.1 value);
+        stands = stands (ap (λ (x : ThreadState). x.waits) a.stands ∙ ap is_read (sym a.tells), λ value. here.1 value ∙ on.1 value);
       }
 
+  pub asked_read : (object : ℕ) → Asked commands c s (Read object) after → IsDemandedNext commands c (ReadNext object) after
+  asked_read object a = asked_access (Read object) (ReadNext object) (λ value. (given after value).at) (λ is. is) (agrees_here (Read object) a) a
+
   pub asked_write : (object value : ℕ) → Asked commands c s (Write object value) after → IsDemandedNext commands c (WriteNext object value) after
-  asked_write object value a =
-      let here = agrees_here (Write object value) a in
-      let on = follows commands s.at c a.settles in
-      record {
-        demands = sym on.0 ∙ here.0;
-        stands = (ap (λ (x : ThreadState). x.waits) a.stands ∙ ap is_read (sym a.tells), λ any. here.1 any ∙ on.1 any);
-      }
+  asked_write object value a = asked_access (Write object value) (WriteNext object value) (λ any. after.at) (λ is. is) (agrees_here (Write object value) a) a
+
+  pub asked_bump : (object amount : ℕ) → Asked commands c s (Bump object amount) after → IsDemandedNext commands c (BumpNext object amount) after
+  asked_bump object amount a = asked_access (Bump object amount) (BumpNext object amount) (λ any. after.at) (λ is. is) (agrees_here (Bump object amount) a) a
 
   pub asked_end : (end : End) → Asked commands c s (Ended end) after → IsDemandedNext commands c (EndNext end) after
   asked_end end a =

@@ -5,17 +5,17 @@ use Rattle.std.proofs.lemmas.Option.{same_Some, slice_get_within}
 use Rattle.octet_model.specs.declared.command.Command.{Command}
 use Rattle.octet_model.specs.declared.event.Mark.{Mark}
 use Rattle.octet_model.specs.declared.event.Event.{Event}
-use Rattle.octet_model.specs.declared.event.Event.TheVariants.{Read, Write, Marked}
+use Rattle.octet_model.specs.declared.event.Event.TheVariants.{Read, Write, Update, Marked}
 use Rattle.octet_model.specs.declared.limits.TheConstants.{MAX_ACCESSES}
 use Rattle.octet_model.specs.declared.log.ThreadLog.{ThreadLog}
-use Rattle.octet_model.specs.Thread.{Configuration, AccessOrEnd, configuration_after}
+use Rattle.octet_model.specs.Thread.{Configuration, AccessOrEnd, added, configuration_after}
 use Rattle.octet_model.specs.Journals.{access_count, mark_count, gap_after, due_mark, next_access, mark_first, next_by_log}
 use Rattle.std.specs.Vec.{vec_len, vec_capacity}
 use Rattle.octet_model.specs.Orders.{values_read}
 use Rattle.octet_model.proofs.lemmas.Splits.{accesses_split, marks_split, values_split, gap_split, configuration_split}
 use Rattle.octet_interp.specs.Demands.{ThreadState, given}
 use Rattle.octet_replay.specs.declared.thread.NextDemand.{NextDemand}
-use Rattle.octet_replay.specs.declared.thread.NextDemand.TheVariants.{Read as ReadNext, Write as WriteNext, Ended as EndNext}
+use Rattle.octet_replay.specs.declared.thread.NextDemand.TheVariants.{Read as ReadNext, Write as WriteNext, Bump as BumpNext, Ended as EndNext}
 use Rattle.octet_replay.specs.declared.thread.ThreadReplay.{ThreadReplay}
 use Rattle.octet_replay.specs.NextDemand.{demand_of, IsBeforeDemand, IsDemandedNext, NamesObject}
 use Rattle.octet_replay.specs.Threads.{next_by_counts, next_event, IsPastEvent, Grown, HasRoomFor, IsReplayOf, StandsFor, WritesWithin}
@@ -25,6 +25,7 @@ use Rattle.octet_replay.proofs.lemmas.EventsMade.{due_there}
 abbrev pub ComesOf : Event → NextDemand → Type 0
 ComesOf (Read object value) up_next = up_next ≡ ReadNext object
 ComesOf (Write object value) up_next = up_next ≡ WriteNext object value
+ComesOf (Update object before after) up_next = (amount : ℕ) × (up_next ≡ BumpNext object amount)
 ComesOf (Marked mark) up_next = Unit {0}
 
 -- what the log has left for the event
@@ -46,6 +47,10 @@ came None (ReadNext object) false marks heap event is = absurd cc
 came None (WriteNext object value) true marks heap event is =
     subst (λ (e : Event). Came e None (WriteNext object value) true) (same_Some (Write object value) event is) (record { comes = refl; has = refl })
 came None (WriteNext object value) false marks heap event is = absurd cc
+came None (BumpNext object amount) true marks heap event is =
+    let old = slice_index heap object in
+    subst (λ (e : Event). Came e None (BumpNext object amount) true) (same_Some (Update object old (added amount old)) event is) (record { comes = (amount, refl); has = refl })
+came None (BumpNext object amount) false marks heap event is = absurd cc
 came None (EndNext end) true marks heap event is = absurd cc
 came None (EndNext end) false true heap event is = absurd cc
 came None (EndNext end) false false heap event is = absurd cc
@@ -60,12 +65,14 @@ gap_within : (before : ℕ) (journal : List Event) → gap_after before journal 
 gap_within before [] = omega arith
 gap_within before (Read object value ∷ journal) = omega (arith, gap_within (suc before) journal)
 gap_within before (Write object value ∷ journal) = omega (arith, gap_within (suc before) journal)
+gap_within before (Update object old new ∷ journal) = omega (arith, gap_within (suc before) journal)
 gap_within before (Marked mark ∷ journal) = omega (arith, gap_within 0 journal)
 
 few_values : (journal : List Event) → length (values_read journal) ≤ access_count journal
 few_values [] = omega arith
 few_values (Read object value ∷ journal) = omega (arith, few_values journal)
 few_values (Write object value ∷ journal) = omega (arith, few_values journal)
+few_values (Update object old new ∷ journal) = omega (arith, few_values journal)
 few_values (Marked mark ∷ journal) = few_values journal
 
 -- what is next, from the four things that decide it
@@ -92,11 +99,15 @@ module _ (commands : List Command) (start : Configuration) (objects : ℕ) (log 
     stands_for (Write object value) is =
         let here = subst (λ (x : NextDemand). IsBeforeDemand commands (configuration_after commands start journal) x t.config) (came_here t.log t heap (Write object value) is).comes replay.comes.stands in
         here.0
+    stands_for (Update object old new) is =
+        let here = subst (λ (x : NextDemand). IsBeforeDemand commands (configuration_after commands start journal) x t.config) (came_here t.log t heap (Update object old new) is).comes.1 replay.comes.stands in
+        here.0
     stands_for (Marked mark) is = tt
 
     pub writes_within : (event : Event) → next_event (next_by_counts t.log t) heap ≡ Some event → WritesWithin objects event
     writes_within (Read object value) is = tt
     writes_within (Write object value) is = subst (λ (x : NextDemand). NamesObject objects x) (came_here t.log t heap (Write object value) is).comes replay.names
+    writes_within (Update object old new) is = subst (λ (x : NextDemand). NamesObject objects x) (came_here t.log t heap (Update object old new) is).comes.1 replay.names
     writes_within (Marked mark) is = tt
 
     accesses_are : t.log.accesses ≡ log.accesses
@@ -117,6 +128,7 @@ module _ (commands : List Command) (start : Configuration) (objects : ℕ) (log 
         let left = (came_here t.log t heap (Read object value) is).has in
         ((room_of_access left few).0, (room_of_access left few).1, room_of_read left)
     has_room (Write object value) is few marks = room_of_access (came_here t.log t heap (Write object value) is).has few
+    has_room (Update object old new) is few marks = room_of_access (came_here t.log t heap (Update object old new) is).has few
     has_room (Marked mark) is few marks =
         let there = due_there (slice_get t.log.marks t.marks) t.gap mark (came_here t.log t heap (Marked mark) is).has in
         omega (arith, slice_get_within t.log.marks t.marks there.0 there.1, ap (λ (l : ThreadLog). length l.marks) replay.follows)
@@ -144,11 +156,13 @@ module _ (commands : List Command) (start : Configuration) (objects : ℕ) (log 
         few_accesses : (e : Event) → next_event (next_by_counts t.log t) heap ≡ Some e → after.accesses ≤ t.accesses + access_count (e ∷ []) → after.accesses ≤ log.accesses
         few_accesses (Read object value) is_e more = omega (arith, accesses_are, ltb-true t.accesses t.log.accesses (came_here t.log t heap (Read object value) is_e).has)
         few_accesses (Write object value) is_e more = omega (arith, accesses_are, ltb-true t.accesses t.log.accesses (came_here t.log t heap (Write object value) is_e).has)
+        few_accesses (Update object old new) is_e more = omega (arith, accesses_are, ltb-true t.accesses t.log.accesses (came_here t.log t heap (Update object old new) is_e).has)
         few_accesses (Marked mark) is_e more = omega (arith, replay.few_accesses)
 
         few_marks : (e : Event) → next_event (next_by_counts t.log t) heap ≡ Some e → after.marks ≡ t.marks + mark_count (e ∷ []) → after.marks ≤ length log.marks
         few_marks (Read object value) is_e more = omega (arith, replay.few_marks)
         few_marks (Write object value) is_e more = omega (arith, replay.few_marks)
+        few_marks (Update object old new) is_e more = omega (arith, replay.few_marks)
         few_marks (Marked mark) is_e more =
             let there = due_there (slice_get t.log.marks t.marks) t.gap mark (came_here t.log t heap (Marked mark) is_e).has in
             omega (arith, slice_get_within t.log.marks t.marks there.0 there.1, ap (λ (l : ThreadLog). length l.marks) replay.follows)
@@ -165,6 +179,10 @@ module _ (commands : List Command) (start : Configuration) (objects : ℕ) (log 
             let stands = subst (λ (x : NextDemand). IsBeforeDemand commands here x t.config) of replay.comes.stands in
             let there = subst (λ (x : List Command). IsDemandedNext x t.config.at after.up_next after.config) replay.runs past in
             subst (λ (c : Configuration). IsDemandedNext commands c after.up_next after.config) (stands.1 value) there
+        moved (Update object old new) of past =
+            let stands = subst (λ (x : NextDemand). IsBeforeDemand commands here x t.config) of.1 replay.comes.stands in
+            let there = subst (λ (x : List Command). IsDemandedNext x t.config.at after.up_next after.config) replay.runs past in
+            subst (λ (c : Configuration). IsDemandedNext commands c after.up_next after.config) (stands.1 new) there
         moved (Marked mark) of past =
             let there = subst (λ (x : NextDemand). IsDemandedNext commands here x t.config) (sym past.0) replay.comes in
             subst (λ (s : ThreadState). IsDemandedNext commands here after.up_next s) (sym past.1) there

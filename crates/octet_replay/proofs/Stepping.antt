@@ -7,14 +7,14 @@ use Rattle.std.proofs.lemmas.Option.{same_Some, slice_get_within, slice_get_case
 use Rattle.std.specs.List.{sum}
 use Rattle.octet_model.specs.declared.command.Command.{Command}
 use Rattle.octet_model.specs.declared.event.Event.{Event}
-use Rattle.octet_model.specs.declared.event.Event.TheVariants.{Read, Write, Marked}
+use Rattle.octet_model.specs.declared.event.Event.TheVariants.{Read, Write, Update, Marked}
 use Rattle.octet_model.specs.declared.event.Mark.TheVariants.{Join, Draw, Fence}
 use Rattle.octet_model.specs.declared.object.Object.{Object}
 use Rattle.octet_model.specs.declared.script.Script.{Script}
 use Rattle.octet_model.specs.declared.log.Log.{Log}
 use Rattle.octet_model.specs.declared.log.ThreadLog.{ThreadLog}
-use Rattle.octet_model.specs.Thread.{AccessOrEnd, ToRead, ToWrite, ToEnd, starting_configuration}
-use Rattle.octet_model.specs.Machine.{Behavior, Journals, journal_of, PlainState, Next, Wants, Finished, NothingFits, Operation, MakeMark, MakeRead, MakeWrite, is_enabled, event_made, heap_after, draws_after, appended, no_events, next_of, may_proceed, may_step, step, after}
+use Rattle.octet_model.specs.Thread.{AccessOrEnd, ToRead, ToWrite, ToBump, ToEnd, starting_configuration}
+use Rattle.octet_model.specs.Machine.{Behavior, Journals, journal_of, PlainState, Next, Wants, Finished, NothingFits, Operation, MakeMark, MakeRead, MakeWrite, MakeUpdate, is_enabled, event_made, heap_after, draws_after, appended, no_events, next_of, may_proceed, may_step, step, after}
 use Rattle.octet_model.specs.Orders.{commands_of, thread_log_of, by_log, starting_heap, opening_state, lowest_order, IsLowestFront}
 use Rattle.octet_model.specs.Plays.{operation_of}
 use Rattle.octet_model.proofs.lemmas.Steps.{Makes, makes_from, same_journal, as_many_step, other_step, counts_step}
@@ -36,7 +36,7 @@ use Rattle.octet_replay.specs.Needs.{NeedsAndCounts, after_step, no_counts, is_m
 use Rattle.octet_replay.specs.ReplayState.{ReplayState, state_at, plain_state, HasHalted, IsNextStep}
 use Rattle.octet_replay.specs.Replayed.{state_of, is_draw, AllNameObjects, AreReplaysOf, CanMake, IsAt, MakesEvent, StandsAt}
 use Rattle.octet_replay.specs.Threads.{need_of, next_by_counts, next_event, Grown, HasRoomFor, IsReplayOf, StandsFor, WritesWithin}
-use Rattle.octet_replay.proofs.lemmas.EventsMade.{due_there, same_length, same_operation}
+use Rattle.octet_replay.proofs.lemmas.EventsMade.{DoAlike, do_alike, due_there, same_length}
 use Rattle.octet_replay.proofs.Growing.{by_counts, came_here, grows, stands_for, writes_within, has_room}
 use Rattle.octet_replay.proofs.Valid.{few_accesses, few_marks}
 use Rattle.octet_replay.proofs.Placing.{get_same, get_other, ready_is, not_there}
@@ -65,13 +65,15 @@ module _ (V : Behavior) where
       record { within = omega (arith, rest.within); is_of = rest.is_of; steps = rest.steps }
 
 -- ---- what is next for a thread, and what it waits for
-pub wanted : (next : Next) (heap : List ℕ) (event : Event) → next_event next heap ≡ Some event → (next ≡ Wants (operation_of event)) × (event_made (operation_of event) heap ≡ event)
+record IsWanted (next : Next) (heap : List ℕ) (event : Event) : Type 0 where
+  operation : Operation
+  next_is : next ≡ Wants operation
+  makes : event_made operation heap ≡ event
+
+wanted : (next : Next) (heap : List ℕ) (event : Event) → next_event next heap ≡ Some event → IsWanted next heap event
 wanted Finished heap event is = absurd cc
 wanted NothingFits heap event is = absurd cc
-wanted (Wants operation) heap event is =
-    let made : event_made operation heap ≡ event = same_Some (event_made operation heap) event is in
-    let operation_is : operation_of event ≡ operation = ap operation_of (sym made) ∙ same_operation operation heap in
-    (ap Wants (sym operation_is), ap (λ (o : Operation). event_made o heap) operation_is ∙ made)
+wanted (Wants operation) heap event is = record { operation = operation; next_is = refl; makes = same_Some (event_made operation heap) event is }
 
 makes_none : (s : PlainState) (next : Next) (heap : List ℕ) → may_proceed s next ≡ true → next_event next heap ≡ None → ⊥
 makes_none s Finished heap may is = cc
@@ -91,6 +93,7 @@ met_may s w events draws Finished = refl
 met_may s w events draws NothingFits = refl
 met_may s w events draws (Wants (MakeRead object)) = refl
 met_may s w events draws (Wants (MakeWrite object value)) = refl
+met_may s w events draws (Wants (MakeUpdate object change)) = refl
 met_may s w events draws (Wants (MakeMark (Join from upto))) = ap (λ (n : ℕ). nat_le upto n) (events from)
 met_may s w events draws (Wants (MakeMark (Draw zero))) = sym (ne_eqb 0 (suc s.draws) (λ e. omega arith))
 met_may s w events draws (Wants (MakeMark (Draw (suc n)))) = ap (λ (d : ℕ). eqb n d) draws ∙ same_test n s.draws
@@ -99,6 +102,7 @@ met_may s w events draws (Wants (MakeMark (Fence number))) = ap (λ (d : ℕ). n
 draws_counted : (event : Event) (draws : ℕ) → (if is_draw event then suc draws else draws) ≡ draws_after (operation_of event) draws
 draws_counted (Read object value) draws = refl
 draws_counted (Write object value) draws = refl
+draws_counted (Update object before after) draws = refl
 draws_counted (Marked (Join from upto)) draws = refl
 draws_counted (Marked (Draw number)) draws = refl
 draws_counted (Marked (Fence number)) draws = refl
@@ -135,13 +139,22 @@ module _ (script : Script) (log : List ThreadLog) (s : PlainState) (threads : Li
     pub may : IsTrue (may_step (by_log script log) s t)
     may = sym (ready_may t) ∙ ready
 
-    pub makes : Makes (by_log script log) s t (operation_of event)
-    makes =
-        let next = next_here t x at ∙ (wanted (next_by_counts x.log x) heap event is).0 in
-        makes_from (by_log script log) s t (operation_of event) (ltb-true t (length s.journals) (and_parts _ _ may).0) next (sym (ap (may_proceed s) next) ∙ (and_parts _ _ may).1)
+    want : IsWanted (next_by_counts x.log x) heap event
+    want = wanted (next_by_counts x.log x) heap event is
 
-    pub made : event_made (operation_of event) s.heap ≡ event
-    made = ap (event_made (operation_of event)) (sym stands.heap_is) ∙ (wanted (next_by_counts x.log x) heap event is).1
+    makes : Makes (by_log script log) s t want.operation
+    makes =
+        let next = next_here t x at ∙ want.next_is in
+        makes_from (by_log script log) s t want.operation (ltb-true t (length s.journals) (and_parts _ _ may).0) next (sym (ap (may_proceed s) next) ∙ (and_parts _ _ may).1)
+
+    made : event_made want.operation s.heap ≡ event
+    made = ap (event_made want.operation) (sym stands.heap_is) ∙ want.makes
+
+    alike : DoAlike (operation_of event) want.operation heap
+    alike = subst (λ (e : Event). DoAlike (operation_of e) want.operation heap) want.makes (do_alike want.operation heap)
+
+    pub enabled : IsTrue (is_enabled s (operation_of event))
+    enabled = alike.enabled s ∙ makes.enabled
 
     pub journals_are : (step (by_log script log) s t).journals ≡ appended s.journals t event
     journals_are = makes.appends ∙ ap (appended s.journals t) made
@@ -195,7 +208,7 @@ module _ (script : Script) (log : List ThreadLog) (s : PlainState) (threads : Li
           elim (cases_eq u t) [
             | inl same ↦
                 here ∙ ap (λ (n : ℕ). get_or (slice_set w.events t (suc (get_or w.events t 0))) n 0) same
-                ∙ get_or-set_same w.events t (suc (get_or w.events t 0)) 0 within ∙ ap suc (stands.waits.events t) ∙ sym (counts_step (by_log script log) s t (operation_of event) makes)
+                ∙ get_or-set_same w.events t (suc (get_or w.events t 0)) 0 within ∙ ap suc (stands.waits.events t) ∙ sym (counts_step (by_log script log) s t want.operation makes)
                 ∙ ap (λ (n : ℕ). length (journal_of s'.journals n)) (sym same)
             | inr differ ↦
                 here ∙ get_or-set_other w.events t u (suc (get_or w.events t 0)) 0 differ ∙ stands.waits.events u
@@ -206,7 +219,7 @@ module _ (script : Script) (log : List ThreadLog) (s : PlainState) (threads : Li
       stands_after = record {
         as_many = ap (λ (xs : List ThreadReplay). length xs) threads_are ∙ length-set threads t y ∙ stands.as_many ∙ sym (as_many_step (by_log script log) s t);
         each = each;
-        heap_is = heap_is ∙ ap (heap_after (operation_of event)) stands.heap_is ∙ sym (ap (λ (x : PlainState). x.heap) makes.stepped);
+        heap_is = heap_is ∙ alike.heap_is ∙ ap (heap_after want.operation) stands.heap_is ∙ sym (ap (λ (x : PlainState). x.heap) makes.stepped);
         heap_has = ap (λ (h : List ℕ). length h) heap_is ∙ same_length (operation_of event) heap ∙ stands.heap_has;
         waits = record {
           as_many = ap (λ (v : NeedsAndCounts). length v.needs) waits_are ∙ length-set w.needs t (need_of (next_by_counts y.log y)) ∙ stands.waits.as_many ∙ sym (as_many_step (by_log script log) s t);
@@ -214,7 +227,7 @@ module _ (script : Script) (log : List ThreadLog) (s : PlainState) (threads : Li
           needs = needs;
           events = events;
           draws =
-              ap (λ (v : NeedsAndCounts). v.draws) waits_are ∙ draws_counted event w.draws ∙ ap (draws_after (operation_of event)) stands.waits.draws
+              ap (λ (v : NeedsAndCounts). v.draws) waits_are ∙ draws_counted event w.draws ∙ alike.draws w.draws ∙ ap (draws_after want.operation) stands.waits.draws
               ∙ sym (ap (λ (x : PlainState). x.draws) makes.stepped);
         };
       }
@@ -289,6 +302,8 @@ need_names threads None (ToRead object) true m names = tt
 need_names threads None (ToRead object) false m names = tt
 need_names threads None (ToWrite object value) true m names = tt
 need_names threads None (ToWrite object value) false m names = tt
+need_names threads None (ToBump object amount) true m names = tt
+need_names threads None (ToBump object amount) false m names = tt
 need_names threads None (ToEnd end) true m names = tt
 need_names threads None (ToEnd end) false true names = tt
 need_names threads None (ToEnd end) false false names = tt
@@ -361,11 +376,12 @@ module _ (r : Replay) (at : IsAt r) (t : ℕ) (ready : is_ready r.waits t ≡ tr
       )
 
   draws_now : is_draw event ≡ true → suc r.waits.draws < 2 ^ 64
-  draws_now = go event is (makes r.script.value r.log.value.threads (plain_state (state_of r)) r.threads.items r.heap.items r.waits at.stands t ready x there event is).enabled
+  draws_now = go event is (enabled r.script.value r.log.value.threads (plain_state (state_of r)) r.threads.items r.heap.items r.waits at.stands t ready x there event is)
     where
       go : (e : Event) → next_event (next_by_counts x.log x) r.heap.items ≡ Some e → IsTrue (is_enabled (plain_state (state_of r)) (operation_of e)) → is_draw e ≡ true → suc r.waits.draws < 2 ^ 64
       go (Read object value) is_e enabled draw = absurd cc
       go (Write object value) is_e enabled draw = absurd cc
+      go (Update object before after) is_e enabled draw = absurd cc
       go (Marked (Join from upto)) is_e enabled draw = absurd cc
       go (Marked (Fence number)) is_e enabled draw = absurd cc
       go (Marked (Draw number)) is_e enabled draw =

@@ -1,20 +1,22 @@
 -- What a thread demands next.
 use Rattle.std.specs.Prelude.{◌≡◌, ℕ, ◌<◌, true, false, List}
 use Rattle.octet_model.specs.declared.command.Command.{Command}
-use Rattle.octet_model.specs.Thread.{Configuration, AccessOrEnd, ToRead, ToWrite, ToEnd, demanded, past_demanded}
+use Rattle.octet_model.specs.Thread.{Configuration, AccessOrEnd, ToRead, ToWrite, ToBump, ToEnd, demanded, past_demanded}
 use Rattle.octet_interp.specs.Demands.{ThreadState, given}
 use Rattle.octet_replay.specs.declared.thread.NextDemand.{NextDemand}
-use Rattle.octet_replay.specs.declared.thread.NextDemand.TheVariants.{Read, Write, Ended}
+use Rattle.octet_replay.specs.declared.thread.NextDemand.TheVariants.{Read, Write, Bump, Ended}
 
 abbrev pub demand_of : NextDemand → AccessOrEnd
 demand_of (Read object) = ToRead object
 demand_of (Write object value) = ToWrite object value
+demand_of (Bump object amount) = ToBump object amount
 demand_of (Ended end) = ToEnd end
 
 -- where a thread stands that is to go past what it demands next: a read waits for its value
 abbrev pub IsBeforeDemand : List Command → Configuration → NextDemand → ThreadState → Type 0
 IsBeforeDemand commands c (Read object) s = (s.waits ≡ true) × ((value : ℕ) → (given s value).at ≡ past_demanded commands c value)
 IsBeforeDemand commands c (Write object value) s = (s.waits ≡ false) × ((any : ℕ) → s.at ≡ past_demanded commands c any)
+IsBeforeDemand commands c (Bump object amount) s = (s.waits ≡ false) × ((any : ℕ) → s.at ≡ past_demanded commands c any)
 IsBeforeDemand commands c (Ended end) s = Unit {0}
 
 -- the configuration demands what it demands next, and the thread stands before it
@@ -26,4 +28,5 @@ pub record IsDemandedNext (commands : List Command) (c : Configuration) (up_next
 abbrev pub NamesObject : ℕ → NextDemand → Type 0
 NamesObject objects (Read object) = object < objects
 NamesObject objects (Write object value) = object < objects
+NamesObject objects (Bump object amount) = object < objects
 NamesObject objects (Ended end) = Unit {0}

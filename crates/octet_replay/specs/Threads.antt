@@ -3,11 +3,11 @@ use Rattle.std.specs.Prelude.{◌≡◌, ℕ, zero, suc, ◌+◌, ◌^◌, ◌<�
 use Rattle.std.specs.Vec.{vec_len, vec_capacity}
 use Rattle.octet_model.specs.declared.command.Command.{Command}
 use Rattle.octet_model.specs.declared.event.Event.{Event}
-use Rattle.octet_model.specs.declared.event.Event.TheVariants.{Read, Write, Marked}
+use Rattle.octet_model.specs.declared.event.Event.TheVariants.{Read, Write, Update, Marked}
 use Rattle.octet_model.specs.declared.log.ThreadLog.{ThreadLog}
 use Rattle.octet_model.specs.Thread.{Configuration, configuration_after}
 use Rattle.octet_model.specs.declared.event.Mark.TheVariants.{Join, Draw, Fence}
-use Rattle.octet_model.specs.Machine.{Next, Wants, Finished, NothingFits, MakeMark, MakeRead, MakeWrite, event_made}
+use Rattle.octet_model.specs.Machine.{Next, Wants, Finished, NothingFits, MakeMark, MakeRead, MakeWrite, MakeUpdate, event_made}
 use Rattle.octet_model.specs.Journals.{access_count, mark_count, gap_after, due_mark, next_access, mark_first}
 use Rattle.octet_model.specs.Orders.{values_read}
 use Rattle.octet_interp.specs.Demands.{given}
@@ -49,6 +49,7 @@ need_of (Wants (MakeMark (Draw (suc number)))) = DrawsAre number
 need_of (Wants (MakeMark (Fence number))) = DrawsReach number
 need_of (Wants (MakeRead object)) = Free
 need_of (Wants (MakeWrite object value)) = Free
+need_of (Wants (MakeUpdate object change)) = Free
 need_of Finished = Never
 need_of NothingFits = Never
 
@@ -57,10 +58,11 @@ abbrev pub next_event : Next → List ℕ → Option Event
 next_event (Wants operation) heap = Some (event_made operation heap)
 next_event _ heap = None
 
--- the thread stands before the event: a read waits for its value, and a write does not
+-- the thread stands before the event: a read waits for its value, and no other does
 abbrev pub StandsFor : Event → ThreadReplay → Type 0
 StandsFor (Read object value) t = t.config.waits ≡ true
 StandsFor (Write object value) t = t.config.waits ≡ false
+StandsFor (Update object old new) t = t.config.waits ≡ false
 StandsFor (Marked mark) t = Unit {0}
 
 -- there is room to count the event
@@ -68,16 +70,19 @@ abbrev pub HasRoomFor : Event → ThreadReplay → Type 0
 HasRoomFor (Marked mark) t = suc t.marks < 2 ^ 64
 HasRoomFor (Read object value) t = (suc t.accesses < 2 ^ 32) × (suc t.gap < 2 ^ 32) × (vec_len t.reads < vec_capacity t.reads)
 HasRoomFor (Write object value) t = (suc t.accesses < 2 ^ 32) × (suc t.gap < 2 ^ 32)
+HasRoomFor (Update object old new) t = (suc t.accesses < 2 ^ 32) × (suc t.gap < 2 ^ 32)
 
--- a write names one of the objects, by their number
+-- a write or an update names one of the objects, by their number
 abbrev pub WritesWithin : ℕ → Event → Type 0
 WritesWithin objects (Write object value) = object < objects
+WritesWithin objects (Update object old new) = object < objects
 WritesWithin objects _ = Unit {0}
 
 -- after an access the thread comes to what it demands past it; a mark changes nothing of that
 abbrev pub IsPastEvent : Event → ThreadReplay → ThreadReplay → Type 0
 IsPastEvent (Read object value) before after = IsDemandedNext before.config.commands (given before.config value).at after.up_next after.config
 IsPastEvent (Write object value) before after = IsDemandedNext before.config.commands before.config.at after.up_next after.config
+IsPastEvent (Update object old new) before after = IsDemandedNext before.config.commands before.config.at after.up_next after.config
 IsPastEvent (Marked mark) before after = (after.up_next ≡ before.up_next) × (after.config ≡ before.config)
 
 -- one thread before an event and after it

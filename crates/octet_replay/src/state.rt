@@ -33,13 +33,19 @@ fn is_draw(event: Event) -> bool
     }
 }
 
-// A write changes its object's value.
+// A write changes its object's value, and so does an update.
 fn write(heap: &mut Vec<u64>, event: Event)
     requires { WritesWithin (length heap.old.items) event }
     ensures { heap.new.items ≡ heap_after (operation_of event) heap.old.items }
 {
-    if let Event::Write { object, value } = event {
-        heap[object as usize] = value;
+    match event {
+        Event::Write { object, value }
+        | Event::Update {
+            object,
+            after: value,
+            ..
+        } => heap[object as usize] = value,
+        Event::Read { .. } | Event::Marked { .. } => {}
     }
 }
 

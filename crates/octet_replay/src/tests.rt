@@ -62,6 +62,16 @@ fn write_and_read(alloc: Global) -> Result<Script, OutOfMemory> {
     script_of(alloc, 16384, object_x(alloc, 5)?, threads)
 }
 
+fn two_bumps_and_one(alloc: Global, start: u64) -> Result<Script, OutOfMemory> {
+    let bump = Command::Bump { object: 0, from: 0 };
+    let two = [Command::Set { to: 0, number: 2 }, bump, bump];
+    let one = [Command::Set { to: 0, number: 3 }, bump];
+    let mut threads = List::new(alloc);
+    threads.push(commands_of(alloc, &two)?)?;
+    threads.push(commands_of(alloc, &one)?)?;
+    script_of(alloc, 16384, object_x(alloc, start)?, threads)
+}
+
 fn loop_of_reads(alloc: Global) -> Result<Script, OutOfMemory> {
     let commands = [
         Command::Set { to: 0, number: 1 },
@@ -274,6 +284,45 @@ fn journals_have_marks_and_values(rt: HostRuntime) -> Result<(), Fail> {
         (0, [].as_slice()),
         (1, first.as_slice()),
         (2, second.as_slice()),
+    ] {
+        assert_eq!(rt;
+            journals.get(thread).map(|journal| journal.as_slice()),
+            Some(events)
+        );
+    }
+    Ok(())
+}
+
+fn update(before: u64, after: u64) -> Event {
+    Event::Update {
+        object: 0,
+        before,
+        after,
+    }
+}
+
+#[test]
+fn updates_add_to_what_the_object_has(rt: HostRuntime) -> Result<(), Fail> {
+    let alloc = rt.alloc();
+    let after_both = Gapped {
+        gap: 0,
+        mark: Mark::Join { from: 0, upto: 2 },
+    };
+    let log = log_of_two(alloc, 2, NO_MARKS, 1, &[after_both])?;
+    for (start, text) in [
+        (5, b"thread 0 done\nthread 1 done\nobject x 12\n".as_slice()),
+        (
+            u64::MAX,
+            b"thread 0 done\nthread 1 done\nobject x 6\n".as_slice(),
+        ),
+    ] {
+        let script = two_bumps_and_one(alloc, start)?;
+        assert_eq!(rt; said(alloc, &script, &log)?.as_slice(), text);
+    }
+    let journals = journals(alloc, &two_bumps_and_one(alloc, 5)?, &log)?;
+    for (thread, events) in [
+        (0, [update(5, 7), update(7, 9)].as_slice()),
+        (1, [marked(after_both.mark), update(9, 12)].as_slice()),
     ] {
         assert_eq!(rt;
             journals.get(thread).map(|journal| journal.as_slice()),

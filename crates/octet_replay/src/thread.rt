@@ -17,6 +17,7 @@ use std::alloc::Global;
 pub(crate) enum NextDemand {
     Read { object: u16 },
     Write { object: u16, value: u64 },
+    Bump { object: u16, amount: u64 },
     Ended { end: End },
 }
 
@@ -45,6 +46,7 @@ fn ask(config: &mut Config) -> NextDemand
         match config.next() {
             Demand::Read { object } => return NextDemand::Read { object },
             Demand::Write { object, value } => return NextDemand::Write { object, value },
+            Demand::Bump { object, amount } => return NextDemand::Bump { object, amount },
             Demand::Safe | Demand::Pause => {}
             Demand::Ended { end } => return NextDemand::Ended { end },
         }
@@ -127,6 +129,14 @@ impl ThreadReplay {
                 value: heap[object as usize],
             }),
             NextDemand::Write { object, value } => Some(Event::Write { object, value }),
+            NextDemand::Bump { object, amount } => {
+                let before = heap[object as usize];
+                Some(Event::Update {
+                    object,
+                    before,
+                    after: before.wrapping_add(amount),
+                })
+            }
             NextDemand::Ended { .. } => None,
         }
     }
@@ -142,7 +152,9 @@ impl ThreadReplay {
             return Need::Never;
         }
         match self.up_next {
-            NextDemand::Read { .. } | NextDemand::Write { .. } => Need::Free,
+            NextDemand::Read { .. } | NextDemand::Write { .. } | NextDemand::Bump { .. } => {
+                Need::Free
+            }
             NextDemand::Ended { .. } => Need::Never,
         }
     }
@@ -171,7 +183,7 @@ impl ThreadReplay {
                 self.config.give(value);
                 self.count_access();
             }
-            Event::Write { .. } => self.count_access(),
+            Event::Write { .. } | Event::Update { .. } => self.count_access(),
             Event::Marked { .. } => {
                 self.marks += 1;
                 self.gap = 0;

@@ -1,22 +1,31 @@
 -- The mark that is due, and what an operation makes.
-use Rattle.std.proofs.Common.{◌≡◌, ℕ, Bool, true, false, if◌then◌else◌, eqb, List, length, Option, Some, None, refl, length-set}
+use Rattle.std.proofs.Common.{◌≡◌, ℕ, Bool, true, false, if◌then◌else◌, eqb, List, length, Option, Some, None, slice_index, refl, length-set}
 use Rattle.octet_model.specs.declared.event.Mark.{Mark}
 use Rattle.octet_model.specs.declared.log.Gapped.{Gapped}
 use Rattle.octet_model.specs.Journals.{due_mark}
-use Rattle.octet_model.specs.Machine.{Operation, MakeMark, MakeRead, MakeWrite, event_made, heap_after}
+use Rattle.octet_model.specs.Machine.{PlainState, Operation, MakeMark, MakeRead, MakeWrite, MakeUpdate, is_enabled, event_made, heap_after, draws_after}
 use Rattle.octet_model.specs.Plays.{operation_of}
 
--- an operation is that of the event that it makes
-pub same_operation : (operation : Operation) (heap : List ℕ) → operation_of (event_made operation heap) ≡ operation
-same_operation (MakeMark mark) heap = refl
-same_operation (MakeRead object) heap = refl
-same_operation (MakeWrite object value) heap = refl
+-- two operations that may be made alike, and come to the same on this heap
+pub record DoAlike (one other : Operation) (heap : List ℕ) : Type 0 where
+  pub enabled : (s : PlainState) → is_enabled s one ≡ is_enabled s other
+  pub event : event_made one heap ≡ event_made other heap
+  pub heap_is : heap_after one heap ≡ heap_after other heap
+  pub draws : (made : ℕ) → draws_after one made ≡ draws_after other made
+
+-- an operation does as that of the event that it makes
+pub do_alike : (operation : Operation) (heap : List ℕ) → DoAlike (operation_of (event_made operation heap)) operation heap
+do_alike (MakeMark mark) heap = record { enabled = λ s. refl; event = refl; heap_is = refl; draws = λ made. refl }
+do_alike (MakeRead object) heap = record { enabled = λ s. refl; event = refl; heap_is = refl; draws = λ made. refl }
+do_alike (MakeWrite object value) heap = record { enabled = λ s. refl; event = refl; heap_is = refl; draws = λ made. refl }
+do_alike (MakeUpdate object change) heap = record { enabled = λ s. refl; event = refl; heap_is = refl; draws = λ made. refl }
 
 -- the heap has as many objects after it as before
 pub same_length : (operation : Operation) (heap : List ℕ) → length (heap_after operation heap) ≡ length heap
 same_length (MakeMark mark) heap = refl
 same_length (MakeRead object) heap = refl
 same_length (MakeWrite object value) heap = length-set heap object value
+same_length (MakeUpdate object change) heap = length-set heap object (change (slice_index heap object))
 
 -- a mark that is due stands next in the log
 pub due_there : (o : Option Gapped) (gap : ℕ) (mark : Mark) → due_mark o gap ≡ Some mark → (g : Gapped) × (o ≡ Some g) × (g.mark ≡ mark)

@@ -7,10 +7,11 @@ use Rattle.octet_model.specs.declared.event.Event.{Event}
 use Rattle.octet_model.specs.declared.event.Mark.{Mark}
 use Rattle.octet_model.specs.declared.script.Script.{Script}
 use Rattle.octet_model.specs.declared.log.ThreadLog.{ThreadLog}
-use Rattle.octet_model.specs.Thread.{AccessOrEnd, ToRead, ToWrite, ToEnd}
+use Rattle.octet_model.specs.Thread.{AccessOrEnd, ToRead, ToWrite, ToBump, ToEnd}
 use Rattle.octet_model.specs.Machine.{Next, Wants, Finished, NothingFits, next_of}
 use Rattle.octet_model.specs.Journals.{access_count, mark_count, next_access, mark_first}
 use Rattle.octet_model.specs.Orders.{thread_log_of, by_log, opening_state, lowest_order}
+use Rattle.octet_model.proofs.lemmas.LawfulOrders.{by_finish}
 use Rattle.octet_model.proofs.lemmas.LogsOfJournals.{as_many_after}
 use Rattle.octet_model.proofs.lemmas.LowestFronts.{lowest_order_is_lowest, lowest_is_front, lowest_order_is_lawful}
 use Rattle.octet_replay.specs.declared.fault.ReplayFault.{ReplayFault}
@@ -31,27 +32,18 @@ as_many_last script log =
 end_or_access : (d : AccessOrEnd) → DemandsEnd d → DemandsAccess d → ⊥
 end_or_access (ToRead object) ends access = ends
 end_or_access (ToWrite object value) ends access = ends
+end_or_access (ToBump object amount) ends access = ends
 end_or_access (ToEnd end) ends access = access
-
--- a thread that has finished is at its end, and no access of its log is left
-finished_parts : (due : Option Mark) (d : AccessOrEnd) (a m : Bool) → mark_first due (next_access d a m) ≡ Finished → DemandsEnd d × (a ≡ false)
-finished_parts (Some mark) d a m is = absurd cc
-finished_parts None (ToRead object) true m is = absurd cc
-finished_parts None (ToRead object) false m is = absurd cc
-finished_parts None (ToWrite object value) true m is = absurd cc
-finished_parts None (ToWrite object value) false m is = absurd cc
-finished_parts None (ToEnd end) true m is = absurd cc
-finished_parts None (ToEnd end) false true is = absurd cc
-finished_parts None (ToEnd end) false false is = (tt, refl)
 
 finished_fits : (script : Script) (log : List ThreadLog) (t : ℕ) → IsFinished script log t → ¬ IsMisfitThread script log t
 finished_fits script log t finished misfit =
     let j = last_journal script log t in
     let l = thread_log_of log t in
-    let parts = finished_parts _ (last_demand script log t) (nat_lt (access_count j) l.accesses) _ finished in
+    let parts = by_finish _ (last_demand script log t) (nat_lt (access_count j) l.accesses) _ finished in
+    let ends : DemandsEnd (last_demand script log t) = subst (λ (d : AccessOrEnd). DemandsEnd d) (sym parts.demands) tt in
     elim misfit.1 [
-      | inl early ↦ (let left = lt-ltb (access_count j) l.accesses early.0.fewer in let none = parts.1 in absurd cc)
-      | inr on ↦ end_or_access (last_demand script log t) parts.0 on.0.demands
+      | inl early ↦ (let left = lt-ltb (access_count j) l.accesses early.0.fewer in let none = parts.no_access in absurd cc)
+      | inr on ↦ end_or_access (last_demand script log t) ends on.0.demands
     ]
 
 pub not_refused : LawfulIsNotRefused
@@ -131,6 +123,7 @@ goes_on_or_not d log j access =
 misfit_or_not : (d : AccessOrEnd) (log : ThreadLog) (j : List Event) → ((found : ℕ) × Finds d log j found) ⊎ ¬ ((found : ℕ) × Finds d log j found)
 misfit_or_not (ToRead object) log j = goes_on_or_not (ToRead object) log j tt
 misfit_or_not (ToWrite object value) log j = goes_on_or_not (ToWrite object value) log j tt
+misfit_or_not (ToBump object amount) log j = goes_on_or_not (ToBump object amount) log j tt
 misfit_or_not (ToEnd end) log j =
     elim (cases_lt (access_count j) log.accesses) [
       | inl fewer ↦ inl (access_count j, inl (record { ends = tt; fewer = fewer }, refl))

@@ -12,51 +12,16 @@ use Rattle.octet_model.specs.declared.log.ThreadLog.{ThreadLog}
 use Rattle.octet_model.specs.declared.script.Script.{Script}
 use Rattle.octet_model.specs.Thread.{Configuration, AccessOrEnd, demanded, configuration_after, starting_configuration}
 use Rattle.octet_model.specs.Journals.{access_count, mark_count, gap_after, due_mark, next_by_log}
-use Rattle.octet_model.specs.Machine.{journal_of, PlainState, Next, Operation, MakeMark, MakeRead, MakeWrite, Wants, event_made, step, after, IsFront}
+use Rattle.octet_model.specs.Machine.{journal_of, PlainState, Next, Operation, MakeMark, MakeRead, MakeWrite, MakeUpdate, Wants, event_made, step, after, IsFront}
 use Rattle.octet_model.specs.Orders.{commands_of, thread_log_of, by_log, opening_state, journals_after, lowest_order}
 use Rattle.octet_model.specs.Log.{is_log}
 use Rattle.octet_model.proofs.lemmas.Fronts.{no_journal}
 use Rattle.octet_model.proofs.lemmas.LogsOfJournals.{as_many_after}
-use Rattle.octet_model.proofs.lemmas.LowestFronts.{IsAccess, by_access, by_mark, each_journal, lowest_is_front, lowest_order_is_lowest}
+use Rattle.octet_model.proofs.lemmas.LowestFronts.{IsWithin, each_journal, within_more, lowest_is_front, lowest_order_is_lowest}
 use Rattle.octet_model.proofs.lemmas.Splits.{accesses_split, marks_split, length_parts}
 use Rattle.octet_model.proofs.lemmas.Validity.{valid_log}
 use Rattle.octet_replay.specs.Places.{FitInPlaces}
 use Rattle.octet_replay.proofs.lemmas.EventsMade.{due_there}
-
--- a journal with no more accesses and marks than its log
-record IsWithin (log : ThreadLog) (journal : List Event) : Type 0 where
-  accesses : access_count journal ≤ log.accesses
-  marks : mark_count journal ≤ length log.marks
-
-module _ (commands : List Command) (c : Configuration) (log : ThreadLog) (journal : List Event) (heap : List ℕ) (within : IsWithin log journal) where
-  abbrev due : Option Mark
-  due = due_mark (slice_get log.marks (mark_count journal)) (gap_after 0 journal)
-
-  abbrev demand : AccessOrEnd
-  demand = demanded commands (configuration_after commands c journal)
-
-  abbrev access_left : Bool
-  access_left = nat_lt (access_count journal) log.accesses
-
-  abbrev mark_left : Bool
-  mark_left = nat_lt (mark_count journal) (length log.marks)
-
-  -- one more access is within the log, where an access is next by it
-  access_within : (event : Event) → access_count (event ∷ []) ≡ 1 → mark_count (event ∷ []) ≡ 0 → IsAccess (next_by_log commands c log journal) → IsWithin log (journal ++ event ∷ [])
-  access_within event one none is =
-      let left = ltb-true (access_count journal) log.accesses (by_access due demand access_left mark_left is) in
-      record { accesses = omega (arith, accesses_split journal (event ∷ []), one, left); marks = omega (arith, marks_split journal (event ∷ []), none, within.marks) }
-
-  -- and so is what is next by it
-  next_within : (o : Operation) → next_by_log commands c log journal ≡ Wants o → IsWithin log (journal ++ event_made o heap ∷ [])
-  next_within (MakeMark mark) is =
-      let there = due_there (slice_get log.marks (mark_count journal)) (gap_after 0 journal) mark (by_mark due demand access_left mark_left mark is) in
-      record {
-        accesses = omega (arith, accesses_split journal (Marked mark ∷ []), within.accesses);
-        marks = omega (arith, marks_split journal (Marked mark ∷ []), slice_get_within log.marks (mark_count journal) there.0 there.1);
-      }
-  next_within (MakeRead object) is = access_within (event_made (MakeRead object) heap) refl refl (subst (λ (n : Next). IsAccess n) (sym is) tt)
-  next_within (MakeWrite object value) is = access_within (Write object value) refl refl (subst (λ (n : Next). IsAccess n) (sym is) tt)
 
 module _ (script : Script) (log : List ThreadLog) where
   all_within : (order : List ℕ) (s : PlainState) → IsFront (by_log script log) s order → ((t : ℕ) → IsWithin (thread_log_of log t) (journal_of s.journals t))
@@ -65,7 +30,7 @@ module _ (script : Script) (log : List ThreadLog) where
   all_within (u ∷ order) s front within =
       all_within order (step (by_log script log) s u) front.1
       (each_journal (by_log script log) s u front.0 (λ t journal. IsWithin (thread_log_of log t) journal) within
-      (λ o makes. next_within (commands_of script u) (starting_configuration script.fuel) (thread_log_of log u) (journal_of s.journals u) s.heap (within u) o makes.wanted))
+      (λ o makes. within_more (commands_of script u) (starting_configuration script.fuel) (thread_log_of log u) (journal_of s.journals u) s.heap o makes.wanted (within u)))
 
   -- the journals that the lowest order comes to
   pub lowest_order_fits_in_places : length script.threads ≡ length log → IsTrue (is_log log) → FitInPlaces (journals_after script log (lowest_order script log))

@@ -6,7 +6,7 @@ use Rattle.octet_log.proofs.decoder.read_marks.Goals as goal
 
 pub returns-in_err-gapped-clause-judged : goal.returns-in_err-gapped-clause-judged
 returns-in_err-gapped-clause-judged c =
-    let p = err_from_is_err_and c.from_residual.result c.from_residual.ensures.1 in
+    let p = err_from_is_err_and c.from_residual-in_err-gapped.result c.from_residual-in_err-gapped.ensures.1 in
     rw (p.1, p.2)
     (ends (mark_at c.args.total c.args.threads c.args.thread) (λ left mark. left - mark.gap) c.in_err-gapped.field-0.0 c.loop.marks.items c.args.count c.loop.counter c.loop.left c.loop.rest.now (marks_at c.args.total c.args.threads c.args.thread c.args.accesses c.args.count c.args.bytes.now) c.loop-test.true c.in_err-gapped.ensures.judged c.loop.invariant.judged)
 

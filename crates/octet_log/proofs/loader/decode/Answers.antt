@@ -2,7 +2,7 @@ use Rattle.std.proofs.Common.{Ok, arith}
 use Rattle.std.proofs.lemmas.Result.{err_from_is_err_and}
 use Rattle.octet_log.specs.Readings.{reading, reading_of}
 use Rattle.octet_log.proofs.Spelled.{loaded_takes, loads_spelling}
-use Rattle.octet_log.proofs.Sizes.{few_marks}
+use Rattle.octet_log.proofs.lemmas.Sizes.{few_marks}
 use Rattle.octet_log.proofs.loader.decode.Goals as goal
 
 pub returns-in_err-threads-clause-read : goal.returns-in_err-threads-clause-read

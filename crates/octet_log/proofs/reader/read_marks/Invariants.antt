@@ -4,7 +4,7 @@ use Rattle.octet_log.proofs.reader.read_marks.Given as goal
 
 abbrev pub invariant-loop : goal.invariant-loop
 invariant-loop l = record {
-  judged : with_front l.marks (short_marks_at l.total l.threads l.thread (l.count - l.counter) l.rest) ≡ with_front l.fn.marks (short_marks_at l.total l.threads l.thread l.count l.bytes);
+  judged : with_front l.all.items (short_marks_at l.total l.threads l.thread (l.count - l.counter) l.rest) ≡ with_front l.fn.marks (short_marks_at l.total l.threads l.thread l.count l.bytes);
   shorter : length l.rest ≤ length l.bytes;
-  count : length l.marks ≡ length l.fn.marks + l.counter;
+  count : length l.all.items ≡ length l.fn.marks + l.counter;
 }

@@ -1,6 +1,6 @@
 use Rattle.std.proofs.Common.{ap, ◌∙◌}
 use Rattle.octet_interp.specs.Demands.{ThreadState}
-use Rattle.octet_replay.proofs.Asking.{asked_read, asked_write, asked_end, asked_on}
+use Rattle.octet_replay.proofs.Asking.{asked_read, asked_write, asked_bump, asked_end, asked_on}
 use Rattle.octet_replay.proofs.thread.ask.Goals as goal
 
 pub returns-in-Read-clause-up_next : goal.returns-in-Read-clause-up_next
@@ -12,6 +12,11 @@ pub returns-in-Write-clause-up_next : goal.returns-in-Write-clause-up_next
 returns-in-Write-clause-up_next c =
     asked_write c.args.config.now.commands c.args.config.now.at c.loop-object.config c.next.new.self c.in-Write.object c.in-Write.value
     (record { runs = c.loop-object.invariant.runs; settles = c.loop-object.invariant.settles; tells = c.in-Write.ensures.demand; stands = c.in-Write.ensures.state })
+
+pub returns-in-Bump-clause-up_next : goal.returns-in-Bump-clause-up_next
+returns-in-Bump-clause-up_next c =
+    asked_bump c.args.config.now.commands c.args.config.now.at c.loop-object.config c.next.new.self c.in-Bump.object c.in-Bump.amount
+    (record { runs = c.loop-object.invariant.runs; settles = c.loop-object.invariant.settles; tells = c.in-Bump.ensures.demand; stands = c.in-Bump.ensures.state })
 
 pub loop-object-preserved : goal.loop-object-preserved
 loop-object-preserved c =

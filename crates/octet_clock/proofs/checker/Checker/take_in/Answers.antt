@@ -1,7 +1,7 @@
-use Rattle.std.proofs.Common.{sym, subst, refl}
+use Rattle.std.proofs.Common.{inl, inr, sym, subst, refl}
 use Rattle.std.proofs.lemmas.Result.{on_ok_weaker}
 use Rattle.octet_model.specs.declared.event.Event.{Event}
-use Rattle.octet_model.specs.declared.event.Event.TheVariants.{Read, Write}
+use Rattle.octet_model.specs.declared.event.Event.TheVariants.{Read, Write, Update}
 use Rattle.octet_clock.specs.Checker.{TakesEvent}
 use Rattle.octet_clock.proofs.checker.Checker.take_in.Goals as goal
 
@@ -12,5 +12,8 @@ returns-in-Read-clause-taken c = on_ok_weaker c.take_access.result
 
 pub returns-in-Write-clause-taken : goal.returns-in-Write-clause-taken
 returns-in-Write-clause-taken c = on_ok_weaker c.take_access-in-Write.result
-    (λ taken. subst (λ (e : Event). TakesEvent c.args.self.now c.args.thread e c.take_access-in-Write.new.self) (sym c.in-Write.is) (taken (Write c.in-Write.object c.in-Write.value) refl refl))
+    (λ taken. elim c.in-Write.is [
+      | inl write ↦ subst (λ (e : Event). TakesEvent c.args.self.now c.args.thread e c.take_access-in-Write.new.self) (sym write.1) (taken (Write c.in-Write.object write.0) refl refl)
+      | inr update ↦ subst (λ (e : Event). TakesEvent c.args.self.now c.args.thread e c.take_access-in-Write.new.self) (sym update.2) (taken (Update c.in-Write.object update.0 update.1) refl refl)
+    ])
     c.take_access-in-Write.ensures.taken
