@@ -3,6 +3,9 @@
 from dataclasses import dataclass, field
 from hashlib import sha256
 
+# The commands that are an access of an object.
+ACCESSES = {"read", "write", "bump"}
+
 
 @dataclass
 class Case:

@@ -91,6 +91,12 @@ SAME_RUNS = [
         (3,),
     ),
     (
+        "a bump past 64 bits",
+        script("object n 18446744073709551615 / thread / set r0 2 / bump n r0"),
+        text("thread 0 done", "object n 1"),
+        (1,),
+    ),
+    (
         "ninety thousand nested branches",
         text("thread", *["if r0"] * 90_000, *["end"] * 90_000),
         text("thread 0 done"),
@@ -122,8 +128,8 @@ LOCKED = [
 
 EVERY_COMMAND = [
     "fuel 9", "object a 18446744073709551615", "thread", "set r0 1", "copy r1 r0", "add r2 r0 r1", "sub r3 r0 r1",
-    "mul r4 r0 r1", "xor r5 r0 r1", "less r6 r0 r1", "same r7 r0 r1", "read r8 a", "write a r15", "while r9", "if r10",
-    "safe", "end", "pause", "end",
+    "mul r4 r0 r1", "xor r5 r0 r1", "less r6 r0 r1", "same r7 r0 r1", "read r8 a", "write a r15", "bump a r14", "while r9",
+    "if r10", "safe", "end", "pause", "end",
 ]  # fmt: skip
 OBJECTS = [f"object o{place} 0" for place in range(1024)]
 LONGEST = "object " + "n" * 32 + " 1"
@@ -171,6 +177,7 @@ REFUSED = [
     refused("2, before the count", text("jump"), "1: 2 unknown word"),
     refused("3, too few", script("thread / set r0"), "2: 3 wrong count of words"),
     refused("3, too many", script("thread / safe / end end"), "3: 3 wrong count of words"),
+    refused("3, a bump of no register", script("object x 1 / thread / bump x"), "3: 3 wrong count of words"),
     refused("3, before being misplaced", text("read r0"), "1: 3 wrong count of words"),
     refused("4, 65 bits", script("thread / set r0 18446744073709551616"), "2: 4 bad number"),
     refused("4, twenty-one digits", text("object x 000000000000000000001"), "1: 4 bad number"),
@@ -183,9 +190,11 @@ REFUSED = [
     refused("6, before its number", script("object x 0 / object x no"), "2: 6 name given twice"),
     refused("6, before there being too many", text(*OBJECTS, "object o0 1"), "1025: 6 name given twice"),
     refused("7, read", script("thread / read r0 x"), "2: 7 no such object"),
+    refused("7, bump", script("thread / bump x r0"), "2: 7 no such object"),
     refused("7, another case", script("object x 0 / thread / write X r0"), "3: 7 no such object"),
     refused("7, from left to right", script("thread / write x r16"), "2: 7 no such object"),
     refused("8, sixteen", script("object x 1 / thread / read r16 x"), "3: 8 bad register"),
+    refused("8, of a bump", script("object x 1 / thread / bump x r16"), "3: 8 bad register"),
     refused("8, a leading zero", script("thread / copy r0 r01"), "2: 8 bad register"),
     refused("8, no number", script("thread / while r"), "2: 8 bad register"),
     refused("8, from left to right", script("thread / read R0 x"), "2: 8 bad register"),
@@ -248,6 +257,11 @@ KNOWN_LATER = script(
 )
 KNOWN_LATER_LOG = log((1,), (1, join(1, 0, 1)), (1, join(0, 1, 1)))
 
+# A counter that two threads bump, the first of them twice.
+COUNTED = script("object n 5 / thread / set r0 2 / bump n r0 / bump n r0 / thread / set r0 3 / bump n r0")
+COUNTED_SAID = text("thread 0 done", "thread 1 done", "object n 12")
+COUNTED_LOG = log((2,), (1, join(0, 0, 2)))
+
 HIGHEST = 2**64 - 1
 
 LOGS = (
@@ -260,6 +274,7 @@ LOGS = (
         "objects that cross", CROSSED, CROSSED_LOG,
         text("thread 0 done", "thread 1 done", "object x 2", "object y 1"),
     )
+    + recorded("a counter that two threads bump", COUNTED, COUNTED_LOG, COUNTED_SAID)
     + recorded(
         "a thread that is spent",
         example("spent.octet"),
@@ -275,6 +290,8 @@ LOGS = (
     + [
         judged("replay", "without its mark", HANDOVER, HANDOVER_UNMARKED, HANDOVER_SAID),
         judged("verify", "without its mark", HANDOVER, HANDOVER_UNMARKED, text("unordered 0:0 1:0"), 9),
+        judged("replay", "bumps without marks", COUNTED, log((2,), (1,)), COUNTED_SAID),
+        judged("verify", "bumps without marks", COUNTED, log((2,), (1,)), text("unordered 0:1 1:0"), 9),
         judged(
             "verify",
             "two reads without marks, and then a write",
@@ -349,6 +366,8 @@ PROFILES = [
     profiled("an empty name", [""], text("words: no such object"), 1),
     profiled("kinds, with writes", [], text("read 0", "write 3", "join 3", "draw 0", "fence 0"), 0, CROSSED, CROSSED_LOG),
     profiled("the second object", ["y"], text("read 0", "write 2", "other 4"), 0, CROSSED, CROSSED_LOG),
+    profiled("kinds, with bumps", [], text("read 0", "write 3", "join 1", "draw 0", "fence 0"), 0, COUNTED, COUNTED_LOG),
+    profiled("an object that is bumped", ["n"], text("read 0", "write 3", "other 1"), 0, COUNTED, COUNTED_LOG),
     profiled("an unknown name comes before the log", ["z"], text("words: no such object"), 1, recorded=b""),
     profiled("a script that is refused comes before the name", ["z"], text("script: line 1: 13 no thread"), 2, b""),
     profiled("a log that is refused", ["x"], text("log: 1 no magic"), 3, recorded=b""),

@@ -8,13 +8,13 @@ import re
 from hashlib import sha256
 
 import paths
-from case import draw, fence, join, log, piece, second, tail, text
-from machine import Running, read_script
+from case import ACCESSES, draw, fence, join, log, piece, second, tail, text
+from machine import Running, make_write, read_script
 
 # A command's arguments: R a register, N a number, O an object, and D a name that is declared.
 ARGUMENTS = {
     "fuel": "N", "object": "DN", "thread": "", "set": "RN", "copy": "RR", "add": "RRR", "sub": "RRR", "mul": "RRR",
-    "xor": "RRR", "less": "RRR", "same": "RRR", "read": "RO", "write": "OR", "while": "R", "if": "R", "end": "",
+    "xor": "RRR", "less": "RRR", "same": "RRR", "read": "RO", "write": "OR", "bump": "OR", "while": "R", "if": "R", "end": "",
     "safe": "", "pause": "",
 }  # fmt: skip
 REFUSALS = [
@@ -304,7 +304,7 @@ class Replayed:
         return words
 
     def is_access(self):
-        return self.demand()[0] in ("read", "write")
+        return self.demand()[0] in ACCESSES
 
     def next_event(self):
         """The next mark, or access (kind, object); None where there is none."""
@@ -318,7 +318,7 @@ class Replayed:
     def step(self, heap):
         event = self.next_event()
         self.journal.append(event)
-        if event is not None and event[0] not in ("read", "write"):
+        if event is not None and event[0] not in ACCESSES:
             self.marks.pop(0)
             self.gap = 0
             return
@@ -327,7 +327,7 @@ class Replayed:
             self.running.registers[words[1]] = heap[event[1]]
             self.reads.append(heap[event[1]])
         else:
-            heap[event[1]] = self.running.registers[words[2]]
+            make_write(heap, words, self.running.registers)
         self.running.pass_by()
         self.made += 1
         self.gap += 1
@@ -388,7 +388,7 @@ def lowest_thread(threads, draws):
 
 WORDS = [
     "r0", "r15", "r16", "r01", "r", "x", "y", "z", "X", "0", "007", "1", "-1", "18446744073709551615",
-    "18446744073709551616", "000000000000000000001", "fuel", "object", "thread", "set", "read", "write", "while", "if",
+    "18446744073709551616", "000000000000000000001", "fuel", "object", "thread", "set", "read", "write", "bump", "while", "if",
     "end", "safe", "pause", "add", "jump", "#", "\u00fc", "x\u000b", "\ufeffthread", "n" * 32, "n" * 33,
 ]  # fmt: skip
 

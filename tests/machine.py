@@ -5,7 +5,7 @@ tuples, and a script is lists of words. What it leaves is the text and the log t
 turns owes.
 """
 
-from case import draw, fence, join, log, text
+from case import ACCESSES, draw, fence, join, log, text
 
 OFF, IDLE, WANT, PASS, FENCE_DUE, CLAIMED, SHARING, BLOCKED = range(8)
 EXCLUSIVE, READ_EXCLUSIVE, READ_SHARED, WANTED = "WrEx", "RdEx", "RdSh", "intermediate"
@@ -49,7 +49,7 @@ class Running:
         """The next access, `safe`, `pause`, or the end; all that stands before it is done."""
         while self.place < len(self.commands) and self.fuel > 0:
             words = self.commands[self.place]
-            if words[0] in ("read", "write", "safe", "pause"):
+            if words[0] in ACCESSES | {"safe", "pause"}:
                 return words
             self.fuel -= 1
             self.place = self.after(words)
@@ -147,8 +147,8 @@ class Machine:
             thread.running.pass_by()
             self.swap(t, True)
             thread.phase = BLOCKED
-        elif words[0] in ("read", "write"):
-            thread.writes = words[0] == "write"
+        elif words[0] in ACCESSES:
+            thread.writes = words[0] != "read"
             thread.object = words[1] if thread.writes else words[2]
             self.load(t)
         else:
@@ -217,12 +217,12 @@ class Machine:
         thread = self.threads[t]
         registers, words = thread.running.registers, thread.running.demand()
         thread.running.pass_by()
-        if thread.writes:
-            self.cells[thread.object] = registers[words[2]]
-            self.note(t, "write", thread.object)
-        else:
+        if words[0] == "read":
             registers[words[1]] = self.cells[thread.object]
             self.note(t, "read", thread.object, self.cells[thread.object])
+        else:
+            make_write(self.cells, words, registers)
+            self.note(t, words[0], thread.object)
         thread.phase = IDLE
 
     def said(self):
@@ -236,12 +236,18 @@ class Machine:
         return log(*[gapped(thread.journal) for thread in self.threads])
 
 
+def make_write(cells, words, registers):
+    """A write gives an object the register's value, and a bump adds it to the object's."""
+    before = cells[words[1]] if words[0] == "bump" else 0
+    cells[words[1]] = (before + registers[words[2]]) % LIMIT
+
+
 def gapped(journal):
     """A thread of a log: its accesses and then its marks with their gaps."""
     accesses = gap = 0
     marks = []
     for kind, *rest in journal:
-        if kind in ("read", "write"):
+        if kind in ACCESSES:
             accesses += 1
             gap += 1
         else:

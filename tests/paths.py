@@ -13,15 +13,15 @@ import itertools
 import random
 from collections import Counter
 
-from case import draw, fence, join, log, script
+from case import ACCESSES, draw, fence, join, log, script
 
-READ, WRITE = "read", "write"
+READ, WRITE, BUMP = "read", "write", "bump"
 JOIN, DRAW, FENCE = 1, 2, 3
 
 
 def small_logs():
     """Small threads with marks: each is a list of accesses (kind, object) and of marks."""
-    for kinds in itertools.product([READ, WRITE], repeat=2):
+    for kinds in itertools.product([READ, WRITE, BUMP], repeat=2):
         threads = [[(kind, "x")] for kind in kinds]
         for marks in itertools.product(one_mark_or_none(1), one_mark_or_none(0)):
             yield threads, marks
@@ -48,7 +48,7 @@ def some_journals(dice):
         other = dice.choice([u for u in range(3) if u != thread])
         kind = dice.choice([None, None, None, JOIN, JOIN, DRAW, FENCE])
         if kind is None:
-            journals[thread].append((dice.choice([READ, WRITE]), dice.choice("xy")))
+            journals[thread].append((dice.choice([READ, WRITE, BUMP]), dice.choice("xy")))
         elif kind == JOIN:
             journals[thread].append(join(0, other, dice.randint(0, len(journals[other]))))
         elif kind == DRAW:
@@ -66,7 +66,7 @@ def filler(dice):
 def journals_of(dice, first, between, last):
     """A write of x, and what leads from it to a last access of x, which is thread 2's."""
     journals = [first, between] if dice.random() < 0.7 else [between, first]
-    return [*journals, [*last, *filler(dice), dice.choice([(READ, "x"), (WRITE, "x")])]]
+    return [*journals, [*last, *filler(dice), (dice.choice([READ, WRITE, BUMP]), "x")]]
 
 
 def past_a_join(dice):
@@ -109,11 +109,11 @@ def with_gaps(journals):
     """The accesses of each thread, and its marks with their gaps."""
     threads, marks = [], []
     for events in journals:
-        threads.append([event for event in events if event[0] in (READ, WRITE)])
+        threads.append([event for event in events if event[0] in ACCESSES])
         marks.append([])
         gap = 0
         for event in events:
-            if event[0] in (READ, WRITE):
+            if event[0] in ACCESSES:
                 gap += 1
             else:
                 marks[-1].append((event[0], gap, *event[2:]))
@@ -180,7 +180,7 @@ def reached_from(journals, start, places):
 def conflict(journals, a, b):
     one, other = journals[a[0]][a[1]], journals[b[0]][b[1]]
     kinds = {one[0], other[0]}
-    return a[0] != b[0] and kinds <= {READ, WRITE} and WRITE in kinds and one[1] == other[1]
+    return a[0] != b[0] and kinds <= ACCESSES and kinds != {READ} and one[1] == other[1]
 
 
 def first_unordered(journals, order, is_before):
@@ -286,7 +286,7 @@ WRONG = [
 def script_of(threads):
     lines = ["object x 1", "object y 2"]
     for accesses in threads:
-        lines += ["thread"] + [f"read r0 {name}" if kind == READ else f"write {name} r0" for kind, name in accesses]
+        lines += ["thread"] + [f"read r0 {name}" if kind == READ else f"{kind} {name} r0" for kind, name in accesses]
     return script(" / ".join(lines))
 
 

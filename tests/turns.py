@@ -4,6 +4,7 @@ import random
 
 import machine
 from case import Case, draw, fence, join, log, script, text
+from cases import COUNTED, COUNTED_LOG, COUNTED_SAID
 
 # Whether the program has the command `turns`.
 HAS_TURNS = True
@@ -70,6 +71,20 @@ ROWS = [
         log((2, join(1, 1, 2)), (1, join(0, 0, 1))),
     ),
     (
+        "a counter, thread 0 first",
+        COUNTED,
+        "000000",
+        COUNTED_SAID,
+        COUNTED_LOG,
+    ),
+    (
+        "a counter that is taken between two bumps",
+        COUNTED,
+        "000" + "1111" + "000" + "11111",
+        COUNTED_SAID,
+        log((2, join(1, 1, 2)), (1, join(0, 0, 1))),
+    ),
+    (
         "a claim that comes too late",
         script("object x 0 / thread / thread / set r0 1 / write x r0 / thread / set r0 2 / write x r0"),
         "1212121111",
@@ -104,11 +119,11 @@ def some_commands(dice, depth=2):
     """A few commands, among them loops that end."""
     lines = []
     for _ in range(dice.randint(0, 5)):
-        kind = dice.choice(["read", "write", "read", "write", "safe", "pause", "add", "while", "if"])
+        kind = dice.choice(["read", "write", "read", "write", "bump", "safe", "pause", "add", "while", "if"])
         if kind == "read":
             lines.append(f"read r{dice.randint(0, 3)} {dice.choice('xy')}")
-        elif kind == "write":
-            lines.append(f"write {dice.choice('xy')} r{dice.randint(0, 3)}")
+        elif kind in ("write", "bump"):
+            lines.append(f"{kind} {dice.choice('xy')} r{dice.randint(0, 3)}")
         elif kind == "add":
             lines += [f"set r0 {dice.randint(0, 9)}", "add r1 r0 r2"]
         elif kind == "if":

@@ -4,6 +4,7 @@ use Rattle.std.specs.FinMap.{get, insert}
 use Rattle.octet_base.specs.Desk.{Files, Contents, DeskState}
 use Rattle.octet_model.specs.Texts.{log_bytes, outcome_text}
 use Rattle.octet_model.proofs.lemmas.LogLength.{faithful_log_is_short}
+use Rattle.octet_model.proofs.lemmas.Totals.{faithful_adds_up}
 use Rattle.octet_top.specs.declared.reply.Status.TheVariants.{Done, Read}
 use Rattle.octet_top.specs.Answer.{Answer, code_of, writes_file, writes_both, summary}
 use Rattle.octet_top.specs.Request.{Way, Run, request_in, OfPair, Convert, Gen}
@@ -11,7 +12,7 @@ use Rattle.octet_log.specs.Pieces.{IsSpelling}
 use Rattle.octet_top.specs.Commands.{Answers, RequestAnswers, digest_kept, second_bytes}
 use Rattle.octet_top.specs.Delivery.{IsServed}
 use Rattle.octet_top.specs.Outputs.{IsWhole}
-use Rattle.octet_top.specs.Promises.{IsFaithfulRun, RunsFaithfully, IsOrderedPair, VerifiesOrdered, RepeatsRecordings, IsConversion, ConvertsLogs, IsGeneratedRun, GeneratesFaithfully}
+use Rattle.octet_top.specs.Promises.{IsFaithfulRun, RunsFaithfully, RunsWithExactTotals, IsOrderedPair, VerifiesOrdered, RepeatsRecordings, IsConversion, ConvertsLogs, IsGeneratedRun, GeneratesFaithfully}
 use Rattle.octet_top.proofs.Recorded.{recorded_faithfully}
 use Rattle.octet_top.proofs.Causes.{same_status, has_cause}
 use Rattle.octet_top.proofs.Effects.{leaves}
@@ -77,6 +78,11 @@ pub headline : (words : List (List ℕ)) (before after : DeskState) (code : ℕ)
 headline words before after code served way script log contents contents' asked zero tells tells' =
     let success = at_success words before after code contents contents' (leaves words before after code served) zero tells tells' in
     recorded way script log contents contents' success.answer (subst (λ request. Answers request (Some contents) success.answer) asked success.answers) success.done success.given
+
+pub exact_totals : (words : List (List ℕ)) (before after : DeskState) (code : ℕ) → IsServed (request_in words) before after code → RunsWithExactTotals words before after code
+exact_totals words before after code served way script log contents contents' asked zero tells tells' =
+    let run = headline words before after code served way script log contents contents' asked zero tells tells' in
+    (run, faithful_adds_up run.script run.log.threads run.outcome run.faithful)
 
 -- a check
 verified : (script log : List ℕ) (contents : Option Contents) (answer : Answer) → RequestAnswers (OfPair Verify script log None) contents answer → answer.status ≡ Done → IsOrderedPair script log contents

@@ -9,7 +9,8 @@ use Rattle.octet_model.specs.declared.log.Log.{Log}
 use Rattle.octet_model.specs.declared.outcome.Outcome.{Outcome}
 use Rattle.octet_model.specs.Texts.{log_bytes, outcome_text}
 use Rattle.octet_model.specs.HappensBefore.{IsOrdered}
-use Rattle.octet_model.specs.Orders.{journals_after, lowest_order, IsFaithful}
+use Rattle.octet_model.specs.Orders.{journals_after, lowest_order, IsLawfulOrder, IsFaithful}
+use Rattle.octet_model.specs.Totals.{AddsUp}
 use Rattle.octet_script.specs.Spelling.{Spells, canonical_text}
 use Rattle.octet_log.specs.Pieces.{IsSpelling}
 use Rattle.octet_replay.specs.Fit.{IsOfScript}
@@ -46,6 +47,16 @@ abbrev pub RunsFaithfully : List (List ℕ) → DeskState → DeskState → ℕ 
 RunsFaithfully words before after code =
     (way : Way) (script_name log_name : List ℕ) (contents contents' : Contents) → request_in words ≡ Some (Run way script_name log_name) → code ≡ code_of Done → before.contents ≡ Some contents → after.contents ≡ Some contents'
     → IsFaithfulRun way script_name log_name contents contents'
+
+-- updates add up to the final values that were said, by the journals of each lawful order
+abbrev pub HasExactTotals : {way : Way} {script_name log_name : List ℕ} {before after : Contents} → IsFaithfulRun way script_name log_name before after → Type 0
+HasExactTotals run = (order : List ℕ) → IsLawfulOrder run.script run.log.threads order → AddsUp run.script (journals_after run.script run.log.threads order) run.outcome.heap
+
+-- where the headline speaks, totals are exact
+abbrev pub RunsWithExactTotals : List (List ℕ) → DeskState → DeskState → ℕ → Type 0
+RunsWithExactTotals words before after code =
+    (way : Way) (script_name log_name : List ℕ) (contents contents' : Contents) → request_in words ≡ Some (Run way script_name log_name) → code ≡ code_of Done → before.contents ≡ Some contents → after.contents ≡ Some contents'
+    → (run : IsFaithfulRun way script_name log_name contents contents') × HasExactTotals run
 
 -- a script and a log of it were taken; the lowest order of the log is lawful, its journals are ordered, and all lawful orders have one outcome
 pub record IsOrderedPair (script_name log_name : List ℕ) (contents : Option Contents) : Type 0 where

@@ -1,7 +1,6 @@
 //! Logs of version 2: conversions, the places of refusals, and logs of another script.
-use crate::tests::{bytes_of, desk_with_log, words_of};
-use crate::{Status, serve};
-use octet_base::OpenGate;
+use crate::Status;
+use crate::tests::{answers, bytes_of, desk_with_log};
 use std::test::Fail as Failed;
 
 const READING: &[u8] = b"object x 5\nthread\nset r0 7\nwrite x r0\nthread\nread r0 x\n";
@@ -45,9 +44,7 @@ fn logs_are_converted(rt: HostRuntime) -> Result<(), Failed> {
                 ("verify S L", b"ordered\n", None),
             ] {
                 let mut desk = desk_with_log(alloc, script, bytes_of(alloc, log)?.as_slice())?;
-                let answer = serve(&rt, alloc, &words_of(alloc, line)?, &mut desk, &OpenGate);
-                assert_eq!(rt; answer, Status::Done.code(), "{line}");
-                assert_eq!(rt; desk.said(), said, "{line}");
+                answers(&rt, alloc, &mut desk, line, Status::Done, said)?;
                 assert_eq!(rt; desk.file("O"), out, "{line}");
             }
         }
@@ -76,15 +73,7 @@ fn converted_logs_that_lie_are_refused(rt: HostRuntime) -> Result<(), Failed> {
             }
         }
         let mut desk = desk_with_log(alloc, READING, log.as_slice())?;
-        let answer = serve(
-            &rt,
-            alloc,
-            &words_of(alloc, "show L")?,
-            &mut desk,
-            &OpenGate,
-        );
-        assert_eq!(rt; answer, Status::Log.code(), "{place} {bytes}");
-        assert_eq!(rt; desk.said(), said, "{place} {bytes}");
+        answers(&rt, alloc, &mut desk, "show L", Status::Log, said)?;
     }
     Ok(())
 }
@@ -101,9 +90,7 @@ fn logs_of_other_scripts_are_refused(rt: HostRuntime) -> Result<(), Failed> {
     for (script, log, said) in [(blank, SECOND, digests), (alone, FIRST, threads)] {
         for line in ["replay S L", "verify S L", "profile S L", "convert S L O"] {
             let mut desk = desk_with_log(alloc, script, bytes_of(alloc, log)?.as_slice())?;
-            let answer = serve(&rt, alloc, &words_of(alloc, line)?, &mut desk, &OpenGate);
-            assert_eq!(rt; answer, Status::Misfit.code(), "{line}");
-            assert_eq!(rt; desk.said(), said, "{line}");
+            answers(&rt, alloc, &mut desk, line, Status::Misfit, said)?;
             assert_eq!(rt; desk.file("O"), None, "{line}");
         }
     }

@@ -1,7 +1,6 @@
 //! Scripts that are cut, and logs that are cut or lie: each is judged to its exact place.
-use crate::tests::{bytes_of, desk_with, desk_with_log, words_of};
-use crate::{Status, serve};
-use octet_base::OpenGate;
+use crate::Status;
+use crate::tests::{answers, bytes_of, desk_with, desk_with_log};
 use std::test::Fail as Failed;
 
 /// A script of 27 bytes, without its last end of line.
@@ -47,15 +46,7 @@ fn cut_scripts_are_judged_where_they_end(rt: HostRuntime) -> Result<(), Failed> 
     ] {
         for length in first..=last {
             let mut desk = desk_with(alloc, &SCRIPT[..length], &[])?;
-            let answer = serve(
-                &rt,
-                alloc,
-                &words_of(alloc, "tidy S")?,
-                &mut desk,
-                &OpenGate,
-            );
-            assert_eq!(rt; answer, status.code(), "{length}");
-            assert_eq!(rt; desk.said(), said, "{length}");
+            answers(&rt, alloc, &mut desk, "tidy S", status, said)?;
         }
     }
     Ok(())
@@ -73,15 +64,14 @@ fn cut_logs_are_refused_where_they_end(rt: HostRuntime) -> Result<(), Failed> {
             format!(in alloc; "log: 4 cut short at {length}\n")?
         };
         let mut desk = desk_with_log(alloc, SCRIPT, &whole[..length])?;
-        let answer = serve(
+        answers(
             &rt,
             alloc,
-            &words_of(alloc, "show L")?,
             &mut desk,
-            &OpenGate,
-        );
-        assert_eq!(rt; answer, Status::Log.code(), "{length}");
-        assert_eq!(rt; desk.said(), said.as_bytes(), "{length}");
+            "show L",
+            Status::Log,
+            said.as_bytes(),
+        )?;
     }
     Ok(())
 }
@@ -107,15 +97,7 @@ fn logs_that_lie_are_refused(rt: HostRuntime) -> Result<(), Failed> {
         assert_eq!(rt; log.len(), 36);
         log[place] = byte;
         let mut desk = desk_with_log(alloc, SCRIPT, log.as_slice())?;
-        let answer = serve(
-            &rt,
-            alloc,
-            &words_of(alloc, "show L")?,
-            &mut desk,
-            &OpenGate,
-        );
-        assert_eq!(rt; answer, Status::Log.code(), "{place} {byte}");
-        assert_eq!(rt; desk.said(), said, "{place} {byte}");
+        answers(&rt, alloc, &mut desk, "show L", Status::Log, said)?;
     }
     Ok(())
 }
@@ -130,9 +112,14 @@ fn a_number_drawn_twice_is_stuck(rt: HostRuntime) -> Result<(), Failed> {
     )?;
     for line in ["replay S L", "verify S L"] {
         let mut desk = desk_with_log(alloc, SCRIPT, log.as_slice())?;
-        let answer = serve(&rt, alloc, &words_of(alloc, line)?, &mut desk, &OpenGate);
-        assert_eq!(rt; answer, Status::Misfit.code(), "{line}");
-        assert_eq!(rt; desk.said(), b"fit: stuck at 1\n".as_slice(), "{line}");
+        answers(
+            &rt,
+            alloc,
+            &mut desk,
+            line,
+            Status::Misfit,
+            b"fit: stuck at 1\n",
+        )?;
     }
     Ok(())
 }

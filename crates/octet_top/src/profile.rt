@@ -35,7 +35,7 @@ fn class_of(wanted: Option<usize>, event: &Event) -> u32
     let Some(wanted) = wanted else {
         return match event {
             Event::Read { .. } => 0,
-            Event::Write { .. } => 1,
+            Event::Write { .. } | Event::Update { .. } => 1,
             Event::Marked { mark } => match mark {
                 Mark::Join { .. } => 2,
                 Mark::Draw { .. } => 3,
@@ -46,6 +46,7 @@ fn class_of(wanted: Option<usize>, event: &Event) -> u32
     match event {
         Event::Read { object, .. } if usize::from(*object) == wanted => 0,
         Event::Write { object, .. } if usize::from(*object) == wanted => 1,
+        Event::Update { object, .. } if usize::from(*object) == wanted => 1,
         _ => 2,
     }
 }

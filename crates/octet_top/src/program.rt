@@ -9,7 +9,7 @@ ghost use Rattle.octet_top.specs.Causes.{IsCause, IsDue, NoneFailed};
 ghost use Rattle.octet_top.specs.Effects.{IsStatus, Leaves, KeepsOthers, KeepsFiles, CountsFailures, IsWellMet};
 ghost use Rattle.octet_top.specs.Replies.{Replies};
 ghost use Rattle.octet_top.specs.Delivery.{IsServed};
-ghost use Rattle.octet_top.specs.Promises.{RunsFaithfully, VerifiesOrdered, RepeatsRecordings, ConvertsLogs, GeneratesFaithfully};
+ghost use Rattle.octet_top.specs.Promises.{RunsFaithfully, RunsWithExactTotals, VerifiesOrdered, RepeatsRecordings, ConvertsLogs, GeneratesFaithfully};
 
 use crate::deliver::deliver;
 use crate::reading::read;
@@ -37,6 +37,10 @@ pub fn serve<R: Threads + Wait + Sync, D: Desk, G: HeapGate>(
 
     // What is read aloud of `run`: status 0 comes with a faithful recording.
     ensures headline { RunsFaithfully (texts words.now) (D.state desk.old) (D.state desk.new) result }
+
+    // And of its updates: each adds what its thread demands, and an object that is only read and
+    // updated ends with its starting value and their sum.
+    ensures exact_totals { RunsWithExactTotals (texts words.now) (D.state desk.old) (D.state desk.new) result }
 
     // Of a log that `verify` calls ordered: all its lawful orders have one outcome.
     ensures ordered { VerifiesOrdered (texts words.now) (D.state desk.old) result }

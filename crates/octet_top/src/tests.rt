@@ -6,7 +6,10 @@ use crate::{Status, serve};
 use octet_base::{Desk, Fail, MemoryDesk, OpenGate};
 use octet_model::{List, OutOfMemory};
 use std::alloc::{AllocError, Global};
+use std::process::Abort;
+use std::sync::Wait;
 use std::test::Fail as Failed;
+use std::thread::Threads;
 
 const SCRIPT: &[u8] = b"object y 3\nthread\nthread\nread r0 y\n";
 
@@ -19,6 +22,16 @@ const LOG: &[u8] =
 /// The same in version 2, with the script's digest.
 const SECOND: &[u8] =
     b"OCTL\x02\x02\x8b\x05\x7c\x43\xda\xdd\x83\xde\x73\x7b\x4c\xd3\x9f\xd1\x51\x08\x57\xb7\x55\x36\x9c\x76\x4f\x16\x5f\xb4\x63\xa6\x03\x1c\x53\x6e\x01\x01\x01\x00\x00\x00\xff\x00\x01";
+
+/// The first thread adds 2 twice, the second one 3.
+const ADDING: &[u8] =
+    b"object n 5\nthread\nset r0 2\nbump n r0\nbump n r0\nthread\nset r0 3\nbump n r0\n";
+
+const ADDED: &str = "thread 0 done\nthread 1 done\nobject n 12\n";
+
+/// Its log where the second thread comes last.
+const ADDING_LOG: &str =
+    "4f43544c 01 02 00000002 00000000 00000001 00000001 01 00000000 00 0000000000000002";
 
 /// A desk with the script as `S`. Each of `fails` is the number of a call that fails, and how many
 /// bytes it lets through.
@@ -54,6 +67,23 @@ pub(crate) fn desk_with_log(
     Ok(desk)
 }
 
+/// The words answer with this status, and say this.
+pub(crate) fn answers<R: Threads + Wait + Sync + Abort>(
+    rt: &R,
+    alloc: Global,
+    desk: &mut MemoryDesk,
+    line: &str,
+    status: Status,
+    said: &[u8],
+) -> Result<(), Failed>
+    requires { (⟦<MemoryDesk as Desk>⟧.state desk.old).begun ≡ None }
+{
+    let answer = serve(rt, alloc, &words_of(alloc, line)?, desk, &OpenGate);
+    assert_eq!(rt; answer, status.code(), "{line}");
+    assert_eq!(rt; desk.said(), said, "{line}");
+    Ok(())
+}
+
 pub(crate) fn words_of(alloc: Global, line: &str) -> Result<Vec<String>, AllocError> {
     let mut words = Vec::new(alloc);
     for word in line.split_whitespace() {
@@ -83,10 +113,7 @@ fn commands_answer(rt: HostRuntime) -> Result<(), Failed> {
         ("", Status::Words, no_command, None),
     ] {
         let mut desk = desk_with(alloc, SCRIPT, &[])?;
-        let words = words_of(alloc, line)?;
-        let answer = serve(&rt, alloc, &words, &mut desk, &OpenGate);
-        assert_eq!(rt; answer, status.code(), "{line}");
-        assert_eq!(rt; desk.said(), said, "{line}");
+        answers(&rt, alloc, &mut desk, line, status, said)?;
         assert_eq!(rt; desk.file("L"), log, "{line}");
         assert_eq!(rt; desk.faults(), (0, 0), "{line}");
     }
@@ -136,10 +163,8 @@ fn failed_calls_leave_prefixes(rt: HostRuntime) -> Result<(), Failed> {
             ),
         ] {
             let mut desk = desk_with(alloc, SCRIPT, &fails)?;
-            let answer = serve(&rt, alloc, &words_of(alloc, line)?, &mut desk, &OpenGate);
-            assert_eq!(rt; answer, status.code(), "{line}");
+            answers(&rt, alloc, &mut desk, line, status, said)?;
             assert_eq!(rt; desk.file("L"), log, "{line}");
-            assert_eq!(rt; desk.said(), said, "{line}");
             assert_eq!(rt; desk.faults(), faults, "{line}");
         }
     }
@@ -167,7 +192,27 @@ pub(crate) fn bytes_of(alloc: Global, hex: &str) -> Result<Vec<u8>, AllocError> 
     Ok(bytes)
 }
 
-/// Of each run the log by hand, which a replay repeats and a check finds ordered.
+/// A run says this and writes this log, which a replay repeats and a check finds ordered.
+fn records<R: Threads + Wait + Sync + Abort>(
+    rt: &R,
+    alloc: Global,
+    script: &[u8],
+    words: &str,
+    said: &[u8],
+    log: &str,
+) -> Result<(), Failed> {
+    let log = bytes_of(alloc, log)?;
+    let mut desk = desk_with(alloc, script, &[])?;
+    answers(rt, alloc, &mut desk, words, Status::Done, said)?;
+    assert_eq!(rt; desk.file("L"), Some(log.as_slice()), "{words}");
+    for (line, said) in [("replay S L", said), ("verify S L", b"ordered\n")] {
+        let mut desk = desk_with_log(alloc, script, log.as_slice())?;
+        answers(rt, alloc, &mut desk, line, Status::Done, said)?;
+    }
+    Ok(())
+}
+
+/// Of each run the log by hand.
 #[test]
 fn runs_by_turns(rt: HostRuntime) -> Result<(), Failed> {
     let alloc = rt.alloc();
@@ -226,6 +271,13 @@ fn runs_by_turns(rt: HostRuntime) -> Result<(), Failed> {
             "thread 0 done\nthread 1 done\nthread 2 done\nobject x 2\n",
             "4f43544c 01 03 00000000 00000000 00000001 00000001 01 00000000 00 0000000000000000 00000001 00000001 01 00000000 01 0000000000000002",
         ),
+        (ADDING, "turns S L 000000", ADDED, ADDING_LOG),
+        (
+            b"object n 18446744073709551615\nthread\nset r0 2\nbump n r0\n",
+            "turns S L 0",
+            "thread 0 done\nobject n 1\n",
+            "4f43544c 01 01 00000001 00000000",
+        ),
         (
             raising,
             "run S L",
@@ -233,18 +285,57 @@ fn runs_by_turns(rt: HostRuntime) -> Result<(), Failed> {
             "4f43544c 02 02 d02edc46e025ac35c68c491cf79adf2c7a1358cfdf00ad5a127765a675050995 01 01 01 00 00 00 ff 00 03",
         ),
     ] {
-        let mut desk = desk_with(alloc, script, &[])?;
-        let answer = serve(&rt, alloc, &words_of(alloc, words)?, &mut desk, &OpenGate);
-        assert_eq!(rt; answer, Status::Done.code(), "{words}");
-        let log = bytes_of(alloc, log)?;
-        assert_eq!(rt; desk.said(), said.as_bytes(), "{words}");
-        assert_eq!(rt; desk.file("L"), Some(log.as_slice()), "{words}");
-        for (line, said) in [("replay S L", said), ("verify S L", "ordered\n")] {
-            let mut desk = desk_with_log(alloc, script, log.as_slice())?;
-            let answer = serve(&rt, alloc, &words_of(alloc, line)?, &mut desk, &OpenGate);
-            assert_eq!(rt; answer, Status::Done.code(), "{words}, {line}");
-            assert_eq!(rt; desk.said(), said.as_bytes(), "{words}, {line}");
-        }
+        records(&rt, alloc, script, words, said.as_bytes(), log)?;
+    }
+    Ok(())
+}
+
+/// However the threads come, all that they add is in the object's last value.
+#[test]
+fn no_update_is_lost(rt: HostRuntime) -> Result<(), Failed> {
+    let alloc = rt.alloc();
+    for line in [
+        "run S L",
+        "locked S L",
+        "turns S L 0",
+        "turns S L 00001111111",
+        "turns S L 11111111000000",
+        "turns S L 01010101010101",
+        "turns S L 1101100110011",
+    ] {
+        let mut desk = desk_with(alloc, ADDING, &[])?;
+        answers(&rt, alloc, &mut desk, line, Status::Done, ADDED.as_bytes())?;
+    }
+    Ok(())
+}
+
+/// A profile counts an update as a write, and a check finds two of one object that nothing orders.
+#[test]
+fn updates_count_as_writes(rt: HostRuntime) -> Result<(), Failed> {
+    let alloc = rt.alloc();
+    let unmarked = "4f43544c 01 02 00000002 00000000 00000001 00000000";
+    for (log, line, status, said) in [
+        (
+            ADDING_LOG,
+            "profile S L",
+            Status::Done,
+            b"read 0\nwrite 3\njoin 1\ndraw 0\nfence 0\n".as_slice(),
+        ),
+        (
+            ADDING_LOG,
+            "profile S L n",
+            Status::Done,
+            b"read 0\nwrite 3\nother 1\n",
+        ),
+        (
+            unmarked,
+            "verify S L",
+            Status::Unordered,
+            b"unordered 0:1 1:0\n",
+        ),
+    ] {
+        let mut desk = desk_with_log(alloc, ADDING, bytes_of(alloc, log)?.as_slice())?;
+        answers(&rt, alloc, &mut desk, line, status, said)?;
     }
     Ok(())
 }

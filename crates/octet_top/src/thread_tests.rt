@@ -1,5 +1,5 @@
 //! Runs by threads beside each other, through the top call.
-use crate::tests::{desk_with, desk_with_log, words_of};
+use crate::tests::{answers, desk_with, desk_with_log, words_of};
 use crate::{Status, serve};
 use octet_base::{Gate, OpenGate};
 use octet_heap::Worker;
@@ -134,9 +134,7 @@ fn contended_runs_repeat(rt: HostRuntime) -> Result<(), Failed> {
             ("verify S L", b"ordered\n".as_slice()),
         ] {
             let mut desk = desk_with_log(alloc, script.as_slice(), log.as_slice())?;
-            let answer = serve(&rt, alloc, &words_of(alloc, again)?, &mut desk, &OpenGate);
-            assert_eq!(rt; answer, Status::Done.code(), "{line}, {again}");
-            assert_eq!(rt; desk.said(), wanted, "{line}, {again}");
+            answers(&rt, alloc, &mut desk, again, Status::Done, wanted)?;
         }
         if script.len() == flag.len() {
             assert!(rt; second_reads_last(said.as_slice(), " 42"), "{line}");

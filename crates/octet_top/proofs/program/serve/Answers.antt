@@ -11,6 +11,7 @@ returns g c =
     let served = c.serve_words.ensures in
     record {
       headline = promise.headline words _ _ _ served;
+      exact_totals = promise.exact_totals words _ _ _ served;
       ordered = promise.ordered words _ _ _ served;
       generated = promise.generated words _ _ _ served;
       repeats = promise.repeats words _ _ _ served;
