@@ -7,7 +7,8 @@
 //! has. plain run SCRIPT: one thread after another on plain cells, and the outcome. plain locked SCRIPT
 //! LOG: a thread for each, beside each other, with a lock and a log of its own at each object: which
 //! thread made each access; and the outcome. plain show LOG: the log's text. plain marks LOG: reads the
-//! log, and says the sum of its marks' numbers.
+//! log, and says the sum of its marks' numbers. plain keep LOG: reads it into memory, as a program does
+//! that goes on to use it, and says how many marks it has.
 
 use std::collections::HashMap;
 use std::env;
@@ -327,6 +328,37 @@ impl Fields<'_> {
     }
 }
 
+#[allow(dead_code)]
+enum Mark {
+    Join { from: u8, upto: u64 },
+    Draw { number: u64 },
+    Fence { number: u64 },
+}
+
+/// The marks of each thread with their gaps.
+fn keep_log(bytes: &[u8]) -> Vec<Vec<(u32, Mark)>> {
+    let mut fields = Fields { bytes: &bytes[6..] };
+    let mut threads = Vec::new();
+    for _ in 0..bytes[5] {
+        let (_accesses, count) = (fields.next_u32(), fields.next_u32());
+        let mut marks = Vec::with_capacity(count as usize);
+        for _ in 0..count {
+            let [kind] = fields.next();
+            let gap = fields.next_u32();
+            let [from] = fields.next();
+            let number = u64::from_be_bytes(fields.next());
+            let mark = match kind {
+                1 => Mark::Join { from, upto: number },
+                2 => Mark::Draw { number },
+                _ => Mark::Fence { number },
+            };
+            marks.push((gap, mark));
+        }
+        threads.push(marks);
+    }
+    threads
+}
+
 /// Writes the log's text, or where it is not asked for, only adds up the numbers of the marks.
 fn read_log(bytes: &[u8], shows: bool, out: &mut Vec<u8>) -> io::Result<u64> {
     let mut fields = Fields { bytes: &bytes[6..] };
@@ -368,6 +400,10 @@ fn main() -> io::Result<()> {
         "marks" => {
             let sum = read_log(&bytes, false, &mut Vec::new())?;
             writeln!(out, "sum {sum}")?;
+        }
+        "keep" => {
+            let marks: usize = keep_log(&bytes).iter().map(Vec::len).sum();
+            writeln!(out, "marks {marks}")?;
         }
         _ => panic!("no such word"),
     }

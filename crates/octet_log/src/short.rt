@@ -52,10 +52,16 @@ fn read_groups(more: u8, total: usize, place: usize, bytes: &[u8]) -> Result<(u6
     Ok((u64::from(byte - 128) + 128 * higher, rest))
 }
 
+// Most numbers have one group, which is answered before the recursion.
+#[tactic(auto, unfolding(crate::specs::Short::groups_at))]
 pub(crate) fn read_short(total: usize, bytes: &[u8]) -> Result<(u64, &[u8]), LogFault>
     requires { length bytes.now ≤ total }
     ensures judged { Gives (λ x. (x.0, x.1.now)) result (short_at total bytes.now) }
     ensures shorter { IfOk result (λ x. length x.1.now ≤ length bytes.now) }
 {
+    let (byte, rest) = read_u8(total, bytes)?;
+    if byte < 128 {
+        return Ok((u64::from(byte), rest));
+    }
     read_groups(MORE_GROUPS, total, total - bytes.len(), bytes)
 }
