@@ -80,61 +80,55 @@ next_from : {m m' : Option Mark} {d d' : AccessOrEnd} {a a' k k' : Bool} → m �
 next_from p q r s = rw (p, q, r, s) refl
 
 module _ (commands : List Command) (start : Configuration) (objects : ℕ) (log : ThreadLog) (journal : List Event) (t : ThreadReplay) (replay : IsReplayOf commands start objects log journal t) where
-  by_counts_of : (log : ThreadLog) → next_by_log commands start log journal ≡ next_by_counts log t
-  by_counts_of log =
+  -- by the counts is next what is next by the log
+  pub by_counts : next_by_log commands start log journal ≡ next_by_counts log t
+  by_counts =
       next_from (ap (λ (k : ℕ). due_mark (slice_get log.marks k) (gap_after 0 journal)) (sym replay.counts.counts_marks) ∙ ap (λ (gap : ℕ). due_mark (slice_get log.marks t.marks) gap) (sym replay.counts.counts_gap))
       replay.comes.demands
       (ap (λ (k : ℕ). nat_lt k log.accesses) (sym replay.counts.counts_accesses))
       (ap (λ (k : ℕ). nat_lt k (length log.marks)) (sym replay.counts.counts_marks))
 
-  -- by the counts is next what is next by the log
-  pub by_counts : next_by_log commands start log journal ≡ next_by_counts t.log t
-  by_counts = ap (λ (l : ThreadLog). next_by_log commands start l journal) (sym replay.follows) ∙ by_counts_of t.log
-
   module _ (heap : List ℕ) where
-    pub stands_for : (event : Event) → next_event (next_by_counts t.log t) heap ≡ Some event → StandsFor event t
+    pub stands_for : (event : Event) → next_event (next_by_counts log t) heap ≡ Some event → StandsFor event t
     stands_for (Read object value) is =
-        let here = subst (λ (x : NextDemand). IsBeforeDemand commands (configuration_after commands start journal) x t.config) (came_here t.log t heap (Read object value) is).comes replay.comes.stands in
+        let here = subst (λ (x : NextDemand). IsBeforeDemand commands (configuration_after commands start journal) x t.config) (came_here log t heap (Read object value) is).comes replay.comes.stands in
         here.0
     stands_for (Write object value) is =
-        let here = subst (λ (x : NextDemand). IsBeforeDemand commands (configuration_after commands start journal) x t.config) (came_here t.log t heap (Write object value) is).comes replay.comes.stands in
+        let here = subst (λ (x : NextDemand). IsBeforeDemand commands (configuration_after commands start journal) x t.config) (came_here log t heap (Write object value) is).comes replay.comes.stands in
         here.0
     stands_for (Update object old new) is =
-        let here = subst (λ (x : NextDemand). IsBeforeDemand commands (configuration_after commands start journal) x t.config) (came_here t.log t heap (Update object old new) is).comes.1 replay.comes.stands in
+        let here = subst (λ (x : NextDemand). IsBeforeDemand commands (configuration_after commands start journal) x t.config) (came_here log t heap (Update object old new) is).comes.1 replay.comes.stands in
         here.0
     stands_for (Marked mark) is = tt
 
-    pub writes_within : (event : Event) → next_event (next_by_counts t.log t) heap ≡ Some event → WritesWithin objects event
+    pub writes_within : (event : Event) → next_event (next_by_counts log t) heap ≡ Some event → WritesWithin objects event
     writes_within (Read object value) is = tt
-    writes_within (Write object value) is = subst (λ (x : NextDemand). NamesObject objects x) (came_here t.log t heap (Write object value) is).comes replay.names
-    writes_within (Update object old new) is = subst (λ (x : NextDemand). NamesObject objects x) (came_here t.log t heap (Update object old new) is).comes.1 replay.names
+    writes_within (Write object value) is = subst (λ (x : NextDemand). NamesObject objects x) (came_here log t heap (Write object value) is).comes replay.names
+    writes_within (Update object old new) is = subst (λ (x : NextDemand). NamesObject objects x) (came_here log t heap (Update object old new) is).comes.1 replay.names
     writes_within (Marked mark) is = tt
 
-    accesses_are : t.log.accesses ≡ log.accesses
-    accesses_are = ap (λ (l : ThreadLog). l.accesses) replay.follows
-
-    room_of_access : nat_lt t.accesses t.log.accesses ≡ true → log.accesses ≤ MAX_ACCESSES → (suc t.accesses < 2 ^ 32) × (suc t.gap < 2 ^ 32)
+    room_of_access : nat_lt t.accesses log.accesses ≡ true → log.accesses ≤ MAX_ACCESSES → (suc t.accesses < 2 ^ 32) × (suc t.gap < 2 ^ 32)
     room_of_access left few =
-        let below = ltb-true t.accesses t.log.accesses left in
-        (omega (arith, accesses_are), omega (arith, accesses_are, gap_within 0 journal, replay.counts.counts_gap, replay.counts.counts_accesses))
+        let below = ltb-true t.accesses log.accesses left in
+        (omega arith, omega (arith, gap_within 0 journal, replay.counts.counts_gap, replay.counts.counts_accesses))
 
-    room_of_read : nat_lt t.accesses t.log.accesses ≡ true → vec_len t.reads < vec_capacity t.reads
+    room_of_read : nat_lt t.accesses log.accesses ≡ true → vec_len t.reads < vec_capacity t.reads
     room_of_read left =
-        let below = ltb-true t.accesses t.log.accesses left in
-        omega (arith, accesses_are, t.reads.ok.0, ap (λ (xs : List ℕ). length xs) replay.reads, few_values journal, replay.counts.counts_accesses, replay.room)
+        let below = ltb-true t.accesses log.accesses left in
+        omega (arith, t.reads.ok.0, ap (λ (xs : List ℕ). length xs) replay.reads, few_values journal, replay.counts.counts_accesses, replay.room)
 
-    pub has_room : (event : Event) → next_event (next_by_counts t.log t) heap ≡ Some event → log.accesses ≤ MAX_ACCESSES → length log.marks < 2 ^ 32 → HasRoomFor event t
+    pub has_room : (event : Event) → next_event (next_by_counts log t) heap ≡ Some event → log.accesses ≤ MAX_ACCESSES → length log.marks < 2 ^ 32 → HasRoomFor event t
     has_room (Read object value) is few marks =
-        let left = (came_here t.log t heap (Read object value) is).has in
+        let left = (came_here log t heap (Read object value) is).has in
         ((room_of_access left few).0, (room_of_access left few).1, room_of_read left)
-    has_room (Write object value) is few marks = room_of_access (came_here t.log t heap (Write object value) is).has few
-    has_room (Update object old new) is few marks = room_of_access (came_here t.log t heap (Update object old new) is).has few
+    has_room (Write object value) is few marks = room_of_access (came_here log t heap (Write object value) is).has few
+    has_room (Update object old new) is few marks = room_of_access (came_here log t heap (Update object old new) is).has few
     has_room (Marked mark) is few marks =
-        let there = due_there (slice_get t.log.marks t.marks) t.gap mark (came_here t.log t heap (Marked mark) is).has in
-        omega (arith, slice_get_within t.log.marks t.marks there.0 there.1, ap (λ (l : ThreadLog). length l.marks) replay.follows)
+        let there = due_there (slice_get log.marks t.marks) t.gap mark (came_here log t heap (Marked mark) is).has in
+        omega (arith, slice_get_within log.marks t.marks there.0 there.1)
 
     -- the thread that made the event is again a thread as far as it is replayed
-    pub grows : (event : Event) (after : ThreadReplay) → next_event (next_by_counts t.log t) heap ≡ Some event → Grown t event after → IsReplayOf commands start objects log (journal ++ event ∷ []) after
+    pub grows : (event : Event) (after : ThreadReplay) → next_event (next_by_counts log t) heap ≡ Some event → Grown t event after → IsReplayOf commands start objects log (journal ++ event ∷ []) after
     grows event after is grown = record {
       counts = record {
         counts_marks = grown.marks ∙ omega (arith, replay.counts.counts_marks, marks_split journal (event ∷ []));
@@ -142,30 +136,29 @@ module _ (commands : List Command) (start : Configuration) (objects : ℕ) (log 
         counts_gap = grown.gap ∙ ap (λ (gap : ℕ). gap_after gap (event ∷ [])) replay.counts.counts_gap ∙ sym (gap_split 0 journal (event ∷ []));
       };
       comes =
-          subst (λ (c : Configuration). IsDemandedNext commands c after.up_next after.config) (sym (configuration_split commands start journal (event ∷ []))) (moved event (came_here t.log t heap event is).comes grown.comes);
+          subst (λ (c : Configuration). IsDemandedNext commands c after.up_next after.config) (sym (configuration_split commands start journal (event ∷ []))) (moved event (came_here log t heap event is).comes grown.comes);
       runs = grown.runs ∙ replay.runs;
       has = grown.has ∙ replay.has;
       names = subst (λ (n : ℕ). NamesObject n after.up_next) replay.has (grown.names (subst (λ (n : ℕ). NamesObject n t.up_next) (sym replay.has) replay.names));
-      follows = grown.log ∙ replay.follows;
       reads = grown.reads ∙ ap (λ (xs : List ℕ). xs ++ values_read (event ∷ [])) replay.reads ∙ sym (values_split journal (event ∷ []));
       room = omega (arith, grown.room, replay.room);
       few_accesses = few_accesses event is (omega (arith, grown.accesses));
       few_marks = few_marks event is grown.marks;
     }
       where
-        few_accesses : (e : Event) → next_event (next_by_counts t.log t) heap ≡ Some e → after.accesses ≤ t.accesses + access_count (e ∷ []) → after.accesses ≤ log.accesses
-        few_accesses (Read object value) is_e more = omega (arith, accesses_are, ltb-true t.accesses t.log.accesses (came_here t.log t heap (Read object value) is_e).has)
-        few_accesses (Write object value) is_e more = omega (arith, accesses_are, ltb-true t.accesses t.log.accesses (came_here t.log t heap (Write object value) is_e).has)
-        few_accesses (Update object old new) is_e more = omega (arith, accesses_are, ltb-true t.accesses t.log.accesses (came_here t.log t heap (Update object old new) is_e).has)
+        few_accesses : (e : Event) → next_event (next_by_counts log t) heap ≡ Some e → after.accesses ≤ t.accesses + access_count (e ∷ []) → after.accesses ≤ log.accesses
+        few_accesses (Read object value) is_e more = omega (arith, ltb-true t.accesses log.accesses (came_here log t heap (Read object value) is_e).has)
+        few_accesses (Write object value) is_e more = omega (arith, ltb-true t.accesses log.accesses (came_here log t heap (Write object value) is_e).has)
+        few_accesses (Update object old new) is_e more = omega (arith, ltb-true t.accesses log.accesses (came_here log t heap (Update object old new) is_e).has)
         few_accesses (Marked mark) is_e more = omega (arith, replay.few_accesses)
 
-        few_marks : (e : Event) → next_event (next_by_counts t.log t) heap ≡ Some e → after.marks ≡ t.marks + mark_count (e ∷ []) → after.marks ≤ length log.marks
+        few_marks : (e : Event) → next_event (next_by_counts log t) heap ≡ Some e → after.marks ≡ t.marks + mark_count (e ∷ []) → after.marks ≤ length log.marks
         few_marks (Read object value) is_e more = omega (arith, replay.few_marks)
         few_marks (Write object value) is_e more = omega (arith, replay.few_marks)
         few_marks (Update object old new) is_e more = omega (arith, replay.few_marks)
         few_marks (Marked mark) is_e more =
-            let there = due_there (slice_get t.log.marks t.marks) t.gap mark (came_here t.log t heap (Marked mark) is_e).has in
-            omega (arith, slice_get_within t.log.marks t.marks there.0 there.1, ap (λ (l : ThreadLog). length l.marks) replay.follows)
+            let there = due_there (slice_get log.marks t.marks) t.gap mark (came_here log t heap (Marked mark) is_e).has in
+            omega (arith, slice_get_within log.marks t.marks there.0 there.1)
 
         here : Configuration
         here = configuration_after commands start journal

@@ -7,11 +7,11 @@ use Rattle.octet_model.specs.declared.command.Command.{Command}
 use Rattle.octet_model.specs.declared.outcome.End.{End}
 use Rattle.octet_model.specs.declared.outcome.Outcome.{Outcome}
 use Rattle.octet_model.specs.declared.event.Event.{Event}
-use Rattle.octet_model.specs.declared.limits.TheConstants.{MAX_ACCESSES, MAX_THREADS}
+use Rattle.octet_model.specs.declared.limits.TheConstants.{MAX_THREADS}
 use Rattle.octet_model.specs.declared.log.ThreadLog.{ThreadLog}
 use Rattle.octet_model.specs.Thread.{AccessOrEnd, demanded, configuration_after, starting_configuration}
 use Rattle.octet_model.specs.Machine.{Journals, journal_of, PlainState, next_of}
-use Rattle.octet_model.specs.Orders.{commands_of, by_log, opening_state, lowest_order, end_of, ends_of, values_read, outcome_of, execution}
+use Rattle.octet_model.specs.Orders.{commands_of, thread_log_of, by_log, opening_state, lowest_order, end_of, ends_of, values_read, outcome_of, execution}
 use Rattle.octet_model.proofs.lemmas.LowestFronts.{lowest_order_is_lowest, lowest_is_front}
 use Rattle.octet_model.proofs.lemmas.LogsOfJournals.{as_many_after}
 use Rattle.octet_model.proofs.lemmas.Splits.{length_parts}
@@ -26,7 +26,7 @@ use Rattle.octet_replay.specs.ReplayState.{plain_state, HasHalted}
 use Rattle.octet_replay.specs.Replayed.{state_of, FindsIn, FindsNothing, IsAt, IsFinishedHere, TellsMisfit}
 use Rattle.octet_replay.proofs.lemmas.Halting.{is_last_state}
 use Rattle.octet_replay.proofs.Stepping.{next_here}
-use Rattle.octet_replay.proofs.Valid.{few_accesses, few_marks}
+use Rattle.octet_replay.proofs.Valid.{few_marks}
 
 some_thread : (threads : List ThreadReplay) (t : ℕ) → t < length threads → (x : ThreadReplay) × (slice_get threads t ≡ Some x)
 some_thread threads t within =
@@ -62,9 +62,9 @@ same_outcome : {e e' : List End} {p p' : List (List ℕ)} {h h' : List ℕ} → 
     → ◌≡◌ {A = Outcome} (record { ends = e; reads = p; heap = h }) (record { ends = e'; reads = p'; heap = h' })
 same_outcome e p h = rw (e, p, h) refl
 
-same_finds : {d d' : AccessOrEnd} {l l' : ThreadLog} {j j' : List Event} (found : ℕ) → d ≡ d' → l ≡ l' → j ≡ j' → Finds d l j found → Finds d' l' j' found
-same_finds {d = d} {d' = d'} {l = l} {l' = l'} {j = j} {j' = j'} found p q r finds =
-    subst (λ (x : List Event). Finds d' l' x found) r (subst (λ (x : ThreadLog). Finds d' x j found) q (subst (λ (x : AccessOrEnd). Finds x l j found) p finds))
+same_finds : {d d' : AccessOrEnd} {j j' : List Event} (log : ThreadLog) (found : ℕ) → d ≡ d' → j ≡ j' → Finds d log j found → Finds d' log j' found
+same_finds {d = d} {d' = d'} {j = j} {j' = j'} log found p q finds =
+    subst (λ (x : List Event). Finds d' log x found) q (subst (λ (x : AccessOrEnd). Finds x log j found) p finds)
 
 -- the replay has come to the end of the lowest order
 module _ (r : Replay) (at : IsAt r) (halted : HasHalted (state_of r)) where
@@ -76,11 +76,11 @@ module _ (r : Replay) (at : IsAt r) (halted : HasHalted (state_of r)) where
       at.stands.as_many ∙ as_many_after (by_log r.script.value r.log.value.threads) (take (sum r.waits.events) (lowest_order r.script.value r.log.value.threads)) (opening_state r.script.value)
       ∙ length-map r.script.value.threads (λ (c : List Command). [])
 
-  pub few_here : length r.threads.items ≤ MAX_THREADS
-  few_here = omega (arith, as_many, at.agree, (valid_log r.log.value.threads r.log.value.valid).most_threads)
+  pub many_here : length r.threads.items ≡ length r.log.value.threads
+  many_here = as_many ∙ at.agree
 
-  pub accesses_here : (t : ℕ) (x : ThreadReplay) → slice_get r.threads.items t ≡ Some x → x.log.accesses ≤ MAX_ACCESSES
-  accesses_here t x there = omega (arith, ap (λ (l : ThreadLog). l.accesses) (at.stands.each t x there).follows, few_accesses r.log.value.threads r.log.value.valid t)
+  pub few_here : length r.threads.items ≤ MAX_THREADS
+  few_here = omega (arith, many_here, (valid_log r.log.value.threads r.log.value.valid).most_threads)
 
   pub marks_here : (t : ℕ) (x : ThreadReplay) → slice_get r.threads.items t ≡ Some x → x.marks < 2 ^ 32
   marks_here t x there = omega (arith, (at.stands.each t x there).few_marks, few_marks r.log.value.threads r.log.value.valid t)
@@ -93,42 +93,42 @@ module _ (r : Replay) (at : IsAt r) (halted : HasHalted (state_of r)) where
       ap (λ (j : List Event). demanded (commands_of r.script.value t) (configuration_after (commands_of r.script.value t) (starting_configuration r.script.value.fuel) j)) (journal_is t)
       ∙ (at.stands.each t x there).comes.demands
 
-  finds_of : (t found : ℕ) (x : ThreadReplay) → slice_get r.threads.items t ≡ Some x → FindsIn x found → FindsOf r.script.value r.log.value.threads t found
+  finds_of : (t found : ℕ) (x : ThreadReplay) → slice_get r.threads.items t ≡ Some x → FindsIn (thread_log_of r.log.value.threads t) x found → FindsOf r.script.value r.log.value.threads t found
   finds_of t found x there finds =
-      same_finds found (sym (demand_is t x there)) (at.stands.each t x there).follows (sym (journal_is t)) (finds (journal_of (plain_state (state_of r)).journals t) (at.stands.each t x there).counts)
+      same_finds (thread_log_of r.log.value.threads t) found (sym (demand_is t x there)) (sym (journal_is t)) (finds (journal_of (plain_state (state_of r)).journals t) (at.stands.each t x there).counts)
 
-  finds_not : (t : ℕ) (x : ThreadReplay) → slice_get r.threads.items t ≡ Some x → FindsNothing x → ¬ IsMisfitThread r.script.value r.log.value.threads t
+  finds_not : (t : ℕ) (x : ThreadReplay) → slice_get r.threads.items t ≡ Some x → FindsNothing (thread_log_of r.log.value.threads t) x → ¬ IsMisfitThread r.script.value r.log.value.threads t
   finds_not t x there none misfit =
       none (journal_of (plain_state (state_of r)).journals t) misfit.0 (at.stands.each t x there).counts
-      (same_finds misfit.0 (demand_is t x there) (sym (at.stands.each t x there).follows) (journal_is t) misfit.1)
+      (same_finds (thread_log_of r.log.value.threads t) misfit.0 (demand_is t x there) (journal_is t) misfit.1)
 
-  pub misfit_is_cause : (fault : ReplayFault) → TellsMisfit r.threads.items fault → HasCause r.script.value r.log.value.threads fault
+  pub misfit_is_cause : (fault : ReplayFault) → TellsMisfit r.log.value.threads r.threads.items fault → HasCause r.script.value r.log.value.threads fault
   misfit_is_cause (Misfit thread wanted found) tells =
-      let within : thread < length r.log.value.threads = omega (arith, slice_get_within r.threads.items thread tells.it tells.is_there, as_many, at.agree) in
+      let within : thread < length r.log.value.threads = omega (arith, slice_get_within r.threads.items thread tells.it tells.is_there, many_here) in
       record {
         agree = at.agree;
         within = within;
-        wants = tells.wants ∙ ap (λ (l : ThreadLog). l.accesses) (at.stands.each thread tells.it tells.is_there).follows;
+        wants = tells.wants;
         finds = finds_of thread found tells.it tells.is_there tells.finds;
         lowest = λ lower below.
-            let there = some_thread r.threads.items lower (omega (arith, as_many, at.agree)) in
+            let there = some_thread r.threads.items lower (omega (arith, many_here)) in
             finds_not lower there.0 there.1 (tells.lowest lower there.0 below there.1);
       }
   misfit_is_cause (ThreadsDiffer of_script of_log) tells = absurd tells
   misfit_is_cause (Stuck positions) tells = absurd tells
   misfit_is_cause OutOfMemory tells = absurd tells
 
-  pub stuck_is_cause : ((t : ℕ) (x : ThreadReplay) → slice_get r.threads.items t ≡ Some x → FindsNothing x)
-      → (positions : List ℕ) → (waits : (t : ℕ) × (t < length r.threads.items) × ¬ IsFinishedHere r.threads.items t)
+  pub stuck_is_cause : ((t : ℕ) (x : ThreadReplay) → slice_get r.threads.items t ≡ Some x → FindsNothing (thread_log_of r.log.value.threads t) x)
+      → (positions : List ℕ) → (waits : (t : ℕ) × (t < length r.threads.items) × ¬ IsFinishedHere r.log.value.threads r.threads.items t)
       → positions ≡ map (λ (x : ThreadReplay). x.accesses + x.marks) r.threads.items → IsStuck r.script.value r.log.value.threads positions
   stuck_is_cause none positions waits made = record {
     agree = at.agree;
     fit = λ t within.
-        let there = some_thread r.threads.items t (omega (arith, as_many, at.agree)) in
+        let there = some_thread r.threads.items t (omega (arith, many_here)) in
         finds_not t there.0 there.1 (none t there.0 there.1);
     waits = (
       waits.0,
-      (let below : waits.0 < length r.log.value.threads = omega (arith, as_many, at.agree, waits.1) in below),
+      (let below : waits.0 < length r.log.value.threads = omega (arith, many_here, waits.1) in below),
       λ finished. waits.2 (λ x there.
           sym (next_here r.script.value r.log.value.threads (plain_state (state_of r)) r.threads.items r.heap.items r.waits at.stands waits.0 x there)
           ∙ ap (λ (s : PlainState). next_of (by_log r.script.value r.log.value.threads) s waits.0) ends ∙ finished),
@@ -142,7 +142,7 @@ module _ (r : Replay) (at : IsAt r) (halted : HasHalted (state_of r)) where
         ∙ ap (λ (s : PlainState). map (λ (j : List Event). length j) s.journals) ends;
   }
 
-  pub finished_is_lawful : ((t : ℕ) → IsFinishedHere r.threads.items t) → IsLawful r.script.value r.log.value.threads
+  pub finished_is_lawful : ((t : ℕ) → IsFinishedHere r.log.value.threads r.threads.items t) → IsLawful r.script.value r.log.value.threads
   finished_is_lawful finished = (
     at.agree,
     (

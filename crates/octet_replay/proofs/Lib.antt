@@ -2,6 +2,7 @@ pub mod lemmas
 mod Valid
 mod Asking
 mod Growing
+mod Reading
 mod Stepping
 mod Judging
 mod Collecting

@@ -1,5 +1,5 @@
 -- A replay that makes the steps of the lowest order.
-use Rattle.std.proofs.Common.{◌≡◌, ℕ, zero, suc, ◌^◌, ◌<◌, inl, inr, Bool, true, false, ◌&&◌, if◌then◌else◌, nat_le, nat_lt, eqb, eq-eqb, List, [], ◌∷◌, ◌++◌, length, map, replicate, take, Option, Some, None, IsTrue, IsFalse, get_or, slice_get, slice_set, refl, sym, ap, ◌∙◌, subst, arith, length-set}
+use Rattle.std.proofs.Common.{◌≡◌, ℕ, zero, suc, ◌^◌, ◌<◌, inl, inr, Bool, true, false, ◌&&◌, if◌then◌else◌, nat_le, nat_lt, eqb, eq-eqb, List, [], ◌∷◌, ◌++◌, length, replicate, take, Option, Some, None, IsTrue, IsFalse, get_or, slice_get, slice_set, refl, sym, ap, ◌∙◌, subst, arith, length-set}
 use Rattle.std.proofs.lemmas.Bool.{cases_eq, cases_lt, lt-ltb, le-ltb, ltb-true, eqb-true, ne_eqb, and_left, and_parts}
 use Rattle.std.proofs.lemmas.List.{get_or-set_same, get_or-set_other, length-map, length-replicate}
 use Rattle.std.proofs.lemmas.List.Sums.{sum_by-cons, sum_by-set}
@@ -34,11 +34,12 @@ use Rattle.octet_replay.specs.declared.state.Replay.{Replay}
 use Rattle.octet_replay.specs.NextDemand.{demand_of, NamesObject}
 use Rattle.octet_replay.specs.Needs.{NeedsAndCounts, after_step, no_counts, is_met, is_ready, IsLowestReady, NamesThread}
 use Rattle.octet_replay.specs.ReplayState.{ReplayState, state_at, plain_state, HasHalted, IsNextStep}
-use Rattle.octet_replay.specs.Replayed.{state_of, is_draw, AllNameObjects, AreReplaysOf, CanMake, IsAt, MakesEvent, StandsAt}
+use Rattle.octet_replay.specs.Replayed.{state_of, is_draw, AllNameObjects, AreNeedsOf, AreReplaysOf, CanMake, IsAt, MakesEvent, StandsAt}
 use Rattle.octet_replay.specs.Threads.{need_of, next_by_counts, next_event, Grown, HasRoomFor, IsReplayOf, StandsFor, WritesWithin}
 use Rattle.octet_replay.proofs.lemmas.EventsMade.{DoAlike, do_alike, due_there, same_length}
 use Rattle.octet_replay.proofs.Growing.{by_counts, came_here, grows, stands_for, writes_within, has_room}
 use Rattle.octet_replay.proofs.Valid.{few_accesses, few_marks}
+use Rattle.octet_replay.proofs.Reading.{log_read}
 use Rattle.octet_replay.proofs.Placing.{get_same, get_other, ready_is, not_there}
 
 -- ---- the lowest order, step by step
@@ -123,24 +124,24 @@ module _ (script : Script) (log : List ThreadLog) (s : PlainState) (threads : Li
           ∙ met_may s w stands.waits.events stands.waits.draws (next_of (by_log script log) s t)
           ∙ sym (ap (λ (b : Bool). b && may_proceed s (next_of (by_log script log) s t)) (lt-ltb t (length s.journals) (omega (arith, stands.waits.as_many, slice_get_within w.needs t need at))))
 
-  pub next_here : (t : ℕ) (x : ThreadReplay) → slice_get threads t ≡ Some x → next_of (by_log script log) s t ≡ next_by_counts x.log x
+  pub next_here : (t : ℕ) (x : ThreadReplay) → slice_get threads t ≡ Some x → next_of (by_log script log) s t ≡ next_by_counts (thread_log_of log t) x
   next_here t x at = by_counts (commands_of script t) (starting_configuration script.fuel) (length script.objects) (thread_log_of log t) (journal_of s.journals t) x (stands.each t x at)
 
   pub names_objects : AllNameObjects threads (length heap)
   names_objects t x at = subst (λ (n : ℕ). NamesObject n x.up_next) (sym stands.heap_has) (stands.each t x at).names
 
-  pub some_event : (t : ℕ) (x : ThreadReplay) → slice_get threads t ≡ Some x → is_ready w t ≡ true → next_event (next_by_counts x.log x) heap ≡ None → ⊥
+  pub some_event : (t : ℕ) (x : ThreadReplay) → slice_get threads t ≡ Some x → is_ready w t ≡ true → next_event (next_by_counts (thread_log_of log t) x) heap ≡ None → ⊥
   some_event t x at ready is =
       let may = (and_parts _ _ (sym (ready_may t) ∙ ready)).1 in
-      makes_none s (next_by_counts x.log x) heap (ap (may_proceed s) (sym (next_here t x at)) ∙ may) is
+      makes_none s (next_by_counts (thread_log_of log t) x) heap (ap (may_proceed s) (sym (next_here t x at)) ∙ may) is
 
   -- a thread whose need is met makes its event
-  module _ (t : ℕ) (ready : is_ready w t ≡ true) (x : ThreadReplay) (at : slice_get threads t ≡ Some x) (event : Event) (is : next_event (next_by_counts x.log x) heap ≡ Some event) where
+  module _ (t : ℕ) (ready : is_ready w t ≡ true) (x : ThreadReplay) (at : slice_get threads t ≡ Some x) (event : Event) (is : next_event (next_by_counts (thread_log_of log t) x) heap ≡ Some event) where
     pub may : IsTrue (may_step (by_log script log) s t)
     may = sym (ready_may t) ∙ ready
 
-    want : IsWanted (next_by_counts x.log x) heap event
-    want = wanted (next_by_counts x.log x) heap event is
+    want : IsWanted (next_by_counts (thread_log_of log t) x) heap event
+    want = wanted (next_by_counts (thread_log_of log t) x) heap event is
 
     makes : Makes (by_log script log) s t want.operation
     makes =
@@ -164,7 +165,7 @@ module _ (script : Script) (log : List ThreadLog) (s : PlainState) (threads : Li
 
     -- and stands after it where the step leads
     module _ (y : ThreadReplay) (grown : Grown x event y) (threads' : List ThreadReplay) (threads_are : threads' ≡ slice_set threads t y) (heap' : List ℕ) (heap_is : heap' ≡ heap_after (operation_of event) heap)
-        (w' : NeedsAndCounts) (waits_are : w' ≡ after_step w t (is_draw event) (need_of (next_by_counts y.log y))) where
+        (w' : NeedsAndCounts) (waits_are : w' ≡ after_step w t (is_draw event) (need_of (next_by_counts (thread_log_of log t) y))) where
       abbrev s' : PlainState
       s' = step (by_log script log) s t
 
@@ -186,7 +187,7 @@ module _ (script : Script) (log : List ThreadLog) (s : PlainState) (threads : Li
                 (stands.each u z (sym (get_other threads t u y differ) ∙ here))
           ]
 
-      own_next : next_of (by_log script log) s' t ≡ next_by_counts y.log y
+      own_next : next_of (by_log script log) s' t ≡ next_by_counts (thread_log_of log t) y
       own_next = by_counts (commands_of script t) (starting_configuration script.fuel) (length script.objects) (thread_log_of log t) (journal_of s'.journals t) y becomes
 
       needs : (u : ℕ) (need : Need) → slice_get w'.needs u ≡ Some need → need ≡ need_of (next_of (by_log script log) s' u)
@@ -194,10 +195,10 @@ module _ (script : Script) (log : List ThreadLog) (s : PlainState) (threads : Li
           let here = ap (λ (v : NeedsAndCounts). slice_get v.needs u) (sym waits_are) ∙ at_u in
           elim (cases_eq u t) [
             | inl same ↦
-                let at_t = subst (λ (n : ℕ). slice_get (slice_set w.needs t (need_of (next_by_counts y.log y))) n ≡ Some need) same here in
-                sym (get_same w.needs t (need_of (next_by_counts y.log y)) need at_t) ∙ ap need_of (sym own_next) ∙ ap (λ (n : ℕ). need_of (next_of (by_log script log) s' n)) (sym same)
+                let at_t = subst (λ (n : ℕ). slice_get (slice_set w.needs t (need_of (next_by_counts (thread_log_of log t) y))) n ≡ Some need) same here in
+                sym (get_same w.needs t (need_of (next_by_counts (thread_log_of log t) y)) need at_t) ∙ ap need_of (sym own_next) ∙ ap (λ (n : ℕ). need_of (next_of (by_log script log) s' n)) (sym same)
             | inr differ ↦
-                stands.waits.needs u need (sym (get_other w.needs t u (need_of (next_by_counts y.log y)) differ) ∙ here)
+                stands.waits.needs u need (sym (get_other w.needs t u (need_of (next_by_counts (thread_log_of log t) y)) differ) ∙ here)
                 ∙ ap (λ (j : List Event). need_of (by_log script log u j)) (sym (other_step (by_log script log) s t u differ))
           ]
 
@@ -222,7 +223,7 @@ module _ (script : Script) (log : List ThreadLog) (s : PlainState) (threads : Li
         heap_is = heap_is ∙ alike.heap_is ∙ ap (heap_after want.operation) stands.heap_is ∙ sym (ap (λ (x : PlainState). x.heap) makes.stepped);
         heap_has = ap (λ (h : List ℕ). length h) heap_is ∙ same_length (operation_of event) heap ∙ stands.heap_has;
         waits = record {
-          as_many = ap (λ (v : NeedsAndCounts). length v.needs) waits_are ∙ length-set w.needs t (need_of (next_by_counts y.log y)) ∙ stands.waits.as_many ∙ sym (as_many_step (by_log script log) s t);
+          as_many = ap (λ (v : NeedsAndCounts). length v.needs) waits_are ∙ length-set w.needs t (need_of (next_by_counts (thread_log_of log t) y)) ∙ stands.waits.as_many ∙ sym (as_many_step (by_log script log) s t);
           counts = ap (λ (v : NeedsAndCounts). length v.events) waits_are ∙ length-set w.events t (suc (get_or w.events t 0)) ∙ stands.waits.counts ∙ sym (as_many_step (by_log script log) s t);
           needs = needs;
           events = events;
@@ -242,11 +243,19 @@ module _ (r : Replay) (at : IsAt r) where
       let may = sym (ready_may r.script.value r.log.value.threads (plain_state (state_of r)) r.threads.items r.heap.items r.waits at.stands t) ∙ ready in
       omega (arith, at.stands.as_many, ltb-true t (length (plain_state (state_of r)).journals) (and_parts _ _ may).0)
 
+  as_many_logs : length (plain_state (state_of r)).journals ≡ length r.log.value.threads
+  as_many_logs =
+      as_many_after (by_log r.script.value r.log.value.threads) (take (sum r.waits.events) (lowest_order r.script.value r.log.value.threads)) (opening_state r.script.value)
+      ∙ length-map r.script.value.threads (λ (c : List Command). []) ∙ at.agree
+
+  pub within_log : (t : ℕ) → is_ready r.waits t ≡ true → t < length r.log.value.threads
+  within_log t ready = omega (arith, ready_within t ready, at.stands.as_many, as_many_logs)
+
   pub halted : ((t : ℕ) → is_ready r.waits t ≡ false) → HasHalted (state_of r)
   halted none t = sym (ready_may r.script.value r.log.value.threads (plain_state (state_of r)) r.threads.items r.heap.items r.waits at.stands t) ∙ none t
 
   module _ (t : ℕ) (lowest : IsLowestReady r.waits t) (x : ThreadReplay) (there : slice_get r.threads.items t ≡ Some x) (event : Event)
-      (is : next_event (next_by_counts x.log x) r.heap.items ≡ Some event) where
+      (is : next_event (next_by_counts (thread_log_of r.log.value.threads t) x) r.heap.items ≡ Some event) where
     may_now : IsTrue (may_step (by_log r.script.value r.log.value.threads) (plain_state (state_of r)) t)
     may_now = may r.script.value r.log.value.threads (plain_state (state_of r)) r.threads.items r.heap.items r.waits at.stands t lowest.is_met x there event is
 
@@ -308,36 +317,28 @@ need_names threads None (ToEnd end) true m names = tt
 need_names threads None (ToEnd end) false true names = tt
 need_names threads None (ToEnd end) false false names = tt
 
-module _ (log : List ThreadLog) (valid : IsTrue (is_log log)) (t : ℕ) (within : t < length log) (x : ThreadReplay) (follows : x.log ≡ thread_log_of log t) where
-  mark_is_valid : (mark : Mark) → due_mark (slice_get x.log.marks x.marks) x.gap ≡ Some mark → IsMark (length log) t mark
+module _ (log : List ThreadLog) (valid : IsTrue (is_log log)) (t : ℕ) (within : t < length log) (x : ThreadReplay) where
+  mark_is_valid : (mark : Mark) → due_mark (slice_get (thread_log_of log t).marks x.marks) x.gap ≡ Some mark → IsMark (length log) t mark
   mark_is_valid mark is =
-      let there = due_there (slice_get x.log.marks x.marks) x.gap mark is in
-      let at_log : slice_get (thread_log_of log t).marks x.marks ≡ Some there.0 = ap (λ (l : ThreadLog). slice_get l.marks x.marks) (sym follows) ∙ there.1 in
+      let there = due_there (slice_get (thread_log_of log t).marks x.marks) x.gap mark is in
       let all = ((valid_log log valid).each t within).marks in
-      let inside = slice_get_within (thread_log_of log t).marks x.marks there.0 at_log in
-      let value = get_or_from_slice_get (thread_log_of log t).marks x.marks there.0 there.0 at_log in
+      let inside = slice_get_within (thread_log_of log t).marks x.marks there.0 there.1 in
+      let value = get_or_from_slice_get (thread_log_of log t).marks x.marks there.0 there.0 there.1 in
       subst (λ (m : Mark). IsMark (length log) t m) (ap (λ (g : Gapped). g.mark) value ∙ there.2) (all x.marks there.0 inside)
 
-  pub names_thread : NamesThread (length log) (need_of (next_by_counts x.log x))
+  pub names_thread : NamesThread (length log) (need_of (next_by_counts (thread_log_of log t) x))
   names_thread =
-      need_names (length log) (due_mark (slice_get x.log.marks x.marks) x.gap) (demand_of x.up_next) (nat_lt x.accesses x.log.accesses) (nat_lt x.marks (length x.log.marks))
+      let own = thread_log_of log t in
+      need_names (length log) (due_mark (slice_get own.marks x.marks) x.gap) (demand_of x.up_next) (nat_lt x.accesses own.accesses) (nat_lt x.marks (length own.marks))
       (λ from upto is. (mark_is_valid (Join from upto) is).0)
 
-  pub draw_is_small : (number : ℕ) (heap : List ℕ) → next_event (next_by_counts x.log x) heap ≡ Some (Marked (Draw number)) → number < 2 ^ 64
-  draw_is_small number heap is = (mark_is_valid (Draw number) (came_here x.log x heap (Marked (Draw number)) is).has).1
+  pub draw_is_small : (number : ℕ) (heap : List ℕ) → next_event (next_by_counts (thread_log_of log t) x) heap ≡ Some (Marked (Draw number)) → number < 2 ^ 64
+  draw_is_small number heap is = (mark_is_valid (Draw number) (came_here (thread_log_of log t) x heap (Marked (Draw number)) is).has).1
 
 module _ (r : Replay) (at : IsAt r) (t : ℕ) (ready : is_ready r.waits t ≡ true) (x : ThreadReplay) (there : slice_get r.threads.items t ≡ Some x) (event : Event)
-    (is : next_event (next_by_counts x.log x) r.heap.items ≡ Some event) where
+    (is : next_event (next_by_counts (thread_log_of r.log.value.threads t) x) r.heap.items ≡ Some event) where
   replay_of : IsReplayOf (commands_of r.script.value t) (starting_configuration r.script.value.fuel) (length r.script.value.objects) (thread_log_of r.log.value.threads t) (journal_of (plain_state (state_of r)).journals t) x
   replay_of = at.stands.each t x there
-
-  as_many_logs : length (plain_state (state_of r)).journals ≡ length r.log.value.threads
-  as_many_logs =
-      as_many_after (by_log r.script.value r.log.value.threads) (take (sum r.waits.events) (lowest_order r.script.value r.log.value.threads)) (opening_state r.script.value)
-      ∙ length-map r.script.value.threads (λ (c : List Command). []) ∙ at.agree
-
-  within_log : t < length r.log.value.threads
-  within_log = omega (arith, as_many_logs, at.stands.as_many, slice_get_within r.threads.items t x there)
 
   stands_now : (z : ThreadReplay) → slice_get r.threads.items t ≡ Some z → StandsFor event z
   stands_now z at_z =
@@ -355,11 +356,10 @@ module _ (r : Replay) (at : IsAt r) (t : ℕ) (ready : is_ready r.waits t ≡ tr
       subst (λ (n : ℕ). WritesWithin n event) (sym at.stands.heap_has)
       (writes_within (commands_of r.script.value t) (starting_configuration r.script.value.fuel) (length r.script.value.objects) (thread_log_of r.log.value.threads t) (journal_of (plain_state (state_of r)).journals t) x replay_of r.heap.items event is)
 
-  names_now : (z after : ThreadReplay) → slice_get r.threads.items t ≡ Some z → Grown z event after → NamesThread (length r.waits.needs) (need_of (next_by_counts after.log after))
+  names_now : (z after : ThreadReplay) → slice_get r.threads.items t ≡ Some z → Grown z event after → NamesThread (length r.waits.needs) (need_of (next_by_counts (thread_log_of r.log.value.threads t) after))
   names_now z after' at_z grown =
-      let same = same_Some x z (sym there ∙ at_z) in
-      subst (λ (n : ℕ). NamesThread n (need_of (next_by_counts after'.log after'))) (sym (at.stands.waits.as_many ∙ as_many_logs))
-      (names_thread r.log.value.threads r.log.value.valid t within_log after' (grown.log ∙ ap (λ (v : ThreadReplay). v.log) (sym same) ∙ replay_of.follows))
+      subst (λ (n : ℕ). NamesThread n (need_of (next_by_counts (thread_log_of r.log.value.threads t) after'))) (sym (at.stands.waits.as_many ∙ as_many_logs r at))
+      (names_thread r.log.value.threads r.log.value.valid t (within_log r at t ready) after')
 
   events_now : suc (get_or r.waits.events t 0) < 2 ^ 64
   events_now =
@@ -378,7 +378,7 @@ module _ (r : Replay) (at : IsAt r) (t : ℕ) (ready : is_ready r.waits t ≡ tr
   draws_now : is_draw event ≡ true → suc r.waits.draws < 2 ^ 64
   draws_now = go event is (enabled r.script.value r.log.value.threads (plain_state (state_of r)) r.threads.items r.heap.items r.waits at.stands t ready x there event is)
     where
-      go : (e : Event) → next_event (next_by_counts x.log x) r.heap.items ≡ Some e → IsTrue (is_enabled (plain_state (state_of r)) (operation_of e)) → is_draw e ≡ true → suc r.waits.draws < 2 ^ 64
+      go : (e : Event) → next_event (next_by_counts (thread_log_of r.log.value.threads t) x) r.heap.items ≡ Some e → IsTrue (is_enabled (plain_state (state_of r)) (operation_of e)) → is_draw e ≡ true → suc r.waits.draws < 2 ^ 64
       go (Read object value) is_e enabled draw = absurd cc
       go (Write object value) is_e enabled draw = absurd cc
       go (Update object before after) is_e enabled draw = absurd cc
@@ -389,7 +389,7 @@ module _ (r : Replay) (at : IsAt r) (t : ℕ) (ready : is_ready r.waits t ≡ tr
             arith,
             eqb-true number (suc (plain_state (state_of r)).draws) enabled,
             at.stands.waits.draws,
-            draw_is_small r.log.value.threads r.log.value.valid t within_log x replay_of.follows number r.heap.items is_e,
+            draw_is_small r.log.value.threads r.log.value.valid t (within_log r at t ready) x number r.heap.items is_e,
           )
 
   pub can_make : CanMake r t event
@@ -405,11 +405,6 @@ module _ (r : Replay) (at : IsAt r) (t : ℕ) (ready : is_ready r.waits t ≡ tr
   }
 
 -- ---- before the first step
-map_at : {A B : Type 0} (f : A → B) (xs : List A) (i : ℕ) (y : B) → slice_get (map f xs) i ≡ Some y → (x : A) × (slice_get xs i ≡ Some x) × (f x ≡ y)
-map_at f [] i y at = absurd cc
-map_at f (x ∷ xs) zero y at = (x, refl, same_Some (f x) y at)
-map_at f (x ∷ xs) (suc i) y at = map_at f xs i y at
-
 zero_there : (none : ℕ) (n t : ℕ) → get_or (replicate n none) t none ≡ none
 zero_there none zero t = refl
 zero_there none (suc n) zero = refl
@@ -419,42 +414,44 @@ pub sum_none : (n : ℕ) → sum (replicate n 0) ≡ 0
 sum_none zero = refl
 sum_none (suc n) = omega (arith, sum_by-cons (λ (k : ℕ). k) 0 (replicate n 0), sum_none n)
 
-abbrev pub need_here : ThreadReplay → Need
-need_here t = need_of (next_by_counts t.log t)
-
 module _ (script : Script) (log : List ThreadLog) (agree : length script.threads ≡ length log) (threads : List ThreadReplay) (as_many : length threads ≡ length script.threads)
     (each : AreReplaysOf script log (no_events script.threads) threads) where
-  pub start_stands : (heap : List ℕ) (w : NeedsAndCounts) → heap ≡ starting_heap script → w ≡ no_counts (map (λ (t : ThreadReplay). need_of (next_by_counts t.log t)) threads) → StandsAt script log (opening_state script) threads heap w
-  start_stands heap w heap_is waits_are = record {
+  -- each need is that of a thread
+  need_there : (needs : List Need) → AreNeedsOf log threads needs → (k : ℕ) (need : Need) → slice_get needs k ≡ Some need
+      → (x : ThreadReplay) × (slice_get threads k ≡ Some x) × (need_of (next_by_counts (thread_log_of log k) x) ≡ need)
+  need_there needs are k need at =
+      elim (slice_get_cases threads k).1 [
+        | inl there ↦ (there.0, there.2, sym (are.each k there.0 need there.2 at))
+        | inr past ↦ absurd (omega (arith, past.0, are.as_many, slice_get_within needs k need at))
+      ]
+
+  pub start_stands : (heap : List ℕ) (needs : List Need) (w : NeedsAndCounts) → heap ≡ starting_heap script → AreNeedsOf log threads needs → w ≡ no_counts needs → StandsAt script log (opening_state script) threads heap w
+  start_stands heap needs_told w heap_is are waits_are = record {
     as_many = as_many ∙ sym (length-map script.threads (λ (c : List Command). []));
     each = each;
     heap_is = heap_is;
     heap_has = ap (λ (h : List ℕ). length h) heap_is ∙ length-map script.objects (λ (o : Object). o.start);
     waits = record {
-      as_many = ap (λ (v : NeedsAndCounts). length v.needs) waits_are ∙ needs_length ∙ as_many ∙ sym (length-map script.threads (λ (c : List Command). []));
-      counts = ap (λ (v : NeedsAndCounts). length v.events) waits_are ∙ length-replicate (length (map need_here threads)) 0 ∙ needs_length ∙ as_many ∙ sym (length-map script.threads (λ (c : List Command). []));
+      as_many = ap (λ (v : NeedsAndCounts). length v.needs) waits_are ∙ are.as_many ∙ as_many ∙ sym (length-map script.threads (λ (c : List Command). []));
+      counts = ap (λ (v : NeedsAndCounts). length v.events) waits_are ∙ length-replicate (length needs_told) 0 ∙ are.as_many ∙ as_many ∙ sym (length-map script.threads (λ (c : List Command). []));
       needs = λ t need at.
-          let there = map_at need_here threads t need (ap (λ (v : NeedsAndCounts). slice_get v.needs t) (sym waits_are) ∙ at) in
+          let there = need_there needs_told are t need (ap (λ (v : NeedsAndCounts). slice_get v.needs t) (sym waits_are) ∙ at) in
           sym there.2
           ∙ ap need_of (sym (by_counts (commands_of script t) (starting_configuration script.fuel) (length script.objects) (thread_log_of log t) (journal_of (no_events script.threads) t) there.0 (each t there.0 there.1)));
       events = λ t.
-          ap (λ (v : NeedsAndCounts). get_or v.events t 0) waits_are ∙ zero_there 0 (length (map need_here threads)) t
+          ap (λ (v : NeedsAndCounts). get_or v.events t 0) waits_are ∙ zero_there 0 (length needs_told) t
           ∙ sym (ap (λ (j : List Event). length j) (no_journal script.threads t));
       draws = ap (λ (v : NeedsAndCounts). v.draws) waits_are;
     };
   }
-    where
-      needs_length : length (map need_here threads) ≡ length threads
-      needs_length = length-map threads need_here
 
-  pub start_names : IsTrue (is_log log) → (needs : List Need) → needs ≡ map (λ (t : ThreadReplay). need_of (next_by_counts t.log t)) threads
+  pub start_names : IsTrue (is_log log) → (needs : List Need) → AreNeedsOf log threads needs
       → (k : ℕ) (d : Need) → k < length needs → NamesThread (length needs) (get_or needs k d)
-  start_names valid needs needs_are k d within =
-      let length_is : length needs ≡ length log = ap (λ (ns : List Need). length ns) needs_are ∙ length-map threads need_here ∙ as_many ∙ agree in
-      let at : slice_get needs k ≡ Some (get_or needs k d) = slice_get-get_or needs k d within in
-      let there = map_at need_here threads k (get_or needs k d) (ap (λ (ns : List Need). slice_get ns k) (sym needs_are) ∙ at) in
+  start_names valid needs are k d within =
+      let length_is : length needs ≡ length log = are.as_many ∙ as_many ∙ agree in
+      let there = need_there needs are k (get_or needs k d) (slice_get-get_or needs k d within) in
       subst (λ (n : ℕ). NamesThread n (get_or needs k d)) (sym length_is)
-      (subst (λ (need : Need). NamesThread (length log) need) there.2 (names_thread log valid k (omega (arith, within, length_is)) there.0 (each k there.0 there.1).follows))
+      (subst (λ (need : Need). NamesThread (length log) need) there.2 (names_thread log valid k (omega (arith, within, length_is)) there.0))
 
 pub opening_is : (r : Replay) (script : Script) (log : Log) → r.script.value ≡ script → r.log.value ≡ log → sum r.waits.events ≡ 0 → state_of r ≡ record { script = script; log = log; steps = 0 }
 opening_is r script log is_script is_log none = λ i. record { script = is_script i; log = is_log i; steps = none i }
@@ -476,18 +473,25 @@ at_start r script log is_script is_log agree none stands =
     (subst (λ (l : Log). length r.script.value.threads ≡ length l.threads) (sym is_log) agree_script) none
     (subst (λ (l : Log). StandsAt r.script.value l.threads (opening_state r.script.value) r.threads.items r.heap.items r.waits) (sym is_log) stands_script)
 
--- what holds of all threads and of one more
-pub holds_pushed : (P : ℕ → ThreadReplay → Type 0) (threads : List ThreadReplay) (y : ThreadReplay)
-    → ((t : ℕ) (x : ThreadReplay) → slice_get threads t ≡ Some x → P t x) → P (length threads) y
-    → (t : ℕ) (x : ThreadReplay) → slice_get (threads ++ y ∷ []) t ≡ Some x → P t x
-holds_pushed P [] y all new zero x at = subst (λ (z : ThreadReplay). P 0 z) (same_Some y x at) new
+-- what holds of all items and of one more
+pub holds_pushed : {A : Type 0} (P : ℕ → A → Type 0) (xs : List A) (y : A)
+    → ((t : ℕ) (x : A) → slice_get xs t ≡ Some x → P t x) → P (length xs) y
+    → (t : ℕ) (x : A) → slice_get (xs ++ y ∷ []) t ≡ Some x → P t x
+holds_pushed {A = A} P [] y all new zero x at = subst (λ (z : A). P 0 z) (same_Some y x at) new
 holds_pushed P [] y all new (suc t) x at = absurd cc
-holds_pushed P (z ∷ threads) y all new zero x at = all 0 x at
-holds_pushed P (z ∷ threads) y all new (suc t) x at = holds_pushed (λ n. P (suc n)) threads y (λ n w is. all (suc n) w is) new t x at
+holds_pushed P (z ∷ xs) y all new zero x at = all 0 x at
+holds_pushed P (z ∷ xs) y all new (suc t) x at = holds_pushed (λ n. P (suc n)) xs y (λ n w is. all (suc n) w is) new t x at
 
--- the thread and the event that were read
+-- the thread that was read
 pub thread_read : (r : Replay) → IsAt r → (t : ℕ) → is_ready r.waits t ≡ true → (x : ThreadReplay) → x ≡ get_or r.threads.items t x → slice_get r.threads.items t ≡ Some x
 thread_read r at t ready x is = slice_get-get_or r.threads.items t x (ready_within r at t ready) ∙ ap (λ (z : ThreadReplay). Some z) (sym is)
 
-pub event_read : (x : ThreadReplay) (heap now : List ℕ) (o found : Option Event) → now ≡ heap → o ≡ next_event (next_by_counts x.log x) now → o ≡ found → next_event (next_by_counts x.log x) heap ≡ found
-event_read x heap now o found same is found_is = ap (next_event (next_by_counts x.log x)) (sym same) ∙ sym is ∙ found_is
+-- the thread's log and the event that were read
+module _ (r : Replay) (at : IsAt r) (t : ℕ) (ready : is_ready r.waits t ≡ true) (log : Log) (logs : List ThreadLog) (own : ThreadLog) (of_log : log ≡ r.log.value) (logs_are : logs ≡ log.threads) (own_is : own ≡ get_or logs t own) where
+  pub own_log_read : own ≡ thread_log_of r.log.value.threads t
+  own_log_read = log_read r.log.value.threads t own (own_is ∙ ap (λ (ls : List ThreadLog). get_or ls t own) (logs_are ∙ ap (λ (l : Log). l.threads) of_log)) (within_log r at t ready)
+
+  pub event_read : (x : ThreadReplay) (now : List ℕ) (o found : Option Event) → now ≡ r.heap.items → o ≡ next_event (next_by_counts own x) now → o ≡ found
+      → next_event (next_by_counts (thread_log_of r.log.value.threads t) x) r.heap.items ≡ found
+  event_read x now o found same is found_is =
+      ap (λ (l : ThreadLog). next_event (next_by_counts l x) r.heap.items) (sym own_log_read) ∙ ap (next_event (next_by_counts own x)) (sym same) ∙ sym is ∙ found_is

@@ -30,6 +30,11 @@ abbrev pub AreReplaysOf : Script → List ThreadLog → Journals → List Thread
 AreReplaysOf script log journals threads = (thread : ℕ) (t : ThreadReplay) → slice_get threads thread ≡ Some t
     → IsReplayOf (commands_of script thread) (starting_configuration script.fuel) (length script.objects) (thread_log_of log thread) (journal_of journals thread) t
 
+-- as many needs as threads: each thread waits for what is next for it by its log
+pub record AreNeedsOf (log : List ThreadLog) (threads : List ThreadReplay) (needs : List Need) : Type 0 where
+  pub as_many : length needs ≡ length threads
+  pub each : (thread : ℕ) (t : ThreadReplay) (need : Need) → slice_get threads thread ≡ Some t → slice_get needs thread ≡ Some need → need ≡ need_of (next_by_counts (thread_log_of log thread) t)
+
 -- each thread waits for what is next for it, and the counts are those of the state
 pub record AwaitsNext (behavior : Behavior) (s : PlainState) (w : NeedsAndCounts) : Type 0 where
   pub as_many : length w.needs ≡ length s.journals
@@ -66,7 +71,7 @@ pub record CanMake (r : Replay) (thread : ℕ) (event : Event) : Type 0 where
   pub room : (t : ThreadReplay) → slice_get r.threads.items thread ≡ Some t → HasRoomFor event t
   pub object : WritesWithin (length r.heap.items) event
   pub met : is_ready r.waits thread ≡ true
-  pub names : (t after : ThreadReplay) → slice_get r.threads.items thread ≡ Some t → Grown t event after → NamesThread (length r.waits.needs) (need_of (next_by_counts after.log after))
+  pub names : (t after : ThreadReplay) → slice_get r.threads.items thread ≡ Some t → Grown t event after → NamesThread (length r.waits.needs) (need_of (next_by_counts (thread_log_of r.log.value.threads thread) after))
   pub events : suc (slice_index r.waits.events thread) < 2 ^ 64
   pub draws : is_draw event ≡ true → suc r.waits.draws < 2 ^ 64
 
@@ -78,29 +83,29 @@ pub record MakesEvent (before : Replay) (thread : ℕ) (event : Event) (after : 
   pub grown : Grown was event becomes
   pub threads : after.threads.items ≡ slice_set before.threads.items thread becomes
   pub heap : after.heap.items ≡ heap_after (operation_of event) before.heap.items
-  pub waits : after.waits ≡ after_step before.waits thread (is_draw event) (need_of (next_by_counts becomes.log becomes))
+  pub waits : after.waits ≡ after_step before.waits thread (is_draw event) (need_of (next_by_counts (thread_log_of before.log.value.threads thread) becomes))
   pub script : after.script ≡ before.script
   pub log : after.log ≡ before.log
 
 -- how many accesses are found of a thread that does not fit its log, by what it demands next
-abbrev pub FindsIn : ThreadReplay → ℕ → Type 0
-FindsIn t found = (journal : List Event) → HasCounts journal t → Finds (demand_of t.up_next) t.log journal found
+abbrev pub FindsIn : ThreadLog → ThreadReplay → ℕ → Type 0
+FindsIn log t found = (journal : List Event) → HasCounts journal t → Finds (demand_of t.up_next) log journal found
 
-abbrev pub FindsNothing : ThreadReplay → Type 0
-FindsNothing t = (journal : List Event) (found : ℕ) → HasCounts journal t → ¬ Finds (demand_of t.up_next) t.log journal found
+abbrev pub FindsNothing : ThreadLog → ThreadReplay → Type 0
+FindsNothing log t = (journal : List Event) (found : ℕ) → HasCounts journal t → ¬ Finds (demand_of t.up_next) log journal found
 
 -- the lowest misfit, as it is told
-pub record IsLowestMisfit (threads : List ThreadReplay) (thread wanted found : ℕ) : Type 0 where
+pub record IsLowestMisfit (log : List ThreadLog) (threads : List ThreadReplay) (thread wanted found : ℕ) : Type 0 where
   pub it : ThreadReplay
   pub is_there : slice_get threads thread ≡ Some it
-  pub wants : wanted ≡ it.log.accesses
-  pub finds : FindsIn it found
-  pub lowest : (lower : ℕ) (t : ThreadReplay) → lower < thread → slice_get threads lower ≡ Some t → FindsNothing t
+  pub wants : wanted ≡ (thread_log_of log thread).accesses
+  pub finds : FindsIn (thread_log_of log thread) it found
+  pub lowest : (lower : ℕ) (t : ThreadReplay) → lower < thread → slice_get threads lower ≡ Some t → FindsNothing (thread_log_of log lower) t
 
-abbrev pub TellsMisfit : List ThreadReplay → ReplayFault → Type 0
-TellsMisfit threads (Misfit thread wanted found) = IsLowestMisfit threads thread wanted found
-TellsMisfit threads _ = ⊥
+abbrev pub TellsMisfit : List ThreadLog → List ThreadReplay → ReplayFault → Type 0
+TellsMisfit log threads (Misfit thread wanted found) = IsLowestMisfit log threads thread wanted found
+TellsMisfit log threads _ = ⊥
 
 -- a thread has finished: nothing is next for it
-abbrev pub IsFinishedHere : List ThreadReplay → ℕ → Type 0
-IsFinishedHere threads thread = (t : ThreadReplay) → slice_get threads thread ≡ Some t → next_by_counts t.log t ≡ Finished
+abbrev pub IsFinishedHere : List ThreadLog → List ThreadReplay → ℕ → Type 0
+IsFinishedHere log threads thread = (t : ThreadReplay) → slice_get threads thread ≡ Some t → next_by_counts (thread_log_of log thread) t ≡ Finished

@@ -29,7 +29,6 @@ pub record IsReplayOf (commands : List Command) (start : Configuration) (objects
   pub runs : t.config.commands ≡ commands
   pub has : t.config.objects ≡ objects
   pub names : NamesObject objects t.up_next
-  pub follows : t.log ≡ log
   pub reads : t.reads.items ≡ values_read journal
   pub room : log.accesses ≤ vec_capacity t.reads
   pub few_accesses : t.accesses ≤ log.accesses
@@ -87,7 +86,6 @@ IsPastEvent (Marked mark) before after = (after.up_next ≡ before.up_next) × (
 
 -- one thread before an event and after it
 pub record Grown (before : ThreadReplay) (event : Event) (after : ThreadReplay) : Type 0 where
-  pub log : after.log ≡ before.log
   pub reads : after.reads.items ≡ before.reads.items ++ values_read (event ∷ [])
   pub room : vec_capacity after.reads ≡ vec_capacity before.reads
   pub marks : after.marks ≡ before.marks + mark_count (event ∷ [])
@@ -100,7 +98,6 @@ pub record Grown (before : ThreadReplay) (event : Event) (after : ThreadReplay) 
 
 -- one thread before an access is counted and after it
 pub record Counted (before after : ThreadReplay) : Type 0 where
-  pub log : after.log ≡ before.log
   pub reads : after.reads ≡ before.reads
   pub marks : after.marks ≡ before.marks
   pub accesses : after.accesses ≡ suc before.accesses

@@ -10,7 +10,7 @@ use crate::ReplayFault;
 use crate::judge::{are_finished, lowest_misfit, positions_of};
 use crate::state::Replay;
 use crate::thread::{NextDemand, ThreadReplay};
-use octet_model::{End, List, OutOfMemory, Outcome};
+use octet_model::{End, List, Log, OutOfMemory, Outcome};
 use std::alloc::Global;
 
 fn end_of(thread: &ThreadReplay) -> End
@@ -44,31 +44,35 @@ fn reads_of(alloc: Global, threads: Vec<ThreadReplay>) -> Result<List<List<u64>>
 }
 
 // Why the lowest order is not lawful, if it is not.
-fn refusal(alloc: Global, replay: &Replay) -> Result<(), ReplayFault>
+fn refusal(alloc: Global, replay: &Replay, log: &Log) -> Result<(), ReplayFault>
     requires at { IsAt replay.now }
+    requires of_log { log.now ≡ replay.now.log.value }
     requires halted { HasHalted (state_of replay.now) }
     ensures lawful { IfOk result (λ _. IsLawful replay.now.script.value replay.now.log.value.threads) }
     ensures refused { IfErr result (HasCause replay.now.script.value replay.now.log.value.threads) }
 {
-    if let Some(fault) = lowest_misfit(replay.threads.as_slice()) {
+    let threads = replay.threads.as_slice();
+    let logs = log.threads.as_slice();
+    if let Some(fault) = lowest_misfit(threads, logs) {
         return Err(fault);
     }
-    if !are_finished(replay.threads.as_slice()) {
-        let positions = positions_of(alloc, replay.threads.as_slice())?;
+    if !are_finished(threads, logs) {
+        let positions = positions_of(alloc, threads)?;
         return Err(ReplayFault::Stuck { positions });
     }
     Ok(())
 }
 
 /// The outcome of a lawful lowest order, or why it is not lawful.
-pub(crate) fn end(alloc: Global, replay: Replay) -> Result<Outcome, ReplayFault>
+pub(crate) fn end(alloc: Global, replay: Replay, log: &Log) -> Result<Outcome, ReplayFault>
     requires at { IsAt replay }
+    requires of_log { log.now ≡ replay.log.value }
     requires halted { HasHalted (state_of replay) }
     ensures lawful { IfOk result (λ _. IsLawful replay.script.value replay.log.value.threads) }
     ensures outcome { IfOk result (λ outcome. outcome ≡ execution replay.script.value replay.log.value.threads (lowest_order replay.script.value replay.log.value.threads)) }
     ensures refused { IfErr result (HasCause replay.script.value replay.log.value.threads) }
 {
-    refusal(alloc, &replay)?;
+    refusal(alloc, &replay, log)?;
     let ends = ends_of(alloc, replay.threads.as_slice())?;
     Ok(Outcome {
         ends,

@@ -16,8 +16,8 @@ pub enum FitFault {
     WrongScript { script: Digest, log: Digest },
 }
 
-/// Whether a log is of the script with this text: it has no digest, or that of the text. Takes no
-/// memory.
+/// Refuses a log that is of another script than the one with this text: it has a digest, and that is
+/// not the text's. Takes no memory.
 pub fn fit(text: &[u8], loaded: &Loaded) -> Result<(), FitFault>
     ensures { IsFitted text.now loaded.now.digest result }
 {

@@ -2,51 +2,53 @@
 ghost use Rattle.std.specs.Prelude.{◌≡◌, ◌<◌, ◌≤◌, ◌+◌, ◌^◌, ◌↔◌, ℕ, true, false, length, map, slice_get, Some, All, IfOk, IfSome, IsNone, IsTrue};
 ghost use Rattle.octet_model.specs.declared.limits.TheConstants.{MAX_ACCESSES, MAX_THREADS};
 ghost use Rattle.octet_model.specs.Machine.{Finished};
+ghost use Rattle.octet_model.specs.Orders.{thread_log_of};
 ghost use Rattle.octet_replay.specs.Replayed.{FindsIn, FindsNothing, IsFinishedHere, TellsMisfit};
 ghost use Rattle.octet_replay.specs.Threads.{next_by_counts};
 ghost use Rattle.octet_replay.specs.declared.thread.ThreadReplay.{ThreadReplay};
 
 use crate::ReplayFault;
 use crate::thread::{NextDemand, ThreadReplay};
-use octet_model::{List, OutOfMemory};
+use octet_model::{List, OutOfMemory, ThreadLog};
 use std::alloc::Global;
 
 // Whether no mark of a thread's log is left.
-fn has_all_marks(thread: &ThreadReplay) -> bool
-    ensures { IsTrue result ↔ (length thread.now.log.marks ≤ thread.now.marks) }
+fn has_all_marks(thread: &ThreadReplay, log: &ThreadLog) -> bool
+    ensures { IsTrue result ↔ (length log.now.marks ≤ thread.now.marks) }
 {
-    thread.marks >= thread.log.marks.len()
+    thread.marks >= log.marks.len()
 }
 
 // How many accesses are found of a thread that does not fit its log.
-fn misfit(thread: &ThreadReplay) -> Option<u32>
-    requires { thread.now.log.accesses ≤ MAX_ACCESSES }
-    ensures some { IfSome result (FindsIn thread.now) }
-    ensures none { IsNone result → FindsNothing thread.now }
+fn misfit(thread: &ThreadReplay, log: &ThreadLog) -> Option<u32>
+    requires { log.now.accesses ≤ MAX_ACCESSES }
+    ensures some { IfSome result (FindsIn log.now thread.now) }
+    ensures none { IsNone result → FindsNothing log.now thread.now }
 {
     match thread.up_next {
-        NextDemand::Ended { .. } if thread.accesses < thread.log.accesses => Some(thread.accesses),
+        NextDemand::Ended { .. } if thread.accesses < log.accesses => Some(thread.accesses),
         NextDemand::Ended { .. } => None,
-        _ if thread.accesses == thread.log.accesses && has_all_marks(thread) => {
-            Some(thread.log.accesses + 1)
+        _ if thread.accesses == log.accesses && has_all_marks(thread, log) => {
+            Some(log.accesses + 1)
         }
         _ => None,
     }
 }
 
 /// The refusal that names the lowest thread that does not fit its log, if there is one.
-pub(crate) fn lowest_misfit(threads: &[ThreadReplay]) -> Option<ReplayFault>
+pub(crate) fn lowest_misfit(threads: &[ThreadReplay], logs: &[ThreadLog]) -> Option<ReplayFault>
     requires few { length threads.now ≤ MAX_THREADS }
-    requires room { (thread : ℕ) (t : ThreadReplay) → slice_get threads.now thread ≡ Some t → t.log.accesses ≤ MAX_ACCESSES }
-    ensures some { IfSome result (TellsMisfit threads.now) }
-    ensures none { IsNone result → (thread : ℕ) (t : ThreadReplay) → slice_get threads.now thread ≡ Some t → FindsNothing t }
+    requires as_many { length threads.now ≡ length logs.now }
+    requires room { (thread : ℕ) → (thread_log_of logs.now thread).accesses ≤ MAX_ACCESSES }
+    ensures some { IfSome result (TellsMisfit logs.now threads.now) }
+    ensures none { IsNone result → (thread : ℕ) (t : ThreadReplay) → slice_get threads.now thread ≡ Some t → FindsNothing (thread_log_of logs.now thread) t }
 {
     for thread in 0..threads.len() {
-        let it = &threads[thread];
-        if let Some(found) = misfit(it) {
+        let log = &logs[thread];
+        if let Some(found) = misfit(&threads[thread], log) {
             return Some(ReplayFault::Misfit {
                 thread: thread as u8,
-                wanted: it.log.accesses,
+                wanted: log.accesses,
                 found,
             });
         }
@@ -54,22 +56,23 @@ pub(crate) fn lowest_misfit(threads: &[ThreadReplay]) -> Option<ReplayFault>
     None
 }
 
-fn is_finished(thread: &ThreadReplay) -> bool
-    ensures { IsTrue result ↔ (next_by_counts thread.now.log thread.now ≡ Finished) }
+fn is_finished(thread: &ThreadReplay, log: &ThreadLog) -> bool
+    ensures { IsTrue result ↔ (next_by_counts log.now thread.now ≡ Finished) }
 {
     let NextDemand::Ended { .. } = thread.up_next else {
         return false;
     };
-    thread.accesses >= thread.log.accesses && has_all_marks(thread)
+    thread.accesses >= log.accesses && has_all_marks(thread, log)
 }
 
 /// Whether all threads have finished: they demand their ends, and have made what the log says.
-pub(crate) fn are_finished(threads: &[ThreadReplay]) -> bool
-    ensures all { result ≡ true → (thread : ℕ) → IsFinishedHere threads.now thread }
-    ensures some { result ≡ false → (thread : ℕ) × (thread < length threads.now) × ¬ IsFinishedHere threads.now thread }
+pub(crate) fn are_finished(threads: &[ThreadReplay], logs: &[ThreadLog]) -> bool
+    requires { length threads.now ≡ length logs.now }
+    ensures all { result ≡ true → (thread : ℕ) → IsFinishedHere logs.now threads.now thread }
+    ensures some { result ≡ false → (thread : ℕ) × (thread < length threads.now) × ¬ IsFinishedHere logs.now threads.now thread }
 {
     for thread in 0..threads.len() {
-        if !is_finished(&threads[thread]) {
+        if !is_finished(&threads[thread], &logs[thread]) {
             return false;
         }
     }

@@ -5,8 +5,9 @@ ghost use Rattle.octet_replay.specs.Judged.{HasCause, IsLawful};
 ghost use Rattle.octet_replay.specs.Places.{FitInPlaces};
 ghost use Rattle.octet_replay.specs.ReplayState.{HasHalted, plain_state};
 
-use crate::replayer::Replayer;
-use crate::{ReplayFault, Stepped};
+use crate::ending::end;
+use crate::state::Replay;
+use crate::{ReplayFault, Replayer, Stepped};
 use octet_model::{Event, List, Log, OutOfMemory, Outcome, Script};
 use std::alloc::Global;
 
@@ -18,9 +19,9 @@ pub fn replay(alloc: Global, script: &Script, log: &Log) -> Result<Outcome, Repl
     ensures outcome { IfOk result (λ outcome. outcome ≡ execution script.now log.now.threads (lowest_order script.now log.now.threads)) }
     ensures refused { IfErr result (HasCause script.now log.now.threads) }
 {
-    let mut replayer = Replayer::new(alloc, script, log)?;
-    replayer.run();
-    replayer.end(alloc)
+    let mut replay = Replay::new(alloc, script, log)?;
+    replay.run(log);
+    end(alloc, replay, log)
 }
 
 // An empty journal for each thread.
@@ -54,7 +55,7 @@ fn collect(
 }
 
 /// Replays a log in the lowest order, and answers the threads' journals where that order is
-/// lawful, with the values that were read.
+/// lawful, with the values that were read. Refuses as `replay` does. Copies the log's marks.
 pub fn journals(alloc: Global, script: &Script, log: &Log) -> Result<List<List<Event>>, ReplayFault>
     ensures lawful { IfOk result (λ _. IsLawful script.now log.now.threads) }
     ensures journals { IfOk result (λ journals. journals ≡ journals_after script.now log.now.threads (lowest_order script.now log.now.threads)) }

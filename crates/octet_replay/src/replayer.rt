@@ -16,6 +16,7 @@ use std::marker::Model;
 #[derive(Drop)]
 pub struct Replayer {
     replay: Replay,
+    log: Log,
 }
 
 impl Model for Replayer {
@@ -23,11 +24,12 @@ impl Model for Replayer {
 
     ghost Value = { ReplayState };
 
+    ghost use Rattle.std.specs.Prelude.{◌≡◌};
     ghost use Rattle.octet_replay.specs.Replayed.{state_of, IsAt};
 
     ghost view = { λ r. state_of r.replay };
 
-    ghost invariant = { λ r. IsAt r.replay };
+    ghost invariant = { λ r. IsAt r.replay × (r.log ≡ r.replay.log.value) };
 }
 
 impl Replayer {
@@ -38,15 +40,10 @@ impl Replayer {
         ensures agree { IfOk result (λ _. length script.now.threads ≡ length log.now.threads) }
         ensures refused { IfErr result (IsNotBegun script.now log.now.threads) }
     {
-        let (of_script, of_log) = (script.threads.len(), log.threads.len());
-        if of_script != of_log {
-            return Err(ReplayFault::ThreadsDiffer {
-                script: of_script as u32,
-                log: of_log as u32,
-            });
-        }
-        let replay = Replay::new(alloc, script, log)?;
-        Ok(Replayer { replay })
+        Ok(Replayer {
+            replay: Replay::new(alloc, script, log)?,
+            log: log.try_clone(alloc)?,
+        })
     }
 
     /// Makes the next step of the lowest order, and gives its event. Where no thread may step
@@ -55,7 +52,7 @@ impl Replayer {
     pub fn step(&mut self) -> Stepped
         ensures { StepsTo self.old result self.new }
     {
-        self.replay.step()
+        self.replay.step(&self.log)
     }
 
     /// Steps on until no thread may step. Takes no memory.
@@ -64,7 +61,7 @@ impl Replayer {
         ensures script { self.new.script ≡ self.old.script }
         ensures log { self.new.log ≡ self.old.log }
     {
-        while let Stepped::Made { .. } = self.step() {}
+        self.replay.run(&self.log);
     }
 
     /// What the lowest order comes to, at its end: the outcome where it is lawful, else why not.
@@ -74,6 +71,6 @@ impl Replayer {
         ensures outcome { IfOk result (λ outcome. outcome ≡ execution self.script self.log.threads (lowest_order self.script self.log.threads)) }
         ensures refused { IfErr result (HasCause self.script self.log.threads) }
     {
-        end(alloc, self.replay)
+        end(alloc, self.replay, &self.log)
     }
 }

@@ -1,18 +1,20 @@
 //! All threads as far as they are replayed.
-ghost use Rattle.std.specs.Prelude.{◌≡◌, ◌<◌, ◌≤◌, ◌^◌, length, map, All, IfOk, IsTrue};
+ghost use Rattle.std.specs.Prelude.{◌≡◌, ◌<◌, ◌≤◌, ◌^◌, length, All, IfOk, IfErr, IsTrue};
 ghost use Rattle.octet_model.specs.Machine.{heap_after, no_events};
+ghost use Rattle.octet_model.specs.Orders.{thread_log_of};
 ghost use Rattle.octet_model.specs.Plays.{operation_of};
-ghost use Rattle.octet_replay.specs.Replayed.{is_draw, state_of, AreReplaysOf, CanMake, IsAt, MakesEvent};
-ghost use Rattle.octet_replay.specs.ReplayState.{StepsTo};
-ghost use Rattle.octet_replay.specs.Threads.{need_of, next_by_counts, WritesWithin};
+ghost use Rattle.octet_replay.specs.Replayed.{is_draw, state_of, AreNeedsOf, AreReplaysOf, CanMake, IsAt, MakesEvent};
+ghost use Rattle.octet_replay.specs.ReplayState.{HasHalted, IsNotBegun, StepsTo};
+ghost use Rattle.octet_replay.specs.Threads.{WritesWithin};
 
 use crate::thread::ThreadReplay;
-use crate::{Need, Stepped, Waits};
-use octet_model::{Event, List, Log, Mark, OutOfMemory, Script};
+use crate::{Need, ReplayFault, Stepped, Waits};
+use octet_model::{Event, List, Log, Mark, OutOfMemory, Script, ThreadLog};
 use std::alloc::Global;
 use std::snapshot::Snapshot;
 
-/// The threads as far as they are replayed, the heap, and what each thread waits for.
+/// The threads as far as they are replayed, the heap, and what each thread waits for. The log is
+/// its caller's, and is lent for each step.
 #[derive(Drop)]
 pub(crate) struct Replay {
     pub(crate) threads: Vec<ThreadReplay>,
@@ -50,12 +52,17 @@ fn write(heap: &mut Vec<u64>, event: Event)
 }
 
 // What each thread waits for.
-fn needs_of(alloc: Global, threads: &[ThreadReplay]) -> Result<List<Need>, OutOfMemory>
-    ensures { IfOk result (λ needs. needs ≡ map (λ t. need_of (next_by_counts t.log t)) threads.now) }
+fn needs_of(
+    alloc: Global,
+    threads: &[ThreadReplay],
+    logs: &[ThreadLog],
+) -> Result<List<Need>, OutOfMemory>
+    requires { length threads.now ≡ length logs.now }
+    ensures { IfOk result (AreNeedsOf logs.now threads.now) }
 {
     let mut needs = List::new(alloc);
-    for thread in threads {
-        needs.push(thread.need())?;
+    for thread in 0..threads.len() {
+        needs.push(threads[thread].need(&logs[thread]))?;
     }
     Ok(needs)
 }
@@ -79,14 +86,22 @@ fn starting_threads(
 }
 
 impl Replay {
-    /// Before the first event.
-    pub(crate) fn new(alloc: Global, script: &Script, log: &Log) -> Result<Replay, OutOfMemory>
-        requires { length script.now.threads ≡ length log.now.threads }
+    /// Before the first event. Refuses a log that has not as many threads as the script.
+    pub(crate) fn new(alloc: Global, script: &Script, log: &Log) -> Result<Replay, ReplayFault>
         ensures opens { IfOk result (λ r. state_of r ≡ record { script = script.now; log = log.now; steps = 0 }) }
-        ensures at { IfOk result (λ r. IsAt r) }
+        ensures agree { IfOk result (λ _. length script.now.threads ≡ length log.now.threads) }
+        ensures at { IfOk result IsAt }
+        ensures refused { IfErr result (IsNotBegun script.now log.now.threads) }
     {
+        let (of_script, of_log) = (script.threads.len(), log.threads.len());
+        if of_script != of_log {
+            return Err(ReplayFault::ThreadsDiffer {
+                script: of_script as u32,
+                log: of_log as u32,
+            });
+        }
         let threads = starting_threads(alloc, script, log)?;
-        let needs = needs_of(alloc, &threads)?;
+        let needs = needs_of(alloc, &threads, log.threads.as_slice())?;
         Ok(Replay {
             threads,
             heap: script.starting_heap(alloc)?,
@@ -96,14 +111,15 @@ impl Replay {
         })
     }
 
-    // Makes the event of a thread that may step.
-    fn make(&mut self, thread: u8, event: Event)
-        requires { CanMake self.old thread event }
+    // Makes the event of a thread that may step, by its log.
+    fn make(&mut self, thread: u8, event: Event, log: &ThreadLog)
+        requires can { CanMake self.old thread event }
+        requires of_log { log.now ≡ thread_log_of self.old.log.value.threads thread }
         ensures { MakesEvent self.old thread event self.new }
     {
         let it = &mut self.threads[thread as usize];
         it.make(event);
-        let next = it.need();
+        let next = it.need(log);
         write(&mut self.heap, event);
         self.waits.step(thread, is_draw(event), next);
     }
@@ -111,18 +127,34 @@ impl Replay {
     /// Makes the next step of the lowest order, if a thread may step. Inlined down to the waiting
     /// lists, so that an event and a need go through no memory: a third off each step.
     #[inline(always)]
-    pub(crate) fn step(&mut self) -> Stepped
-        requires { IsAt self.old }
+    pub(crate) fn step(&mut self, log: &Log) -> Stepped
+        requires at { IsAt self.old }
+        requires of_log { log.now ≡ self.old.log.value }
         ensures steps { StepsTo (state_of self.old) result (state_of self.new) }
         ensures at { IsAt self.new }
+        ensures same_log { self.new.log ≡ self.old.log }
     {
         let Some(thread) = self.waits.lowest() else {
             return Stepped::Halted;
         };
-        let Some(event) = self.threads[thread as usize].next_event(&self.heap) else {
+        let of_log = &log.threads.as_slice()[thread as usize];
+        let it = &self.threads[thread as usize];
+        let Some(event) = it.next_event(of_log, &self.heap) else {
             unreachable!()
         };
-        self.make(thread, event);
+        self.make(thread, event, of_log);
         Stepped::Made { thread, event }
+    }
+
+    /// Steps on until no thread may step.
+    pub(crate) fn run(&mut self, log: &Log)
+        requires at { IsAt self.old }
+        requires of_log { log.now ≡ self.old.log.value }
+        ensures halted { HasHalted (state_of self.new) }
+        ensures at { IsAt self.new }
+        ensures same_script { self.new.script.value ≡ self.old.script.value }
+        ensures same_log { self.new.log ≡ self.old.log }
+    {
+        while let Stepped::Made { .. } = self.step(log) {}
     }
 }

@@ -9,6 +9,8 @@ use octet_model::{
     outcome_text,
 };
 use std::alloc::Global;
+use std::fmt::Debug;
+use std::process::Abort;
 use std::test::*;
 
 fn object_x(alloc: Global, start: u64) -> Result<Object, OutOfMemory> {
@@ -133,6 +135,19 @@ fn said(alloc: Global, script: &Script, log: &Log) -> Result<Vec<u8>, OutOfMemor
     }
 }
 
+// Takes the results of making the script and the log, so that a case is one call, with one `?`: each
+// `?` more makes a test slower to prove.
+fn assert_said(
+    rt: &impl Abort,
+    alloc: Global,
+    script: Result<Script, OutOfMemory>,
+    log: Result<Log, OutOfMemory>,
+    text: &[u8],
+) -> Result<(), Fail> {
+    assert_eq!(rt; said(alloc, &script?, &log?)?.as_slice(), text);
+    Ok(())
+}
+
 const READ_7: &[u8] = b"thread 0 done\nthread 1 done 7\nobject x 7\n";
 
 const AFTER_THE_WRITE: Gapped = Gapped {
@@ -143,21 +158,21 @@ const AFTER_THE_WRITE: Gapped = Gapped {
 #[test]
 fn lawful_orders_are_replayed(rt: HostRuntime) -> Result<(), Fail> {
     let alloc = rt.alloc();
-    let log = log_of_one(alloc, 1, NO_MARKS)?;
-    assert_eq!(rt;
-        said(alloc, &read(alloc)?, &log)?.as_slice(),
-        b"thread 0 done 5\nobject x 5\n".as_slice()
-    );
-    assert_eq!(rt;
-        said(alloc, &loop_of_reads(alloc)?, &log)?.as_slice(),
-        b"thread 0 spent 0\nobject x 0\n".as_slice()
-    );
-    let script = write_and_read(alloc)?;
-    let log = log_of_two(alloc, 1, NO_MARKS, 1, &[AFTER_THE_WRITE])?;
-    assert_eq!(rt; said(alloc, &script, &log)?.as_slice(), READ_7);
-    let log = log_of_two(alloc, 1, NO_MARKS, 1, NO_MARKS)?;
-    assert_eq!(rt; said(alloc, &script, &log)?.as_slice(), READ_7);
-    Ok(())
+    let log = log_of_one(alloc, 1, NO_MARKS);
+    assert_said(
+        &rt,
+        alloc,
+        read(alloc),
+        log,
+        b"thread 0 done 5\nobject x 5\n",
+    )?;
+    let log = log_of_one(alloc, 1, NO_MARKS);
+    let text = b"thread 0 spent 0\nobject x 0\n";
+    assert_said(&rt, alloc, loop_of_reads(alloc), log, text)?;
+    let log = log_of_two(alloc, 1, NO_MARKS, 1, &[AFTER_THE_WRITE]);
+    assert_said(&rt, alloc, write_and_read(alloc), log, READ_7)?;
+    let log = log_of_two(alloc, 1, NO_MARKS, 1, NO_MARKS);
+    assert_said(&rt, alloc, write_and_read(alloc), log, READ_7)
 }
 
 #[test]
@@ -167,42 +182,37 @@ fn stuck_threads_are_refused(rt: HostRuntime) -> Result<(), Fail> {
         gap: 0,
         mark: Mark::Join { from: 1, upto: 1 },
     };
-    let log = log_of_two(alloc, 1, &[after_the_read], 1, &[AFTER_THE_WRITE])?;
-    assert_eq!(rt;
-        said(alloc, &write_and_read(alloc)?, &log)?.as_slice(),
-        b"fit: stuck at 0 0\n".as_slice()
-    );
+    let log = log_of_two(alloc, 1, &[after_the_read], 1, &[AFTER_THE_WRITE]);
+    assert_said(
+        &rt,
+        alloc,
+        write_and_read(alloc),
+        log,
+        b"fit: stuck at 0 0\n",
+    )?;
     let draw = Gapped {
         gap: 0,
         mark: Mark::Draw { number: 1 },
     };
-    let log = log_of_one(alloc, 1, &[draw, draw])?;
-    assert_eq!(rt;
-        said(alloc, &read(alloc)?, &log)?.as_slice(),
-        b"fit: stuck at 1\n".as_slice()
-    );
-    Ok(())
+    let log = log_of_one(alloc, 1, &[draw, draw]);
+    assert_said(&rt, alloc, read(alloc), log, b"fit: stuck at 1\n")
 }
 
 #[test]
 fn misfits_are_refused(rt: HostRuntime) -> Result<(), Fail> {
     let alloc = rt.alloc();
-    let script = read(alloc)?;
-    let log = log_of_two(alloc, 1, NO_MARKS, 1, NO_MARKS)?;
-    assert_eq!(rt;
-        said(alloc, &script, &log)?.as_slice(),
-        b"fit: threads 1 in the script, 2 in the log\n".as_slice()
-    );
-    assert_eq!(rt;
-        said(alloc, &script, &log_of_one(alloc, 2, NO_MARKS)?)?.as_slice(),
-        b"fit: thread 0 wants 2 accesses, found 1\n".as_slice()
-    );
-    assert_eq!(rt;
-        said(alloc, &script, &log_of_one(alloc, 0, NO_MARKS)?)?.as_slice(),
-        b"fit: thread 0 wants 0 accesses, found 1\n".as_slice()
-    );
-    Ok(())
+    let log = log_of_two(alloc, 1, NO_MARKS, 1, NO_MARKS);
+    let text = b"fit: threads 1 in the script, 2 in the log\n";
+    assert_said(&rt, alloc, read(alloc), log, text)?;
+    let log = log_of_one(alloc, 2, NO_MARKS);
+    let text = b"fit: thread 0 wants 2 accesses, found 1\n";
+    assert_said(&rt, alloc, read(alloc), log, text)?;
+    let log = log_of_one(alloc, 0, NO_MARKS);
+    let text = b"fit: thread 0 wants 0 accesses, found 1\n";
+    assert_said(&rt, alloc, read(alloc), log, text)
 }
+
+const ONE_FOR_TWO: &[u8] = b"fit: thread 1 wants 2 accesses, found 1\n";
 
 #[test]
 fn misfits_come_before_stuck_threads(rt: HostRuntime) -> Result<(), Fail> {
@@ -211,21 +221,14 @@ fn misfits_come_before_stuck_threads(rt: HostRuntime) -> Result<(), Fail> {
         gap: 1,
         mark: Mark::Join { from: 0, upto: 9 },
     };
-    let log = log_of_two(alloc, 1, NO_MARKS, 2, &[never])?;
-    assert_eq!(rt;
-        said(alloc, &write_and_read(alloc)?, &log)?.as_slice(),
-        b"fit: thread 1 wants 2 accesses, found 1\n".as_slice()
-    );
+    let log = log_of_two(alloc, 1, NO_MARKS, 2, &[never]);
+    assert_said(&rt, alloc, write_and_read(alloc), log, ONE_FOR_TWO)?;
     let never = Gapped {
         gap: 0,
         mark: Mark::Fence { number: 1 },
     };
-    let log = log_of_two(alloc, 1, &[never], 2, NO_MARKS)?;
-    assert_eq!(rt;
-        said(alloc, &write_and_read(alloc)?, &log)?.as_slice(),
-        b"fit: thread 1 wants 2 accesses, found 1\n".as_slice()
-    );
-    Ok(())
+    let log = log_of_two(alloc, 1, &[never], 2, NO_MARKS);
+    assert_said(&rt, alloc, write_and_read(alloc), log, ONE_FOR_TWO)
 }
 
 fn shared_log(alloc: Global) -> Result<Log, OutOfMemory> {
@@ -256,41 +259,50 @@ fn shared_log(alloc: Global) -> Result<Log, OutOfMemory> {
     Ok(Log { threads })
 }
 
+const READ_9: Event = Event::Read {
+    object: 0,
+    value: 9,
+};
+
 fn marked(mark: Mark) -> Event {
     Event::Marked { mark }
+}
+
+fn assert_lists<T: Debug + PartialEq>(rt: &impl Abort, lists: &List<List<T>>, wanted: &[&[T]]) {
+    assert_eq!(rt; lists.len(), wanted.len());
+    for thread in 0..wanted.len() {
+        let list = lists.as_slice()[thread].as_slice();
+        assert_eq!(rt; list, wanted[thread], "of thread {thread}");
+    }
+}
+
+fn assert_journals(
+    rt: &impl Abort,
+    alloc: Global,
+    script: Result<Script, OutOfMemory>,
+    log: Result<Log, OutOfMemory>,
+    wanted: &[&[Event]],
+) -> Result<(), Fail> {
+    assert_lists(rt, &journals(alloc, &script?, &log?)?, wanted);
+    Ok(())
 }
 
 #[test]
 fn journals_have_marks_and_values(rt: HostRuntime) -> Result<(), Fail> {
     let alloc = rt.alloc();
-    let journals = journals(alloc, &shared_reads(alloc)?, &shared_log(alloc)?)?;
-    let read_9 = Event::Read {
-        object: 0,
-        value: 9,
-    };
     let first = [
         marked(Mark::Join { from: 0, upto: 0 }),
-        read_9,
+        READ_9,
         marked(Mark::Fence { number: 1 }),
-        read_9,
+        READ_9,
     ];
     let second = [
         marked(Mark::Join { from: 1, upto: 1 }),
         marked(Mark::Draw { number: 1 }),
-        read_9,
+        READ_9,
     ];
-    assert_eq!(rt; journals.len(), 3);
-    for (thread, events) in [
-        (0, [].as_slice()),
-        (1, first.as_slice()),
-        (2, second.as_slice()),
-    ] {
-        assert_eq!(rt;
-            journals.get(thread).map(|journal| journal.as_slice()),
-            Some(events)
-        );
-    }
-    Ok(())
+    let (script, log) = (shared_reads(alloc), shared_log(alloc));
+    assert_journals(&rt, alloc, script, log, &[&[], &first, &second])
 }
 
 fn update(before: u64, after: u64) -> Event {
@@ -301,76 +313,53 @@ fn update(before: u64, after: u64) -> Event {
     }
 }
 
+const AFTER_BOTH: Mark = Mark::Join { from: 0, upto: 2 };
+
+fn log_of_bumps(alloc: Global) -> Result<Log, OutOfMemory> {
+    let after_both = Gapped {
+        gap: 0,
+        mark: AFTER_BOTH,
+    };
+    log_of_two(alloc, 2, NO_MARKS, 1, &[after_both])
+}
+
 #[test]
 fn updates_add_to_what_the_object_has(rt: HostRuntime) -> Result<(), Fail> {
     let alloc = rt.alloc();
-    let after_both = Gapped {
-        gap: 0,
-        mark: Mark::Join { from: 0, upto: 2 },
-    };
-    let log = log_of_two(alloc, 2, NO_MARKS, 1, &[after_both])?;
-    for (start, text) in [
-        (5, b"thread 0 done\nthread 1 done\nobject x 12\n".as_slice()),
-        (
-            u64::MAX,
-            b"thread 0 done\nthread 1 done\nobject x 6\n".as_slice(),
-        ),
-    ] {
-        let script = two_bumps_and_one(alloc, start)?;
-        assert_eq!(rt; said(alloc, &script, &log)?.as_slice(), text);
-    }
-    let journals = journals(alloc, &two_bumps_and_one(alloc, 5)?, &log)?;
-    for (thread, events) in [
-        (0, [update(5, 7), update(7, 9)].as_slice()),
-        (1, [marked(after_both.mark), update(9, 12)].as_slice()),
-    ] {
-        assert_eq!(rt;
-            journals.get(thread).map(|journal| journal.as_slice()),
-            Some(events)
-        );
-    }
-    Ok(())
-}
-
-fn made(thread: u8, event: Event) -> Stepped {
-    Stepped::Made { thread, event }
+    let (script, log) = (two_bumps_and_one(alloc, 5), log_of_bumps(alloc));
+    let text = b"thread 0 done\nthread 1 done\nobject x 12\n";
+    assert_said(&rt, alloc, script, log, text)?;
+    let (script, log) = (two_bumps_and_one(alloc, u64::MAX), log_of_bumps(alloc));
+    let text = b"thread 0 done\nthread 1 done\nobject x 6\n";
+    assert_said(&rt, alloc, script, log, text)?;
+    let first = [update(5, 7), update(7, 9)];
+    let second = [marked(AFTER_BOTH), update(9, 12)];
+    let (script, log) = (two_bumps_and_one(alloc, 5), log_of_bumps(alloc));
+    assert_journals(&rt, alloc, script, log, &[&first, &second])
 }
 
 #[test]
 fn replayer_gives_the_events_one_by_one(rt: HostRuntime) -> Result<(), Fail> {
     let alloc = rt.alloc();
     let mut replayer = Replayer::new(alloc, &shared_reads(alloc)?, &shared_log(alloc)?)?;
-    let read_9 = Event::Read {
-        object: 0,
-        value: 9,
-    };
-    let steps = [
-        made(1, marked(Mark::Join { from: 0, upto: 0 })),
-        made(1, read_9),
-        made(2, marked(Mark::Join { from: 1, upto: 1 })),
-        made(2, marked(Mark::Draw { number: 1 })),
-        made(1, marked(Mark::Fence { number: 1 })),
-        made(1, read_9),
-        made(2, read_9),
-        Stepped::Halted,
-        Stepped::Halted,
-    ];
-    for step in steps {
-        assert_eq!(rt; replayer.step(), step);
+    for (thread, event) in [
+        (1, marked(Mark::Join { from: 0, upto: 0 })),
+        (1, READ_9),
+        (2, marked(Mark::Join { from: 1, upto: 1 })),
+        (2, marked(Mark::Draw { number: 1 })),
+        (1, marked(Mark::Fence { number: 1 })),
+        (1, READ_9),
+        (2, READ_9),
+    ] {
+        assert_eq!(rt; replayer.step(), Stepped::Made { thread, event });
+    }
+    for _ in 0..2 {
+        assert_eq!(rt; replayer.step(), Stepped::Halted);
     }
     replayer.run();
     let outcome = replayer.end(alloc)?;
     assert_eq!(rt; outcome.ends.as_slice(), [End::Done; 3].as_slice());
-    for (thread, values) in [
-        (0, [].as_slice()),
-        (1, [9, 9].as_slice()),
-        (2, [9].as_slice()),
-    ] {
-        assert_eq!(rt;
-            outcome.reads.get(thread).map(|reads| reads.as_slice()),
-            Some(values)
-        );
-    }
+    assert_lists(&rt, &outcome.reads, &[&[], &[9, 9], &[9]]);
     assert_eq!(rt; outcome.heap.as_slice(), [9].as_slice());
     Ok(())
 }
@@ -416,10 +405,6 @@ fn log_of_many_marks(alloc: Global, count: usize) -> Result<Log, OutOfMemory>
 #[test]
 fn many_marks_are_replayed(rt: HostRuntime) -> Result<(), Fail> {
     let alloc = rt.alloc();
-    let log = log_of_many_marks(alloc, 10_000)?;
-    assert_eq!(rt;
-        said(alloc, &write_and_read(alloc)?, &log)?.as_slice(),
-        READ_7
-    );
-    Ok(())
+    let log = log_of_many_marks(alloc, 10_000);
+    assert_said(&rt, alloc, write_and_read(alloc), log, READ_7)
 }

@@ -21,13 +21,12 @@ pub(crate) enum NextDemand {
     Ended { end: End },
 }
 
-/// One thread of a script as far as it is replayed: what it demands next, its log, how many marks,
-/// accesses and accesses since the last mark it made, and the values that it read.
+/// One thread of a script as far as it is replayed: what it demands next, how many marks, accesses
+/// and accesses since the last mark it made, and the values that it read. Its log is its caller's.
 #[derive(Debug, Drop)]
 pub(crate) struct ThreadReplay {
     pub(crate) config: Config,
     pub(crate) up_next: NextDemand,
-    pub(crate) log: ThreadLog,
     pub(crate) marks: usize,
     pub(crate) accesses: u32,
     pub(crate) gap: u32,
@@ -101,10 +100,6 @@ impl ThreadReplay {
         Ok(ThreadReplay {
             config,
             up_next,
-            log: ThreadLog {
-                accesses: log.accesses,
-                marks: log.marks.try_clone(alloc)?,
-            },
             marks: 0,
             accesses: 0,
             gap: 0,
@@ -113,14 +108,14 @@ impl ThreadReplay {
     }
 
     /// The event that is next by the log, where a read would take its value from the heap now.
-    pub(crate) fn next_event(&self, heap: &[u64]) -> Option<Event>
+    pub(crate) fn next_event(&self, log: &ThreadLog, heap: &[u64]) -> Option<Event>
         requires { NamesObject (length heap.now) self.now.up_next }
-        ensures { result ≡ next_event (next_by_counts self.now.log self.now) heap.now }
+        ensures { result ≡ next_event (next_by_counts log.now self.now) heap.now }
     {
-        if let Some(mark) = due_mark(&self.log, self.marks, self.gap) {
+        if let Some(mark) = due_mark(log, self.marks, self.gap) {
             return Some(Event::Marked { mark });
         }
-        if self.accesses >= self.log.accesses {
+        if self.accesses >= log.accesses {
             return None;
         }
         match self.up_next {
@@ -141,14 +136,14 @@ impl ThreadReplay {
         }
     }
 
-    /// What the thread waits for before its next step.
-    pub(crate) fn need(&self) -> Need
-        ensures { result ≡ need_of (next_by_counts self.now.log self.now) }
+    /// What the thread waits for before the step that is next by the log.
+    pub(crate) fn need(&self, log: &ThreadLog) -> Need
+        ensures { result ≡ need_of (next_by_counts log.now self.now) }
     {
-        if let Some(mark) = due_mark(&self.log, self.marks, self.gap) {
+        if let Some(mark) = due_mark(log, self.marks, self.gap) {
             return need_of_mark(mark);
         }
-        if self.accesses >= self.log.accesses {
+        if self.accesses >= log.accesses {
             return Need::Never;
         }
         match self.up_next {

@@ -1,15 +1,14 @@
 -- Each script and log has one answer.
-use Rattle.std.proofs.Common.{◌≡◌, ◌≢◌, ℕ, zero, suc, ◌<◌, ◌⊎◌, inl, inr, Bool, true, false, nat_lt, List, [], length, map, Option, Some, None, refl, sym, ap, ◌∙◌, subst, arith}
+use Rattle.std.proofs.Common.{◌≡◌, ◌≢◌, ℕ, zero, suc, ◌<◌, ◌⊎◌, inl, inr, nat_lt, List, [], length, map, refl, sym, ap, ◌∙◌, subst, arith}
 use Rattle.std.proofs.lemmas.Bool.{cases_eq, cases_lt, lt-ltb}
 use Rattle.std.proofs.lemmas.List.{length-map}
 use Rattle.octet_model.specs.declared.command.Command.{Command}
 use Rattle.octet_model.specs.declared.event.Event.{Event}
-use Rattle.octet_model.specs.declared.event.Mark.{Mark}
 use Rattle.octet_model.specs.declared.script.Script.{Script}
 use Rattle.octet_model.specs.declared.log.ThreadLog.{ThreadLog}
 use Rattle.octet_model.specs.Thread.{AccessOrEnd, ToRead, ToWrite, ToBump, ToEnd}
 use Rattle.octet_model.specs.Machine.{Next, Wants, Finished, NothingFits, next_of}
-use Rattle.octet_model.specs.Journals.{access_count, mark_count, next_access, mark_first}
+use Rattle.octet_model.specs.Journals.{access_count, mark_count}
 use Rattle.octet_model.specs.Orders.{thread_log_of, by_log, opening_state, lowest_order}
 use Rattle.octet_model.proofs.lemmas.LawfulOrders.{by_finish}
 use Rattle.octet_model.proofs.lemmas.LogsOfJournals.{as_many_after}

@@ -1,27 +1,21 @@
 -- The journals of a valid log have places for all their events.
-use Rattle.std.proofs.Common.{◌≡◌, ℕ, ◌<◌, ◌≤◌, Bool, List, [], ◌∷◌, ◌++◌, length, nat_lt, Option, IsTrue, slice_get, refl, sym, ap, ◌∙◌, subst, arith}
-use Rattle.std.proofs.lemmas.Bool.{ltb-true}
+use Rattle.std.proofs.Common.{◌≡◌, ℕ, ◌<◌, List, [], ◌∷◌, length, IsTrue, sym, ap, ◌∙◌, subst, arith}
 use Rattle.std.proofs.lemmas.List.{length-map, get_or_default}
 use Rattle.std.proofs.lemmas.List.Sums.{get_or-le-sum_by}
-use Rattle.std.proofs.lemmas.Option.{slice_get_within}
 use Rattle.octet_model.specs.declared.command.Command.{Command}
 use Rattle.octet_model.specs.declared.event.Event.{Event}
-use Rattle.octet_model.specs.declared.event.Event.TheVariants.{Write, Marked}
-use Rattle.octet_model.specs.declared.event.Mark.{Mark}
 use Rattle.octet_model.specs.declared.log.ThreadLog.{ThreadLog}
 use Rattle.octet_model.specs.declared.script.Script.{Script}
-use Rattle.octet_model.specs.Thread.{Configuration, AccessOrEnd, demanded, configuration_after, starting_configuration}
-use Rattle.octet_model.specs.Journals.{access_count, mark_count, gap_after, due_mark, next_by_log}
-use Rattle.octet_model.specs.Machine.{journal_of, PlainState, Next, Operation, MakeMark, MakeRead, MakeWrite, MakeUpdate, Wants, event_made, step, after, IsFront}
+use Rattle.octet_model.specs.Thread.{starting_configuration}
+use Rattle.octet_model.specs.Machine.{journal_of, PlainState, step, after, IsFront}
 use Rattle.octet_model.specs.Orders.{commands_of, thread_log_of, by_log, opening_state, journals_after, lowest_order}
 use Rattle.octet_model.specs.Log.{is_log}
 use Rattle.octet_model.proofs.lemmas.Fronts.{no_journal}
 use Rattle.octet_model.proofs.lemmas.LogsOfJournals.{as_many_after}
 use Rattle.octet_model.proofs.lemmas.LowestFronts.{IsWithin, each_journal, within_more, lowest_is_front, lowest_order_is_lowest}
-use Rattle.octet_model.proofs.lemmas.Splits.{accesses_split, marks_split, length_parts}
+use Rattle.octet_model.proofs.lemmas.Splits.{length_parts}
 use Rattle.octet_model.proofs.lemmas.Validity.{valid_log}
 use Rattle.octet_replay.specs.Places.{FitInPlaces}
-use Rattle.octet_replay.proofs.lemmas.EventsMade.{due_there}
 
 module _ (script : Script) (log : List ThreadLog) where
   all_within : (order : List ℕ) (s : PlainState) → IsFront (by_log script log) s order → ((t : ℕ) → IsWithin (thread_log_of log t) (journal_of s.journals t))

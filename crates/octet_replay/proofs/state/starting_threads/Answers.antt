@@ -1,5 +1,4 @@
-use Rattle.std.proofs.Common.{◌≡◌, ℕ, ◌<◌, [], List, length, ap, ◌∙◌, subst, sym, get_or, slice_get, arith, length-append}
-use Rattle.std.proofs.lemmas.List.{get_or_default}
+use Rattle.std.proofs.Common.{ℕ, ◌<◌, [], List, length, ap, ◌∙◌, subst, sym, get_or, slice_get, arith, length-append}
 use Rattle.octet_model.specs.declared.event.Event.{Event}
 use Rattle.octet_model.specs.declared.log.ThreadLog.{ThreadLog}
 use Rattle.octet_model.specs.Orders.{commands_of, thread_log_of}
@@ -7,6 +6,7 @@ use Rattle.octet_model.specs.Thread.{starting_configuration}
 use Rattle.octet_model.proofs.lemmas.Fronts.{no_journal}
 use Rattle.octet_replay.specs.Threads.{IsReplayOf}
 use Rattle.octet_replay.specs.declared.thread.ThreadReplay.{ThreadReplay}
+use Rattle.octet_replay.proofs.Reading.{log_read}
 use Rattle.octet_replay.proofs.Stepping.{holds_pushed}
 use Rattle.octet_replay.proofs.state.starting_threads.Goals as goal
 
@@ -17,9 +17,7 @@ loop-thread-preserved c =
     let P : ℕ → ThreadReplay → Type 0 = λ t x. IsReplayOf (commands_of script t) (starting_configuration script.fuel) (length script.objects) (thread_log_of log t) [] x in
     let it = c.index-as_slice-thread.result in
     let within : c.loop-thread.thread < length log = omega arith in
-    let log_is : it ≡ thread_log_of log c.loop-thread.thread =
-    c.index-as_slice-thread.is ∙ ap (λ (l : List ThreadLog). get_or l c.loop-thread.thread it) c.as_slice.ensures
-    ∙ get_or_default log c.loop-thread.thread it (record { accesses = 0; marks = [] }) within in
+    let log_is = log_read log c.loop-thread.thread it (c.index-as_slice-thread.is ∙ ap (λ (l : List ThreadLog). get_or l c.loop-thread.thread it) c.as_slice.ensures) within in
     let new : P c.loop-thread.thread c.in_ok-new.field-0 =
     subst (λ (l : ThreadLog). IsReplayOf (commands_of script c.loop-thread.thread) (starting_configuration script.fuel) (length script.objects) l [] c.in_ok-new.field-0) log_is c.in_ok-new.ensures in
     record {

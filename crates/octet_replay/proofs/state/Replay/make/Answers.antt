@@ -1,7 +1,9 @@
 use Rattle.std.proofs.Common.{Some, refl, sym, ap, ◌∙◌}
 use Rattle.std.proofs.lemmas.Option.{slice_get-get_or}
+use Rattle.octet_model.specs.declared.log.ThreadLog.{ThreadLog}
 use Rattle.octet_replay.specs.declared.thread.ThreadReplay.{ThreadReplay}
 use Rattle.octet_replay.specs.Needs.{after_step}
+use Rattle.octet_replay.specs.Threads.{need_of, next_by_counts}
 use Rattle.octet_replay.proofs.state.Replay.make.Goals as goal
 
 pub returns : goal.returns
@@ -11,11 +13,11 @@ returns c =
     record {
       was = was;
       becomes = c.make.new.self;
-      is_there = slice_get-get_or r.threads.items c.args.thread was c.requires.within ∙ ap (λ (t : ThreadReplay). Some t) (sym c.index_mut-it.ensures.value);
+      is_there = slice_get-get_or r.threads.items c.args.thread was c.requires.can.within ∙ ap (λ (t : ThreadReplay). Some t) (sym c.index_mut-it.ensures.value);
       grown = c.make.ensures;
       threads = refl;
       heap = c.write.ensures;
-      waits = c.step.ensures ∙ (λ i. after_step r.waits c.args.thread (c.is_draw.ensures i) (c.need-next.ensures i));
+      waits = c.step.ensures ∙ (λ i. after_step r.waits c.args.thread (c.is_draw.ensures i) ((c.need-next.ensures ∙ ap (λ (log : ThreadLog). need_of (next_by_counts log c.make.new.self)) c.requires.of_log) i));
       script = refl;
       log = refl;
     }
