@@ -51,7 +51,9 @@ fn all_parts(
 }
 
 impl Heap {
-    /// Ends the run. Every worker of the heap is handed in, in order, off or blocked.
+    /// Ends the run, and answers each thread's log and the values that it read, and the objects'
+    /// final values. Every worker of the heap is handed in, in order, off or blocked. Refused only
+    /// where memory is.
     pub fn close(self, alloc: Global, workers: List<Worker>) -> Result<Closed, OutOfMemory>
         requires all { length workers ≡ threads_of self.words }
         requires still { EachRests self workers }
