@@ -10,6 +10,7 @@ use octet_model::{
     Command, DEFAULT_FUEL, Gapped, List, Log, Mark, Name, Object, OutOfMemory, Place, Script,
     ThreadLog,
 };
+use octet_replay::ReplayFault;
 use std::alloc::Global;
 use std::test::*;
 
@@ -96,6 +97,24 @@ fn log_of_two(
     Ok(Log { threads })
 }
 
+/// What is found of two threads, each by its commands, its count of accesses and its marks.
+fn judged(
+    alloc: Global,
+    first: &[Command],
+    accesses: u32,
+    marks: &[Gapped],
+    second: &[Command],
+    others_accesses: u32,
+    others_marks: &[Gapped],
+) -> Result<Verdict, ReplayFault>
+    requires commands { IsTrue (list_all (is_thread 2) (first.now ∷ second.now ∷ [])) }
+    requires log { IsTrue (is_log (record { accesses = accesses; marks = marks.now } ∷ record { accesses = others_accesses; marks = others_marks.now } ∷ [])) }
+{
+    let script = two_threads(alloc, first, second)?;
+    let log = log_of_two(alloc, accesses, marks, others_accesses, others_marks)?;
+    verify(alloc, &script, &log)
+}
+
 fn unordered(first: u8, first_event: u32, second: u8, second_event: u32) -> Verdict {
     Verdict::Unordered {
         first: Place {
@@ -111,57 +130,64 @@ fn unordered(first: u8, first_event: u32, second: u8, second_event: u32) -> Verd
 
 #[test]
 fn two_threads_are_judged(rt: HostRuntime) -> Result<(), Fail> {
-    let alloc = rt.alloc();
-    let script = two_threads(alloc, &[WRITE_X], &[READ_X])?;
-    let after_the_write = after(0, Mark::Join { from: 0, upto: 1 });
-    let log = log_of_two(alloc, 1, NO_MARKS, 1, &[after_the_write])?;
-    assert_eq!(rt; verify(alloc, &script, &log)?, Verdict::Ordered);
-    let log = log_of_two(alloc, 1, NO_MARKS, 1, NO_MARKS)?;
-    assert_eq!(rt; verify(alloc, &script, &log)?, unordered(0, 0, 1, 0));
-    let draw = after(1, Mark::Draw { number: 1 });
-    let fence = after(0, Mark::Fence { number: 1 });
-    let log = log_of_two(alloc, 1, &[draw], 1, &[fence])?;
-    assert_eq!(rt; verify(alloc, &script, &log)?, Verdict::Ordered);
+    let after_the_write = [after(0, Mark::Join { from: 0, upto: 1 })];
+    let verdict = judged(
+        rt.alloc(),
+        &[WRITE_X],
+        1,
+        NO_MARKS,
+        &[READ_X],
+        1,
+        &after_the_write,
+    )?;
+    assert_eq!(rt; verdict, Verdict::Ordered);
+    let verdict = judged(rt.alloc(), &[WRITE_X], 1, NO_MARKS, &[READ_X], 1, NO_MARKS)?;
+    assert_eq!(rt; verdict, unordered(0, 0, 1, 0));
+    let draw = [after(1, Mark::Draw { number: 1 })];
+    let fence = [after(0, Mark::Fence { number: 1 })];
+    let verdict = judged(rt.alloc(), &[WRITE_X], 1, &draw, &[READ_X], 1, &fence)?;
+    assert_eq!(rt; verdict, Verdict::Ordered);
     Ok(())
 }
 
 #[test]
 fn crossed_claims_are_ordered(rt: HostRuntime) -> Result<(), Fail> {
-    let alloc = rt.alloc();
-    let script = two_threads(alloc, &[WRITE_Y], &[WRITE_Y, WRITE_X])?;
-    let after_y = after(0, Mark::Join { from: 1, upto: 2 });
+    let both = [WRITE_Y, WRITE_X];
+    let after_y = [after(0, Mark::Join { from: 1, upto: 2 })];
     let marks = [
         after(0, Mark::Join { from: 0, upto: 0 }),
         after(1, Mark::Join { from: 0, upto: 0 }),
     ];
-    let log = log_of_two(alloc, 1, &[after_y], 2, &marks)?;
-    assert_eq!(rt; verify(alloc, &script, &log)?, Verdict::Ordered);
+    let verdict = judged(rt.alloc(), &[WRITE_Y], 1, &after_y, &both, 2, &marks)?;
+    assert_eq!(rt; verdict, Verdict::Ordered);
     Ok(())
 }
 
 #[test]
 fn last_conflict_of_the_lower_thread_is_named(rt: HostRuntime) -> Result<(), Fail> {
-    let alloc = rt.alloc();
-    let script = two_threads(alloc, &[WRITE_X, READ_X], &[WRITE_X])?;
-    let log = log_of_two(alloc, 2, NO_MARKS, 1, NO_MARKS)?;
-    assert_eq!(rt; verify(alloc, &script, &log)?, unordered(0, 1, 1, 0));
+    let both = [WRITE_X, READ_X];
+    let verdict = judged(rt.alloc(), &both, 2, NO_MARKS, &[WRITE_X], 1, NO_MARKS)?;
+    assert_eq!(rt; verdict, unordered(0, 1, 1, 0));
     Ok(())
 }
 
 #[test]
 fn updates_are_judged_as_writes(rt: HostRuntime) -> Result<(), Fail> {
-    let alloc = rt.alloc();
-    let script = two_threads(alloc, &[BUMP_X, BUMP_X], &[BUMP_X])?;
-    let after_both = after(0, Mark::Join { from: 0, upto: 2 });
-    let log = log_of_two(alloc, 2, NO_MARKS, 1, &[after_both])?;
-    assert_eq!(rt; verify(alloc, &script, &log)?, Verdict::Ordered);
-    let log = log_of_two(alloc, 2, NO_MARKS, 1, NO_MARKS)?;
-    assert_eq!(rt; verify(alloc, &script, &log)?, unordered(0, 1, 1, 0));
-    let log = log_of_two(alloc, 1, NO_MARKS, 1, NO_MARKS)?;
-    let script = two_threads(alloc, &[BUMP_X], &[READ_X])?;
-    assert_eq!(rt; verify(alloc, &script, &log)?, unordered(0, 0, 1, 0));
-    let script = two_threads(alloc, &[READ_X], &[BUMP_X])?;
-    assert_eq!(rt; verify(alloc, &script, &log)?, unordered(0, 0, 1, 0));
+    let both = [BUMP_X, BUMP_X];
+    let after_both = [after(0, Mark::Join { from: 0, upto: 2 })];
+    let verdict = judged(rt.alloc(), &both, 2, NO_MARKS, &[BUMP_X], 1, &after_both)?;
+    assert_eq!(rt; verdict, Verdict::Ordered);
+    let verdict = judged(rt.alloc(), &both, 2, NO_MARKS, &[BUMP_X], 1, NO_MARKS)?;
+    assert_eq!(rt; verdict, unordered(0, 1, 1, 0));
+    Ok(())
+}
+
+#[test]
+fn updates_and_reads_conflict(rt: HostRuntime) -> Result<(), Fail> {
+    let verdict = judged(rt.alloc(), &[BUMP_X], 1, NO_MARKS, &[READ_X], 1, NO_MARKS)?;
+    assert_eq!(rt; verdict, unordered(0, 0, 1, 0));
+    let verdict = judged(rt.alloc(), &[READ_X], 1, NO_MARKS, &[BUMP_X], 1, NO_MARKS)?;
+    assert_eq!(rt; verdict, unordered(0, 0, 1, 0));
     Ok(())
 }
 
@@ -184,16 +210,27 @@ fn log_of_three(alloc: Global, second: &[Gapped], third: &[Gapped]) -> Result<Lo
     Ok(Log { threads })
 }
 
+/// What is found of three threads, by the marks of the later two.
+fn judged_of_three(
+    alloc: Global,
+    second: &[Gapped],
+    third: &[Gapped],
+) -> Result<Verdict, ReplayFault>
+    requires { IsTrue (is_log (record { accesses = 1; marks = [] } ∷ record { accesses = 1; marks = second.now } ∷ record { accesses = 1; marks = third.now } ∷ [])) }
+{
+    let script = three_threads(alloc)?;
+    let log = log_of_three(alloc, second, third)?;
+    verify(alloc, &script, &log)
+}
+
 #[test]
 fn join_takes_in_no_later_events(rt: HostRuntime) -> Result<(), Fail> {
-    let alloc = rt.alloc();
-    let script = three_threads(alloc)?;
-    let after_the_write = after(1, Mark::Join { from: 0, upto: 1 });
-    let after_one = after(0, Mark::Join { from: 1, upto: 1 });
-    let log = log_of_three(alloc, &[after_the_write], &[after_one])?;
-    assert_eq!(rt; verify(alloc, &script, &log)?, unordered(0, 0, 2, 1));
-    let after_two = after(0, Mark::Join { from: 1, upto: 2 });
-    let log = log_of_three(alloc, &[after_the_write], &[after_two])?;
-    assert_eq!(rt; verify(alloc, &script, &log)?, Verdict::Ordered);
+    let after_the_write = [after(1, Mark::Join { from: 0, upto: 1 })];
+    let after_one = [after(0, Mark::Join { from: 1, upto: 1 })];
+    let verdict = judged_of_three(rt.alloc(), &after_the_write, &after_one)?;
+    assert_eq!(rt; verdict, unordered(0, 0, 2, 1));
+    let after_two = [after(0, Mark::Join { from: 1, upto: 2 })];
+    let verdict = judged_of_three(rt.alloc(), &after_the_write, &after_two)?;
+    assert_eq!(rt; verdict, Verdict::Ordered);
     Ok(())
 }

@@ -1,4 +1,4 @@
-//! A log as bytes.
+//! A log as bytes of version 1.
 ghost use Rattle.std.specs.Prelude.{◌≡◌, ◌++◌, ◌<◌, ◌^◌, IfOk, OnOk, length};
 ghost use Rattle.octet_model.specs.Texts.{mark_fields, mark_bytes, thread_bytes, log_bytes};
 

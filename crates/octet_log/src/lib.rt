@@ -1,5 +1,5 @@
-//! Logs as bytes and as text: the one spelling of a log, the log that bytes spell, or the first
-//! cause to refuse them with its place.
+//! Logs as bytes, in either of two versions, and as text: a log's bytes, the log that bytes spell,
+//! or the first cause to refuse them with its place.
 #![tactic(auto)]
 
 mod cause;

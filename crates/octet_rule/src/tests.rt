@@ -123,37 +123,36 @@ fn a_thread_takes_an_object_over(rt: HostRuntime) -> Result<(), OutOfMemory> {
     Ok(())
 }
 
-/// Thread 0 adds to its object, thread 1 takes it over and adds to it, and thread 2 takes it over
-/// and reads it. Answers the values that they find.
-fn added_up(
-    words: &Words,
-    first: &mut Seat,
-    second: &mut Seat,
-    third: &mut Seat,
-) -> Option<(u64, u64, u64)>
+/// A new thread adds to the object, and is then blocked. Answers the value before.
+fn added(words: &Words, seat: &mut Seat, amount: u64) -> Option<u64>
     requires words { objects_of words.now ≡ 1 }
-    requires own { IsSeatOf words.now first.old × IsSeatOf words.now second.old × IsSeatOf words.now third.old }
-    requires off { ((view first.old).thread.phase ≡ Off) × ((view second.old).thread.phase ≡ Off) × ((view third.old).thread.phase ≡ Off) }
-    requires due { ((view first.old).thread.due ≡ Nothing) × ((view second.old).thread.due ≡ Nothing) × ((view third.old).thread.due ≡ Nothing) }
-    requires fresh { ((view first.old).journal ≡ []) × ((view second.old).journal ≡ []) × ((view third.old).journal ≡ []) }
+    requires own { IsSeatOf words.now seat.old }
+    requires off { (view seat.old).thread.phase ≡ Off }
+    requires due { (view seat.old).thread.due ≡ Nothing }
+    requires fresh { (view seat.old).journal ≡ [] }
 {
-    words.unblock(first);
-    let Some(start) = bump(words, first, 0, 2) else {
-        return None;
-    };
-    words.block(first);
-    words.unblock(second);
-    let Some(between) = bump(words, second, 0, 3) else {
-        return None;
-    };
-    words.block(second);
-    words.unblock(third);
-    if !reach(words, third, 0, &Mode::Read) {
-        return None;
-    }
-    Some((start, between, words.read(third, 0)))
+    words.unblock(seat);
+    let before = bump(words, seat, 0, amount)?;
+    words.block(seat);
+    Some(before)
 }
 
+/// A new thread reads the object.
+fn found(words: &Words, seat: &mut Seat) -> Option<u64>
+    requires words { objects_of words.now ≡ 1 }
+    requires own { IsSeatOf words.now seat.old }
+    requires off { (view seat.old).thread.phase ≡ Off }
+    requires due { (view seat.old).thread.due ≡ Nothing }
+    requires fresh { (view seat.old).journal ≡ [] }
+{
+    words.unblock(seat);
+    if !reach(words, seat, 0, &Mode::Read) {
+        return None;
+    }
+    Some(words.read(seat, 0))
+}
+
+// Threads 0 and 1 add to the object, which thread 1 and then thread 2 takes over.
 #[test]
 fn bumps_add_up_and_wrap(rt: HostRuntime) -> Result<(), OutOfMemory> {
     let starts = List::from_vec(Vec::from_slice(rt.alloc(), &[u64::MAX])?);
@@ -162,8 +161,10 @@ fn bumps_add_up_and_wrap(rt: HostRuntime) -> Result<(), OutOfMemory> {
     let mut third = seats.remove(2);
     let mut second = seats.remove(1);
     let mut first = seats.remove(0);
-    let found = added_up(&words, &mut first, &mut second, &mut third);
-    assert_eq!(rt; found, Some((u64::MAX, 1, 4)));
+    let start = added(&words, &mut first, 2);
+    let between = added(&words, &mut second, 3);
+    let last = found(&words, &mut third);
+    assert_eq!(rt; [start, between, last], [Some(u64::MAX), Some(1), Some(4)]);
     Ok(())
 }
 

@@ -1,7 +1,6 @@
 -- A log in version 2 is within the limit of a log's file.
 use Rattle.std.proofs.Common.{◌≡◌, ℕ, zero, suc, ◌+◌, ◌*◌, ◌/◌, ◌%◌, ◌^◌, ◌≤◌, ◌&&◌, Bool, true, false, cond, ltb, leb, eqb, List, [], ◌∷◌, ◌++◌, length, length-append, Option, None, Some, Result, Ok, Err, IfOk, refl, ap, sym, subst, ◌∙◌, arith}
 use Rattle.std.specs.List.{flat_map, sum_by, list_all}
-use Rattle.std.specs.Int.{to_be_bytes, w32}
 use Rattle.std.specs.Global.{Vec}
 use Rattle.sha2.specs.Sha256.{sha256}
 use Rattle.std.proofs.lemmas.Bool.{leb-true, le-ltb, ltb-false}
@@ -15,13 +14,14 @@ use Rattle.octet_model.specs.declared.log.Log.{Log}
 use Rattle.octet_model.specs.declared.log.ThreadLog.{ThreadLog}
 use Rattle.octet_model.specs.declared.limits.TheConstants.{MAX_ACCESSES, MAX_LOG_FILE, MAX_THREADS}
 use Rattle.octet_model.specs.Log.{is_mark, is_thread_log, are_thread_logs, is_log}
-use Rattle.octet_model.specs.Texts.{mark_bytes, bytes_of_mark, thread_bytes, log_bytes}
+use Rattle.octet_model.specs.Texts.{log_bytes}
 use Rattle.octet_model.specs.Validity.{IsValidLog}
 use Rattle.octet_model.proofs.lemmas.Validity.{valid_log}
 use Rattle.octet_log.specs.declared.limits.TheConstants.{MAX_MARKS}
 use Rattle.octet_log.specs.Short.{groups, short_bytes}
 use Rattle.octet_log.specs.Pieces.{Piece, short_mark_of, short_mark_bytes, marks_bytes, piece_bytes, tail_bytes, marks_in, whole_pieces, pieced_bytes, IsSpelling}
 use Rattle.octet_log.specs.declared.loader.Digest.{Digest}
+use Rattle.octet_log.proofs.lemmas.Sizes.{few_marks}
 use Rattle.octet_top.specs.Request.{Way, AsTheyCome}
 use Rattle.octet_top.specs.Commands.{IsLogFile, digest_kept, second_bytes}
 
@@ -150,41 +150,8 @@ second_is_short digest logs whole valid few =
     )
 
 -- a log within that limit in version 1 has no more marks than version 2 allows: each has fourteen bytes there
-mark_wide : (gapped : Gapped) → length (mark_bytes gapped) ≡ 14
-mark_wide gapped = of_mark gapped.mark
-  where
-    of_mark : (mark : Mark) → length (bytes_of_mark gapped.gap mark) ≡ 14
-    of_mark (Join from upto) = refl
-    of_mark (Draw number) = refl
-    of_mark (Fence number) = refl
-
-marks_wide : (marks : List Gapped) → length (flat_map mark_bytes marks) ≡ 14 * length marks
-marks_wide [] = refl
-marks_wide (m ∷ marks) = omega (arith, ap (λ (l : List ℕ). length l) (flat_map-cons mark_bytes m marks), length-append (mark_bytes m) (flat_map mark_bytes marks), mark_wide m, marks_wide marks)
-
-thread_wide : (log : ThreadLog) → 14 * length log.marks ≤ length (thread_bytes log)
-thread_wide log =
-    omega (
-      arith,
-      length-append (to_be_bytes w32 log.accesses) (to_be_bytes w32 (length log.marks) ++ flat_map mark_bytes log.marks),
-      length-append (to_be_bytes w32 (length log.marks)) (flat_map mark_bytes log.marks),
-      marks_wide log.marks,
-    )
-
-threads_wide : (logs : List ThreadLog) → 14 * marks_in logs ≤ length (flat_map thread_bytes logs)
-threads_wide [] = omega arith
-threads_wide (log ∷ logs) =
-    omega (
-      arith,
-      ap (λ (l : List ℕ). length l) (flat_map-cons thread_bytes log logs),
-      length-append (thread_bytes log) (flat_map thread_bytes logs),
-      thread_wide log,
-      threads_wide logs,
-      sum_by-cons (λ (l : ThreadLog). length l.marks) log logs,
-    )
-
 pub first_has_few : (logs : List ThreadLog) → length (log_bytes logs) ≤ MAX_LOG_FILE → marks_in logs ≤ MAX_MARKS
-first_has_few logs short = omega (arith, threads_wide logs, short)
+first_has_few logs short = few_marks (log_bytes logs) None logs short refl
 
 -- a log that is written in version 2, with the digest of a text
 module _ (text digest : List ℕ) (log : Log) (bytes : List ℕ) (of_text : digest ≡ sha256 text) (few : marks_in log.threads ≤ MAX_MARKS) (whole : bytes ≡ pieced_bytes digest (whole_pieces 0 log.threads) log.threads) (spells : IsSpelling bytes (Some digest) log.threads) where

@@ -1,13 +1,13 @@
 //! A run on the shared heap: what the gate is shown of each worker before its accesses is what the
 //! log that was written has there.
-use crate::tests::{desk_with, words_of};
-use crate::{Status, serve};
+use crate::tests::done_over;
 use octet_base::Gate;
 use octet_heap::Worker;
-use octet_log::decode;
+use octet_log::{Loaded, decode};
 use octet_model::{Gapped, MAX_LOG_FILE, Mark, OutOfMemory, ThreadLog};
 use octet_threads::HeapGate;
 use std::alloc::Global;
+use std::process::Abort;
 use std::sync::Wait;
 use std::sync::atomic::{AtomicU32, AtomicU64, Ordering};
 use std::test::Fail as Failed;
@@ -17,6 +17,10 @@ const THREADS: usize = 2;
 
 /// Of each thread.
 const ACCESSES: usize = 100;
+
+/// Each thread writes `ACCESSES` times.
+const WRITERS: &[u8] =
+    b"object x 0\nthread\nset r0 100\nset r1 1\nwhile r0\nwrite x r0\nsafe\nsub r0 r0 r1\nend\nthread\nset r0 100\nset r1 1\nwhile r0\nwrite x r0\nsafe\nsub r0 r0 r1\nend\n";
 
 /// How often a worker was shown before one access, and with how many marks and which number in the
 /// last of them.
@@ -52,6 +56,17 @@ impl Notes {
         }
         self.places
             .get(thread.saturating_mul(ACCESSES).saturating_add(access))
+    }
+
+    /// How often a worker was shown before an access, with how many marks and which number in the
+    /// last.
+    fn noted(&self, thread: usize, access: usize) -> Option<(u32, u64, u64)> {
+        let place = self.place(thread, access)?;
+        Some((
+            place.calls.load(Ordering::SeqCst),
+            place.marks.load(Ordering::SeqCst),
+            place.number.load(Ordering::SeqCst),
+        ))
     }
 }
 
@@ -98,39 +113,47 @@ fn marks_before(log: &ThreadLog, access: usize) -> (u64, u64) {
     (before, number_of(last))
 }
 
+/// What the notes are to say of an access, by the log.
+fn wanted(log: &ThreadLog, access: usize) -> (u32, u64, u64) {
+    let (marks, number) = match access.checked_sub(1) {
+        Some(before) => marks_before(log, before),
+        None => (0, 0),
+    };
+    (1, marks, number)
+}
+
+/// The first access of a thread of which the notes say something else.
+fn misnoted(notes: &Notes, thread: usize, log: &ThreadLog) -> Option<usize> {
+    for access in 0..ACCESSES {
+        if notes.noted(thread, access) != Some(wanted(log, access)) {
+            return Some(access);
+        }
+    }
+    None
+}
+
+/// The log that a run writes.
+fn noted_run<R: Threads + Wait + Sync + Abort>(
+    rt: &R,
+    alloc: Global,
+    notes: &Notes,
+) -> Result<Loaded, Failed> {
+    let recorded = done_over(rt, alloc, WRITERS, "run S L", notes)?;
+    assert!(rt; recorded.log.len() <= MAX_LOG_FILE as usize);
+    Ok(decode(alloc, recorded.log.as_slice())?)
+}
+
 /// No body over the locked machine passes: its threads have no workers to show.
 #[test]
 fn run_uses_the_shared_heap(rt: HostRuntime) -> Result<(), Failed> {
     let alloc = rt.alloc();
-    let thread = b"thread\nset r0 100\nset r1 1\nwhile r0\nwrite x r0\nsafe\nsub r0 r0 r1\nend\n";
-    let mut script = Vec::from_slice(alloc, b"object x 0\n")?;
-    for _thread in 0..THREADS {
-        script.extend_from_slice(thread)?;
-    }
     let notes = Notes::new(alloc)?;
-    let mut desk = desk_with(alloc, script.as_slice(), &[])?;
-    let answer = serve(&rt, alloc, &words_of(alloc, "run S L")?, &mut desk, &notes);
-    assert_eq!(rt; answer, Status::Done.code());
-    let bytes = desk.file("L").unwrap_or(&[]);
-    assert!(rt; bytes.len() <= MAX_LOG_FILE as usize);
-    let loaded = decode(alloc, bytes).expect(&rt, "a log");
-    let log = &loaded.log;
-    for (thread, thread_log) in log.threads.as_slice().iter().enumerate() {
-        assert_eq!(rt; thread_log.accesses as usize, ACCESSES);
-        for access in 0..ACCESSES {
-            let place = notes.place(thread, access).expect(&rt, "a place");
-            let wanted = match access.checked_sub(1) {
-                Some(before) => marks_before(thread_log, before),
-                None => (0, 0),
-            };
-            assert_eq!(rt; place.calls.load(Ordering::SeqCst), 1, "{thread} {access}");
-            let noted = (
-                place.marks.load(Ordering::SeqCst),
-                place.number.load(Ordering::SeqCst),
-            );
-            assert_eq!(rt; noted, wanted, "{thread} {access}");
-        }
+    let loaded = noted_run(&rt, alloc, &notes)?;
+    let threads = loaded.log.threads.as_slice();
+    assert_eq!(rt; threads.len(), THREADS);
+    for (thread, log) in threads.iter().enumerate() {
+        let found = (log.accesses as usize, misnoted(&notes, thread, log));
+        assert_eq!(rt; found, (ACCESSES, None), "{thread}");
     }
-    assert_eq!(rt; log.threads.len(), THREADS);
     Ok(())
 }

@@ -1,11 +1,11 @@
 //! Runs by threads beside each other, through the top call.
-use crate::tests::{answers, desk_with, desk_with_log, words_of};
-use crate::{Status, serve};
+use crate::tests::{done_over, repeats};
 use octet_base::{Gate, OpenGate};
 use octet_heap::Worker;
 use octet_model::OutOfMemory;
 use octet_threads::HeapGate;
 use std::alloc::Global;
+use std::process::Abort;
 use std::sync::Wait;
 use std::sync::atomic::{AtomicBool, Ordering};
 use std::test::Fail as Failed;
@@ -75,14 +75,16 @@ fn threads_run_beside_each_other(rt: HostRuntime) -> Result<(), Failed> {
         b"object x 0\nobject y 0\nthread\nset r0 1\nwrite x r0\nthread\nset r0 2\nwrite y r0\n".as_slice();
     for line in ["run S L", "locked S L"] {
         let gate = TwoFlags::new();
-        let mut desk = desk_with(alloc, script, &[])?;
-        let answer = serve(&rt, alloc, &words_of(alloc, line)?, &mut desk, &gate);
-        assert_eq!(rt; answer, Status::Done.code(), "{line}");
-        assert!(rt; gate.are_up(), "{line}");
-        assert!(rt; !gate.gave_up.load(Ordering::SeqCst), "{line}");
+        done_over(&rt, alloc, script, line, &gate)?;
+        let gave_up = gate.gave_up.load(Ordering::SeqCst);
+        assert_eq!(rt; (gate.are_up(), gave_up), (true, false), "{line}");
     }
     Ok(())
 }
+
+/// The second thread reads `x` once it has seen that the first one has set the flag.
+const FLAG: &[u8] =
+    b"object x 0\nobject flag 0\nthread\nset r0 42\nwrite x r0\nset r1 1\nwrite flag r1\nthread\nset r2 1\nwhile r2\nread r3 flag\nsame r2 r3 r4\nsafe\nend\nread r5 x\n";
 
 fn sixteen_threads(alloc: Global) -> Result<Vec<u8>, OutOfMemory> {
     let mut script = Vec::from_slice(alloc, b"object x 0\n")?;
@@ -90,14 +92,6 @@ fn sixteen_threads(alloc: Global) -> Result<Vec<u8>, OutOfMemory> {
         script.extend_from_slice(b"thread\nset r0 100\nset r1 1\nwhile r0\nread r2 x\n")?;
         script.extend_from_slice(b"write x r0\nsafe\nsub r0 r0 r1\nend\n")?;
     }
-    Ok(script)
-}
-
-fn waiting_for_a_flag(alloc: Global) -> Result<Vec<u8>, OutOfMemory> {
-    let mut script = Vec::from_slice(alloc, b"object x 0\nobject flag 0\n")?;
-    script.extend_from_slice(b"thread\nset r0 42\nwrite x r0\nset r1 1\nwrite flag r1\n")?;
-    script.extend_from_slice(b"thread\nset r2 1\nwhile r2\nread r3 flag\nsame r2 r3 r4\n")?;
-    script.extend_from_slice(b"safe\nend\nread r5 x\n")?;
     Ok(script)
 }
 
@@ -112,33 +106,32 @@ fn second_reads_last(said: &[u8], number: &str) -> bool {
     }
 }
 
+fn contended_run_repeats<R: Threads + Wait + Sync + Abort>(
+    rt: &R,
+    alloc: Global,
+    script: &[u8],
+    line: &str,
+) -> Result<(), Failed> {
+    let recorded = done_over(rt, alloc, script, line, &OpenGate)?;
+    let said = recorded.said.as_slice();
+    repeats(rt, alloc, script, recorded.log.as_slice(), said)?;
+    let is_right = script.len() != FLAG.len() || second_reads_last(said, " 42");
+    assert!(rt; is_right, "{line}");
+    Ok(())
+}
+
 /// What is said by a run of the script, whose log a replay repeats and a check finds ordered.
 #[test]
 fn contended_runs_repeat(rt: HostRuntime) -> Result<(), Failed> {
     let alloc = rt.alloc();
-    let flag = waiting_for_a_flag(alloc)?;
     let sixteen = sixteen_threads(alloc)?;
     for (script, line) in [
-        (&flag, "run S L"),
-        (&flag, "locked S L"),
-        (&sixteen, "run S L"),
-        (&sixteen, "locked S L"),
+        (FLAG, "run S L"),
+        (FLAG, "locked S L"),
+        (sixteen.as_slice(), "run S L"),
+        (sixteen.as_slice(), "locked S L"),
     ] {
-        let mut desk = desk_with(alloc, script.as_slice(), &[])?;
-        let answer = serve(&rt, alloc, &words_of(alloc, line)?, &mut desk, &OpenGate);
-        assert_eq!(rt; answer, Status::Done.code(), "{line}");
-        let said = Vec::from_slice(alloc, desk.said())?;
-        let log = Vec::from_slice(alloc, desk.file("L").unwrap_or(&[]))?;
-        for (again, wanted) in [
-            ("replay S L", said.as_slice()),
-            ("verify S L", b"ordered\n".as_slice()),
-        ] {
-            let mut desk = desk_with_log(alloc, script.as_slice(), log.as_slice())?;
-            answers(&rt, alloc, &mut desk, again, Status::Done, wanted)?;
-        }
-        if script.len() == flag.len() {
-            assert!(rt; second_reads_last(said.as_slice(), " 42"), "{line}");
-        }
+        contended_run_repeats(&rt, alloc, script, line)?;
     }
     Ok(())
 }
