@@ -1,4 +1,5 @@
-//! The same script language and log format in plain Rust, with no tracking, no refusals and no proof.
+//! The same script language, but for `bump`, and log format in plain Rust, with no tracking, no refusals and no
+//! proof.
 //!
 //! `bench/run` compiles it where there is a `rustc`, and measures it beside the program: it says how
 //! much of a time the task itself takes. It takes what is well formed, and panics at all else.

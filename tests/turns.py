@@ -6,12 +6,6 @@ import machine
 from case import Case, draw, fence, join, log, script, text
 from cases import COUNTED, COUNTED_LOG, COUNTED_SAID
 
-# Whether the program has the command `turns`.
-HAS_TURNS = True
-# Whether it has the command `locked`: then `run`, `gen` and `locked` have a worker for each thread of
-# a script, in whatever order; else `run` and `gen` go by rounds of a turn for each thread.
-HAS_LOCKED = True
-
 HANDOVER = script("object x 5 / thread / set r0 7 / write x r0 / thread / read r0 x")
 
 # Name, script, picks, what is said, log. Each was worked out step by step, by hand.
