@@ -8,12 +8,17 @@ ghost use Rattle.octet_threads.specs.Carrying.{start_of};
 use octet_heap::Worker;
 use octet_interp::Config;
 
+/// How many words lie between what two threads write: two cache lines, since processors fetch them in
+/// pairs. Without them four threads with an object each took twice as long.
+pub(crate) const APART: usize = 16;
+
 /// A worker with the configuration of its thread. The worker's journal fits the thread from its
 /// start, the configuration stands where the journal leaves it, and no read waits for its value.
 #[derive(Drop)]
 pub(crate) struct Runner {
     pub(crate) worker: Worker,
     pub(crate) config: Config,
+    pub(crate) apart: [u64; APART],
     ghost fits: { ∥ IsJournalOf (start_of worker) (seat_of worker).journal config ∥₁ },
     ghost idle: { config.waits ≡ false },
 }

@@ -6,7 +6,7 @@ ghost use Rattle.octet_threads.specs.Runners.{AreOf, IsAtRest, IsHeapOf, IsOf};
 
 use crate::gate::HeapGate;
 use crate::recording::recorded;
-use crate::runner::Runner;
+use crate::runner::{APART, Runner};
 use crate::runs::run_all;
 use octet_heap::{Heap, Worker};
 use octet_interp::Config;
@@ -32,6 +32,7 @@ fn runner(
     Ok(Runner {
         worker,
         config: Config::new(alloc, script, thread)?,
+        apart: [0; APART],
     })
 }
 
