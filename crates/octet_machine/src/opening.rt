@@ -9,7 +9,7 @@ use crate::journal::Journal;
 use crate::memory::{Memory, ProtocolThread};
 use crate::run::{Run, Runner};
 use octet_interp::Config;
-use octet_model::{OutOfMemory, Script};
+use octet_model::{MAX_MARKS_BEFORE_ACCESS, OutOfMemory, Script};
 use octet_state::{Due, Phase, StateWord, StatusWord};
 use std::alloc::Global;
 
@@ -77,7 +77,7 @@ impl Run {
         ensures is_held { IfOk result (λ run. IsHeld run) }
         ensures machine { IfOk result (λ run. machine_in run ≡ opening_machine script.now) }
     {
-        let room = script.fuel as usize * 16;
+        let room = script.fuel as usize * (MAX_MARKS_BEFORE_ACCESS + 1);
         let heap = script.starting_heap(alloc)?;
         let memory = Memory::new(alloc, script.thread_count(), room, heap)?;
         let runners = starting_runners(alloc, script)?;
