@@ -1,5 +1,5 @@
 -- What a thread is told to demand is what it demands.
-use Rattle.std.proofs.Common.{◌≡◌, ℕ, zero, suc, pred, ◌<◌, ◌≤◌, true, false, List, Option, Some, None, unwrap_or, slice_get, slice_index, refl, sym, ap, ◌∙◌, arith}
+use Rattle.std.proofs.Common.{◌≡◌, ℕ, zero, suc, pred, ◌+◌, ◌<◌, ◌≤◌, true, false, List, Option, Some, None, unwrap_or, slice_get, slice_index, refl, sym, ap, ◌∙◌, arith}
 use Rattle.octet_model.specs.declared.command.Command.{Command}
 use Rattle.octet_model.specs.declared.command.Command.TheVariants.{Read, Write, Bump, Safe, Pause}
 use Rattle.octet_model.specs.declared.outcome.End.TheVariants.{Done, Spent}
@@ -7,6 +7,7 @@ use Rattle.octet_model.specs.Thread.{Configuration, is_access, settled, demand_a
 use Rattle.octet_interp.specs.declared.demand.Demand.{Demand}
 use Rattle.octet_interp.specs.declared.demand.Demand.TheVariants.{Read, Write, Bump, Safe, Pause, Ended}
 use Rattle.octet_interp.specs.Demands.{ThreadState, is_demand, at_demand, demand_of_command, demand_from, past_demand, is_read, next_demand, TakesFuel}
+use Rattle.octet_interp.specs.Regions.{regions_to}
 use Rattle.octet_interp.specs.Laws.{Agrees, DemandsAreThoseOfTheThread, DemandsTakeFuel, DemandsFollowFromWhereItSettles}
 use Rattle.octet_interp.proofs.Runs.{one_fuel, told_with, goes_on, stays_at, stays_past, stays_empty, along, stopped}
 
@@ -17,7 +18,7 @@ no_access (Bump object from) is = absurd cc
 no_access _ is = refl
 
 -- a run to the next told command changes nothing of where the thread settles
-settles_alike : (commands : List Command) (c : Configuration) → settled commands (at_demand commands c) ≡ settled commands c
+pub settles_alike : (commands : List Command) (c : Configuration) → settled commands (at_demand commands c) ≡ settled commands c
 settles_alike commands c =
     along is_demand commands (λ a b. settled commands b ≡ settled commands a) (λ a. refl)
     (λ a b command at plain fuelled alike. alike ∙ goes_on is_access commands a command at (no_access command plain) fuelled)
@@ -57,7 +58,7 @@ with_fuel wanted zero fuelled = absurd (omega arith)
 with_fuel wanted (suc n) fuelled = refl
 
 -- which command stands where a demand is told
-abbrev IsToldBy : Demand → Command → List ℕ → Type 0
+abbrev pub IsToldBy : Demand → Command → List ℕ → Type 0
 IsToldBy (Read object) command registers = (to : ℕ) × (command ≡ Read to object)
 IsToldBy (Write object value) command registers = (from : ℕ) × (command ≡ Write object from) × (value ≡ slice_index registers from)
 IsToldBy (Bump object amount) command registers = (from : ℕ) × (command ≡ Bump object from) × (amount ≡ slice_index registers from)
@@ -74,12 +75,12 @@ told_by Pause registers = refl
 told_by _ registers = (refl, refl)
 
 -- no command is left, or no fuel, or the command tells the demand
-data Tells (o : Option Command) (d : Configuration) : Demand → Type 0 where
+pub data Tells (o : Option Command) (d : Configuration) : Demand → Type 0 where
   NoCommand : o ≡ None → Tells o d (Ended Done)
   NoFuel : (command : Command) → o ≡ Some command → d.fuel ≡ 0 → Tells o d (Ended Spent)
   ByCommand : (command : Command) (demand : Demand) → o ≡ Some command → 0 < d.fuel → IsToldBy demand command d.registers → Tells o d demand
 
-tells : (o : Option Command) (d : Configuration) → Tells o d (demand_from o d)
+pub tells : (o : Option Command) (d : Configuration) → Tells o d (demand_from o d)
 tells None d = NoCommand refl
 tells (Some command) d = go d.fuel refl
   where
@@ -88,8 +89,8 @@ tells (Some command) d = go d.fuel refl
     go (suc fuel) is = ByCommand command (unwrap_or (demand_of_command command d.registers) (Ended Spent)) refl (omega arith) (told_by command d.registers)
 
 -- where the thread stands as a demand is told
-abbrev standing_with : ThreadState → Demand → ThreadState
-standing_with s demand = record { commands = s.commands; at = past_demand demand (at_demand s.commands s.at); waits = is_read demand; objects = s.objects }
+abbrev pub standing_with : ThreadState → Demand → ThreadState
+standing_with s demand = record { commands = s.commands; at = past_demand demand (at_demand s.commands s.at); waits = is_read demand; objects = s.objects; regions = s.regions + regions_to is_demand s.commands s.at.fuel s.at }
 
 -- an access that is told is what the thread demands, and the thread settles where it is told
 module _ (s : ThreadState) (command : Command) (here : slice_get s.commands (at_demand s.commands s.at).place ≡ Some command) (access : is_access command ≡ true) where

@@ -4,3 +4,4 @@ pub mod Valid
 pub mod Agreement
 pub mod OneThread
 pub mod Journaled
+pub mod RegionsRun

@@ -1,14 +1,15 @@
 -- Runs up to a command at which they stop.
-use Rattle.std.proofs.Common.{◌≡◌, ℕ, zero, suc, pred, ◌<◌, ◌≤◌, Bool, true, false, List, length, Option, Some, None, unwrap_or, slice_get, refl, sym, ap, ◌∙◌, arith}
-use Rattle.std.proofs.lemmas.Option.{slice_get_past}
+use Rattle.std.proofs.Common.{◌≡◌, ℕ, zero, suc, pred, ◌<◌, ◌≤◌, Bool, true, false, List, All, length, Option, Some, None, unwrap_or, slice_get, refl, sym, ap, ◌∙◌, subst, arith}
+use Rattle.std.proofs.lemmas.Option.{slice_get_past, slice_get_within, get_or_from_slice_get}
 use Rattle.octet_model.specs.declared.command.Command.{Command}
 use Rattle.octet_model.specs.declared.command.Command.TheVariants.{Set, Copy, Add, Sub, Mul, Xor, Less, Same, Read, Write, Bump, Loop, Branch, Safe, Pause}
 use Rattle.octet_model.specs.declared.outcome.End.TheVariants.{Spent}
+use Rattle.octet_model.specs.Validity.{HasObject}
 use Rattle.octet_model.specs.Thread.{Configuration, run_to, stepped}
 use Rattle.octet_interp.specs.declared.demand.Demand.{Demand}
 use Rattle.octet_interp.specs.declared.demand.Demand.TheVariants.{Ended}
-use Rattle.octet_interp.specs.Context.{CanPass}
-use Rattle.octet_interp.specs.Demands.{is_demand, at_demand, demand_of_command, demand_from}
+use Rattle.octet_interp.specs.Context.{CanPass, HasSmallValue}
+use Rattle.octet_interp.specs.Demands.{is_demand, at_demand, demand_of_command, demand_from, IsPossible}
 
 pub one_fuel : (commands : List Command) (c : Configuration) (command : Command) → (stepped commands c command).fuel ≡ pred c.fuel
 one_fuel commands c (Set to number) = refl
@@ -83,7 +84,7 @@ module _ (stops : Command → Bool) (commands : List Command) where
       go None here fuelled at next = absurd (let none : None ≡ Some command = sym here ∙ at in cc)
       go (Some other) here fuelled at next = kind other (stops other) refl here fuelled at (next other)
 
-is_told_if : (command : Command) (registers : List ℕ) (demand : Demand) → demand_of_command command registers ≡ Some demand → is_demand command ≡ true
+pub is_told_if : (command : Command) (registers : List ℕ) (demand : Demand) → demand_of_command command registers ≡ Some demand → is_demand command ≡ true
 is_told_if (Read to object) registers demand is = refl
 is_told_if (Write object from) registers demand is = refl
 is_told_if (Bump object from) registers demand is = refl
@@ -91,7 +92,7 @@ is_told_if Safe registers demand is = refl
 is_told_if Pause registers demand is = refl
 is_told_if _ registers demand is = absurd cc
 
-not_told_if : (command : Command) (registers : List ℕ) → demand_of_command command registers ≡ None → is_demand command ≡ false
+pub not_told_if : (command : Command) (registers : List ℕ) → demand_of_command command registers ≡ None → is_demand command ≡ false
 not_told_if (Read to object) registers is = absurd cc
 not_told_if (Write object from) registers is = absurd cc
 not_told_if (Bump object from) registers is = absurd cc
@@ -125,3 +126,24 @@ tells_end command c none = ap (told_with command c.registers) none
 pub can_pass : (demand : Demand) (place fuel len : ℕ) → 0 < fuel → place < len → CanPass demand place fuel len
 can_pass (Ended end) place fuel len fuelled within = tt
 can_pass _ place fuel len fuelled within = (fuelled, within)
+
+-- what a command demands names an object that is there, and a small value
+possible_of : (objects : ℕ) (command : Command) (registers : List ℕ) → HasObject objects command → HasSmallValue (unwrap_or (demand_of_command command registers) (Ended Spent))
+    → IsPossible objects (unwrap_or (demand_of_command command registers) (Ended Spent))
+possible_of objects (Read to object) registers there small = there
+possible_of objects (Write object from) registers there small = (there, small)
+possible_of objects (Bump object from) registers there small = (there, small)
+possible_of objects _ registers there small = tt
+
+pub possible : (objects : ℕ) (commands : List Command) (at : Configuration) → All (HasObject objects) commands → (demand : Demand) → demand ≡ demand_from (slice_get commands at.place) at → HasSmallValue demand
+    → IsPossible objects demand
+possible objects commands at there demand is small = subst (IsPossible objects) (sym is) (go (slice_get commands at.place) refl (subst HasSmallValue is small))
+  where
+    by_fuel : (command : Command) (fuel : ℕ) → HasObject objects command → HasSmallValue (told_with command at.registers fuel) → IsPossible objects (told_with command at.registers fuel)
+    by_fuel command zero has small' = tt
+    by_fuel command (suc fuel) has small' = possible_of objects command at.registers has small'
+
+    go : (o : Option Command) → slice_get commands at.place ≡ o → HasSmallValue (demand_from o at) → IsPossible objects (demand_from o at)
+    go None is' small' = tt
+    go (Some command) is' small' =
+        by_fuel command at.fuel (subst (HasObject objects) (get_or_from_slice_get commands at.place command command is') (there at.place command (slice_get_within commands at.place command is'))) small'

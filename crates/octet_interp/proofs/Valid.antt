@@ -1,9 +1,10 @@
 -- What the validity of a script says of one of its threads.
-use Rattle.std.proofs.Common.{◌≡◌, ℕ, ◌<◌, Bool, true, false, IsTrue, List, length, All, get_or, refl, sym, subst₂, ◌∙◌}
+use Rattle.std.proofs.Common.{◌≡◌, ℕ, ◌+◌, ◌<◌, ◌≤◌, Bool, true, false, IsTrue, List, length, All, get_or, refl, sym, subst₂, ◌∙◌}
 use Rattle.std.specs.List.{list_all}
 use Rattle.std.proofs.lemmas.Bool.{and_parts}
 use Rattle.std.proofs.lemmas.List.Folds.{list_all_at}
 use Rattle.octet_model.specs.declared.command.Command.{Command}
+use Rattle.octet_model.specs.declared.limits.TheConstants.{MAX_FUEL}
 use Rattle.octet_model.specs.declared.object.Object.{Object}
 use Rattle.octet_model.specs.Script.{is_thread, is_script}
 use Rattle.octet_interp.specs.declared.context.Context.{Context}
@@ -29,11 +30,12 @@ commands_valid fuel objects threads thread d valid lt = ((valid_script fuel obje
 
 -- a thread at its start, with its own commands and table
 pub consistent_at_start : (objects number : ℕ) (commands items : List Command) (leads : List ℕ) (context : Context) → number ≡ objects → items ≡ commands
-    → All (IsCommand objects) commands → IsLeadTable commands leads → IsConsistent items leads number context false
-consistent_at_start objects number commands items leads context numbered copied valid led =
+    → All (IsCommand objects) commands → IsLeadTable commands leads → context.regions + context.fuel ≤ MAX_FUEL → IsConsistent items leads number context false
+consistent_at_start objects number commands items leads context numbered copied valid led few =
     subst₂ (λ (n : ℕ) (cs : List Command). IsConsistent cs leads n context false) (sym numbered) (sym copied) (record {
       registers_there = λ place d lt. (valid place d lt).0;
       objects_there = λ place d lt. (valid place d lt).2;
       led = led;
       read_waits = λ waits. absurd cc;
+      regions_took_fuel = few;
     })

@@ -1,7 +1,8 @@
 -- Where a thread stands, as a configuration.
-use Rattle.std.specs.Prelude.{◌≡◌, ℕ, ◌<◌, ◌^◌, ◌==◌, Bool, true, false, List, All, Option, Some, slice_get, slice_index}
+use Rattle.std.specs.Prelude.{◌≡◌, ℕ, ◌+◌, ◌<◌, ◌≤◌, ◌^◌, ◌==◌, Bool, true, false, List, All, Option, Some, slice_get, slice_index}
 use Rattle.octet_model.specs.declared.command.Command.{Command}
 use Rattle.octet_model.specs.declared.command.Command.TheVariants.{Set, Copy, Add, Sub, Mul, Xor, Less, Same, Read, Loop, Branch, Close}
+use Rattle.octet_model.specs.declared.limits.TheConstants.{MAX_FUEL}
 use Rattle.octet_model.specs.Thread.{Configuration, stepped, with_register}
 use Rattle.octet_interp.specs.Leads.{lead_of, IsLeadTable}
 use Rattle.octet_model.specs.Validity.{IsRegister, HasRegisters, HasObject}
@@ -57,9 +58,10 @@ abbrev pub WaitsAt : Option Command → ℕ → Type 0
 WaitsAt (Some (Read to object)) fuel = 0 < fuel
 WaitsAt _ fuel = ⊥
 
--- commands of a thread of so many objects, with the table of their leads, and a read where one waits
+-- commands of a thread of so many objects, with the table of their leads, and a read where one waits; each `region` command that it ran took fuel
 pub record IsConsistent (commands : List Command) (leads : List ℕ) (objects : ℕ) (context : Context) (waits : Bool) : Type 0 where
   pub registers_there : All HasRegisters commands
   pub objects_there : All (HasObject objects) commands
   pub led : IsLeadTable commands leads
   pub read_waits : waits ≡ true → WaitsAt (slice_get commands context.place) context.fuel
+  pub regions_took_fuel : context.regions + context.fuel ≤ MAX_FUEL

@@ -1,23 +1,25 @@
 -- What a thread demands, safe points and pauses among it.
-use Rattle.std.specs.Prelude.{ℕ, zero, suc, ◌^◌, ◌<◌, ◌≤◌, Bool, true, false, List, [], length, Option, Some, None, unwrap_or, get_or, slice_get, slice_index}
+use Rattle.std.specs.Prelude.{ℕ, zero, suc, ◌+◌, ◌^◌, ◌<◌, ◌≤◌, Bool, true, false, List, [], length, Option, Some, None, unwrap_or, get_or, slice_get, slice_index}
 use Rattle.octet_model.specs.declared.command.Command.{Command}
 use Rattle.octet_model.specs.declared.command.Command.TheVariants.{Read, Write, Bump, Safe, Pause}
 use Rattle.octet_model.specs.declared.outcome.End.TheVariants.{Done, Spent}
 use Rattle.octet_model.specs.declared.script.Script.{Script}
 use Rattle.octet_model.specs.Thread.{Configuration, starting_configuration, run_to, moved_to, past_access}
+use Rattle.octet_interp.specs.Regions.{regions_to}
 use Rattle.octet_interp.specs.declared.demand.Demand.{Demand}
 use Rattle.octet_interp.specs.declared.demand.Demand.TheVariants.{Read, Write, Bump, Safe, Pause, Ended}
 
--- what callers know of a thread that runs: its commands, where it stands, whether a read waits for its value, and the number of the script's objects
+-- what callers know of a thread that runs: its commands, where it stands, whether a read waits for its value, the number of the script's objects, and how many `region` commands it ran
 pub record ThreadState : Type 0 where
   pub commands : List Command
   pub at : Configuration
   pub waits : Bool
   pub objects : ℕ
+  pub regions : ℕ
 
 -- at the start of a thread of a script
 abbrev pub starting_thread : Script → ℕ → ThreadState
-starting_thread script thread = record { commands = get_or script.threads thread []; at = starting_configuration script.fuel; waits = false; objects = length script.objects }
+starting_thread script thread = record { commands = get_or script.threads thread []; at = starting_configuration script.fuel; waits = false; objects = length script.objects; regions = 0 }
 
 -- accesses, safe points and pauses are demands
 abbrev pub is_demand : Command → Bool
@@ -63,11 +65,11 @@ next_demand s = let c = at_demand s.commands s.at in demand_from (slice_get s.co
 
 -- where it stands then
 abbrev pub after_demand : ThreadState → ThreadState
-after_demand s = record { commands = s.commands; at = past_demand (next_demand s) (at_demand s.commands s.at); waits = is_read (next_demand s); objects = s.objects }
+after_demand s = record { commands = s.commands; at = past_demand (next_demand s) (at_demand s.commands s.at); waits = is_read (next_demand s); objects = s.objects; regions = s.regions + regions_to is_demand s.commands s.at.fuel s.at }
 
 -- past the read that waits, with its value
 abbrev pub given : ThreadState → ℕ → ThreadState
-given s value = record { commands = s.commands; at = past_access (slice_get s.commands s.at.place) s.at value; waits = false; objects = s.objects }
+given s value = record { commands = s.commands; at = past_access (slice_get s.commands s.at.place) s.at value; waits = false; objects = s.objects; regions = s.regions }
 
 -- its object is one of so many, and its value or amount below 2 ^ 64
 abbrev pub IsPossible : ℕ → Demand → Type 0

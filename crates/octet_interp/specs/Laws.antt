@@ -1,5 +1,5 @@
 -- The laws of what a thread demands, as the public functions of laws.rt prove them.
-use Rattle.std.specs.Prelude.{◌≡◌, ℕ, List, [], ◌∷◌, ◌++◌}
+use Rattle.std.specs.Prelude.{◌≡◌, ℕ, ◌+◌, List, [], ◌∷◌, ◌++◌}
 use Rattle.octet_model.specs.declared.command.Command.{Command}
 use Rattle.octet_model.specs.declared.event.Event.{Event}
 use Rattle.octet_model.specs.declared.event.Event.TheVariants.{Read, Write, Update, Marked}
@@ -7,6 +7,7 @@ use Rattle.octet_model.specs.declared.event.Mark.{Mark}
 use Rattle.octet_model.specs.Thread.{Configuration, settled, demanded, past_demanded, configuration_after, FitsFrom, FitsToEnd, ToRead, ToWrite, ToBump, ToEnd, added}
 use Rattle.octet_interp.specs.declared.demand.Demand.{Demand}
 use Rattle.octet_interp.specs.declared.demand.Demand.TheVariants.{Read, Write, Bump, Ended}
+use Rattle.octet_interp.specs.Regions.{regions_ahead, regions_before}
 use Rattle.octet_interp.specs.Demands.{ThreadState, next_demand, after_demand, given, TakesFuel}
 
 -- an access or an end that `next` answers is the one that the thread demands with safe points and pauses left out, and leaves it where that does; a safe point and a pause change nothing of where it settles; an end is told again
@@ -53,3 +54,28 @@ JournalsKeepUp = (start : Configuration) (journal : List Event) (s : ThreadState
 -- and when it gets a mark
 abbrev pub JournalsTakeMarks : Type 0
 JournalsTakeMarks = (start : Configuration) (journal : List Event) (s : ThreadState) (mark : Mark) → IsJournalOf start journal s → IsJournalOf start (journal ++ Marked mark ∷ []) s
+
+-- from this start, the `region` commands that the thread ran, and those ahead of the access that it demands, are those before this access by the journal
+abbrev pub CountsRegions : Configuration → List Event → ThreadState → Type 0
+CountsRegions start journal s = s.regions + regions_ahead s.commands s.at ≡ regions_before s.commands start journal
+
+-- where the thread is asked for an access, it ran just those; and past the access they are counted on
+abbrev pub CountsPast : Configuration → List Event → Demand → ThreadState → Type 0
+CountsPast start journal (Read object) after =
+    (after.regions ≡ regions_before after.commands start journal) × ((value : ℕ) → CountsRegions start (journal ++ Read object value ∷ []) (given after value))
+CountsPast start journal (Write object value) after =
+    (after.regions ≡ regions_before after.commands start journal) × CountsRegions start (journal ++ Write object value ∷ []) after
+CountsPast start journal (Bump object amount) after =
+    (after.regions ≡ regions_before after.commands start journal) × ((before : ℕ) → CountsRegions start (journal ++ Update object before (added amount before) ∷ []) after)
+CountsPast start journal (Ended end) after = after.regions ≡ regions_before after.commands start journal
+CountsPast start journal _ after = CountsRegions start journal after
+
+-- the regions of a thread are counted by its journal
+abbrev pub RegionsAreCounted : Type 0
+RegionsAreCounted = (start : Configuration) (journal : List Event) (s : ThreadState)
+    → IsJournalOf start journal s → CountsRegions start journal s → CountsPast start journal (next_demand s) (after_demand s)
+
+-- a mark changes nothing of that
+abbrev pub MarksCountNoRegion : Type 0
+MarksCountNoRegion = (start : Configuration) (journal : List Event) (s : ThreadState) (mark : Mark)
+    → CountsRegions start journal s → CountsRegions start (journal ++ Marked mark ∷ []) s

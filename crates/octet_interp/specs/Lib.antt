@@ -1,3 +1,4 @@
+pub mod Regions
 pub mod Leads
 pub mod Demands
 pub mod Context

@@ -1,5 +1,5 @@
 //! One thread of a script as it runs.
-ghost use Rattle.std.specs.Prelude.{◌≡◌, ◌<◌, true, false, [], get_or, length, All, IfOk, IsTrue};
+ghost use Rattle.std.specs.Prelude.{◌≡◌, ◌<◌, ◌≤◌, true, false, [], get_or, length, All, IfOk, IsTrue};
 ghost use Rattle.octet_model.specs.Script.{is_thread};
 ghost use Rattle.octet_model.specs.Validity.{IsCommand};
 ghost use Rattle.octet_interp.specs.Demands.{after_demand, given, is_read, starting_thread, next_demand, IsPossible, TakesFuel};
@@ -7,7 +7,7 @@ ghost use Rattle.octet_interp.specs.Demands.{after_demand, given, is_read, start
 use crate::Demand;
 use crate::context::{Context, advance, pass, set_register};
 use crate::leads::find_leads;
-use octet_model::{Command, OutOfMemory, REGISTERS, Script};
+use octet_model::{Command, MAX_FUEL, OutOfMemory, REGISTERS, Script};
 use std::alloc::Global;
 use std::marker::Model;
 
@@ -32,7 +32,7 @@ impl Model for Config {
 
     ghost use Rattle.octet_interp.specs.Context.{configuration_of, IsConsistent};
 
-    ghost view = { λ c. record { commands = c.commands.items; at = configuration_of c.context; waits = c.waits; objects = c.objects } };
+    ghost view = { λ c. record { commands = c.commands.items; at = configuration_of c.context; waits = c.waits; objects = c.objects; regions = c.context.regions } };
 
     ghost invariant = { λ c. IsConsistent c.commands.items c.leads.items c.objects c.context c.waits };
 }
@@ -72,6 +72,7 @@ impl Config {
                 place: 0,
                 registers: [0; REGISTERS],
                 fuel: script.fuel,
+                regions: 0,
             },
             waits: false,
         })
@@ -98,6 +99,14 @@ impl Config {
     {
         let mut ahead = self.context;
         advance(&self.commands, &self.leads, &mut ahead)
+    }
+
+    /// How many `region` commands the thread has run.
+    pub fn regions(&self) -> u32
+        ensures regions { result ≡ self.now.regions }
+        ensures few { result ≤ MAX_FUEL }
+    {
+        self.context.regions
     }
 
     /// Gives the read that waits its value.

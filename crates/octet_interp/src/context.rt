@@ -1,26 +1,30 @@
 //! Where a thread is, and its run up to the next command that is a demand.
-ghost use Rattle.std.specs.Prelude.{◌≡◌, ◌<◌, ◌≤◌, ◌↔◌, false, length, slice_get, slice_index, All, IfSome, IsNone};
+ghost use Rattle.std.specs.Prelude.{◌≡◌, ◌+◌, ◌<◌, ◌≤◌, ◌^◌, ◌↔◌, false, length, slice_get, slice_index, All, IfSome, IsNone};
 ghost use Rattle.octet_model.specs.Thread.{moved_to, with_register};
 ghost use Rattle.octet_interp.specs.Leads.{IsLeadTable};
 ghost use Rattle.octet_model.specs.Validity.{HasRegisters};
 ghost use Rattle.octet_interp.specs.Context.{configuration_of, is_calculation, leads_away, Calculates, CanPass, HasSmallValue, Obeys};
-ghost use Rattle.octet_interp.specs.Demands.{at_demand, demand_of_command, past_demand, demand_from};
+ghost use Rattle.octet_interp.specs.Regions.{region_count, regions_to};
+ghost use Rattle.octet_interp.specs.Demands.{at_demand, is_demand, demand_of_command, past_demand, demand_from};
 
 use crate::Demand;
 use octet_model::{Command, End, REGISTERS};
 
-/// A place among a thread's commands, its registers, and the fuel left.
+/// A place among a thread's commands, its registers, the fuel left, and how many `region` commands
+/// were run.
 #[derive(Clone, Copy, Debug)]
 pub(crate) struct Context {
     pub(crate) place: usize,
     pub(crate) registers: [u64; REGISTERS],
     pub(crate) fuel: u32,
+    pub(crate) regions: u32,
 }
 
 /// One command on, to this place.
 pub(crate) fn move_to(context: &mut Context, place: usize)
     requires { 0 < context.old.fuel }
-    ensures { configuration_of context.new ≡ moved_to (configuration_of context.old) place }
+    ensures moved { configuration_of context.new ≡ moved_to (configuration_of context.old) place }
+    ensures regions { context.new.regions ≡ context.old.regions }
 {
     context.place = place;
     context.fuel -= 1;
@@ -31,7 +35,8 @@ pub(crate) fn set_register(context: &mut Context, to: u8, value: u64)
     requires register { to < REGISTERS }
     requires fuelled { 0 < context.old.fuel }
     requires room { context.old.place < usize.MAX }
-    ensures { configuration_of context.new ≡ with_register (configuration_of context.old) to value }
+    ensures set { configuration_of context.new ≡ with_register (configuration_of context.old) to value }
+    ensures regions { context.new.regions ≡ context.old.regions }
 {
     context.registers[to as usize] = value;
     let next = context.place + 1;
@@ -120,7 +125,9 @@ fn obey(context: &mut Context, command: Command, lead: usize)
     requires registers { HasRegisters command }
     requires fuelled { 0 < context.old.fuel }
     requires room { context.old.place < usize.MAX }
-    ensures { Obeys command lead (configuration_of context.old) (configuration_of context.new) }
+    requires few { context.old.regions + 1 < 2 ^ 32 }
+    ensures obeys { Obeys command lead (configuration_of context.old) (configuration_of context.new) }
+    ensures regions { context.new.regions ≡ context.old.regions + region_count command }
 {
     if let Some((to, value)) = calculated(command, &context.registers) {
         set_register(context, to, value);
@@ -130,6 +137,9 @@ fn obey(context: &mut Context, command: Command, lead: usize)
         move_to(context, lead);
         return;
     }
+    if let Command::Region = command {
+        context.regions += 1;
+    }
     let next = context.place + 1;
     move_to(context, next);
 }
@@ -138,9 +148,12 @@ fn obey(context: &mut Context, command: Command, lead: usize)
 pub(crate) fn advance(commands: &[Command], leads: &[usize], context: &mut Context) -> Demand
     requires registers { All HasRegisters commands.now }
     requires leads { IsLeadTable commands.now leads.now }
+    requires few { context.old.regions + context.old.fuel < 2 ^ 32 }
     ensures at_demand { configuration_of context.new ≡ at_demand commands.now (configuration_of context.old) }
     ensures demand { result ≡ demand_from (slice_get commands.now context.new.place) (configuration_of context.new) }
     ensures fuel { context.new.fuel ≤ context.old.fuel }
+    ensures regions { context.new.regions ≡ context.old.regions + regions_to is_demand commands.now context.old.fuel (configuration_of context.old) }
+    ensures few { context.new.regions + context.new.fuel ≤ context.old.regions + context.old.fuel }
     ensures ready { CanPass result context.new.place context.new.fuel (length commands.now) }
     ensures small { HasSmallValue result }
 {
@@ -161,7 +174,9 @@ pub(crate) fn advance(commands: &[Command], leads: &[usize], context: &mut Conte
 /// Goes past a demand: a read stays where it is till its value comes, and so does the end.
 pub(crate) fn pass(context: &mut Context, demand: Demand)
     requires ready { CanPass demand context.old.place context.old.fuel usize.MAX }
-    ensures { configuration_of context.new ≡ past_demand demand (configuration_of context.old) }
+    ensures past { configuration_of context.new ≡ past_demand demand (configuration_of context.old) }
+    ensures regions { context.new.regions ≡ context.old.regions }
+    ensures fuel { context.new.fuel ≤ context.old.fuel }
 {
     match demand {
         Demand::Write { .. } | Demand::Bump { .. } | Demand::Safe | Demand::Pause => {

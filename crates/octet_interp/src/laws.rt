@@ -1,6 +1,6 @@
 //! The laws of what a thread demands. Each is the contract of a function that does
 //! nothing.
-ghost use Rattle.octet_interp.specs.Laws.{DemandsAreThoseOfTheThread, DemandsFollowFromWhereItSettles, DemandsTakeFuel, JournalsKeepUp, JournalsTakeMarks};
+ghost use Rattle.octet_interp.specs.Laws.{DemandsAreThoseOfTheThread, DemandsFollowFromWhereItSettles, DemandsTakeFuel, JournalsKeepUp, JournalsTakeMarks, MarksCountNoRegion, RegionsAreCounted};
 
 /// With safe points and pauses left out, the demands that `Config::next` answers are those of the
 /// thread, and after `Ended` each further one is the same.
@@ -27,4 +27,11 @@ pub fn journals_keep_up()
 /// Marks change nothing of that.
 pub fn journals_take_marks()
     ensures { JournalsTakeMarks }
+{}
+
+/// Asked for an access, a thread has run as many `region` commands as it runs by its journal before
+/// that access; marks change nothing of that.
+pub fn regions_are_counted()
+    ensures counted { RegionsAreCounted }
+    ensures marks { MarksCountNoRegion }
 {}

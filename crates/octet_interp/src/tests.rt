@@ -200,6 +200,7 @@ fn loops_nest_and_branches_go_on(rt: HostRuntime) -> Result<(), Fail> {
         Command::Safe,
         Command::Close,
         Command::Pause,
+        Command::Region,
         Command::Read { to: 1, object: 0 },
         Command::Branch { test: 1 },
         Command::Safe,

@@ -36,7 +36,7 @@ starting_runner state = record { config = state; value = 0; end = None }
 
 -- there is none of that number
 abbrev pub no_runner : Runner
-no_runner = starting_runner (record { commands = []; at = record { place = 0; registers = []; fuel = 0 }; waits = false; objects = 0 })
+no_runner = starting_runner (record { commands = []; at = record { place = 0; registers = []; fuel = 0 }; waits = false; objects = 0; regions = 0 })
 
 abbrev pub runner_of : MachineState → ℕ → Runner
 runner_of m thread = slice_index_or m.runners thread no_runner

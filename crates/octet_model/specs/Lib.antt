@@ -7,6 +7,7 @@ pub mod Journals
 pub mod HappensBefore
 pub mod Frugal
 pub mod Orders
+pub mod Traces
 pub mod Plays
 pub mod Past
 pub mod Texts

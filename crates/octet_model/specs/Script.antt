@@ -3,7 +3,7 @@ use Rattle.std.specs.Prelude.{ℕ, zero, suc, ◌*◌, ◌^◌, ◌&&◌, List, 
 use Rattle.std.specs.List.{list_all, list_any}
 use Rattle.std.specs.Str.{bytes_eq}
 use Rattle.octet_model.specs.declared.command.Command.{Command}
-use Rattle.octet_model.specs.declared.command.Command.TheVariants.{Set, Copy, Add, Sub, Mul, Xor, Less, Same, Read, Write, Bump, Loop, Branch, Close, Safe, Pause}
+use Rattle.octet_model.specs.declared.command.Command.TheVariants.{Set, Copy, Add, Sub, Mul, Xor, Less, Same, Read, Write, Bump, Loop, Branch, Close, Safe, Pause, Region}
 use Rattle.octet_model.specs.declared.limits.TheConstants.{MAX_FUEL, MAX_OBJECTS, MAX_THREADS, REGISTERS}
 use Rattle.octet_model.specs.declared.object.Object.{Object}
 
@@ -28,6 +28,7 @@ is_command objects (Branch test) = is_register test
 is_command objects Close = true
 is_command objects Safe = true
 is_command objects Pause = true
+is_command objects Region = true
 
 -- after a number of openers that are still open: each closer ends an opener, and each opener is ended
 abbrev pub is_nested : ℕ → List Command → Bool

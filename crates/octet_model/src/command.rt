@@ -33,4 +33,6 @@ pub enum Command {
     Safe,
     /// The thread is marked blocked, and then unblocked again.
     Pause,
+    /// Where a new region of the thread begins.
+    Region,
 }

@@ -164,6 +164,7 @@ command_refused names n first verb.If arguments cause count is =
 command_refused names n first verb.End arguments cause count is = absurd (never cause is)
 command_refused names n first verb.Safe arguments cause count is = absurd (never cause is)
 command_refused names n first verb.Pause arguments cause count is = absurd (never cause is)
+command_refused names n first verb.Region arguments cause count is = absurd (never cause is)
 
 arguments_refused : (said : Draft) (n : ℕ) (first : List ℕ) (arguments : List (List ℕ)) (k : Keyword) (cause : ScriptCause) → suc (length arguments) ≡ word_count k → first_fault (names_of said) (kinds k) arguments ≡ Some cause → judged_arguments said n (first ∷ arguments) k ≡ Err (Refused n cause)
 arguments_refused said n first arguments Fuel cause count is =

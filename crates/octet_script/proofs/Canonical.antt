@@ -238,6 +238,7 @@ good_command names (command.Branch test) are is = (refl, (good_word names (codes
 good_command names command.Close are is = (refl, (good_word names (codes "end") refl refl, tt))
 good_command names command.Safe are is = (refl, (good_word names (codes "safe") refl refl, tt))
 good_command names command.Pause are is = (refl, (good_word names (codes "pause") refl refl, tt))
+good_command names command.Region are is = (refl, (good_word names (codes "region") refl refl, tt))
 
 good_append : (names : List (List ℕ)) (forms more : List (List Part)) → AreGoodForms names forms → AreGoodForms names more → AreGoodForms names (forms ++ more)
 good_append names [] more good rest = rest

@@ -86,6 +86,8 @@ command_judged p line command.Safe first [] started w = rw (w.0, started) refl
 command_judged p line command.Safe first (a ∷ more) started w = absurd w.1
 command_judged p line command.Pause first [] started w = rw (w.0, started) refl
 command_judged p line command.Pause first (a ∷ more) started w = absurd w.1
+command_judged p line command.Region first [] started w = rw (w.0, started) refl
+command_judged p line command.Region first (a ∷ more) started w = absurd w.1
 
 -- the command is taken, and the openers that are left are closed by the rest
 pub record TakesCommand (p : Draft) (line : ℕ) (c : Command) (rest : List Command) : Type 0 where
@@ -121,6 +123,7 @@ command_taken p line (command.Write a b) rest nested = plain_taken p line (comma
 command_taken p line (command.Bump a b) rest nested = plain_taken p line (command.Bump a b) rest refl nested
 command_taken p line command.Safe rest nested = plain_taken p line command.Safe rest refl nested
 command_taken p line command.Pause rest nested = plain_taken p line command.Pause rest refl nested
+command_taken p line command.Region rest nested = plain_taken p line command.Region rest refl nested
 
 -- all lines are taken, and this is what they say
 pub record Ends (said : Contents) (r : Result Draft ScriptFault) : Type 0 where

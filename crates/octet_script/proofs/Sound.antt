@@ -51,6 +51,7 @@ keyword_word (CommandWord verb.If) = codes "if"
 keyword_word (CommandWord verb.End) = codes "end"
 keyword_word (CommandWord verb.Safe) = codes "safe"
 keyword_word (CommandWord verb.Pause) = codes "pause"
+keyword_word (CommandWord verb.Region) = codes "region"
 keyword_word (CommandWord (verb.Arithmetic op)) = arithmetic_word op
 
 -- each keyword of the list stands beside its word
@@ -69,7 +70,7 @@ named_word [] word found are e = cc
 named_word ((own, k) ∷ more) word found are e = named_step own word k found (named_in more word) (bytes_eq word own) refl are.0 (named_word more word found are.1) e
 
 pub word_of_keyword : (word : List ℕ) (k : Keyword) → keyword word ≡ Some k → word ≡ keyword_word k
-word_of_keyword word k e = named_word keywords word k ((refl, (refl, (refl, (refl, (refl, (refl, (refl, (refl, (refl, (refl, (refl, (refl, (refl, (refl, (refl, (refl, (refl, (refl, (refl, tt)))))))))))))))))))) e
+word_of_keyword word k e = named_word keywords word k ((refl, (refl, (refl, (refl, (refl, (refl, (refl, (refl, (refl, (refl, (refl, (refl, (refl, (refl, (refl, (refl, (refl, (refl, (refl, (refl, tt))))))))))))))))))))) e
 
 operation_form : (op : Arithmetic) (to left right : ℕ) → command_form (arithmetic_command op to left right) ≡ Word (arithmetic_word op) ∷ Register to ∷ Register left ∷ Register right ∷ []
 operation_form operation.Add to left right = refl
@@ -173,6 +174,10 @@ command_written names line first [] verb.Pause c word count is =
     let same : command.Pause ≡ c = cc in
     subst (λ d. AllZip (IsPart names) (command_form d) (first ∷ [])) same (word, tt)
 command_written names line first (a ∷ more) verb.Pause c word count is = absurd (omega arith)
+command_written names line first [] verb.Region c word count is =
+    let same : command.Region ≡ c = cc in
+    subst (λ d. AllZip (IsPart names) (command_form d) (first ∷ [])) same (word, tt)
+command_written names line first (a ∷ more) verb.Region c word count is = absurd (omega arith)
 
 -- the lines so far are written for what they have said
 pub record Told (p : Draft) (said : List (List (List ℕ))) : Type 0 where
@@ -329,6 +334,7 @@ command_adds p q line (command.Write a b) is = plain_adds p q line (command.Writ
 command_adds p q line (command.Bump a b) is = plain_adds p q line (command.Bump a b) refl is
 command_adds p q line command.Safe is = plain_adds p q line command.Safe refl is
 command_adds p q line command.Pause is = plain_adds p q line command.Pause refl is
+command_adds p q line command.Region is = plain_adds p q line command.Region refl is
 
 arguments_told : (p q : Draft) (line : ℕ) (first : List ℕ) (others : List (List ℕ)) (said : List (List (List ℕ))) (k : Keyword) → first ≡ keyword_word k → length (first ∷ others) ≡ word_count k → is_misplaced p.started k ≡ false → judged_arguments p line (first ∷ others) k ≡ Ok q → IsValidSoFar p → Told p said → Told q (said ++ (first ∷ others) ∷ [])
 arguments_told p q line first others said Fuel word count placed is valid told =

@@ -166,6 +166,7 @@ plain_nested zero (command.Write a b) is rest = refl
 plain_nested zero (command.Bump a b) is rest = refl
 plain_nested zero command.Safe is rest = refl
 plain_nested zero command.Pause is rest = refl
+plain_nested zero command.Region is rest = refl
 plain_nested zero (command.Loop a) is rest = absurd (false≢true is)
 plain_nested zero (command.Branch a) is rest = absurd (false≢true is)
 plain_nested zero command.Close is rest = absurd (false≢true is)
@@ -182,6 +183,7 @@ plain_nested (suc depth) (command.Write a b) is rest = refl
 plain_nested (suc depth) (command.Bump a b) is rest = refl
 plain_nested (suc depth) command.Safe is rest = refl
 plain_nested (suc depth) command.Pause is rest = refl
+plain_nested (suc depth) command.Region is rest = refl
 plain_nested (suc depth) (command.Loop a) is rest = absurd (false≢true is)
 plain_nested (suc depth) (command.Branch a) is rest = absurd (false≢true is)
 plain_nested (suc depth) command.Close is rest = absurd (false≢true is)
@@ -208,6 +210,7 @@ with_plain p line (command.Write a b) is = refl
 with_plain p line (command.Bump a b) is = refl
 with_plain p line command.Safe is = refl
 with_plain p line command.Pause is = refl
+with_plain p line command.Region is = refl
 with_plain p line (command.Loop a) is = absurd (false≢true is)
 with_plain p line (command.Branch a) is = absurd (false≢true is)
 with_plain p line command.Close is = absurd (false≢true is)
@@ -263,6 +266,7 @@ command_valid p q line (command.Write a b) is started good valid = plain_valid p
 command_valid p q line (command.Bump a b) is started good valid = plain_valid p q line (command.Bump a b) refl is started good valid
 command_valid p q line command.Safe is started good valid = plain_valid p q line command.Safe refl is started good valid
 command_valid p q line command.Pause is started good valid = plain_valid p q line command.Pause refl is started good valid
+command_valid p q line command.Region is started good valid = plain_valid p q line command.Region refl is started good valid
 
 register_read : (line : ℕ) (words : List (List ℕ)) (place r : ℕ) → register_at line words place ≡ Ok r → nat_lt r 16 ≡ true
 register_read line words place r is = lt-ltb r 16 (register_small (word_at words place) r (ok_or_ok (register_of (word_at words place)) (Refused line BadRegister) r is))
@@ -324,6 +328,7 @@ command_good names line words verb.If c is =
 command_good names line words verb.End c is = ap (is_command (length names)) (let same : c ≡ command.Close = cc in same)
 command_good names line words verb.Safe c is = ap (is_command (length names)) (let same : c ≡ command.Safe = cc in same)
 command_good names line words verb.Pause c is = ap (is_command (length names)) (let same : c ≡ command.Pause = cc in same)
+command_good names line words verb.Region c is = ap (is_command (length names)) (let same : c ≡ command.Region = cc in same)
 
 arguments_valid : (p q : Draft) (line : ℕ) (words : List (List ℕ)) (k : Keyword) → is_misplaced p.started k ≡ false → judged_arguments p line words k ≡ Ok q → IsValidSoFar p → IsValidSoFar q
 arguments_valid p q line words Fuel placed is valid = fuel_valid p q line words placed is valid

@@ -121,6 +121,8 @@ command_changes p line words verb.Safe c is =
     made (λ d. (q : Draft) → with_command p line d ≡ Ok q → Changes (CommandWord verb.Safe) p line q) command.Safe (added_plain p line command.Safe refl) c is
 command_changes p line words verb.Pause c is =
     made (λ d. (q : Draft) → with_command p line d ≡ Ok q → Changes (CommandWord verb.Pause) p line q) command.Pause (added_plain p line command.Pause refl) c is
+command_changes p line words verb.Region c is =
+    made (λ d. (q : Draft) → with_command p line d ≡ Ok q → Changes (CommandWord verb.Region) p line q) command.Region (added_plain p line command.Region refl) c is
 
 arguments_change : (p : Draft) (line : ℕ) (words : List (List ℕ)) (k : Keyword) (q : Draft) → judged_arguments p line words k ≡ Ok q → Changes k p line q
 arguments_change p line words Fuel =
@@ -173,6 +175,7 @@ known (CommandWord verb.If) = refl
 known (CommandWord verb.End) = refl
 known (CommandWord verb.Safe) = refl
 known (CommandWord verb.Pause) = refl
+known (CommandWord verb.Region) = refl
 
 -- a line whose first word is this keyword's
 changes_by : (own : Keyword) (p q : Draft) (line : ℕ) (words : List (List ℕ)) → [] ≢ keyword_word own → first_of words ≡ keyword_word own → judged_line p line words ≡ Ok q → Changes own p line q
@@ -201,6 +204,7 @@ plain_by (CommandWord verb.If) p q number no_while no_if no_end is = absurd (no_
 plain_by (CommandWord verb.End) p q number no_while no_if no_end is = absurd (no_end refl)
 plain_by (CommandWord verb.Safe) p q number no_while no_if no_end is = is.0
 plain_by (CommandWord verb.Pause) p q number no_while no_if no_end is = is.0
+plain_by (CommandWord verb.Region) p q number no_while no_if no_end is = is.0
 
 plain_words : (words : List (List ℕ)) (p q : Draft) (number : ℕ) → first_of words ≢ codes "while" → first_of words ≢ codes "if" → first_of words ≢ codes "end" → judged_line p number words ≡ Ok q → q.openers ≡ p.openers
 plain_words [] p q number no_while no_if no_end is =

@@ -8,7 +8,7 @@ use Rattle.octet_script.specs.declared.cause.ScriptCause.TheVariants.{UnknownWor
 use Rattle.octet_script.specs.declared.cause.ScriptFault.TheVariants.{Refused}
 use Rattle.octet_script.specs.declared.keyword.Keyword.{Keyword}
 use Rattle.octet_script.specs.declared.keyword.Keyword.TheVariants.{Fuel, Object, Thread, Command as CommandWord}
-use Rattle.octet_script.specs.declared.keyword.Verb.TheVariants.{Set, Copy, Arithmetic, Read, Write, Bump, While, If, End, Safe, Pause}
+use Rattle.octet_script.specs.declared.keyword.Verb.TheVariants.{Set, Copy, Arithmetic, Read, Write, Bump, While, If, End, Safe, Pause, Region}
 use Rattle.octet_script.specs.Words.{lines, words_of_line}
 use Rattle.octet_script.specs.Spelling.{number_of, register_of, object_named}
 use Rattle.octet_script.specs.Parsing.{Draft, start, parsed, judged_lines, keyword, word_count, is_misplaced, names_of, fuel_of, threads_of}
@@ -52,6 +52,7 @@ kinds (CommandWord If) = ARegister ∷ []
 kinds (CommandWord End) = []
 kinds (CommandWord Safe) = []
 kinds (CommandWord Pause) = []
+kinds (CommandWord Region) = []
 
 abbrev pub unless_some : {A : Type 0} → ScriptCause → Option A → Option ScriptCause
 unless_some cause (Some x) = None

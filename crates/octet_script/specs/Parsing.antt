@@ -13,7 +13,7 @@ use Rattle.octet_script.specs.declared.cause.ScriptFault.TheVariants.{Refused, O
 use Rattle.octet_script.specs.declared.keyword.Keyword.{Keyword}
 use Rattle.octet_script.specs.declared.keyword.Keyword.TheVariants.{Fuel, Object, Thread, Command as CommandWord}
 use Rattle.octet_script.specs.declared.keyword.Verb.{Verb}
-use Rattle.octet_script.specs.declared.keyword.Verb.TheVariants.{Set, Copy, Arithmetic, Read, Write, Bump, While, If, End, Safe, Pause}
+use Rattle.octet_script.specs.declared.keyword.Verb.TheVariants.{Set, Copy, Arithmetic, Read, Write, Bump, While, If, End, Safe, Pause, Region}
 use Rattle.octet_script.specs.declared.keyword.Arithmetic.{Arithmetic as ArithmeticType}
 use Rattle.octet_script.specs.declared.keyword.Arithmetic.TheVariants.{Add, Sub, Mul, Xor, Less, Same}
 use Rattle.octet_script.specs.Words.{lines, is_line_end, words_of_line}
@@ -75,7 +75,8 @@ keywords =
     ∷ (codes "if", CommandWord If)
     ∷ (codes "end", CommandWord End)
     ∷ (codes "safe", CommandWord Safe)
-    ∷ (codes "pause", CommandWord Pause) ∷ []
+    ∷ (codes "pause", CommandWord Pause)
+    ∷ (codes "region", CommandWord Region) ∷ []
 
 abbrev pub named_in : List (List ℕ × Keyword) → List ℕ → Option Keyword
 named_in [] word = None
@@ -100,6 +101,7 @@ word_count (CommandWord If) = 2
 word_count (CommandWord End) = 1
 word_count (CommandWord Safe) = 1
 word_count (CommandWord Pause) = 1
+word_count (CommandWord Region) = 1
 
 -- 3. the fuel and objects stand before the first thread, commands after it
 abbrev pub is_misplaced : Bool → Keyword → Bool
@@ -175,6 +177,7 @@ command_of names line words If = do
 command_of names line words End = Ok command.Close
 command_of names line words Safe = Ok command.Safe
 command_of names line words Pause = Ok command.Pause
+command_of names line words Region = Ok command.Region
 
 -- 5. an object, of 1,024 at most
 abbrev pub with_object : Draft → ℕ → List ℕ → ℕ → Result Draft ScriptFault

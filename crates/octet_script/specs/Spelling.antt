@@ -5,7 +5,7 @@ use Rattle.std.specs.Fmt.{decimal}
 use Rattle.std.specs.Str.{IsUtf8, bytes_eq, all_ascii_digits}
 use Rattle.std.specs.Str.Parse.{digits_value}
 use Rattle.octet_model.specs.declared.command.Command.{Command}
-use Rattle.octet_model.specs.declared.command.Command.TheVariants.{Set, Copy, Add, Sub, Mul, Xor, Less, Same, Read, Write, Bump, Loop, Branch, Close, Safe, Pause}
+use Rattle.octet_model.specs.declared.command.Command.TheVariants.{Set, Copy, Add, Sub, Mul, Xor, Less, Same, Read, Write, Bump, Loop, Branch, Close, Safe, Pause, Region}
 use Rattle.octet_model.specs.declared.object.Object.{Object}
 use Rattle.octet_model.specs.declared.script.Script.{Script}
 use Rattle.octet_model.specs.declared.limits.TheConstants.{DEFAULT_FUEL}
@@ -68,6 +68,7 @@ command_form (Branch test) = Word (codes "if") ∷ Register test ∷ []
 command_form Close = Word (codes "end") ∷ []
 command_form Safe = Word (codes "safe") ∷ []
 command_form Pause = Word (codes "pause") ∷ []
+command_form Region = Word (codes "region") ∷ []
 
 -- a name and the value that its object starts with
 pub record Declaration : Type 0 where

@@ -29,6 +29,7 @@ pub(crate) enum Verb {
     End,
     Safe,
     Pause,
+    Region,
 }
 
 /// The first word of a line.
@@ -65,6 +66,7 @@ impl Keyword {
             b"end" => Some(Keyword::Command(Verb::End)),
             b"safe" => Some(Keyword::Command(Verb::Safe)),
             b"pause" => Some(Keyword::Command(Verb::Pause)),
+            b"region" => Some(Keyword::Command(Verb::Region)),
             _ => None,
         }
     }
@@ -90,7 +92,7 @@ impl Verb {
             Verb::Set | Verb::Copy | Verb::Read | Verb::Write | Verb::Bump => 3,
             Verb::Arithmetic(_) => 4,
             Verb::While | Verb::If => 2,
-            Verb::End | Verb::Safe | Verb::Pause => 1,
+            Verb::End | Verb::Safe | Verb::Pause | Verb::Region => 1,
         }
     }
 }

@@ -204,6 +204,7 @@ impl<'l, 'a> Line<'l, 'a> {
             Verb::End => Ok(Command::Close),
             Verb::Safe => Ok(Command::Safe),
             Verb::Pause => Ok(Command::Pause),
+            Verb::Region => Ok(Command::Region),
         }
     }
 }

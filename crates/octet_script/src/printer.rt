@@ -71,6 +71,7 @@ fn push_words(out: &mut Vec<u8>, objects: &[Object], command: Command) -> Result
         Command::Close => push_registers(out, b"end", &[]),
         Command::Safe => push_registers(out, b"safe", &[]),
         Command::Pause => push_registers(out, b"pause", &[]),
+        Command::Region => push_registers(out, b"region", &[]),
     }
 }
 

@@ -3,7 +3,7 @@ use std::alloc::{AllocError, Global};
 use std::test::*;
 
 // A text, and the line and the number of its first refusal.
-const REFUSALS: [(&[u8], u32, u8); 72] = [
+const REFUSALS: [(&[u8], u32, u8); 74] = [
     (b"", 1, 13),
     (b"\n \t\r\n# thread\n", 4, 13),
     (b"object x 1\nthread\nread r16 x", 3, 8),
@@ -29,10 +29,12 @@ const REFUSALS: [(&[u8], u32, u8); 72] = [
     (b"thread\nadd r0 r1", 2, 3),
     (b"thread\nbump x r0 r0", 2, 3),
     (b"thread\nend end", 2, 3),
+    (b"thread\nregion r0", 2, 3),
     (b"set r99 x", 1, 9),
     (b"end", 1, 9),
     (b"bump x r16", 1, 9),
     (b"safe", 1, 9),
+    (b"region", 1, 9),
     (b"thread\nfuel", 2, 3),
     (b"thread\nfuel x", 2, 9),
     (b"thread\nobject 1 x", 2, 9),
@@ -118,8 +120,8 @@ const SPELLINGS: [(&[u8], &[u8]); 4] = [
         b"fuel 16384\nobject thread 18446744073709551615\nobject end 0\nthread\nwrite end r15\nthread\nread r10 thread\nbump end r15\n",
     ),
     (
-        b"fuel 9\nthread\nset r1 2\ncopy r3 r4\nadd r1 r2 r3\nsub r4 r5 r6\nmul r7 r8 r9\nxor r10 r11 r12\nless r13 r14 r15\nsame r0 r1 r2\nwhile r3\nif r4\nend\nend\nsafe\npause\n",
-        b"fuel 9\nthread\nset r1 2\ncopy r3 r4\nadd r1 r2 r3\nsub r4 r5 r6\nmul r7 r8 r9\nxor r10 r11 r12\nless r13 r14 r15\nsame r0 r1 r2\nwhile r3\nif r4\nend\nend\nsafe\npause\n",
+        b"fuel 9\nthread\nset r1 2\ncopy r3 r4\nadd r1 r2 r3\nsub r4 r5 r6\nmul r7 r8 r9\nxor r10 r11 r12\nless r13 r14 r15\nsame r0 r1 r2\nwhile r3\nif r4\nend\nend\nsafe\npause\nregion\n",
+        b"fuel 9\nthread\nset r1 2\ncopy r3 r4\nadd r1 r2 r3\nsub r4 r5 r6\nmul r7 r8 r9\nxor r10 r11 r12\nless r13 r14 r15\nsame r0 r1 r2\nwhile r3\nif r4\nend\nend\nsafe\npause\nregion\n",
     ),
 ];
 

@@ -96,17 +96,17 @@ module _ (behavior : Behavior) where
           new a b edge here.0 here.1 (at_same J b.thread t b.event (count s.journals t) here.0 here.1 ∙ is)
 
 -- two operations whose order does not matter
-record Apart (v w : Operation) : Type 0 where
-  heaps : (heap : List ℕ) → heap_after v (heap_after w heap) ≡ heap_after w (heap_after v heap)
-  first : (heap : List ℕ) → event_made v (heap_after w heap) ≡ event_made v heap
-  second : (heap : List ℕ) → event_made w (heap_after v heap) ≡ event_made w heap
+pub record Apart (v w : Operation) : Type 0 where
+  pub heaps : (heap : List ℕ) → heap_after v (heap_after w heap) ≡ heap_after w (heap_after v heap)
+  pub first : (heap : List ℕ) → event_made v (heap_after w heap) ≡ event_made v heap
+  pub second : (heap : List ℕ) → event_made w (heap_after v heap) ≡ event_made w heap
 
 -- two accesses of one object, of which one writes
-record Clash (v w : Operation) : Type 0 where
-  object : ℕ
-  of_first : (heap : List ℕ) → object_of (event_made v heap) ≡ Some object
-  of_second : (heap : List ℕ) → object_of (event_made w heap) ≡ Some object
-  one_writes : (heap heap' : List ℕ) → IsTrue (is_write (event_made v heap) || is_write (event_made w heap'))
+pub record Clash (v w : Operation) : Type 0 where
+  pub object : ℕ
+  pub of_first : (heap : List ℕ) → object_of (event_made v heap) ≡ Some object
+  pub of_second : (heap : List ℕ) → object_of (event_made w heap) ≡ Some object
+  pub one_writes : (heap heap' : List ℕ) → IsTrue (is_write (event_made v heap) || is_write (event_made w heap'))
 
 -- what an access makes follows from the value of its object, and it changes no other
 record IsAccessOf (object : ℕ) (v : Operation) : Type 0 where
@@ -147,7 +147,7 @@ by_objects {o} {p} {v} {w} a b one_writes =
       | inr differ ↦ inl (apart_accesses o p v w a b differ)
     ]
 
-apart_or_clash : (v w : Operation) → Apart v w ⊎ Clash v w
+pub apart_or_clash : (v w : Operation) → Apart v w ⊎ Clash v w
 apart_or_clash (MakeMark m) w = inl (record { heaps = λ h. refl; first = λ h. refl; second = λ h. refl })
 apart_or_clash v (MakeMark m) = inl (record { heaps = λ h. refl; first = λ h. refl; second = λ h. refl })
 apart_or_clash (MakeRead o) (MakeRead p) = inl (record { heaps = λ h. refl; first = λ h. refl; second = λ h. refl })

@@ -12,7 +12,7 @@ use Rattle.octet_model.specs.Machine.{Journals, journal_of, PlainState, no_event
 use Rattle.octet_model.specs.Journals.{log_of, log_of_journal}
 use Rattle.octet_model.specs.HappensBefore.{event_at, Edge, ProgramOrder, Joined, Drawn, Fenced, IsEvent, IsPath, HappensBefore, is_write, Conflict, IsOrdered}
 use Rattle.octet_model.specs.Frugal.{IsFrugal}
-use Rattle.octet_model.specs.Orders.{by_log, starting_heap, lowest_front, state_after, journals_after, outcome_of, IsLawfulOrder, IsFaithful, FitsScript}
+use Rattle.octet_model.specs.Orders.{by_log, opening_state, starting_heap, lowest_front, state_after, journals_after, outcome_of, IsLawfulOrder, IsFaithful, FitsScript}
 use Rattle.octet_model.specs.Plays.{operation_of, next_in, by_journals, state_after_play, MakesAll, lowest_play, IsOneHistory}
 use Rattle.octet_model.proofs.lemmas.Steps.{at, count, stays_appended, as_many, new_event, where_new, makes_from, what_it_makes}
 use Rattle.octet_model.proofs.lemmas.Fronts.{front_on, after_on, one_end, no_journal}
@@ -148,13 +148,11 @@ module _ (script : Script) (journals : Journals) (fit : FitsScript script journa
         ap (λ (x : PlainState). after V x order) same ∙ r.1,
       )
 
--- where a play makes all of ordered and frugal journals that fit a script to its threads' ends, the journals' log is faithful
-pub faithful_from_play : (script : Script) (journals : Journals) (play : List ℕ) → IsOrdered journals → IsFrugal journals
-    → MakesAll (starting_heap script) journals play → length script.threads ≡ length journals → FitsScript script journals
-    → IsFaithful script (log_of journals) (outcome_of script (state_after_play (starting_heap script) journals play))
-faithful_from_play script journals play ordered frugal all threads fit =
+-- where a play makes all of journals that fit a script to its threads' ends, it is an order of the script and their log
+pub order_from_play : (script : Script) (journals : Journals) (play : List ℕ) → MakesAll (starting_heap script) journals play → length script.threads ≡ length journals → FitsScript script journals
+    → IsOrder (by_log script (log_of journals)) (opening_state script) play × (state_after script (log_of journals) play ≡ state_after_play (starting_heap script) journals play)
+order_from_play script journals play all threads fit =
     let V = by_log script (log_of journals) in
-    let W = by_journals journals in
     let starts = starting_heap script in
     let s1 = state_after_play starts journals play in
     let r = play_by_log script journals fit play (starting_state starts journals) all.makes all.is_play in
@@ -165,8 +163,19 @@ faithful_from_play script journals play ordered frugal all threads fit =
     (ap (λ (j : List Event). slice_get (journal_of journals t) (length j)) (ap (λ (js : Journals). journal_of js t) all.makes) ∙ slice_get_past (journal_of journals t) (length (journal_of journals t)) (omega arith))
     (next_same script journals fit s1 t [] lt' here) in
     let Q : PlainState → Type 0 = λ z. IsOrder V z play × (after V z play ≡ s1) in
-    let q = subst Q (ap (λ (n : Journals). record (starting_state starts journals) { journals = n }) (same_start journals script.threads (sym threads)))
-    ((r.0, subst (λ (x : PlainState). AllFinished V x) (sym r.1) through), r.1) in
+    subst Q (ap (λ (n : Journals). record (starting_state starts journals) { journals = n }) (same_start journals script.threads (sym threads)))
+    ((r.0, subst (λ (x : PlainState). AllFinished V x) (sym r.1) through), r.1)
+
+-- where a play makes all of ordered and frugal journals that fit a script to its threads' ends, the journals' log is faithful
+pub faithful_from_play : (script : Script) (journals : Journals) (play : List ℕ) → IsOrdered journals → IsFrugal journals
+    → MakesAll (starting_heap script) journals play → length script.threads ≡ length journals → FitsScript script journals
+    → IsFaithful script (log_of journals) (outcome_of script (state_after_play (starting_heap script) journals play))
+faithful_from_play script journals play ordered frugal all threads fit =
+    let V = by_log script (log_of journals) in
+    let W = by_journals journals in
+    let starts = starting_heap script in
+    let s1 = state_after_play starts journals play in
+    let q = order_from_play script journals play all threads fit in
     let as_many : length script.threads ≡ length (log_of journals) = threads ∙ sym (length-map journals log_of_journal) in
     let journals_are : journals_after script (log_of journals) play ≡ journals = ap (λ (x : PlainState). x.journals) q.1 ∙ all.makes in
     let one : (order : List ℕ) → IsLawfulOrder script (log_of journals) order → state_after script (log_of journals) order ≡ s1 =

@@ -10,7 +10,7 @@ use Rattle.std.specs.Bool.{Decides}
 use Rattle.std.specs.List.{HoldsAt, list_all, list_any, sum_by, count_by}
 use Rattle.std.specs.Str.{bytes_eq}
 use Rattle.octet_model.specs.declared.command.Command.{Command}
-use Rattle.octet_model.specs.declared.command.Command.TheVariants.{Set, Copy, Add, Sub, Mul, Xor, Less, Same, Read, Write, Bump, Loop, Branch, Close, Safe, Pause}
+use Rattle.octet_model.specs.declared.command.Command.TheVariants.{Set, Copy, Add, Sub, Mul, Xor, Less, Same, Read, Write, Bump, Loop, Branch, Close, Safe, Pause, Region}
 use Rattle.octet_model.specs.declared.event.Mark.{Mark}
 use Rattle.octet_model.specs.declared.event.Mark.TheVariants.{Join, Draw, Fence}
 use Rattle.octet_model.specs.declared.log.Gapped.{Gapped}
@@ -57,6 +57,7 @@ command_decides objects (Branch test) = registers_alone (Decides-ltb test REGIST
 command_decides objects Close = always
 command_decides objects Safe = always
 command_decides objects Pause = always
+command_decides objects Region = always
 
 -- nested, after a number of openers that are still open
 record NestedFrom (depth : ℕ) (commands : List Command) : Type 0 where
