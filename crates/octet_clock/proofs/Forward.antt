@@ -1,11 +1,11 @@
 -- In a whole play edges lead forward, so journals are ordered exactly where each step is joined up with all earlier conflicts.
-use Rattle.std.proofs.Common.{◌≡◌, ℕ, suc, ◌-◌, ◌<◌, ◌≤◌, ◌⊎◌, inl, inr, Bool, true, false, ◌||◌, List, [], ◌∷◌, ◌++◌, length, refl, sym, ap, ◌∙◌, subst, arith}
+use Rattle.std.proofs.Common.{◌≡◌, ℕ, suc, ◌-◌, ◌<◌, ◌≤◌, ◌⊎◌, inl, inr, List, [], ◌∷◌, ◌++◌, length, sym, ap, ◌∙◌, subst, arith}
 use Rattle.std.proofs.lemmas.Bool.{cases_lt}
 use Rattle.octet_model.specs.declared.event.Mark.TheVariants.{Join, Draw, Fence}
 use Rattle.octet_model.specs.declared.event.Event.TheVariants.{Marked}
 use Rattle.octet_model.specs.declared.event.Place.{Place}
 use Rattle.octet_model.specs.Machine.{Journals}
-use Rattle.octet_model.specs.HappensBefore.{Edge, ProgramOrder, Joined, Drawn, Fenced, IsPath, HappensBefore, is_write, Conflict, IsOrdered}
+use Rattle.octet_model.specs.HappensBefore.{Edge, ProgramOrder, Joined, Drawn, Fenced, IsPath, HappensBefore, Conflict, IsOrdered}
 use Rattle.octet_model.proofs.lemmas.Growth.{swapped}
 use Rattle.octet_clock.specs.Play.{made_by, step_place, IsMadeBefore, IsWholePlay}
 use Rattle.octet_clock.specs.Verdict.{FollowsConflicts, IsFirstUnordered}

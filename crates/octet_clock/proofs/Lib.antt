@@ -1,3 +1,4 @@
+pub mod lemmas
 mod Edges
 mod Known
 mod KeptMarks
@@ -9,3 +10,7 @@ mod Taking
 mod Checking
 mod WholePlay
 mod Verifying
+mod Following
+mod LowestPlays
+mod WalksAlone
+mod JournalsAlone

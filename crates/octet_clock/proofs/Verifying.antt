@@ -26,7 +26,7 @@ use Rattle.octet_clock.specs.Sources.{IsNextStep}
 use Rattle.octet_clock.specs.Verdict.{JudgedUpTo}
 use Rattle.octet_clock.specs.Verified.{HasOneOutcome, IsVerified, IsJudged}
 use Rattle.octet_clock.proofs.Checking.{has_room, verdict_is}
-use Rattle.octet_clock.proofs.WholePlay.{whole_play, step_of_play}
+use Rattle.octet_clock.proofs.WholePlay.{whole_play, step_of_play, lowest_is_lawful_front}
 
 -- where the journals of the lowest order are ordered, the log has one outcome
 one_outcome : (script : Script) (log : List ThreadLog) → IsLawfulOrder script log (lowest_order script log) → IsOrdered (journals_after script log (lowest_order script log)) → HasOneOutcome script log
@@ -53,8 +53,8 @@ module _ (r : ReplayState) (agree : length r.script.threads ≡ length r.log.thr
   pub next_of_play : IsNextStep (journals_after r.script r.log.threads (lowest_order r.script r.log.threads)) (lowest_order r.script r.log.threads) r.steps t event
   next_of_play = record {
     places = places;
-    whole = whole_play r.script r.log.threads agree;
-    step = step_of_play r.script r.log.threads agree r.steps t event next.within next.is_of there next.makes;
+    whole = whole_play r.script r.log.threads (lowest_order r.script r.log.threads) (lowest_is_lawful_front r.script r.log.threads agree);
+    step = step_of_play r.script r.log.threads (lowest_order r.script r.log.threads) (lowest_is_lawful_front r.script r.log.threads agree) r.steps t event next.within next.is_of there next.makes;
   }
 
   pub thread_within : t < length r.log.threads
@@ -65,7 +65,7 @@ module _ (r : ReplayState) (agree : length r.script.threads ≡ length r.log.thr
   room_for =
       subst (λ (u : ℕ). suc (made_by (lowest_order r.script r.log.threads) r.steps u) < 2 ^ 32) next.is_of
       (has_room (journals_after r.script r.log.threads (lowest_order r.script r.log.threads)) (lowest_order r.script r.log.threads) r.steps
-      (record { places = places; whole = whole_play r.script r.log.threads agree; within = next.within }))
+      (record { places = places; whole = whole_play r.script r.log.threads (lowest_order r.script r.log.threads) (lowest_is_lawful_front r.script r.log.threads agree); within = next.within }))
 
 -- a checker holds what a replay of this script and log has made
 pub record HoldsOf (script : Script) (log : Log) (r : ReplayState) (checker : Checker) : Type 0 where
@@ -115,5 +115,5 @@ module _ (script : Script) (log : Log) (before after : ReplayState) (opens : bef
   pub verified : (verdict : Verdict) → IsJudged before after verdict → IsLawfulOrder script log.threads (lowest_order script log.threads) → IsVerified script log.threads verdict
   verified verdict judged lawful =
       let judged' = subst (λ (r : ReplayState). IsJudged r after verdict) opens judged in
-      let told = verdict_is (journals_after script log.threads (lowest_order script log.threads)) (lowest_order script log.threads) verdict (whole_play script log.threads lawful.0) (judged_all verdict lawful.0 judged') in
+      let told = verdict_is (journals_after script log.threads (lowest_order script log.threads)) (lowest_order script log.threads) verdict (whole_play script log.threads (lowest_order script log.threads) (lowest_is_lawful_front script log.threads lawful.0)) (judged_all verdict lawful.0 judged') in
       record { lawful = lawful; told = told; one_outcome = λ ordered. one_outcome script log.threads lawful (told.ordered.0 ordered) }

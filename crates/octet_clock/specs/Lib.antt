@@ -7,3 +7,9 @@ pub mod Play
 pub mod Sources
 pub mod Verdict
 pub mod Verified
+pub mod Untied
+pub mod Following
+pub mod LogWalks
+pub mod Ordered
+pub mod Fronts
+pub mod Laws

@@ -4,6 +4,7 @@ ghost use Rattle.octet_model.specs.declared.event.Event.{Event};
 ghost use Rattle.octet_model.specs.declared.event.Event.TheVariants.{Marked};
 ghost use Rattle.octet_model.specs.Machine.{Journals};
 ghost use Rattle.octet_model.specs.HappensBefore.{object_of, is_write};
+ghost use Rattle.octet_clock.specs.declared.verdict.Verdict.TheVariants.{Ordered};
 ghost use Rattle.octet_clock.specs.Checker.{Holds, TakesEvent};
 ghost use Rattle.octet_clock.specs.Clock.{count_in};
 ghost use Rattle.octet_clock.specs.Sources.{IsNextStep};
@@ -21,18 +22,19 @@ use std::alloc::Global;
 
 /// What is known of the events so far.
 #[derive(Debug, Drop)]
-struct Checker {
-    made: Clock,
+pub(crate) struct Checker {
+    pub(crate) made: Clock,
     marks: Vec<Marks>,
     draws: Vec<Prefix>,
     accesses: Accesses,
-    verdict: Verdict,
+    pub(crate) verdict: Verdict,
 }
 
 impl Checker {
-    fn new(alloc: Global, threads: usize) -> Result<Checker, OutOfMemory>
+    pub(crate) fn new(alloc: Global, threads: usize) -> Result<Checker, OutOfMemory>
         ensures many { IfOk result (λ checker. length checker.marks.items ≡ threads) }
         ensures holds { IfOk result (λ checker. (journals : Journals) (play : List ℕ) → length journals ≡ threads → Holds journals play 0 checker) }
+        ensures ordered { IfOk result (λ checker. checker.verdict ≡ Ordered) }
     {
         let mut marks = Vec::new(alloc);
         for _ in 0..threads {
@@ -113,7 +115,7 @@ impl Checker {
     }
 
     /// Takes in a thread's next event.
-    fn take_in(&mut self, thread: usize, event: Event) -> Result<(), OutOfMemory>
+    pub(crate) fn take_in(&mut self, thread: usize, event: Event) -> Result<(), OutOfMemory>
         requires threads { length self.old.marks.items ≤ MAX_THREADS }
         requires thread { thread < length self.old.marks.items }
         requires room { count_in self.old.made thread + 1 < 2 ^ 32 }

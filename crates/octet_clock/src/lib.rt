@@ -5,6 +5,9 @@
 mod accesses;
 mod checker;
 mod clock;
+mod journal_check;
+pub mod laws;
+mod log_walk;
 mod marks;
 mod sources;
 #[cfg(test)]
@@ -12,5 +15,7 @@ mod tests;
 mod verdict;
 mod verified;
 
+pub use journal_check::ordered;
+pub use log_walk::untied;
 pub use verdict::Verdict;
 pub use verified::verify;

@@ -26,7 +26,7 @@ use Rattle.octet_replay.specs.ReplayState.{plain_state, HasHalted}
 use Rattle.octet_replay.specs.Replayed.{state_of, FindsIn, FindsNothing, IsAt, IsFinishedHere, TellsMisfit}
 use Rattle.octet_replay.proofs.lemmas.Halting.{is_last_state}
 use Rattle.octet_replay.proofs.Stepping.{next_here}
-use Rattle.octet_replay.proofs.Valid.{few_marks}
+use Rattle.octet_replay.proofs.lemmas.Valid.{few_marks}
 
 some_thread : (threads : List ThreadReplay) (t : ℕ) → t < length threads → (x : ThreadReplay) × (slice_get threads t ≡ Some x)
 some_thread threads t within =

@@ -1,8 +1,8 @@
 -- Threads that stay where their needs say, as lists and counts grow.
-use Rattle.std.proofs.Common.{◌≡◌, ◌≢◌, ℕ, zero, suc, ◌<◌, ◌⊎◌, inl, inr, Bool, true, false, List, [], ◌∷◌, length, Option, Some, None, get_or, slice_get, slice_set, eqb, nat_le, refl, sym, ap, ◌∙◌, subst, arith, length-set}
+use Rattle.std.proofs.Common.{◌≡◌, ◌≢◌, ℕ, suc, ◌<◌, ◌⊎◌, inl, inr, Bool, true, false, List, length, Option, Some, None, get_or, slice_get, slice_set, eqb, nat_le, refl, sym, ap, ◌∙◌, subst, arith}
 use Rattle.std.proofs.lemmas.Bool.{cases_eq, cases_lt, le-leb, lt-leb, ne_eqb}
 use Rattle.std.proofs.lemmas.List.{get_or-set_same, get_or-set_other}
-use Rattle.std.proofs.lemmas.Option.{same_Some, slice_get-get_or, slice_get_within, get_or_from_slice_get}
+use Rattle.std.proofs.lemmas.Option.{same_Some, slice_get-get_or, slice_get_within}
 use Rattle.octet_replay.specs.declared.need.Need.{Need}
 use Rattle.octet_replay.specs.declared.need.Need.TheVariants.{Free, Events, DrawsAre, DrawsReach, Never}
 use Rattle.octet_replay.specs.declared.thread_set.ThreadSet.{ThreadSet}
@@ -10,20 +10,8 @@ use Rattle.octet_replay.specs.declared.waiting.WaitingList.{WaitingList}
 use Rattle.octet_replay.specs.declared.waits.Lists.{Lists}
 use Rattle.octet_replay.specs.Needs.{NeedsAndCounts, is_met, is_ready}
 use Rattle.octet_replay.specs.ThreadSet.{has}
+use Rattle.octet_replay.proofs.lemmas.Reading.{get_same, get_other}
 use Rattle.octet_replay.specs.WaitingLists.{counts_of, Awaits, IsListed, IsPlaced, Keeps}
-
--- what stands at a place of a list that was written at a place
-pub get_same : {A : Type 0} (xs : List A) (i : ℕ) (y x : A) → slice_get (slice_set xs i y) i ≡ Some x → y ≡ x
-get_same xs i y x at =
-    sym (get_or-set_same xs i y x (omega (arith, slice_get_within (slice_set xs i y) i x at, length-set xs i y)))
-    ∙ get_or_from_slice_get (slice_set xs i y) i x x at
-
-pub get_other : {A : Type 0} (xs : List A) (i j : ℕ) (y : A) → j ≢ i → slice_get (slice_set xs i y) j ≡ slice_get xs j
-get_other [] i j y differ = refl
-get_other (x ∷ xs) zero zero y differ = absurd (differ refl)
-get_other (x ∷ xs) zero (suc j) y differ = refl
-get_other (x ∷ xs) (suc i) zero y differ = refl
-get_other (x ∷ xs) (suc i) (suc j) y differ = get_other xs i j y (λ same. differ (ap suc same))
 
 -- a list that keeps all that wait on it
 abbrev pub KeepsAll : WaitingList → WaitingList → Type 0

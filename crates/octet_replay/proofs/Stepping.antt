@@ -1,9 +1,9 @@
 -- A replay that makes the steps of the lowest order.
-use Rattle.std.proofs.Common.{◌≡◌, ℕ, zero, suc, ◌^◌, ◌<◌, inl, inr, Bool, true, false, ◌&&◌, if◌then◌else◌, nat_le, nat_lt, eqb, eq-eqb, List, [], ◌∷◌, ◌++◌, length, replicate, take, Option, Some, None, IsTrue, IsFalse, get_or, slice_get, slice_set, refl, sym, ap, ◌∙◌, subst, arith, length-set}
-use Rattle.std.proofs.lemmas.Bool.{cases_eq, cases_lt, lt-ltb, le-ltb, ltb-true, eqb-true, ne_eqb, and_left, and_parts}
-use Rattle.std.proofs.lemmas.List.{get_or-set_same, get_or-set_other, length-map, length-replicate}
-use Rattle.std.proofs.lemmas.List.Sums.{sum_by-cons, sum_by-set}
-use Rattle.std.proofs.lemmas.Option.{same_Some, slice_get_within, slice_get_cases, slice_get-get_or, get_or_from_slice_get}
+use Rattle.std.proofs.Common.{◌≡◌, ℕ, zero, suc, ◌^◌, ◌<◌, inl, inr, Bool, true, false, nat_lt, List, [], ◌∷◌, ◌++◌, length, take, Option, Some, None, IsTrue, get_or, slice_get, slice_set, refl, sym, ap, ◌∙◌, subst, arith, length-set}
+use Rattle.std.proofs.lemmas.Bool.{cases_eq, ltb-true, eqb-true, and_parts}
+use Rattle.std.proofs.lemmas.List.{length-map}
+use Rattle.std.proofs.lemmas.List.Sums.{sum_by-set}
+use Rattle.std.proofs.lemmas.Option.{same_Some, slice_get_within, slice_get_cases, slice_get-get_or}
 use Rattle.std.specs.List.{sum}
 use Rattle.octet_model.specs.declared.command.Command.{Command}
 use Rattle.octet_model.specs.declared.event.Event.{Event}
@@ -14,58 +14,35 @@ use Rattle.octet_model.specs.declared.script.Script.{Script}
 use Rattle.octet_model.specs.declared.log.Log.{Log}
 use Rattle.octet_model.specs.declared.log.ThreadLog.{ThreadLog}
 use Rattle.octet_model.specs.Thread.{AccessOrEnd, ToRead, ToWrite, ToBump, ToEnd, starting_configuration}
-use Rattle.octet_model.specs.Machine.{Behavior, Journals, journal_of, PlainState, Next, Wants, Finished, NothingFits, Operation, MakeMark, MakeRead, MakeWrite, MakeUpdate, is_enabled, event_made, heap_after, draws_after, appended, no_events, next_of, may_proceed, may_step, step, after}
-use Rattle.octet_model.specs.Orders.{commands_of, thread_log_of, by_log, starting_heap, opening_state, lowest_order, IsLowestFront}
+use Rattle.octet_model.specs.Machine.{Journals, journal_of, PlainState, Next, Wants, Finished, NothingFits, Operation, is_enabled, event_made, heap_after, appended, no_events, next_of, may_proceed, may_step, step, after}
+use Rattle.octet_model.specs.Orders.{commands_of, thread_log_of, by_log, starting_heap, opening_state, lowest_order}
 use Rattle.octet_model.specs.Plays.{operation_of}
-use Rattle.octet_model.proofs.lemmas.Steps.{Makes, makes_from, same_journal, as_many_step, other_step, counts_step}
+use Rattle.octet_model.proofs.lemmas.Steps.{Makes, makes_from, same_journal, as_many_step, other_step}
 use Rattle.octet_model.proofs.lemmas.Fronts.{no_journal}
 use Rattle.octet_model.proofs.lemmas.LogsOfJournals.{as_many_after}
 use Rattle.octet_model.proofs.lemmas.LowestFronts.{lowest_order_is_lowest}
 use Rattle.octet_model.proofs.lemmas.Splits.{length_parts}
 use Rattle.octet_model.specs.declared.event.Mark.{Mark}
-use Rattle.octet_model.specs.declared.log.Gapped.{Gapped}
 use Rattle.octet_model.specs.Journals.{due_mark, next_access, mark_first}
 use Rattle.octet_model.specs.Log.{is_log}
 use Rattle.octet_model.specs.Validity.{IsMark}
-use Rattle.octet_model.proofs.lemmas.Validity.{valid_log}
 use Rattle.octet_replay.specs.declared.need.Need.{Need}
 use Rattle.octet_replay.specs.declared.thread.ThreadReplay.{ThreadReplay}
 use Rattle.octet_replay.specs.declared.state.Replay.{Replay}
 use Rattle.octet_replay.specs.NextDemand.{demand_of, NamesObject}
-use Rattle.octet_replay.specs.Needs.{NeedsAndCounts, after_step, no_counts, is_met, is_ready, IsLowestReady, NamesThread}
+use Rattle.octet_replay.specs.Needs.{NeedsAndCounts, after_step, no_counts, is_ready, IsLowestReady, NamesThread}
 use Rattle.octet_replay.specs.ReplayState.{ReplayState, state_at, plain_state, HasHalted, IsNextStep}
 use Rattle.octet_replay.specs.Replayed.{state_of, is_draw, AllNameObjects, AreNeedsOf, AreReplaysOf, CanMake, IsAt, MakesEvent, StandsAt}
 use Rattle.octet_replay.specs.Threads.{need_of, next_by_counts, next_event, Grown, HasRoomFor, IsReplayOf, StandsFor, WritesWithin}
-use Rattle.octet_replay.proofs.lemmas.EventsMade.{DoAlike, do_alike, due_there, same_length}
-use Rattle.octet_replay.proofs.Growing.{by_counts, came_here, grows, stands_for, writes_within, has_room}
-use Rattle.octet_replay.proofs.Valid.{few_accesses, few_marks}
-use Rattle.octet_replay.proofs.Reading.{log_read}
-use Rattle.octet_replay.proofs.Placing.{get_same, get_other, ready_is, not_there}
+use Rattle.octet_replay.proofs.lemmas.Awaiting as awaiting
+use Rattle.octet_replay.proofs.lemmas.Awaiting.{OneMore, one_more, draws_counted, awaits_after, one_counted, awaits_at_start}
+use Rattle.octet_replay.proofs.lemmas.EventsMade.{DoAlike, do_alike, same_length}
+use Rattle.octet_replay.proofs.lemmas.Growing.{by_counts, came_here, grows, stands_for, writes_within, has_room}
+use Rattle.octet_replay.proofs.lemmas.Valid.{few_accesses, few_marks, due_is_valid}
+use Rattle.octet_replay.proofs.lemmas.Reading.{log_read}
+use Rattle.octet_replay.proofs.lemmas.Reading.{get_same, get_other}
 
--- ---- the lowest order, step by step
-module _ (V : Behavior) where
-  record OneMore (order : List ℕ) (s : PlainState) (k t : ℕ) : Type 0 where
-    within : k < length order
-    is_of : get_or order k 0 ≡ t
-    steps : after V s (take (suc k) order) ≡ step V (after V s (take k order)) t
-
-  one_more : (k : ℕ) (order : List ℕ) (s : PlainState) → IsLowestFront V s order → (t : ℕ) → IsTrue (may_step V (after V s (take k order)) t)
-      → ((u : ℕ) → u < t → IsFalse (may_step V (after V s (take k order)) u)) → OneMore order s k t
-  one_more zero [] s low t may lower = absurd (let none = low t in cc)
-  one_more (suc k) [] s low t may lower = absurd (let none = low t in cc)
-  one_more zero (u ∷ order) s low t may lower =
-      elim (cases_lt t u) [
-        | inl below ↦ absurd (let none = low.1 t below in cc)
-        | inr above ↦ elim (cases_lt u t) [
-          | inl below ↦ absurd (let none = lower u below in let may_u = low.0 in cc)
-          | inr above' ↦ let same : u ≡ t = omega arith in record { within = omega arith; is_of = same; steps = ap (step V s) same }
-        ]
-      ]
-  one_more (suc k) (u ∷ order) s low t may lower =
-      let rest = one_more k order (step V s u) low.2 t may lower in
-      record { within = omega (arith, rest.within); is_of = rest.is_of; steps = rest.steps }
-
--- ---- what is next for a thread, and what it waits for
+-- ---- what is next for a thread
 record IsWanted (next : Next) (heap : List ℕ) (event : Event) : Type 0 where
   operation : Operation
   next_is : next ≡ Wants operation
@@ -81,48 +58,10 @@ makes_none s Finished heap may is = cc
 makes_none s NothingFits heap may is = cc
 makes_none s (Wants operation) heap may is = cc
 
-same_test : (n d : ℕ) → eqb n d ≡ eqb (suc n) (suc d)
-same_test n d =
-    elim (cases_eq n d) [
-      | inl same ↦ eq-eqb n d same ∙ sym (eq-eqb (suc n) (suc d) (ap suc same))
-      | inr differ ↦ ne_eqb n d differ ∙ sym (ne_eqb (suc n) (suc d) (λ e. differ (omega arith)))
-    ]
-
-met_may : (s : PlainState) (w : NeedsAndCounts) → ((t : ℕ) → get_or w.events t 0 ≡ length (journal_of s.journals t)) → w.draws ≡ s.draws
-    → (next : Next) → is_met w.events w.draws (need_of next) ≡ may_proceed s next
-met_may s w events draws Finished = refl
-met_may s w events draws NothingFits = refl
-met_may s w events draws (Wants (MakeRead object)) = refl
-met_may s w events draws (Wants (MakeWrite object value)) = refl
-met_may s w events draws (Wants (MakeUpdate object change)) = refl
-met_may s w events draws (Wants (MakeMark (Join from upto))) = ap (λ (n : ℕ). nat_le upto n) (events from)
-met_may s w events draws (Wants (MakeMark (Draw zero))) = sym (ne_eqb 0 (suc s.draws) (λ e. omega arith))
-met_may s w events draws (Wants (MakeMark (Draw (suc n)))) = ap (λ (d : ℕ). eqb n d) draws ∙ same_test n s.draws
-met_may s w events draws (Wants (MakeMark (Fence number))) = ap (λ (d : ℕ). nat_le number d) draws
-
-draws_counted : (event : Event) (draws : ℕ) → (if is_draw event then suc draws else draws) ≡ draws_after (operation_of event) draws
-draws_counted (Read object value) draws = refl
-draws_counted (Write object value) draws = refl
-draws_counted (Update object before after) draws = refl
-draws_counted (Marked (Join from upto)) draws = refl
-draws_counted (Marked (Draw number)) draws = refl
-draws_counted (Marked (Fence number)) draws = refl
-
 module _ (script : Script) (log : List ThreadLog) (s : PlainState) (threads : List ThreadReplay) (heap : List ℕ) (w : NeedsAndCounts) (stands : StandsAt script log s threads heap w) where
   -- a thread may step exactly where its need is met
   pub ready_may : (t : ℕ) → is_ready w t ≡ may_step (by_log script log) s t
-  ready_may t = go (slice_get w.needs t) refl
-    where
-      go : (o : Option Need) → slice_get w.needs t ≡ o → is_ready w t ≡ may_step (by_log script log) s t
-      go None at =
-          elim (slice_get_cases w.needs t).1 [
-            | inl there ↦ absurd (let some = there.2 in cc)
-            | inr past ↦ not_there w t at ∙ sym (and_left _ _ (le-ltb t (length s.journals) (omega (arith, stands.waits.as_many, past.0))))
-          ]
-      go (Some need) at =
-          ready_is w t need at ∙ ap (is_met w.events w.draws) (stands.waits.needs t need at)
-          ∙ met_may s w stands.waits.events stands.waits.draws (next_of (by_log script log) s t)
-          ∙ sym (ap (λ (b : Bool). b && may_proceed s (next_of (by_log script log) s t)) (lt-ltb t (length s.journals) (omega (arith, stands.waits.as_many, slice_get_within w.needs t need at))))
+  ready_may = awaiting.ready_may (by_log script log) s w stands.waits
 
   pub next_here : (t : ℕ) (x : ThreadReplay) → slice_get threads t ≡ Some x → next_of (by_log script log) s t ≡ next_by_counts (thread_log_of log t) x
   next_here t x at = by_counts (commands_of script t) (starting_configuration script.fuel) (length script.objects) (thread_log_of log t) (journal_of s.journals t) x (stands.each t x at)
@@ -190,47 +129,15 @@ module _ (script : Script) (log : List ThreadLog) (s : PlainState) (threads : Li
       own_next : next_of (by_log script log) s' t ≡ next_by_counts (thread_log_of log t) y
       own_next = by_counts (commands_of script t) (starting_configuration script.fuel) (length script.objects) (thread_log_of log t) (journal_of s'.journals t) y becomes
 
-      needs : (u : ℕ) (need : Need) → slice_get w'.needs u ≡ Some need → need ≡ need_of (next_of (by_log script log) s' u)
-      needs u need at_u =
-          let here = ap (λ (v : NeedsAndCounts). slice_get v.needs u) (sym waits_are) ∙ at_u in
-          elim (cases_eq u t) [
-            | inl same ↦
-                let at_t = subst (λ (n : ℕ). slice_get (slice_set w.needs t (need_of (next_by_counts (thread_log_of log t) y))) n ≡ Some need) same here in
-                sym (get_same w.needs t (need_of (next_by_counts (thread_log_of log t) y)) need at_t) ∙ ap need_of (sym own_next) ∙ ap (λ (n : ℕ). need_of (next_of (by_log script log) s' n)) (sym same)
-            | inr differ ↦
-                stands.waits.needs u need (sym (get_other w.needs t u (need_of (next_by_counts (thread_log_of log t) y)) differ) ∙ here)
-                ∙ ap (λ (j : List Event). need_of (by_log script log u j)) (sym (other_step (by_log script log) s t u differ))
-          ]
-
-      events : (u : ℕ) → get_or w'.events u 0 ≡ length (journal_of s'.journals u)
-      events u =
-          let here = ap (λ (v : NeedsAndCounts). get_or v.events u 0) waits_are in
-          let within : t < length w.events = omega (arith, stands.waits.counts, makes.within) in
-          elim (cases_eq u t) [
-            | inl same ↦
-                here ∙ ap (λ (n : ℕ). get_or (slice_set w.events t (suc (get_or w.events t 0))) n 0) same
-                ∙ get_or-set_same w.events t (suc (get_or w.events t 0)) 0 within ∙ ap suc (stands.waits.events t) ∙ sym (counts_step (by_log script log) s t want.operation makes)
-                ∙ ap (λ (n : ℕ). length (journal_of s'.journals n)) (sym same)
-            | inr differ ↦
-                here ∙ get_or-set_other w.events t u (suc (get_or w.events t 0)) 0 differ ∙ stands.waits.events u
-                ∙ ap (λ (j : List Event). length j) (sym (other_step (by_log script log) s t u differ))
-          ]
-
       pub stands_after : StandsAt script log (step (by_log script log) s t) threads' heap' w'
       stands_after = record {
         as_many = ap (λ (xs : List ThreadReplay). length xs) threads_are ∙ length-set threads t y ∙ stands.as_many ∙ sym (as_many_step (by_log script log) s t);
         each = each;
         heap_is = heap_is ∙ alike.heap_is ∙ ap (heap_after want.operation) stands.heap_is ∙ sym (ap (λ (x : PlainState). x.heap) makes.stepped);
         heap_has = ap (λ (h : List ℕ). length h) heap_is ∙ same_length (operation_of event) heap ∙ stands.heap_has;
-        waits = record {
-          as_many = ap (λ (v : NeedsAndCounts). length v.needs) waits_are ∙ length-set w.needs t (need_of (next_by_counts (thread_log_of log t) y)) ∙ stands.waits.as_many ∙ sym (as_many_step (by_log script log) s t);
-          counts = ap (λ (v : NeedsAndCounts). length v.events) waits_are ∙ length-set w.events t (suc (get_or w.events t 0)) ∙ stands.waits.counts ∙ sym (as_many_step (by_log script log) s t);
-          needs = needs;
-          events = events;
-          draws =
-              ap (λ (v : NeedsAndCounts). v.draws) waits_are ∙ draws_counted event w.draws ∙ alike.draws w.draws ∙ ap (draws_after want.operation) stands.waits.draws
-              ∙ sym (ap (λ (x : PlainState). x.draws) makes.stepped);
-        };
+        waits =
+            awaits_after (by_log script log) s w stands.waits t want.operation makes (is_draw event) (draws_counted event w.draws ∙ alike.draws w.draws)
+            (need_of (next_by_counts (thread_log_of log t) y)) (ap need_of (sym own_next)) w' waits_are;
       }
 
 -- ---- the replay, step by step
@@ -319,12 +226,7 @@ need_names threads None (ToEnd end) false false names = tt
 
 module _ (log : List ThreadLog) (valid : IsTrue (is_log log)) (t : ℕ) (within : t < length log) (x : ThreadReplay) where
   mark_is_valid : (mark : Mark) → due_mark (slice_get (thread_log_of log t).marks x.marks) x.gap ≡ Some mark → IsMark (length log) t mark
-  mark_is_valid mark is =
-      let there = due_there (slice_get (thread_log_of log t).marks x.marks) x.gap mark is in
-      let all = ((valid_log log valid).each t within).marks in
-      let inside = slice_get_within (thread_log_of log t).marks x.marks there.0 there.1 in
-      let value = get_or_from_slice_get (thread_log_of log t).marks x.marks there.0 there.0 there.1 in
-      subst (λ (m : Mark). IsMark (length log) t m) (ap (λ (g : Gapped). g.mark) value ∙ there.2) (all x.marks there.0 inside)
+  mark_is_valid = due_is_valid log valid t within x.marks x.gap
 
   pub names_thread : NamesThread (length log) (need_of (next_by_counts (thread_log_of log t) x))
   names_thread =
@@ -405,15 +307,6 @@ module _ (r : Replay) (at : IsAt r) (t : ℕ) (ready : is_ready r.waits t ≡ tr
   }
 
 -- ---- before the first step
-zero_there : (none : ℕ) (n t : ℕ) → get_or (replicate n none) t none ≡ none
-zero_there none zero t = refl
-zero_there none (suc n) zero = refl
-zero_there none (suc n) (suc t) = zero_there none n t
-
-pub sum_none : (n : ℕ) → sum (replicate n 0) ≡ 0
-sum_none zero = refl
-sum_none (suc n) = omega (arith, sum_by-cons (λ (k : ℕ). k) 0 (replicate n 0), sum_none n)
-
 module _ (script : Script) (log : List ThreadLog) (agree : length script.threads ≡ length log) (threads : List ThreadReplay) (as_many : length threads ≡ length script.threads)
     (each : AreReplaysOf script log (no_events script.threads) threads) where
   -- each need is that of a thread
@@ -431,18 +324,14 @@ module _ (script : Script) (log : List ThreadLog) (agree : length script.threads
     each = each;
     heap_is = heap_is;
     heap_has = ap (λ (h : List ℕ). length h) heap_is ∙ length-map script.objects (λ (o : Object). o.start);
-    waits = record {
-      as_many = ap (λ (v : NeedsAndCounts). length v.needs) waits_are ∙ are.as_many ∙ as_many ∙ sym (length-map script.threads (λ (c : List Command). []));
-      counts = ap (λ (v : NeedsAndCounts). length v.events) waits_are ∙ length-replicate (length needs_told) 0 ∙ are.as_many ∙ as_many ∙ sym (length-map script.threads (λ (c : List Command). []));
-      needs = λ t need at.
-          let there = need_there needs_told are t need (ap (λ (v : NeedsAndCounts). slice_get v.needs t) (sym waits_are) ∙ at) in
-          sym there.2
-          ∙ ap need_of (sym (by_counts (commands_of script t) (starting_configuration script.fuel) (length script.objects) (thread_log_of log t) (journal_of (no_events script.threads) t) there.0 (each t there.0 there.1)));
-      events = λ t.
-          ap (λ (v : NeedsAndCounts). get_or v.events t 0) waits_are ∙ zero_there 0 (length needs_told) t
-          ∙ sym (ap (λ (j : List Event). length j) (no_journal script.threads t));
-      draws = ap (λ (v : NeedsAndCounts). v.draws) waits_are;
-    };
+    waits =
+        awaits_at_start (by_log script log) (starting_heap script) script.threads needs_told w (are.as_many ∙ as_many)
+        (λ t need at.
+        let there = need_there needs_told are t need at in
+        sym there.2
+        ∙ ap need_of (sym (by_counts (commands_of script t) (starting_configuration script.fuel) (length script.objects) (thread_log_of log t) [] there.0
+        (subst (λ (j : List Event). IsReplayOf (commands_of script t) (starting_configuration script.fuel) (length script.objects) (thread_log_of log t) j there.0) (no_journal script.threads t) (each t there.0 there.1)))))
+        waits_are;
   }
 
   pub start_names : IsTrue (is_log log) → (needs : List Need) → AreNeedsOf log threads needs
@@ -472,15 +361,6 @@ at_start r script log is_script is_log agree none stands =
     at_opening r
     (subst (λ (l : Log). length r.script.value.threads ≡ length l.threads) (sym is_log) agree_script) none
     (subst (λ (l : Log). StandsAt r.script.value l.threads (opening_state r.script.value) r.threads.items r.heap.items r.waits) (sym is_log) stands_script)
-
--- what holds of all items and of one more
-pub holds_pushed : {A : Type 0} (P : ℕ → A → Type 0) (xs : List A) (y : A)
-    → ((t : ℕ) (x : A) → slice_get xs t ≡ Some x → P t x) → P (length xs) y
-    → (t : ℕ) (x : A) → slice_get (xs ++ y ∷ []) t ≡ Some x → P t x
-holds_pushed {A = A} P [] y all new zero x at = subst (λ (z : A). P 0 z) (same_Some y x at) new
-holds_pushed P [] y all new (suc t) x at = absurd cc
-holds_pushed P (z ∷ xs) y all new zero x at = all 0 x at
-holds_pushed P (z ∷ xs) y all new (suc t) x at = holds_pushed (λ n. P (suc n)) xs y (λ n w is. all (suc n) w is) new t x at
 
 -- the thread that was read
 pub thread_read : (r : Replay) → IsAt r → (t : ℕ) → is_ready r.waits t ≡ true → (x : ThreadReplay) → x ≡ get_or r.threads.items t x → slice_get r.threads.items t ≡ Some x

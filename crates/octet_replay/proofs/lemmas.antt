@@ -3,3 +3,8 @@ pub mod Halting
 pub mod Places
 pub mod WholeOutcomes
 pub mod OneAnswer
+pub mod Growing
+pub mod Awaiting
+pub mod Reading
+pub mod Valid
+pub mod Traces

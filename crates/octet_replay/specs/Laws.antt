@@ -1,12 +1,17 @@
 -- The laws of the outcomes of a replay, as the public functions of laws.rt prove them.
-use Rattle.std.specs.Prelude.{◌≡◌, ◌≢◌, ◌⊎◌, ℕ, List, length}
+use Rattle.std.specs.Prelude.{◌≡◌, ◌≢◌, ◌⊎◌, ◌==◌, ℕ, suc, List, [], ◌∷◌, length, map, IsFalse}
+use Rattle.std.specs.List.{filter}
+use Rattle.octet_model.specs.declared.event.Event.{Event}
+use Rattle.octet_model.specs.declared.event.Place.{Place}
 use Rattle.octet_model.specs.declared.outcome.Outcome.{Outcome}
 use Rattle.octet_model.specs.declared.script.Script.{Script}
 use Rattle.octet_model.specs.declared.log.ThreadLog.{ThreadLog}
-use Rattle.octet_model.specs.Orders.{lowest_order, execution, IsFaithful}
+use Rattle.octet_model.specs.Machine.{journal_of, may_step}
+use Rattle.octet_model.specs.Orders.{by_log, lowest_order, execution, journals_after, IsFaithful}
+use Rattle.octet_model.specs.Traces.{trace_of}
 use Rattle.octet_replay.specs.declared.fault.ReplayFault.{ReplayFault}
 use Rattle.octet_replay.specs.declared.fault.ReplayFault.TheVariants.{OutOfMemory}
-use Rattle.octet_replay.specs.Judged.{IsLawful, HasCause}
+use Rattle.octet_replay.specs.Judged.{last_state, IsLawful, HasCause}
 
 -- an outcome with an end and the values read for each thread of the script, and a value for each object
 pub record IsWholeOutcome (script : Script) (outcome : Outcome) : Type 0 where
@@ -37,3 +42,25 @@ FaithfulIsLawful = (script : Script) (log : List ThreadLog) (outcome : Outcome) 
 -- each execution is a whole outcome
 abbrev pub ExecutionIsWhole : Type 0
 ExecutionIsWhole = (script : Script) (log : List ThreadLog) (order : List ℕ) → IsWholeOutcome script (execution script log order)
+
+-- the events of a trace that are of one thread
+abbrev pub told_of : ℕ → List (Place × Event) → List (Place × Event)
+told_of thread trace = filter (λ item. item.0.thread == thread) trace
+
+-- a thread's events, each with its place, numbered from here on
+abbrev pub placed_from : ℕ → List Event → ℕ → List (Place × Event)
+placed_from thread [] number = []
+placed_from thread (event ∷ journal) number = (record { thread = thread; event = number }, event) ∷ placed_from thread journal (suc number)
+
+-- of each thread the trace of the lowest order has the journal, event by event, at the places 0, 1, 2 and so on
+abbrev pub TraceHasJournals : Type 0
+TraceHasJournals = (script : Script) (log : List ThreadLog) (thread : ℕ)
+    → told_of thread (trace_of script log) ≡ placed_from thread (journal_of (journals_after script log (lowest_order script log)) thread) 0
+
+-- and its events are of the threads that step, in their order
+abbrev pub TraceFollowsOrder : Type 0
+TraceFollowsOrder = (script : Script) (log : List ThreadLog) → map (λ item. item.0.thread) (trace_of script log) ≡ lowest_order script log
+
+-- and after them no thread may step
+abbrev pub TraceIsWhole : Type 0
+TraceIsWhole = (script : Script) (log : List ThreadLog) (thread : ℕ) → length script.threads ≡ length log → IsFalse (may_step (by_log script log) (last_state script log) thread)

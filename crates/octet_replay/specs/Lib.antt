@@ -8,5 +8,6 @@ pub mod Threads
 pub mod Replayed
 pub mod ReplayState
 pub mod Places
+pub mod TracerState
 pub mod Laws
 pub mod Fit

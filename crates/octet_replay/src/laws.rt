@@ -1,5 +1,5 @@
 //! The laws of what a replay comes to. Each is the contract of a function that does nothing.
-ghost use Rattle.octet_replay.specs.Laws.{ExecutionIsWhole, FaithfulIsLawful, LawfulIsNotRefused, LawfulOrRefused, OneRefusal};
+ghost use Rattle.octet_replay.specs.Laws.{ExecutionIsWhole, FaithfulIsLawful, LawfulIsNotRefused, LawfulOrRefused, OneRefusal, TraceFollowsOrder, TraceHasJournals, TraceIsWhole};
 
 /// For each script and log either the lowest order is lawful, or one refusal has its cause, with
 /// its numbers, and never both.
@@ -19,4 +19,12 @@ pub fn faithful_is_lawful()
 /// value for each object.
 pub fn execution_is_whole()
     ensures { ExecutionIsWhole }
+{}
+
+/// The trace of the lowest order tells each thread's journal, event by event, at the places
+/// 0, 1, 2 and so on. It goes by that order, after which no thread may step.
+pub fn trace_is_whole()
+    ensures journals { TraceHasJournals }
+    ensures order { TraceFollowsOrder }
+    ensures whole { TraceIsWhole }
 {}

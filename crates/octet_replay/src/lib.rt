@@ -18,6 +18,7 @@ mod stepped;
 mod tests;
 mod thread;
 mod thread_set;
+mod tracer;
 mod waiting;
 mod waits;
 
@@ -27,5 +28,8 @@ pub use line::fit_line;
 pub use need::Need;
 pub use order::{journals, replay};
 pub use replayer::Replayer;
+pub use state::is_draw;
 pub use stepped::Stepped;
+pub use thread::{NextDemand, ThreadReplay, due_mark};
+pub use tracer::Tracer;
 pub use waits::Waits;

@@ -24,7 +24,8 @@ pub(crate) struct Replay {
     pub(crate) log: Snapshot<Log>,
 }
 
-fn is_draw(event: Event) -> bool
+/// Whether the event is a draw.
+pub fn is_draw(event: Event) -> bool
     ensures { result ≡ is_draw event }
 {
     match event {

@@ -5,8 +5,8 @@ ghost use Rattle.octet_model.specs.Script.{is_script};
 
 use super::*;
 use octet_model::{
-    Command, End, Event, Gapped, List, Log, Mark, Name, Object, OutOfMemory, Script, ThreadLog,
-    outcome_text,
+    Command, End, Event, Gapped, List, Log, Mark, Name, Object, OutOfMemory, Place, Script,
+    ThreadLog, outcome_text,
 };
 use std::alloc::Global;
 use std::fmt::Debug;
@@ -361,6 +361,61 @@ fn replayer_gives_the_events_one_by_one(rt: HostRuntime) -> Result<(), Fail> {
     assert_eq!(rt; outcome.ends.as_slice(), [End::Done; 3].as_slice());
     assert_lists(&rt, &outcome.reads, &[&[], &[9, 9], &[9]]);
     assert_eq!(rt; outcome.heap.as_slice(), [9].as_slice());
+    Ok(())
+}
+
+fn assert_traced(
+    rt: &impl Abort,
+    tracer: &mut Tracer,
+    wanted: &[(u8, u32, Event)],
+) -> Result<(), Fail> {
+    for told in wanted {
+        let (thread, event, made) = *told;
+        assert_eq!(rt; tracer.next(), Some((Place { thread, event }, made)));
+    }
+    assert_eq!(rt; tracer.next(), None);
+    Ok(())
+}
+
+#[test]
+fn traces_tell_each_event_with_its_place(rt: HostRuntime) -> Result<(), Fail> {
+    let alloc = rt.alloc();
+    let mut tracer = Tracer::new(alloc, &shared_reads(alloc)?, &shared_log(alloc)?)?;
+    let trace = [
+        (1, 0, marked(Mark::Join { from: 0, upto: 0 })),
+        (1, 1, READ_9),
+        (2, 0, marked(Mark::Join { from: 1, upto: 1 })),
+        (2, 1, marked(Mark::Draw { number: 1 })),
+        (1, 2, marked(Mark::Fence { number: 1 })),
+        (1, 3, READ_9),
+        (2, 2, READ_9),
+    ];
+    assert_traced(&rt, &mut tracer, &trace)?;
+    let outcome = tracer.end(alloc)?;
+    assert_lists(&rt, &outcome.reads, &[&[], &[9, 9], &[9]]);
+    Ok(())
+}
+
+#[test]
+fn traces_end_where_threads_are_stuck(rt: HostRuntime) -> Result<(), Fail> {
+    let alloc = rt.alloc();
+    let never = Gapped {
+        gap: 1,
+        mark: Mark::Join { from: 0, upto: 9 },
+    };
+    let log = log_of_two(alloc, 1, NO_MARKS, 1, &[never])?;
+    let mut tracer = Tracer::new(alloc, &write_and_read(alloc)?, &log)?;
+    let write = Event::Write {
+        object: 0,
+        value: 7,
+    };
+    let read = Event::Read {
+        object: 0,
+        value: 7,
+    };
+    assert_traced(&rt, &mut tracer, &[(0, 0, write), (1, 0, read)])?;
+    let stuck = matches!(tracer.end(alloc), Err(ReplayFault::Stuck { .. }));
+    assert!(rt; stuck);
     Ok(())
 }
 

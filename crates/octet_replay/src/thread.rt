@@ -1,7 +1,6 @@
 //! One thread as far as it is replayed.
 ghost use Rattle.std.specs.Prelude.{◌≡◌, ◌<◌, ◌^◌, suc, [], false, length, IfOk, OnOk, slice_get};
 ghost use Rattle.octet_model.specs.Journals.{due_mark};
-ghost use Rattle.octet_model.specs.Machine.{Wants, MakeMark};
 ghost use Rattle.octet_model.specs.Orders.{commands_of};
 ghost use Rattle.octet_model.specs.Thread.{starting_configuration};
 ghost use Rattle.octet_replay.specs.NextDemand.{IsDemandedNext, NamesObject};
@@ -14,7 +13,7 @@ use std::alloc::Global;
 
 /// What a thread demands next: an access, or its end.
 #[derive(Clone, Copy, Debug, PartialEq, Eq)]
-pub(crate) enum NextDemand {
+pub enum NextDemand {
     Read { object: u16 },
     Write { object: u16, value: u64 },
     Bump { object: u16, amount: u64 },
@@ -24,13 +23,13 @@ pub(crate) enum NextDemand {
 /// One thread of a script as far as it is replayed: what it demands next, how many marks, accesses
 /// and accesses since the last mark it made, and the values that it read. Its log is its caller's.
 #[derive(Debug, Drop)]
-pub(crate) struct ThreadReplay {
-    pub(crate) config: Config,
-    pub(crate) up_next: NextDemand,
-    pub(crate) marks: usize,
-    pub(crate) accesses: u32,
-    pub(crate) gap: u32,
-    pub(crate) reads: Vec<u64>,
+pub struct ThreadReplay {
+    pub config: Config,
+    pub up_next: NextDemand,
+    pub marks: usize,
+    pub accesses: u32,
+    pub gap: u32,
+    pub reads: Vec<u64>,
 }
 
 // Asks a thread for its next access, or its end.
@@ -52,8 +51,9 @@ fn ask(config: &mut Config) -> NextDemand
     }
 }
 
-// The next mark of a log, where as many accesses as its gap were made.
-fn due_mark(log: &ThreadLog, marks: usize, gap: u32) -> Option<Mark>
+/// The mark of a log that is next after a number of marks, where as many accesses as its gap were
+/// made since the last of these.
+pub fn due_mark(log: &ThreadLog, marks: usize, gap: u32) -> Option<Mark>
     ensures { result ≡ due_mark (slice_get log.now.marks marks) gap }
 {
     let next = log.marks.get(marks)?;
@@ -64,29 +64,9 @@ fn due_mark(log: &ThreadLog, marks: usize, gap: u32) -> Option<Mark>
     }
 }
 
-// A Join waits for the events of its thread that it names, a Draw for its turn, and a Fence for the
-// draw of its number.
-fn need_of_mark(mark: Mark) -> Need
-    ensures { result ≡ need_of (Wants (MakeMark mark)) }
-{
-    match mark {
-        Mark::Join { from, upto } => Need::Events {
-            of: from,
-            count: upto,
-        },
-        Mark::Draw { number } => {
-            if number == 0 {
-                return Need::Never;
-            }
-            Need::DrawsAre { count: number - 1 }
-        }
-        Mark::Fence { number } => Need::DrawsReach { count: number },
-    }
-}
-
 impl ThreadReplay {
     /// A thread at its start, with room for all values that its log lets it read.
-    pub(crate) fn new(
+    pub fn new(
         alloc: Global,
         script: &Script,
         log: &ThreadLog,
@@ -141,7 +121,7 @@ impl ThreadReplay {
         ensures { result ≡ need_of (next_by_counts log.now self.now) }
     {
         if let Some(mark) = due_mark(log, self.marks, self.gap) {
-            return need_of_mark(mark);
+            return Need::of_mark(mark);
         }
         if self.accesses >= log.accesses {
             return Need::Never;
@@ -167,7 +147,7 @@ impl ThreadReplay {
     }
 
     /// Makes an event.
-    pub(crate) fn make(&mut self, event: Event)
+    pub fn make(&mut self, event: Event)
         requires stands { StandsFor event self.old }
         requires room { HasRoomFor event self.old }
         ensures { Grown self.old event self.new }

@@ -1,8 +1,10 @@
 -- The mark that is due, and what an operation makes.
-use Rattle.std.proofs.Common.{◌≡◌, ℕ, Bool, true, false, if◌then◌else◌, eqb, List, length, Option, Some, None, slice_index, refl, length-set}
+use Rattle.std.proofs.Common.{◌≡◌, ℕ, suc, ◌+◌, ◌≤◌, Bool, true, false, if◌then◌else◌, eqb, List, [], ◌∷◌, length, Option, Some, None, slice_index, refl, arith, length-set}
+use Rattle.octet_model.specs.declared.event.Event.{Event}
+use Rattle.octet_model.specs.declared.event.Event.TheVariants.{Read, Write, Update, Marked}
 use Rattle.octet_model.specs.declared.event.Mark.{Mark}
 use Rattle.octet_model.specs.declared.log.Gapped.{Gapped}
-use Rattle.octet_model.specs.Journals.{due_mark}
+use Rattle.octet_model.specs.Journals.{access_count, gap_after, due_mark}
 use Rattle.octet_model.specs.Machine.{PlainState, Operation, MakeMark, MakeRead, MakeWrite, MakeUpdate, is_enabled, event_made, heap_after, draws_after}
 use Rattle.octet_model.specs.Plays.{operation_of}
 
@@ -35,3 +37,11 @@ due_there (Some g) gap mark is = (g, refl, go (eqb g.gap gap) is)
     go : (b : Bool) → ◌≡◌ {A = Option Mark} (if b then Some g.mark else None) (Some mark) → g.mark ≡ mark
     go true is' = cc
     go false is' = absurd cc
+
+-- the accesses since the last mark are no more than all
+pub gap_within : (before : ℕ) (journal : List Event) → gap_after before journal ≤ before + access_count journal
+gap_within before [] = omega arith
+gap_within before (Read object value ∷ journal) = omega (arith, gap_within (suc before) journal)
+gap_within before (Write object value ∷ journal) = omega (arith, gap_within (suc before) journal)
+gap_within before (Update object old new ∷ journal) = omega (arith, gap_within (suc before) journal)
+gap_within before (Marked mark ∷ journal) = omega (arith, gap_within 0 journal)

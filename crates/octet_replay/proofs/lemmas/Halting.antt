@@ -14,7 +14,8 @@ module _ (behavior : Behavior) where
   ends_there zero (u ∷ order) s low none = absurd (let none_u = none u in let may = low.0 in cc)
   ends_there (suc k) (u ∷ order) s low none = ends_there k order (step behavior s u) low.2 none
 
-  no_step_left : (k : ℕ) (order : List ℕ) (s : PlainState) → IsLowestFront behavior s order → ((t : ℕ) → IsFalse (may_step behavior (after behavior s (take k order)) t)) → length order ≤ k
+  -- where no thread may step after the first steps of a lowest front, these are all
+  pub no_step_left : (k : ℕ) (order : List ℕ) (s : PlainState) → IsLowestFront behavior s order → ((t : ℕ) → IsFalse (may_step behavior (after behavior s (take k order)) t)) → length order ≤ k
   no_step_left k [] s low none = omega arith
   no_step_left zero (u ∷ order) s low none = absurd (let none_u = none u in let may = low.0 in cc)
   no_step_left (suc k) (u ∷ order) s low none = omega (arith, no_step_left k order (step behavior s u) low.2 none)

@@ -7,7 +7,7 @@ use Rattle.octet_replay.specs.declared.thread.ThreadReplay.{ThreadReplay}
 use Rattle.octet_replay.specs.declared.state.Replay.{Replay}
 use Rattle.octet_replay.specs.ReplayState.{HasHalted}
 use Rattle.octet_replay.specs.Replayed.{state_of, FindsNothing, IsAt, IsFinishedHere, TellsMisfit}
-use Rattle.octet_replay.proofs.Valid.{few_accesses}
+use Rattle.octet_replay.proofs.lemmas.Valid.{few_accesses}
 use Rattle.octet_replay.proofs.Judging.{few_here, many_here, marks_here, misfit_is_cause, stuck_is_cause, finished_is_lawful}
 use Rattle.octet_replay.proofs.ending.refusal.Goals as goal
 

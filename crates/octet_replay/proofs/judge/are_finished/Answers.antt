@@ -3,7 +3,7 @@ use Rattle.std.proofs.lemmas.Bool.{cases_eq}
 use Rattle.std.proofs.lemmas.Option.{slice_get_within}
 use Rattle.octet_model.specs.Machine.{Finished}
 use Rattle.octet_replay.specs.Threads.{next_by_counts}
-use Rattle.octet_replay.proofs.Reading.{holds_there}
+use Rattle.octet_replay.proofs.lemmas.Reading.{holds_there}
 use Rattle.octet_replay.proofs.judge.are_finished.Goals as goal
 
 pub loop-thread-preserved : goal.loop-thread-preserved

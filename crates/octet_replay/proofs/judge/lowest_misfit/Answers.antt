@@ -3,7 +3,7 @@ use Rattle.std.proofs.lemmas.Bool.{cases_eq}
 use Rattle.std.proofs.lemmas.Option.{slice_get_read, slice_get_within}
 use Rattle.octet_model.specs.declared.log.ThreadLog.{ThreadLog}
 use Rattle.octet_replay.specs.Replayed.{FindsIn, FindsNothing}
-use Rattle.octet_replay.proofs.Reading.{holds_there, log_read}
+use Rattle.octet_replay.proofs.lemmas.Reading.{holds_there, log_read}
 use Rattle.octet_replay.proofs.judge.lowest_misfit.Goals as goal
 
 pub returns-in-Some-clause-some : goal.returns-in-Some-clause-some

@@ -3,8 +3,7 @@ use Rattle.octet_model.specs.Orders.{thread_log_of}
 use Rattle.octet_replay.specs.Threads.{need_of, next_by_counts}
 use Rattle.octet_replay.specs.declared.need.Need.{Need}
 use Rattle.octet_replay.specs.declared.thread.ThreadReplay.{ThreadReplay}
-use Rattle.octet_replay.proofs.Reading.{holds_there}
-use Rattle.octet_replay.proofs.Stepping.{holds_pushed}
+use Rattle.octet_replay.proofs.lemmas.Reading.{holds_there, holds_pushed}
 use Rattle.octet_replay.proofs.state.needs_of.Goals as goal
 
 pub loop-thread-preserved : goal.loop-thread-preserved

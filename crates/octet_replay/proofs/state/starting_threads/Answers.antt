@@ -6,8 +6,7 @@ use Rattle.octet_model.specs.Thread.{starting_configuration}
 use Rattle.octet_model.proofs.lemmas.Fronts.{no_journal}
 use Rattle.octet_replay.specs.Threads.{IsReplayOf}
 use Rattle.octet_replay.specs.declared.thread.ThreadReplay.{ThreadReplay}
-use Rattle.octet_replay.proofs.Reading.{log_read}
-use Rattle.octet_replay.proofs.Stepping.{holds_pushed}
+use Rattle.octet_replay.proofs.lemmas.Reading.{log_read, holds_pushed}
 use Rattle.octet_replay.proofs.state.starting_threads.Goals as goal
 
 pub loop-thread-preserved : goal.loop-thread-preserved

@@ -5,7 +5,8 @@ use Rattle.octet_replay.specs.declared.need.Need.{Need}
 use Rattle.octet_replay.specs.declared.thread.ThreadReplay.{ThreadReplay}
 use Rattle.octet_replay.specs.Needs.{NeedsAndCounts}
 use Rattle.octet_replay.specs.Replayed.{AreNeedsOf}
-use Rattle.octet_replay.proofs.Stepping.{opening_is, at_start, start_stands, start_names, sum_none}
+use Rattle.octet_replay.proofs.Stepping.{opening_is, at_start, start_stands, start_names}
+use Rattle.octet_replay.proofs.lemmas.Awaiting.{sum_none}
 use Rattle.octet_replay.proofs.state.Replay.new.Goals as goal
 
 are_needs : (log logs : List ThreadLog) (threads now : List ThreadReplay) (needs : List Need) → logs ≡ log → now ≡ threads → AreNeedsOf logs now needs → AreNeedsOf log threads needs

@@ -19,7 +19,7 @@ use Rattle.octet_replay.specs.declared.thread.NextDemand.TheVariants.{Read as Re
 use Rattle.octet_replay.specs.declared.thread.ThreadReplay.{ThreadReplay}
 use Rattle.octet_replay.specs.NextDemand.{demand_of, IsBeforeDemand, IsDemandedNext, NamesObject}
 use Rattle.octet_replay.specs.Threads.{next_by_counts, next_event, IsPastEvent, Grown, HasRoomFor, IsReplayOf, StandsFor, WritesWithin}
-use Rattle.octet_replay.proofs.lemmas.EventsMade.{due_there}
+use Rattle.octet_replay.proofs.lemmas.EventsMade.{due_there, gap_within}
 
 -- the event comes of what it demands next
 abbrev pub ComesOf : Event → NextDemand → Type 0
@@ -60,13 +60,6 @@ pub came_here : (log : ThreadLog) (t : ThreadReplay) (heap : List ℕ) (event : 
     → Came event (due_mark (slice_get log.marks t.marks) t.gap) t.up_next (nat_lt t.accesses log.accesses)
 came_here log t heap event is =
     came (due_mark (slice_get log.marks t.marks) t.gap) t.up_next (nat_lt t.accesses log.accesses) (nat_lt t.marks (length log.marks)) heap event is
-
-gap_within : (before : ℕ) (journal : List Event) → gap_after before journal ≤ before + access_count journal
-gap_within before [] = omega arith
-gap_within before (Read object value ∷ journal) = omega (arith, gap_within (suc before) journal)
-gap_within before (Write object value ∷ journal) = omega (arith, gap_within (suc before) journal)
-gap_within before (Update object old new ∷ journal) = omega (arith, gap_within (suc before) journal)
-gap_within before (Marked mark ∷ journal) = omega (arith, gap_within 0 journal)
 
 few_values : (journal : List Event) → length (values_read journal) ≤ access_count journal
 few_values [] = omega arith

@@ -1,0 +1,15 @@
+use Rattle.std.proofs.Common.{refl, subst}
+use Rattle.octet_model.specs.Machine.{Journals}
+use Rattle.octet_clock.specs.Ordered.{ChecksAt}
+use Rattle.octet_clock.proofs.JournalsAlone.{is_ordered, not_ordered}
+use Rattle.octet_clock.proofs.journal_check.ordered.Goals as goal
+
+pub returns-in-Unordered : goal.returns-in-Unordered
+returns-in-Unordered c =
+    let at = subst (λ (js : Journals). ChecksAt js c.step.new.self) c.as_slice-journals.ensures c.in_ok-step.ensures.at in
+    (λ yes. absurd cc, λ ordered. absurd (not_ordered c.args.journals.now c.requires c.step.new.self at c.in-Unordered.first c.in-Unordered.second c.in-Unordered.is ordered))
+
+pub returns : goal.returns
+returns c =
+    let inv = c.loop-thread.invariant in
+    (λ yes. is_ordered c.args.journals.now c.requires c.loop-thread.check inv.at inv.ordered (c.in_default.ensures.none refl), λ ordered. refl)

@@ -1,0 +1,6 @@
+pub mod AlikeStates
+pub mod Readers
+pub mod LogsAlone
+pub mod LowestAlone
+pub mod FrontLaws
+pub mod DrawLaws

@@ -1,0 +1,50 @@
+-- How far threads have come that walk their logs alone.
+use Rattle.std.specs.Prelude.{◌≡◌, ℕ, Bool, nat_lt, List, [], ◌∷◌, ◌++◌, length, Some, slice_get}
+use Rattle.octet_model.specs.declared.event.Event.{Event}
+use Rattle.octet_model.specs.declared.log.ThreadLog.{ThreadLog}
+use Rattle.octet_model.specs.Machine.{journal_of, Next, Wants, Finished, Operation, event_made}
+use Rattle.octet_model.specs.Journals.{access_count, mark_count, gap_after, due_mark, mark_first}
+use Rattle.octet_replay.specs.declared.need.Need.{Need}
+use Rattle.octet_replay.specs.Replayed.{is_draw}
+use Rattle.octet_replay.specs.Threads.{need_of}
+use Rattle.octet_clock.specs.declared.log_walk.LogWalk.{LogWalk}
+use Rattle.octet_clock.specs.declared.log_walk.Progress.{Progress}
+use Rattle.octet_clock.specs.Following.{state_reached, Follows}
+use Rattle.octet_clock.specs.Untied.{any_access, by_log_alone, lowest_alone, opening_alone}
+
+-- the counts are those of the journal
+pub record HasProgress (journal : List Event) (p : Progress) : Type 0 where
+  pub counts_marks : p.marks ≡ mark_count journal
+  pub counts_accesses : p.accesses ≡ access_count journal
+  pub counts_gap : p.gap ≡ gap_after 0 journal
+
+-- what is next by the log alone, from the counts
+abbrev pub next_by_progress : ThreadLog → Progress → Next
+next_by_progress log p =
+    mark_first (due_mark (slice_get log.marks p.marks) p.gap)
+    (any_access (nat_lt p.accesses log.accesses) (nat_lt p.marks (length log.marks)))
+
+-- some operation is next
+abbrev pub WantsSome : ThreadLog → Progress → Type 0
+WantsSome log p = (operation : Operation) × (next_by_progress log p ≡ Wants operation)
+
+-- what was next is made, and it was told whether that was a draw
+pub record Advances (log : ThreadLog) (before after : Progress) (drew : Bool) : Type 0 where
+  pub counts : (journal : List Event) (operation : Operation) (heap : List ℕ) → next_by_progress log before ≡ Wants operation → HasProgress journal before → HasProgress (journal ++ event_made operation heap ∷ []) after
+  pub draws : (operation : Operation) (heap : List ℕ) → next_by_progress log before ≡ Wants operation → drew ≡ is_draw (event_made operation heap)
+
+-- nothing is left of the log
+abbrev pub HasMadeAll : ThreadLog → Progress → Type 0
+HasMadeAll log p = next_by_progress log p ≡ Finished
+
+-- as many needs as threads: each waits for the first event of its log
+pub record AreFirstNeeds (log : List ThreadLog) (needs : List Need) : Type 0 where
+  pub as_many : length needs ≡ length log
+  pub each : (thread : ℕ) (need : Need) → slice_get needs thread ≡ Some need → need ≡ need_of (by_log_alone log thread [])
+
+-- the threads have come as far as the first steps of the lowest front lead
+pub record WalksAt (log : List ThreadLog) (walk : LogWalk) : Type 0 where
+  pub as_many : length walk.threads.items ≡ length log
+  pub follows : Follows (by_log_alone log) (opening_alone log) (lowest_alone log) walk.waits
+  pub each : (thread : ℕ) (p : Progress) → slice_get walk.threads.items thread ≡ Some p
+      → HasProgress (journal_of (state_reached (by_log_alone log) (opening_alone log) (lowest_alone log) walk.waits).journals thread) p
