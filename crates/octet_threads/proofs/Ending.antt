@@ -19,6 +19,7 @@ use Rattle.octet_interp.specs.declared.demand.Demand.TheVariants as demand
 use Rattle.octet_interp.specs.Demands.{ThreadState, next_demand, after_demand}
 use Rattle.octet_interp.specs.Laws.{IsJournalOf, IsJournalPast}
 use Rattle.octet_interp.proofs.Journaled.{keep_up}
+use Rattle.octet_model.proofs.lemmas.Validity.{valid_script}
 use Rattle.octet_state.proofs.lemmas.ValidLogs.{log_valid}
 use Rattle.octet_rule.specs.declared.words.Seat.{Seat}
 use Rattle.octet_rule.specs.Seats.{view, threads_of}
@@ -31,8 +32,10 @@ use Rattle.octet_heap.specs.Closings.{IsClosed}
 use Rattle.octet_threads.specs.declared.runner.Runner.{Runner}
 use Rattle.octet_threads.specs.Runners.{HasEnded, IsEnd, IsOf, AreOf, IsHeapOf, end_told}
 use Rattle.octet_threads.specs.Carrying.{start_of}
+use Rattle.octet_threads.specs.Work.{workers_in}
 use Rattle.octet_threads.proofs.Props.{journal_prop}
 use Rattle.octet_threads.proofs.Fuel.{fuel_left}
+use Rattle.octet_threads.proofs.ThreadLogs.{IsGoodJournal, seen_good}
 
 -- a journal that leaves a thread at its end
 ends_with : (start : Configuration) (journal : List Event) (s : ThreadState) → IsJournalOf start journal s → IsEnd (next_demand s)
@@ -42,9 +45,6 @@ ends_with start journal s kept is = go (next_demand s) (keep_up start journal s 
     go : (d : Demand) → IsJournalPast start journal d (after_demand s) → IsEnd d → FitsToEnd s.commands start journal × (end_of (demanded s.commands (configuration_after s.commands start journal)) ≡ end_told d)
     go (demand.Ended end) past is = (past.0, ap end_of past.1)
     go _ past is = absurd is
-
-abbrev pub workers_in : List Runner → List Worker
-workers_in runners = map (λ runner. runner.worker) runners
 
 abbrev pub ends_in : List Runner → List End
 ends_in runners = map (λ runner. end_told (next_demand runner.config)) runners
@@ -129,11 +129,30 @@ module _ (script : Script) (heap : Heap) (runners : List Runner) (is : IsHeapOf 
   fits_script : FitsScript script js
   fits_script t there = (whole t (let a = many_journals in omega (arith, there))).0
 
-  fuelled : (t : ℕ) → access_count (journal_of js t) ≤ script.fuel
+  pub fuelled : (t : ℕ) → access_count (journal_of js t) ≤ script.fuel
   fuelled t = elim (cases_lt t (length runners)) [
     | inl lt ↦ let most = fuel_left (commands_of script t) start (journal_of js t) (whole t lt).0.0 in omega arith
     | inr past ↦ let a = many_journals in let none : journal_of js t ≡ [] = get_or_past js t [] (omega arith) in omega (arith, ap access_count none)
   ]
+
+  -- its journal was seen in a sound state
+  pub good : (t : ℕ) → t < length js → IsGoodJournal (length js) t (journal_of js t)
+  good t less =
+      let a = many_journals in
+      let there : t < length runners = omega (arith, less) in
+      let r = (at runners t there).runner in
+      let v = seat_of r.worker in
+      let e = has_ended t there in
+      let journal : v.journal ≡ journal_of js t = sym (at runners t there).is_journal in
+      let most : access_count v.journal ≤ 262144 =
+      omega (arith, ap access_count journal, fuelled t, (valid_script script.fuel script.objects script.threads script.valid).most_fuel) in
+      let many : v.threads ≡ length js = e.rests.own.own.1 ∙ (sym heap.words.keyed ∙ (is.threads ∙ (sym of.as_many ∙ sym many_journals))) in
+      subst (λ (n : ℕ). IsGoodJournal n t (journal_of js t)) many
+      (subst (λ (n : ℕ). IsGoodJournal v.threads n (journal_of js t)) (is_of t there).number
+      (subst (IsGoodJournal v.threads v.number) journal (seen_good v e.seen.state e.seen.seen most)))
+
+  pub many_ended : length js ≡ length script.threads
+  many_ended = many_journals ∙ of.as_many
 
   same_ends : ends_in runners ≡ ends_of script.fuel script.threads js
   same_ends =

@@ -6,3 +6,11 @@ pub mod Journals
 pub mod Fuel
 pub mod Ending
 pub mod Opening
+pub mod Growing
+pub mod Adding
+pub mod Draining
+pub mod ThreadLogs
+pub mod Written
+pub mod Places
+pub mod Connecting
+pub mod Leaving

@@ -5,12 +5,17 @@ use Rattle.octet_model.specs.declared.outcome.End.TheVariants.{Spent}
 use Rattle.octet_model.specs.declared.script.Script.{Script}
 use Rattle.octet_model.specs.Orders.{commands_of, starting_heap}
 use Rattle.octet_interp.specs.declared.demand.Demand.{Demand}
-use Rattle.octet_interp.specs.declared.demand.Demand.TheVariants.{Ended}
+use Rattle.octet_interp.specs.declared.demand.Demand.TheVariants.{Ended, Pause}
 use Rattle.octet_interp.specs.Demands.{next_demand}
 use Rattle.octet_rule.specs.Conditions.{IsResting}
+use Rattle.octet_rule.specs.Rule.{IsSeenBy}
 use Rattle.octet_rule.specs.Seats.{objects_of, threads_of, starts_of}
+use Rattle.octet_state.specs.State.{ProtocolState}
 use Rattle.octet_heap.specs.declared.heap.Heap.{Heap}
+use Rattle.octet_heap.specs.declared.worker.Worker.{Worker}
 use Rattle.octet_heap.specs.Workers.{seat_of, IsWorkerOf}
+use Rattle.octet_threads.specs.Feeds.{end_of}
+use Rattle.octet_threads.specs.Tasks.{task_of, Does}
 use Rattle.octet_threads.specs.declared.runner.Runner.{Runner}
 
 -- the runner of one of this heap's workers, which is off or blocked, with a thread of as many objects
@@ -23,15 +28,30 @@ abbrev pub IsEnd : Demand → Type 0
 IsEnd (Ended end) = Unit {0}
 IsEnd _ = ⊥
 
+-- in some sound state its thread was where the worker's seat knows it to be
+pub record IsSeen (worker : Worker) : Type 0 where
+  pub state : ProtocolState
+  pub seen : IsSeenBy (seat_of worker) state
+
 -- and its thread demands its end
 pub record HasEnded (heap : Heap) (runner : Runner) : Type 0 where
   pub rests : IsAtRest heap runner
   pub ends : IsEnd (next_demand runner.config)
+  pub seen : IsSeen runner.worker
 
--- a runner of the same thread
+-- a runner of the same thread, which sends by the same ring, if it does
 pub record IsSame (before after : Runner) : Type 0 where
   pub number : (seat_of after.worker).number ≡ (seat_of before.worker).number
   pub commands : after.config.commands ≡ before.config.commands
+  pub end : end_of after.feed ≡ end_of before.feed
+
+-- a worker that has rested, by the steps of a pause, while its thread stayed where it was
+pub record HasRested (before after : Runner) : Type 0 where
+  pub steps : Does (task_of Pause) (seat_of before.worker) (seat_of after.worker)
+  pub journal : (seat_of after.worker).journal ≡ (seat_of before.worker).journal
+  pub number : (seat_of after.worker).number ≡ (seat_of before.worker).number
+  pub config : after.config ≡ before.config
+  pub feed : after.feed ≡ before.feed
 
 -- the runner of this thread of a script
 pub record IsOf (script : Script) (thread : ℕ) (runner : Runner) : Type 0 where

@@ -20,7 +20,7 @@ use std::sync::Wait;
 use std::thread::Threads;
 
 // Polls the access that was begun until it is made, and answers its value.
-fn make<R: Wait>(rt: &R, heap: &Heap, worker: &mut Worker) -> u64
+fn make<R: Wait>(rt: &R, heap: &Heap, worker: &mut Worker, patience: &mut Patience) -> u64
     requires own { IsWorkerOf heap.now worker.old }
     requires begun { is_some worker.old.wish ≡ true }
     ensures own { IsWorkerOf heap.now worker.new }
@@ -29,11 +29,10 @@ fn make<R: Wait>(rt: &R, heap: &Heap, worker: &mut Worker) -> u64
     ensures steps { (wish : TheWish) → worker.old.wish ≡ Some wish → Does (access_task wish) (seat_of worker.old) (seat_of worker.new) }
     ensures journal { (wish : TheWish) → worker.old.wish ≡ Some wish → AddsAccess wish (seat_of worker.old) (Ready result) (seat_of worker.new) }
 {
-    let mut patience = Patience::new();
     for _ in rt.forever() {
         match heap.poll(worker) {
             Poll::Ready { value } => return value,
-            Poll::Pending { why } => patience.wait(why),
+            Poll::Pending { why } => patience.wait(rt, why, worker.accesses()),
         }
     }
     unreachable!()
@@ -45,6 +44,7 @@ fn access<R: Threads + Wait + Sync, G: HeapGate>(
     heap: &Heap,
     worker: &mut Worker,
     gate: &G,
+    patience: &mut Patience,
     object: u16,
     mode: Mode,
     value: u64,
@@ -63,7 +63,64 @@ fn access<R: Threads + Wait + Sync, G: HeapGate>(
     gate.pass(rt, thread, worker.accesses());
     gate.note(thread, worker);
     heap.begin(worker, object, mode, value);
-    make(rt, heap, worker)
+    make(rt, heap, worker, patience)
+}
+
+/// `carry`, by a worker that keeps its patience from one demand to the next.
+pub(crate) fn carry_patiently<R: Threads + Wait + Sync, G: HeapGate>(
+    rt: &R,
+    heap: &Heap,
+    worker: &mut Worker,
+    config: &mut Config,
+    gate: &G,
+    patience: &mut Patience,
+) -> Demand
+    requires own { IsWorkerOf heap.now worker.old }
+    requires idle { IsIdle worker.old }
+    requires more { HasAccessLeft heap.now worker.old config.old }
+    requires objects { config.old.objects ≡ objects_of heap.now.words }
+    requires waits { config.old.waits ≡ false }
+    ensures own { IsWorkerOf heap.now worker.new }
+    ensures left { IsLeftBy result worker.new }
+    ensures number { (seat_of worker.new).number ≡ (seat_of worker.old).number }
+    ensures demand { result ≡ next_demand config.old }
+    ensures thread { IsSameThread config.old config.new }
+    ensures waits { config.new.waits ≡ false }
+    ensures ends { TellsAgain result config.new }
+    ensures steps { Does (task_of result) (seat_of worker.old) (seat_of worker.new) }
+    ensures journal { KeepsUp worker.old config.old worker.new config.new }
+{
+    let demand = config.next();
+    match demand {
+        Demand::Read { object } => {
+            let value = access(rt, heap, worker, gate, patience, object, Mode::Read, 0);
+            config.give(value);
+        }
+        Demand::Write { object, value } => {
+            access(rt, heap, worker, gate, patience, object, Mode::Write, value);
+        }
+        Demand::Bump { object, amount } => {
+            access(
+                rt,
+                heap,
+                worker,
+                gate,
+                patience,
+                object,
+                Mode::Update,
+                amount,
+            );
+        }
+        Demand::Safe => {
+            heap.safe_point(worker);
+        }
+        Demand::Pause => {
+            heap.block(worker);
+            heap.unblock(worker);
+        }
+        Demand::Ended { .. } => heap.block(worker),
+    }
+    demand
 }
 
 /// Carries out the next demand of the configuration, which is one of the worker's thread, and
@@ -92,26 +149,5 @@ pub fn carry<R: Threads + Wait + Sync, G: HeapGate>(
     ensures steps { Does (task_of result) (seat_of worker.old) (seat_of worker.new) }
     ensures journal { KeepsUp worker.old config.old worker.new config.new }
 {
-    let demand = config.next();
-    match demand {
-        Demand::Read { object } => {
-            let value = access(rt, heap, worker, gate, object, Mode::Read, 0);
-            config.give(value);
-        }
-        Demand::Write { object, value } => {
-            access(rt, heap, worker, gate, object, Mode::Write, value);
-        }
-        Demand::Bump { object, amount } => {
-            access(rt, heap, worker, gate, object, Mode::Update, amount);
-        }
-        Demand::Safe => {
-            heap.safe_point(worker);
-        }
-        Demand::Pause => {
-            heap.block(worker);
-            heap.unblock(worker);
-        }
-        Demand::Ended { .. } => heap.block(worker),
-    }
-    demand
+    carry_patiently(rt, heap, worker, config, gate, &mut Patience::new())
 }

@@ -1,10 +1,18 @@
 //! Runs of a script by real threads: a worker for each thread of the script, all on one shared
-//! heap (`run`), or over one machine behind a lock (`run_locked`). `carry` has a worker of a heap
-//! carry out one demand of a thread.
+//! heap (`run`), where a drainer beside them may write the log meanwhile (`run_live`), or over one
+//! machine behind a lock (`run_locked`). `carry` has a worker of a heap carry out one demand of a
+//! thread.
 #![tactic(auto)]
 
 mod carrying;
+mod crew;
+mod drainer;
+mod feed;
 mod gate;
+mod left;
+mod live;
+#[cfg(test)]
+mod live_tests;
 mod locked;
 mod patience;
 mod recording;
@@ -14,9 +22,11 @@ mod runs;
 mod step;
 #[cfg(test)]
 mod tests;
+mod tuning;
 mod worker;
 
 pub use carrying::carry;
 pub use gate::HeapGate;
+pub use live::{Live, run_live};
 pub use locked::run_locked;
 pub use running::run;

@@ -1,8 +1,11 @@
 //! What is recorded of a run whose threads have all ended.
 ghost use Rattle.std.specs.Prelude.{◌≡◌, ◌<◌, All, length, map, IfOk, IsTrue};
+ghost use Rattle.octet_model.specs.Journals.{log_of};
 ghost use Rattle.octet_model.specs.Log.{is_log};
 ghost use Rattle.octet_model.specs.Orders.{IsFaithful};
+ghost use Rattle.octet_heap.specs.Seated.{journals_of};
 ghost use Rattle.octet_interp.specs.Demands.{next_demand};
+ghost use Rattle.octet_threads.specs.Work.{workers_in};
 ghost use Rattle.octet_threads.specs.Runners.{AreOf, HasEnded, IsHeapOf, end_told};
 
 use crate::runner::Runner;
@@ -47,6 +50,7 @@ fn workers_of(alloc: Global, runners: Vec<Runner>) -> Result<List<Worker>, OutOf
 fn recording(script: &Script, closed: Closed, ends: List<End>) -> Recorded
     requires valid { IsTrue (is_log closed.logs) }
     requires faithful { IsFaithful script.now closed.logs (record { ends = ends; reads = closed.reads; heap = closed.heap }) }
+    ensures log { result.log.threads ≡ closed.logs }
     ensures faithful { IsFaithful script.now result.log.threads result.outcome }
     ensures ends { result.outcome.ends ≡ ends }
     ensures reads { result.outcome.reads ≡ closed.reads }
@@ -74,6 +78,7 @@ pub(crate) fn recorded(
     requires heap { IsHeapOf script.now heap }
     requires runners { AreOf script.now runners.items }
     requires ended { All (HasEnded heap) runners.items }
+    ensures log { IfOk result (λ r. r.log.threads ≡ log_of (journals_of (workers_in runners.items))) }
     ensures faithful { IfOk result (λ r. IsFaithful script.now r.log.threads r.outcome) }
     ensures ends { IfOk result (λ r. length r.outcome.ends ≡ length script.now.threads) }
     ensures reads { IfOk result (λ r. length r.outcome.reads ≡ length script.now.threads) }

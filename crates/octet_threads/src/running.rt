@@ -4,6 +4,7 @@ ghost use Rattle.octet_model.specs.Orders.{IsFaithful};
 ghost use Rattle.octet_heap.specs.Seated.{EachNew, IsNew};
 ghost use Rattle.octet_threads.specs.Runners.{AreOf, IsAtRest, IsHeapOf, IsOf};
 
+use crate::crew::Crew;
 use crate::gate::HeapGate;
 use crate::recording::recorded;
 use crate::runner::{APART, Runner};
@@ -32,12 +33,13 @@ fn runner(
     Ok(Runner {
         worker,
         config: Config::new(alloc, script, thread)?,
+        feed: None,
         apart: [0; APART],
     })
 }
 
-// One for each worker.
-fn runners(
+/// One for each worker.
+pub(crate) fn runners(
     alloc: Global,
     script: &Script,
     heap: &Heap,
@@ -60,8 +62,9 @@ fn runners(
 
 /// Runs the script by a worker for each of its threads, all beside each other on one shared heap,
 /// and answers the log and the outcome, which are a faithful recording. Before each access a
-/// worker passes the gate and is noted by it. A worker whose access has to wait backs off. Reserves
-/// all the room that the run needs. May wait: nothing says that the workers come to an end.
+/// worker passes the gate and is noted by it. A worker whose access has to wait backs off, and one
+/// whose accesses had to wait a lot rests before the next one, marked as blocked. Reserves all the
+/// room that the run needs. May wait: nothing says that the workers come to an end.
 pub fn run<R: Threads + Wait + Sync, G: HeapGate>(
     rt: &R,
     alloc: Global,
@@ -75,6 +78,7 @@ pub fn run<R: Threads + Wait + Sync, G: HeapGate>(
 {
     let (heap, workers) = Heap::new(alloc, script)?;
     let mut runners = runners(alloc, script, &heap, workers.into_vec())?;
-    run_all(rt, &heap, gate, runners.as_mut_slice());
+    let crew = Crew::new();
+    run_all(rt, &heap, gate, &crew, runners.as_mut_slice());
     recorded(alloc, script, heap, runners)
 }

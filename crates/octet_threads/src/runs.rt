@@ -1,19 +1,30 @@
 //! Runners at work: each runs its thread to its end, all beside each other.
-ghost use Rattle.std.specs.Prelude.{◌≡◌, ◌<◌, All};
+ghost use Rattle.std.specs.Prelude.{◌≡◌, ◌<◌, ◌⊎◌, All};
 ghost use Rattle.std.specs.List.{AllZip};
 ghost use Rattle.std.specs.Thread.{IsSync};
 ghost use Rattle.octet_rule.specs.Seats.{objects_of};
 ghost use Rattle.octet_heap.specs.Workers.{IsWorkerOf, IsIdle};
 ghost use Rattle.octet_threads.specs.Carrying.{IsLeftBy, TellsAgain};
-ghost use Rattle.octet_threads.specs.Runners.{IsAtRest, HasEnded, IsSame};
+ghost use Rattle.octet_threads.specs.Runners.{IsAtRest, HasEnded, HasRested, IsSame, IsSeen};
 
-use crate::carrying::carry;
+use crate::carrying::carry_patiently;
+use crate::crew::Crew;
+use crate::feed::send_new;
 use crate::gate::HeapGate;
+use crate::patience::Patience;
 use crate::runner::Runner;
 use octet_heap::Heap;
 use octet_interp::Demand;
 use std::sync::Wait;
 use std::thread::{Threads, join_mut};
+use std::time::Duration;
+
+fn is_access(demand: Demand) -> bool {
+    match demand {
+        Demand::Read { .. } | Demand::Write { .. } | Demand::Bump { .. } => true,
+        _ => false,
+    }
+}
 
 impl Runner {
     // Marks the thread as running.
@@ -27,12 +38,13 @@ impl Runner {
         heap.unblock(&mut self.worker);
     }
 
-    // Carries out one demand of the thread.
+    // Carries out one demand of the thread, and sends the marks that were made, if they are to be sent.
     fn step<R: Threads + Wait + Sync, G: HeapGate>(
         &mut self,
         rt: &R,
         heap: &Heap,
         gate: &G,
+        patience: &mut Patience,
     ) -> Demand
         requires own { IsWorkerOf heap.now self.old.worker }
         requires idle { IsIdle self.old.worker }
@@ -41,21 +53,69 @@ impl Runner {
         ensures left { IsLeftBy result self.new.worker }
         ensures objects { self.new.config.objects ≡ objects_of heap.now.words }
         ensures ends { TellsAgain result self.new.config }
+        ensures seen { IsSeen self.new.worker }
         ensures same { IsSame self.old self.new }
     {
-        carry(rt, heap, &mut self.worker, &mut self.config, gate)
+        let demand = carry_patiently(rt, heap, &mut self.worker, &mut self.config, gate, patience);
+        send_new(&mut self.feed, self.worker.marks());
+        demand
     }
 
-    // Runs the thread to its end.
-    fn run<R: Threads + Wait + Sync, G: HeapGate>(&mut self, rt: &R, heap: &Heap, gate: &G)
+    // Stays away from work for so long at most, marked as blocked.
+    fn stay_away<R: Wait>(&mut self, rt: &R, heap: &Heap, crew: &Crew, rung: u32, time: Duration)
+        requires own { IsWorkerOf heap.now self.old.worker }
+        requires idle { IsIdle self.old.worker }
+        ensures own { IsWorkerOf heap.now self.new.worker }
+        ensures idle { IsIdle self.new.worker }
+        ensures rested { HasRested self.old self.new }
+    {
+        heap.block(&mut self.worker);
+        crew.rest(rt, rung, time);
+        heap.unblock(&mut self.worker);
+    }
+
+    // Rests, where its accesses have waited a lot and it is to make another, unless no other is at work.
+    #[cold]
+    #[inline(never)]
+    fn rest<R: Wait>(&mut self, rt: &R, heap: &Heap, patience: &mut Patience, crew: &Crew)
+        requires own { IsWorkerOf heap.now self.old.worker }
+        requires idle { IsIdle self.old.worker }
+        ensures own { IsWorkerOf heap.now self.new.worker }
+        ensures idle { IsIdle self.new.worker }
+        ensures rested { (self.new ≡ self.old) ⊎ HasRested self.old self.new }
+        ensures same { IsSame self.old self.new }
+    {
+        let time = patience.recover();
+        if !is_access(self.config.peek()) {
+            return;
+        }
+        if let Some(rung) = crew.stop() {
+            self.stay_away(rt, heap, crew, rung, time);
+        }
+    }
+
+    // Runs the thread to its end, and counts it then.
+    fn run<R: Threads + Wait + Sync, G: HeapGate>(
+        &mut self,
+        rt: &R,
+        heap: &Heap,
+        gate: &G,
+        crew: &Crew,
+    )
         requires { IsAtRest heap.now self.old }
         ensures ended { HasEnded heap.now self.new }
         ensures same { IsSame self.old self.new }
     {
+        crew.begin();
         self.start(heap);
+        let mut patience = Patience::new();
         for _ in rt.forever() {
-            if let Demand::Ended { .. } = self.step(rt, heap, gate) {
+            if let Demand::Ended { .. } = self.step(rt, heap, gate, &mut patience) {
+                crew.end();
                 return;
+            }
+            if patience.is_worn() {
+                self.rest(rt, heap, &mut patience, crew);
             }
         }
         unreachable!()
@@ -67,6 +127,7 @@ pub(crate) fn run_all<R: Threads + Wait + Sync, G: HeapGate>(
     rt: &R,
     heap: &Heap,
     gate: &G,
+    crew: &Crew,
     runners: &mut [Runner],
 )
     requires { All (IsAtRest heap.now) runners.old }
@@ -77,7 +138,7 @@ pub(crate) fn run_all<R: Threads + Wait + Sync, G: HeapGate>(
         return;
     }
     if runners.len() == 1 {
-        runners[0].run(rt, heap, gate);
+        runners[0].run(rt, heap, gate, crew);
         return;
     }
     let (front, back) = runners.split_at_mut(runners.len() / 2);
@@ -86,10 +147,10 @@ pub(crate) fn run_all<R: Threads + Wait + Sync, G: HeapGate>(
         &mut || -> ()
             requires { IsSync R.row × IsSync G.row × All (IsAtRest heap.now) front.now }
             ensures { All (HasEnded heap.entry.now) front.exit.now × AllZip IsSame front.entry.now front.exit.now }
-        { run_all(rt, heap, gate, front) },
+        { run_all(rt, heap, gate, crew, front) },
         &mut || -> ()
             requires { IsSync R.row × IsSync G.row × All (IsAtRest heap.now) back.now }
             ensures { All (HasEnded heap.entry.now) back.exit.now × AllZip IsSame back.entry.now back.exit.now }
-        { run_all(rt, heap, gate, back) },
+        { run_all(rt, heap, gate, crew, back) },
     );
 }

@@ -105,7 +105,7 @@ fn script_with_x_and_y(objects: List<Object>, threads: List<List<Command>>) -> S
 }
 
 // Each thread writes x a hundred times.
-fn writes_in_contention(alloc: Global) -> Result<Script, OutOfMemory> {
+pub(crate) fn writes_in_contention(alloc: Global) -> Result<Script, OutOfMemory> {
     let writes = [
         Command::Set { to: 0, number: 100 },
         Command::Set { to: 1, number: 1 },
@@ -124,7 +124,7 @@ fn writes_in_contention(alloc: Global) -> Result<Script, OutOfMemory> {
 }
 
 // Thread 1 reads what nobody has touched.
-fn reads_untouched(alloc: Global) -> Result<Script, OutOfMemory> {
+pub(crate) fn reads_untouched(alloc: Global) -> Result<Script, OutOfMemory> {
     let read_y = [Command::Read { to: 0, object: 1 }];
     let threads = two_threads(alloc, &[], &read_y)?;
     Ok(script_with_x_and_y(two_objects(alloc, 0, 3)?, threads))
@@ -168,7 +168,7 @@ fn text_of(alloc: Global, recorded: &Recorded) -> Result<Vec<u8>, OutOfMemory> {
 }
 
 #[test]
-fn reads_untouched_whatever_the_schedule(rt: HostRuntime) -> Result<(), Fail> {
+pub(crate) fn reads_untouched_whatever_the_schedule(rt: HostRuntime) -> Result<(), Fail> {
     let alloc = rt.alloc();
     let script = reads_untouched(alloc)?;
     let expected =

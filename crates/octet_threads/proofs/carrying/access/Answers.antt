@@ -1,4 +1,4 @@
-use Rattle.std.proofs.Common.{rules, subst}
+use Rattle.std.proofs.Common.{subst}
 use Rattle.octet_rule.specs.Views.{SeatView}
 use Rattle.octet_heap.specs.declared.wish.Wish.{Wish}
 use Rattle.octet_heap.specs.Workers.{seat_of}

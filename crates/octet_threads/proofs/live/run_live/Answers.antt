@@ -1,0 +1,56 @@
+use Rattle.std.proofs.Common.{rules, ◌≡◌, ◌∙◌, List, length, sym, ap, subst}
+use Rattle.std.specs.List.{AllZip}
+use Rattle.std.proofs.Math.ListN.{drop}
+use Rattle.std.proofs.lemmas.List.{take_at}
+use Rattle.std.proofs.lemmas.List.Elements.{length_all_zip}
+use Rattle.octet_model.specs.Journals.{log_of}
+use Rattle.octet_heap.specs.Seated.{journals_of}
+use Rattle.octet_threads.specs.declared.runner.Runner.{Runner}
+use Rattle.octet_threads.specs.Runners.{AreOf}
+use Rattle.octet_threads.specs.Work.{IsOfThread, SendEach, workers_in}
+use Rattle.octet_threads.proofs.Adding.{failed_rose, is_write_answer}
+use Rattle.octet_threads.proofs.Leaving.{log_written, partly_written, nothing_added}
+use Rattle.octet_threads.proofs.Opening.{still_of}
+use Rattle.octet_threads.proofs.live.run_live.Goals as goal
+
+pub returns-in_default-clause-partly : goal.returns-in_default-clause-partly
+returns-in_default-clause-partly g c = nothing_added c.args.script.now (g.D.Desk.state c.args.desk.now)
+
+pub run_written-kept-requires-clause-send : goal.run_written-kept-requires-clause-send
+run_written-kept-requires-clause-send g c κs within = subst (SendEach c.in-Ok.opened.drain.rings) (sym c.as_mut_slice.ensures.value) c.in-Ok.ensures.send
+
+pub recorded-requires-clause-runners : goal.recorded-requires-clause-runners
+recorded-requires-clause-runners g c =
+    let made = c.in-Ok.opened.runners.items in
+    let ran = c.run_written-kept.new.runners in
+    let zip : AllZip IsOfThread made ran = search rules in
+    let long : length made ≡ c.in-Ok.opened.runners.len = search rules in
+    let many : length ran ≡ c.in-Ok.opened.runners.len = sym (length_all_zip IsOfThread made ran zip) ∙ long in
+    subst (AreOf c.args.script.now) (sym (take_at ran (drop (length ran) made) c.in-Ok.opened.runners.len many)) (still_of c.args.script.now made ran c.in-Ok.ensures.runners zip)
+
+pub returns-in-Ok-recorded-clause-written : goal.returns-in-Ok-recorded-clause-written
+returns-in-Ok-recorded-clause-written g c =
+    let made = c.in-Ok.opened.runners.items in
+    let ran = c.run_written-kept.new.runners in
+    let value : c.as_mut_slice.result.now ≡ made = search rules in
+    let zip : AllZip IsOfThread made ran = search rules in
+    let long : length made ≡ c.in-Ok.opened.runners.len = search rules in
+    let many : length ran ≡ c.in-Ok.opened.runners.len = sym (length_all_zip IsOfThread made ran zip) ∙ long in
+    let all = take_at ran (drop (length ran) made) c.in-Ok.opened.runners.len many in
+    log_written ran c.in-Ok-recorded.recorded.log.threads (length c.as_mut_slice.result.now) c.run_written-kept.result _ _
+    (c.in-Ok-recorded.ensures.log ∙ ap (λ (l : List Runner). log_of (journals_of (workers_in l))) all) (ap (λ (l : List Runner). length l) value ∙ length_all_zip IsOfThread made ran zip) c.run_written-kept.ensures.writes
+
+pub returns-in-Ok-recorded-clause-failed : goal.returns-in-Ok-recorded-clause-failed
+returns-in-Ok-recorded-clause-failed g c = failed_rose c.run_written-kept.ensures.writes.pieces _ _ c.run_written-kept.result c.run_written-kept.ensures.writes.adds
+
+pub returns-in-Ok-recorded-clause-kept : goal.returns-in-Ok-recorded-clause-kept
+returns-in-Ok-recorded-clause-kept g c = is_write_answer c.run_written-kept.ensures.writes.pieces _ _ c.run_written-kept.result c.run_written-kept.ensures.writes.adds
+
+pub returns-clause-partly : goal.returns-clause-partly
+returns-clause-partly g c =
+    let made = c.in-Ok.opened.runners.items in
+    let ran = c.run_written-kept.new.runners in
+    let value : c.as_mut_slice.result.now ≡ made = search rules in
+    let zip : AllZip IsOfThread made ran = search rules in
+    partly_written c.args.script.now c.in-Ok.opened.heap ran (length c.as_mut_slice.result.now) c.run_written-kept.result _ _ c.in-Ok.ensures.heap (still_of c.args.script.now made ran c.in-Ok.ensures.runners zip) c.run_written-kept.ensures.ended
+    (ap (λ (l : List Runner). length l) value ∙ length_all_zip IsOfThread made ran zip) c.run_written-kept.ensures.writes

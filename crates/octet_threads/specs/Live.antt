@@ -1,0 +1,38 @@
+-- What a clause says of a log whose marks are written while its threads run.
+use Rattle.std.specs.Prelude.{◌≡◌, ℕ, ◌≤◌, ◌⊎◌, List, [], ◌∷◌, length, Option, None, Some, Ok, Err, IsTrue}
+use Rattle.octet_base.specs.Desk.{DeskState, Adds}
+use Rattle.octet_base.specs.declared.fault.DeskFault.{DeskFault}
+use Rattle.octet_base.specs.declared.fault.DeskFault.TheVariants.{OutOfMemory}
+use Rattle.octet_model.specs.declared.log.ThreadLog.{ThreadLog}
+use Rattle.octet_model.specs.Log.{is_log}
+use Rattle.octet_log.specs.declared.limits.TheConstants.{MAX_MARKS}
+use Rattle.octet_log.specs.Pieces.{Piece, piece_bytes, ArePieces, HaveMarks, marks_in}
+
+-- the desk refuses to add the piece, of at most 256 marks; or there is no memory for its bytes, and it is not asked
+abbrev pub IsRefused : Piece → DeskState → Option DeskFault → DeskState → Type 0
+IsRefused piece before kept after =
+    ((kept ≡ Some OutOfMemory) × (after ≡ before))
+    ⊎ ((fault : DeskFault) × (kept ≡ Some fault) × (length piece.marks ≤ 256) × Adds (piece_bytes piece) before (Err fault) after)
+
+-- pieces of at most 256 marks are added to the file that is begun, one with each call of the desk, up to the first that is refused, and no call is made after it
+abbrev pub AddsPieces : List Piece → DeskState → Option DeskFault → DeskState → Type 0
+AddsPieces [] before kept after = (kept ≡ None) × (after ≡ before)
+AddsPieces (piece ∷ pieces) before kept after =
+    IsRefused piece before kept after
+    ⊎ ((mid : DeskState) × (length piece.marks ≤ 256) × Adds (piece_bytes piece) before (Ok tt) mid × AddsPieces pieces mid kept after)
+
+-- pieces that have the marks of a log are added: all of them, or those before the first that is refused
+pub record IsWritten (logs : List ThreadLog) (before : DeskState) (kept : Option DeskFault) (after : DeskState) : Type 0 where
+  pub pieces : List Piece
+  pub are : ArePieces (length logs) pieces
+  pub have : HaveMarks 0 pieces logs
+  pub adds : AddsPieces pieces before kept after
+
+-- so far pieces of some valid log of so many threads are added, which has no more marks than a log may have
+pub record IsPartlyWritten (threads : ℕ) (before after : DeskState) : Type 0 where
+  pub logs : List ThreadLog
+  pub valid : IsTrue (is_log logs)
+  pub as_many : length logs ≡ threads
+  pub few : marks_in logs ≤ MAX_MARKS
+  pub kept : Option DeskFault
+  pub written : IsWritten logs before kept after
