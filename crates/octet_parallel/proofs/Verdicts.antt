@@ -1,0 +1,51 @@
+-- What the journals that the players made tell of the lowest order.
+use Rattle.std.proofs.Common.{◌≡◌, ◌⊎◌, inl, inr, ℕ, ◌<◌, ◌≤◌, ◌↔◌, ⊎_elim, All, IsTrue, true, false, Bool, List, length, get_or, Option, Some, None, refl, sym, ap, ◌∙◌, subst, arith}
+use Rattle.octet_model.specs.declared.event.Event.{Event}
+use Rattle.octet_model.specs.declared.log.Log.{Log}
+use Rattle.octet_model.specs.declared.log.ThreadLog.{ThreadLog}
+use Rattle.octet_model.specs.declared.outcome.Outcome.{Outcome}
+use Rattle.octet_model.specs.declared.script.Script.{Script}
+use Rattle.octet_model.specs.Journals.{access_count, mark_count}
+use Rattle.octet_model.specs.Machine.{Journals, journal_of}
+use Rattle.octet_model.specs.HappensBefore.{IsOrdered}
+use Rattle.octet_model.specs.Orders.{thread_log_of, journals_after}
+use Rattle.octet_replay.specs.Judged.{DemandsEnd, DemandsAccess}
+use Rattle.octet_clock.specs.Fronts.{OrdersConflicts, IsAmissAfter, demand_after}
+use Rattle.octet_clock.specs.Ordered.{AreOfLawfulOrder}
+use Rattle.octet_clock.proofs.lemmas.FrontLaws.{no_front_is_amiss, one_order_tells, one_order_gives}
+use Rattle.octet_parallel.specs.declared.played.Finished as finished
+use Rattle.std.specs.List.{AllZip}
+use Rattle.std.proofs.lemmas.List.Elements.{AllZip-get_or, length_all_zip}
+use Rattle.octet_parallel.specs.declared.field.Field.{Field}
+use Rattle.octet_parallel.specs.declared.player.Player.{Player}
+use Rattle.octet_parallel.specs.Steps.{IsAmiss}
+use Rattle.octet_parallel.specs.Playing.{EachUnbegun, EachEnded, SomeFrontIsAmiss, IsFinishedReplay}
+use Rattle.octet_parallel.specs.Judging.{HasPlayed, IsSamePlayer, IsJudged}
+
+module _ (script : Script) (log : List ThreadLog) where
+  amiss_alike : (front : List ℕ) (thread : ℕ) → IsAmiss script log thread (journal_of (journals_after script log front) thread) → IsAmissAfter script log front thread
+  amiss_alike front thread is =
+      ⊎_elim (λ early. inl (record { ends = early.1; fewer = early.0 }, is.no_mark))
+      (λ on. inr (record { demands = on.2; made = on.0; no_mark_left = omega (arith, on.1) })) is.why
+
+  pub amiss_judged : SomeFrontIsAmiss script log → IsJudged script log None
+  amiss_judged some orders = no_front_is_amiss script log some.front some.thread orders some.lawful some.within (amiss_alike some.front some.thread some.amiss)
+
+  module _ (result : finished.Finished) (is : IsFinishedReplay script log result) where
+    pub ordered_judged : IsOrdered result.journals → IsJudged script log (Some result.outcome)
+    ordered_judged ordered =
+        let orders = (one_order_tells script log is.order is.lawful).0 (subst (λ (js : Journals). IsOrdered js) is.journals ordered) in
+        (orders, is.outcome ∙ (one_order_gives script log is.order is.lawful orders).0)
+
+    pub unordered_judged : (IsOrdered result.journals → ⊥) → IsJudged script log None
+    unordered_judged not orders = not (subst (λ (js : Journals). IsOrdered js) (sym is.journals) ((one_order_tells script log is.order is.lawful).1 orders))
+
+pub of_lawful : (script : Script) (log : Log) (result : finished.Finished) → IsFinishedReplay script log.threads result → AreOfLawfulOrder result.journals
+of_lawful script log result is = record { script = script; log = log; order = is.order; is_lawful = is.lawful; are = sym is.journals }
+
+-- players that have played to their ends, and are the same
+pub each_ended : (field : Field) (xs ys : List Player) → EachUnbegun field xs → AllZip IsSamePlayer xs ys → All (HasPlayed field) ys → EachEnded field ys
+each_ended field xs ys begun same played number none h =
+    let here : number < length xs = omega (arith, h, length_all_zip IsSamePlayer xs ys same) in
+    let mine = played number none h in
+    (mine.own, AllZip-get_or IsSamePlayer xs ys number none none same here ∙ (begun number none here).1.0, mine.ended)

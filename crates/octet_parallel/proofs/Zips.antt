@@ -1,0 +1,36 @@
+-- Two lists that agree place by place.
+use Rattle.std.proofs.Common.{◌≡◌, suc, All, List, [], ◌∷◌, ◌++◌, refl, ◌∙◌, subst, arith}
+use Rattle.std.specs.List.{AllZip}
+use Rattle.octet_parallel.specs.declared.player.Player.{Player}
+use Rattle.octet_parallel.specs.Judging.{IsSamePlayer}
+
+-- so do they joined to two others
+zip_joined : {A B : Type 0} (R : A → B → Type 0) (xs zs : List A) (ys ws : List B) → AllZip R xs ys → AllZip R zs ws → AllZip R (xs ++ zs) (ys ++ ws)
+zip_joined R [] zs [] ws h k = k
+zip_joined R [] zs (y ∷ ys) ws h k = absurd h
+zip_joined R (x ∷ xs) zs [] ws h k = absurd h
+zip_joined R (x ∷ xs) zs (y ∷ ys) ws h k = (h.0, zip_joined R xs zs ys ws h.1 k)
+
+-- and so do lists that are these
+pub zip_over : {A B : Type 0} (R : A → B → Type 0) (l xs zs : List A) (ys ws : List B) → xs ++ zs ≡ l → AllZip R xs ys → AllZip R zs ws → AllZip R l (ys ++ ws)
+zip_over R l xs zs ys ws are h k = subst (λ (z : List _). AllZip R z (ys ++ ws)) are (zip_joined R xs zs ys ws h k)
+
+-- players are the same as they are, and as those that are the same as they
+pub all_same : (players : List Player) → AllZip IsSamePlayer players players
+all_same [] = tt
+all_same (p ∷ players) = (refl, all_same players)
+
+pub still_same : (xs ys zs : List Player) → AllZip IsSamePlayer xs ys → AllZip IsSamePlayer ys zs → AllZip IsSamePlayer xs zs
+still_same [] [] [] h k = tt
+still_same [] [] (z ∷ zs) h k = absurd k
+still_same [] (y ∷ ys) zs h k = absurd h
+still_same (x ∷ xs) [] zs h k = absurd h
+still_same (x ∷ xs) (y ∷ ys) [] h k = absurd k
+still_same (x ∷ xs) (y ∷ ys) (z ∷ zs) h k = (k.0 ∙ h.0, still_same xs ys zs h.1 k.1)
+
+-- what holds of all holds of the first, and of the others
+pub all_first : {A : Type 0} (P : A → Type 0) (x : A) (xs : List A) → All P (x ∷ xs) → P x
+all_first P x xs h = h 0 x (omega arith)
+
+pub all_others : {A : Type 0} (P : A → Type 0) (x : A) (xs : List A) → All P (x ∷ xs) → All P xs
+all_others P x xs h k d inside = h (suc k) d (omega arith)

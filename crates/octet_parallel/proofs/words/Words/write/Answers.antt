@@ -1,0 +1,6 @@
+use Rattle.std.proofs.Common.{rules}
+use Rattle.octet_parallel.proofs.Allowed.{writes}
+use Rattle.octet_parallel.proofs.words.Words.write.Goals as goal
+
+pub store-requires : goal.store-requires
+store-requires c = (search rules, search rules, writes _ _ _ _ _ (search rules) _ c.args.object c.args.value c.requires.free c.requires.next (search rules))

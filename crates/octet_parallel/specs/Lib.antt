@@ -1,0 +1,14 @@
+pub mod Needs
+pub mod State
+pub mod Steps
+pub mod Soundness
+pub mod Views
+pub mod Rule
+pub mod Laws
+pub mod Conditions
+pub mod Players
+pub mod Cells
+pub mod Drawn
+pub mod Tracks
+pub mod Playing
+pub mod Judging

@@ -1,0 +1,89 @@
+-- The state of a parallel replay: the words that players share, and how far each player is.
+use Rattle.std.specs.Prelude.{◌≡◌, ◌≢◌, ℕ, pred, ◌+◌, ◌*◌, ◌<◌, ◌==◌, if◌then◌else◌, Bool, true, false, List, [], ◌∷◌, ◌++◌, map, length, replicate, get_or}
+use Rattle.octet_model.specs.declared.event.Event.{Event}
+use Rattle.octet_model.specs.declared.script.Script.{Script}
+use Rattle.octet_model.specs.declared.log.Log.{Log}
+use Rattle.octet_model.specs.Machine.{PlainState, Next}
+use Rattle.octet_model.specs.Orders.{by_log, state_after, starting_heap}
+use Rattle.octet_parallel.specs.declared.fate.Fate.{Fate}
+use Rattle.octet_parallel.specs.declared.fate.Fate.TheVariants.{Playing, Amiss, Stopped}
+
+-- a player's journal, whether its last event is an access that its progress word doesn't count yet, whether it is amiss or stopped, and what it found in the progress words of others, the last first: of whom, and the number
+pub record PlayerState : Type 0 where
+  pub journal : List Event
+  pub owes : Bool
+  pub fate : Fate
+  pub found : List (ℕ × ℕ)
+
+-- the script, the log, the steps that were made in their order, the players, and the values of the cells
+pub record FieldState : Type 0 where
+  pub script : Script
+  pub log : Log
+  pub front : List ℕ
+  pub players : List PlayerState
+  pub cells : List ℕ
+
+-- before the first event
+abbrev pub unbegun : PlayerState
+unbegun = record { journal = []; owes = false; fate = Playing; found = [] }
+
+abbrev pub player_of : FieldState → ℕ → PlayerState
+player_of s player = get_or s.players player unbegun
+
+-- how many events a player has made
+abbrev pub made_by : FieldState → ℕ → ℕ
+made_by s player = length (player_of s player).journal
+
+-- the number that was found last of a player, 0 where none was
+abbrev pub found_last : List (ℕ × ℕ) → ℕ → ℕ
+found_last [] whom = 0
+found_last (look ∷ looks) whom = if whom == look.0 then look.1 else found_last looks whom
+
+abbrev pub found_of : PlayerState → ℕ → ℕ
+found_of p whom = found_last p.found whom
+
+-- the number that says that a player is amiss or stopped
+abbrev pub stop_number : ℕ
+stop_number = 18446744073709551615
+
+-- how many of its events a player shows
+abbrev pub shown : PlayerState → ℕ
+shown p = elim p.owes [ true ↦ pred (length p.journal) | false ↦ length p.journal ]
+
+-- its progress word
+abbrev pub progress : PlayerState → ℕ
+progress p = elim p.fate [ Playing ↦ shown p | Amiss ↦ stop_number | Stopped whom ↦ stop_number ]
+
+-- the words lie eight apart, so that players at work on different words do not disturb each other
+abbrev pub spread : List ℕ → List ℕ
+spread [] = []
+spread (word ∷ words) = word ∷ 0 ∷ 0 ∷ 0 ∷ 0 ∷ 0 ∷ 0 ∷ 0 ∷ spread words
+
+-- a progress word for each player, and a cell for each object
+abbrev pub words : FieldState → List ℕ
+words s = spread (map progress s.players ++ s.cells)
+
+-- where they lie
+abbrev pub progress_place : ℕ → ℕ
+progress_place player = 8 * player
+
+abbrev pub cell_place : ℕ → ℕ → ℕ
+cell_place players object = 8 * (players + object)
+
+-- what is next for a player by the log
+abbrev pub next_of_player : FieldState → ℕ → Next
+next_of_player s player = by_log s.script s.log.threads player (player_of s player).journal
+
+-- the plain machine's state after the front
+abbrev pub plain : FieldState → PlainState
+plain s = state_after s.script s.log.threads s.front
+
+-- before the first step
+abbrev pub opening : Script → Log → FieldState
+opening script log = record { script = script; log = log; front = []; players = replicate (length log.threads) unbegun; cells = starting_heap script }
+
+-- some player is amiss
+pub record SomeAmiss (s : FieldState) : Type 0 where
+  pub whom : ℕ
+  pub within : whom < length s.players
+  pub is_amiss : (player_of s whom).fate ≡ Amiss

@@ -1,0 +1,50 @@
+-- What a player knows.
+use Rattle.std.specs.Prelude.{ℕ, suc, List, [], ◌∷◌, ◌++◌, Bool, true, false}
+use Rattle.octet_model.specs.declared.script.Script.{Script}
+use Rattle.octet_model.specs.declared.log.Log.{Log}
+use Rattle.octet_model.specs.Machine.{Next}
+use Rattle.octet_model.specs.Orders.{by_log}
+use Rattle.octet_parallel.specs.State.{PlayerState, unbegun}
+use Rattle.octet_parallel.specs.Steps.{Kind, after}
+
+-- a step that was taken, and the word that it was told
+pub record Taken : Type 0 where
+  pub kind : Kind
+  pub word : ℕ
+
+-- a player's number, the script and the log, how far it is, and the steps that it took. The first player's view also holds how many players were made, and the numbers and states of those that were joined back. The view of a player that was joined back is spent: it is not live
+pub record PlayerView : Type 0 where
+  pub is_live : Bool
+  pub number : ℕ
+  pub script : Script
+  pub log : Log
+  pub player : PlayerState
+  pub trail : List Taken
+  pub players_made : ℕ
+  pub joined : List (ℕ × PlayerState)
+
+-- a player that has taken no step
+abbrev pub new_view : ℕ → Script → Log → ℕ → PlayerView
+new_view number script log players_made = record { is_live = true; number = number; script = script; log = log; player = unbegun; trail = []; players_made = players_made; joined = [] }
+
+-- what is next for it by the log
+abbrev pub next_in : PlayerView → Next
+next_in v = by_log v.script v.log.threads v.number v.player.journal
+
+-- after a step of this kind that was told this word
+abbrev pub stepped_by : Kind → ℕ → PlayerView → PlayerView
+stepped_by k told v = record v {
+  player = after k (next_in v) told v.player;
+  trail = v.trail ++ record { kind = k; word = told } ∷ [];
+}
+
+-- the next player that the first one splits off, and its own view after that
+abbrev pub split_off : PlayerView → PlayerView
+split_off v = new_view v.players_made v.script v.log 0
+
+abbrev pub after_split : PlayerView → PlayerView
+after_split v = record v { players_made = suc v.players_made }
+
+-- the first player's after another was joined to it, whose own is spent
+abbrev pub after_join : PlayerView → PlayerView → PlayerView
+after_join v w = record v { joined = v.joined ++ (w.number, w.player) ∷ [] }

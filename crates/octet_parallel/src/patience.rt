@@ -1,0 +1,105 @@
+//! How a worker waits for another player, and when threads are of no use.
+use crate::crew::Crew;
+use std::hint;
+use std::sync::Wait;
+
+/// How often a worker looks again before it sleeps.
+const LOOKS_BEFORE_SLEEP: u32 = 40;
+
+/// How often it sleeps at most while not all workers have begun.
+const MOST_SLEEPS: u32 = 100;
+
+/// After so many waits it is judged whether threads are of use: they are where a worker made at
+/// least so many events for each wait.
+const WAITS_BEFORE_JUDGED: u32 = 32;
+
+const EVENTS_FOR_A_WAIT: u32 = 64;
+
+/// How long a worker has waited for its next event, and how much its last events had to.
+///
+/// Another player that runs mostly makes what is needed within a microsecond: so at first the
+/// worker looks again and again. One that has no processor gets none sooner by looks: so then it
+/// sleeps. To be woken takes as long as some fifty events. So where nearly every event waits, all
+/// players are played on one thread, unless they have to pass a gate.
+#[derive(Drop)]
+pub(crate) struct Patience {
+    is_gated: bool,
+    looks: u32,
+    rung: Option<u32>,
+    sleeps: u32,
+    waits: u32,
+    events: u32,
+}
+
+impl Patience {
+    pub(crate) fn new(is_gated: bool) -> Patience {
+        Patience {
+            is_gated,
+            looks: 0,
+            rung: None,
+            sleeps: 0,
+            waits: 0,
+            events: 0,
+        }
+    }
+
+    /// The worker made an event.
+    #[inline(always)]
+    pub(crate) fn restart(&mut self) {
+        self.looks = 0;
+        self.rung = None;
+        self.events = self.events.saturating_add(1);
+    }
+
+    // Whether its last events waited so much that threads are of no use.
+    fn is_worn(&mut self) -> bool {
+        self.waits = self.waits.saturating_add(1);
+        if self.is_gated || self.waits < WAITS_BEFORE_JUDGED {
+            return false;
+        }
+        let is_worn = self.events < WAITS_BEFORE_JUDGED * EVENTS_FOR_A_WAIT;
+        self.waits = 0;
+        self.events = 0;
+        is_worn
+    }
+
+    // Sleeps, once it has looked again after it asked to be woken. Tells whether all workers have
+    // begun, or may still do so.
+    fn sleep<R: Wait>(&mut self, rt: &R, crew: &Crew, whom: u8, needs: u64) -> bool {
+        let Some(rung) = self.rung else {
+            self.rung = Some(crew.order(whom, needs));
+            return true;
+        };
+        self.rung = None;
+        crew.sleep(rt, whom, rung);
+        if crew.is_complete() {
+            return true;
+        }
+        self.sleeps = self.sleeps.saturating_add(1);
+        self.sleeps < MOST_SLEEPS
+    }
+
+    /// Lets some time pass before the worker looks again, which needs so many events of another
+    /// player. Tells whether it is to go on.
+    #[cold]
+    #[inline(never)]
+    pub(crate) fn wait<R: Wait>(&mut self, rt: &R, crew: &Crew, whom: u8, needs: u64) -> bool {
+        if crew.is_called_off() {
+            return false;
+        }
+        if self.looks == 0 && self.is_worn() {
+            crew.call_off();
+            return false;
+        }
+        if self.looks < LOOKS_BEFORE_SLEEP {
+            self.looks += 1;
+            hint::spin_loop();
+            return true;
+        }
+        if self.sleep(rt, crew, whom, needs) {
+            return true;
+        }
+        crew.give_up();
+        false
+    }
+}

@@ -1,0 +1,206 @@
+//! Players at work: each on a thread of its own, beside the others. What these leave is played on
+//! one thread.
+ghost use Rattle.std.specs.Prelude.{◌≡◌, true, All};
+ghost use Rattle.std.specs.List.{AllZip};
+ghost use Rattle.std.specs.Thread.{IsSync};
+ghost use Rattle.octet_parallel.specs.Playing.{view_of, IsPlayerOf, EndsBy};
+ghost use Rattle.octet_parallel.specs.Judging.{HasPlayed, IsSamePlayer};
+
+use crate::crew::Crew;
+use crate::field::Field;
+use crate::patience::Patience;
+use crate::played::Played;
+use crate::player::Player;
+use crate::words::STOP_NUMBER;
+use octet_base::Gate;
+use std::sync::Wait;
+use std::thread::{Threads, join_mut};
+
+/// How many rounds are played on one thread before the players have threads of their own again. Each
+/// time twice as many.
+const FIRST_ROUNDS: u32 = 4096;
+
+/// How many events a player makes at most in a round.
+const EVENTS_OF_A_ROUND: u32 = 1024;
+
+// Takes the player's next step. Passes the gate before an access.
+#[inline(always)]
+fn take_step<R: Threads + Wait + Sync, G: Gate>(
+    rt: &R,
+    field: &Field,
+    gate: &G,
+    player: &mut Player,
+) -> Played
+    requires { IsPlayerOf field.now player.old }
+    ensures own { IsPlayerOf field.now player.new }
+    ensures same { IsSamePlayer player.old player.new }
+    ensures ends { EndsBy result (view_of player.new) }
+{
+    if !gate.is_open() {
+        if let Some(access) = field.next_access(player) {
+            gate.pass(rt, player.number, access);
+        }
+    }
+    field.step(player)
+}
+
+// Plays on a thread of its own, to the end or until the workers are called off.
+fn work<R: Threads + Wait + Sync, G: Gate>(
+    rt: &R,
+    field: &Field,
+    gate: &G,
+    crew: &Crew,
+    player: &mut Player,
+)
+    requires { IsPlayerOf field.now player.old }
+    ensures own { IsPlayerOf field.now player.new }
+    ensures same { IsSamePlayer player.old player.new }
+{
+    crew.begin();
+    let number = player.number;
+    let mut patience = Patience::new(!gate.is_open());
+    for _ in rt.forever() {
+        match take_step(rt, field, gate, player) {
+            Played::Made => {
+                patience.restart();
+                crew.tell(number, player.journal.len() as u64);
+            }
+            Played::Waits { whom, needs, .. } => {
+                if !patience.wait(rt, crew, whom, needs) {
+                    return;
+                }
+            }
+            Played::Through | Played::Amiss | Played::Stopped { .. } => {
+                crew.tell(number, STOP_NUMBER);
+                return;
+            }
+        }
+    }
+    unreachable!()
+}
+
+// Lets all of them play, each on a thread of its own, beside each other.
+fn play_beside<R: Threads + Wait + Sync, G: Gate>(
+    rt: &R,
+    field: &Field,
+    gate: &G,
+    crew: &Crew,
+    players: &mut [Player],
+)
+    requires { All (IsPlayerOf field.now) players.old }
+    ensures own { All (IsPlayerOf field.now) players.new }
+    ensures same { AllZip IsSamePlayer players.old players.new }
+{
+    if players.is_empty() {
+        return;
+    }
+    if players.len() == 1 {
+        work(rt, field, gate, crew, &mut players[0]);
+        return;
+    }
+    let (front, back) = players.split_at_mut(players.len() / 2);
+    join_mut(
+        rt,
+        &mut || -> ()
+            requires { IsSync R.row × IsSync G.row × All (IsPlayerOf field.now) front.now }
+            ensures { All (IsPlayerOf field.entry.now) front.exit.now × AllZip IsSamePlayer front.entry.now front.exit.now }
+        { play_beside(rt, field, gate, crew, front) },
+        &mut || -> ()
+            requires { IsSync R.row × IsSync G.row × All (IsPlayerOf field.now) back.now }
+            ensures { All (IsPlayerOf field.entry.now) back.exit.now × AllZip IsSamePlayer back.entry.now back.exit.now }
+        { play_beside(rt, field, gate, crew, back) },
+    );
+}
+
+// Plays until the player has to wait, or has made the events of a round. Tells whether it has ended.
+fn play_on<R: Threads + Wait + Sync, G: Gate>(
+    rt: &R,
+    field: &Field,
+    gate: &G,
+    player: &mut Player,
+) -> bool
+    requires { IsPlayerOf field.now player.old }
+    ensures own { IsPlayerOf field.now player.new }
+    ensures same { IsSamePlayer player.old player.new }
+    ensures ended { result ≡ true → HasPlayed field.now player.new }
+{
+    for _ in 0..EVENTS_OF_A_ROUND {
+        match take_step(rt, field, gate, player) {
+            Played::Made => {}
+            Played::Waits { .. } => return false,
+            Played::Through | Played::Amiss | Played::Stopped { .. } => return true,
+        }
+    }
+    false
+}
+
+/// Lets one after the other play on. Tells whether all have ended.
+pub(crate) fn play_round<R: Threads + Wait + Sync, G: Gate>(
+    rt: &R,
+    field: &Field,
+    gate: &G,
+    players: &mut [Player],
+) -> bool
+    requires { All (IsPlayerOf field.now) players.old }
+    ensures own { All (IsPlayerOf field.now) players.new }
+    ensures same { AllZip IsSamePlayer players.old players.new }
+    ensures ended { result ≡ true → All (HasPlayed field.now) players.new }
+{
+    let Some((first, others)) = players.split_first_mut() else {
+        return true;
+    };
+    let has_ended = play_on(rt, field, gate, first);
+    let have_ended = play_round(rt, field, gate, others);
+    has_ended && have_ended
+}
+
+// Plays so many rounds at most. Tells whether all players have ended.
+fn play_rounds<R: Threads + Wait + Sync, G: Gate>(
+    rt: &R,
+    field: &Field,
+    gate: &G,
+    players: &mut [Player],
+    rounds: u32,
+) -> bool
+    requires { All (IsPlayerOf field.now) players.old }
+    ensures own { All (IsPlayerOf field.now) players.new }
+    ensures same { AllZip IsSamePlayer players.old players.new }
+    ensures ended { result ≡ true → All (HasPlayed field.now) players.new }
+{
+    for _ in 0..rounds {
+        if play_round(rt, field, gate, players) {
+            return true;
+        }
+    }
+    false
+}
+
+/// Lets all of them play to their ends: each on a thread of its own, beside each other, as long as
+/// threads are to be had and are of use, and else on one thread.
+pub(crate) fn play_all<R: Threads + Wait + Sync, G: Gate>(
+    rt: &R,
+    field: &Field,
+    gate: &G,
+    crew: &Crew,
+    players: &mut [Player],
+)
+    requires { All (IsPlayerOf field.now) players.old }
+    ensures played { All (HasPlayed field.now) players.new }
+    ensures same { AllZip IsSamePlayer players.old players.new }
+{
+    let mut rounds = FIRST_ROUNDS;
+    for _ in rt.forever() {
+        crew.gather();
+        play_beside(rt, field, gate, crew, players);
+        let most = if crew.lacks_threads() {
+            u32::MAX
+        } else {
+            rounds
+        };
+        if play_rounds(rt, field, gate, players, most) {
+            return;
+        }
+        rounds = rounds.saturating_mul(2);
+    }
+    unreachable!()
+}
