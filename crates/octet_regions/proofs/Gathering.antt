@@ -1,0 +1,355 @@
+-- The accesses of a replay, step by step.
+use Rattle.std.proofs.Common.{◌≡◌, ◌≢◌, ℕ, zero, suc, nat_lt, ◌<◌, ◌≤◌, ◌⊎◌, inl, inr, true, false, List, [], ◌∷◌, ◌++◌, length, take, get_or, Some, slice_get, slice_set, slice_index, refl, sym, ap, ◌∙◌, subst, arith, append-nil, append_assoc, length-set}
+use Rattle.std.proofs.Math.Seq.{take-suc}
+use Rattle.std.proofs.lemmas.Bool.{cases_eq, cases_lt}
+use Rattle.std.proofs.lemmas.Option.{slice_get_read}
+use Rattle.std.proofs.lemmas.List.{length-map, set_past, take_all}
+use Rattle.octet_model.specs.declared.command.Command.{Command}
+use Rattle.octet_model.specs.declared.event.Event.{Event}
+use Rattle.octet_model.specs.declared.event.Event.TheVariants.{Read, Write, Update, Marked}
+use Rattle.octet_model.specs.declared.limits.TheConstants.{MAX_FUEL, MAX_THREADS}
+use Rattle.octet_model.specs.declared.log.Log.{Log}
+use Rattle.octet_model.specs.declared.log.ThreadLog.{ThreadLog}
+use Rattle.octet_model.specs.declared.script.Script.{Script}
+use Rattle.octet_model.specs.Thread.{Configuration, FitsFrom, configuration_after, demanded, settled, starting_configuration}
+use Rattle.octet_model.specs.Machine.{Journals, journal_of, PlainState, Behavior, Operation, MakeMark, MakeRead, MakeWrite, MakeUpdate, Next, Wants, Finished, NothingFits, event_made, appended, performed, next_of, step, after}
+use Rattle.octet_model.specs.Journals.{access_count, mark_count, gap_after, due_mark, next_by_log}
+use Rattle.octet_model.specs.Orders.{by_log, commands_of, lowest_order, opening_state, state_after, thread_log_of}
+use Rattle.octet_model.proofs.lemmas.Fronts.{after_on, no_journal}
+use Rattle.octet_model.proofs.lemmas.LogsOfJournals.{as_many_after}
+use Rattle.octet_model.proofs.lemmas.LowestFronts.{IsNext, next_by}
+use Rattle.octet_model.proofs.lemmas.Steps.{at, by_step, count, Makes, what_it_makes, new_event, other_journal, same_journal}
+use Rattle.octet_interp.specs.Demands.{ThreadState, starting_thread}
+use Rattle.octet_interp.specs.Laws.{CountsRegions, IsJournalOf}
+use Rattle.octet_interp.specs.Regions.{regions_before}
+use Rattle.octet_interp.proofs.Agreement.{follows}
+use Rattle.octet_interp.proofs.Journaled.{take_marks}
+use Rattle.octet_interp.proofs.RegionsRun.{before_access, before_mark, marks_count_none}
+use Rattle.octet_replay.specs.ReplayState.{HasHalted, ReplayState, IsNextStep, plain_state, state_at}
+use Rattle.octet_replay.proofs.lemmas.Halting.{all_steps_made}
+use Rattle.octet_regions.specs.declared.access.Access.{Access}
+use Rattle.octet_regions.specs.declared.region.Region.{Region}
+use Rattle.octet_regions.specs.Accesses.{access_in, access_made, accesses_along, accesses_of, region_in}
+use Rattle.octet_regions.specs.Chooser.{FitLanes}
+use Rattle.octet_regions.specs.Earlier.{RegionsRise}
+use Rattle.octet_regions.specs.Gather.{AreAtStart, ArePast, Gathered, IsPast, is_access}
+use Rattle.octet_regions.proofs.Lanes.{set_cases}
+use Rattle.octet_regions.proofs.Tables.{last_cases}
+
+-- an event is an access in its region, or adds nothing
+pub in_cases : (region : Region) (event : Event) → ((is_access event ≡ false) × (access_in region event ≡ [])) ⊎ ((is_access event ≡ true) × (access_in region event ≡ record { region = region; event = event } ∷ []))
+in_cases region (Marked mark) = inl (refl, refl)
+in_cases region (Read object value) = inr (refl, refl)
+in_cases region (Write object value) = inr (refl, refl)
+in_cases region (Update object before then) = inr (refl, refl)
+
+-- the accesses of a front with one step more
+along_more : (script : Script) (log : List ThreadLog) (front : List ℕ) (t : ℕ) (s : PlainState)
+    → accesses_along script log s (front ++ t ∷ []) ≡ accesses_along script log s front ++ access_made script (after (by_log script log) s front) t (next_of (by_log script log) (after (by_log script log) s front) t)
+along_more script log [] t s = append-nil (access_made script s t (next_of (by_log script log) s t))
+along_more script log (u ∷ front) t s =
+    let first = access_made script s u (next_of (by_log script log) s u) in
+    ap (λ (rest : List Access). first ++ rest) (along_more script log front t (step (by_log script log) s u))
+    ∙ sym (append_assoc first (accesses_along script log (step (by_log script log) s u) front) _)
+
+-- an access fits the configuration where the journal leaves it
+fits_one : (commands : List Command) (c : Configuration) (log : ThreadLog) (journal : List Event) (heap : List ℕ) (o : Operation) → next_by_log commands c log journal ≡ Wants o → is_access (event_made o heap) ≡ true
+    → FitsFrom commands (configuration_after commands c journal) (event_made o heap ∷ [])
+fits_one commands c log journal heap o is access = go o (next_by commands c log journal o is) access
+  where
+    go : (v : Operation) → IsNext (due_mark (slice_get log.marks (mark_count journal)) (gap_after 0 journal)) (demanded commands (configuration_after commands c journal)) (nat_lt (access_count journal) log.accesses) v
+        → is_access (event_made v heap) ≡ true → FitsFrom commands (configuration_after commands c journal) (event_made v heap ∷ [])
+    go (MakeMark mark) n a = absurd cc
+    go (MakeRead object) n a = (n.0, tt)
+    go (MakeWrite object value) n a = (n.0, tt)
+    go (MakeUpdate object change) n a = ((n.0.0, n.0.1, ap (λ (f : ℕ → ℕ). f (slice_index heap object)) n.0.2), tt)
+
+-- whether it fits follows from what is demanded
+fits_alike : (commands : List Command) (c d : Configuration) (event : Event) → demanded commands c ≡ demanded commands d → FitsFrom commands c (event ∷ []) → FitsFrom commands d (event ∷ [])
+fits_alike commands c d (Read object value) same fits = (sym same ∙ fits.0, tt)
+fits_alike commands c d (Write object value) same fits = (sym same ∙ fits.0, tt)
+fits_alike commands c d (Update object before then) same fits = ((fits.0.0, sym same ∙ fits.0.1, fits.0.2), tt)
+fits_alike commands c d (Marked mark) same fits = tt
+
+as_many_state : (script : Script) (log : List ThreadLog) (order : List ℕ) → length (state_after script log order).journals ≡ length script.threads
+as_many_state script log order = as_many_after (by_log script log) order (opening_state script) ∙ length-map script.threads (λ (c : List Command). [])
+
+-- one step of the replay
+module _ (r : ReplayState) (t : ℕ) (e : Event) (next : IsNextStep r t e) where
+  abbrev behavior : Behavior
+  behavior = by_log r.script r.log.threads
+
+  abbrev order : List ℕ
+  order = lowest_order r.script r.log.threads
+
+  abbrev s : PlainState
+  s = plain_state r
+
+  made : (o : Operation) × Makes behavior s t o
+  made = what_it_makes behavior s t next.may
+
+  pub there : t < length r.script.threads
+  there = omega (arith, made.1.within, as_many_state r.script r.log.threads (take r.steps order))
+
+  one_step : take (suc r.steps) order ≡ take r.steps order ++ t ∷ []
+  one_step = take-suc order r.steps 0 next.within ∙ ap (λ (u : ℕ). take r.steps order ++ u ∷ []) next.is_of
+
+  stepped_to : state_at r.script r.log.threads (suc r.steps) ≡ step behavior s t
+  stepped_to = ap (λ (o : List ℕ). after behavior (opening_state r.script) o) one_step ∙ after_on behavior (take r.steps order) (t ∷ []) (opening_state r.script)
+
+  event_is : event_made made.0 s.heap ≡ e
+  event_is =
+      let one = new_event s.journals t (event_made made.0 s.heap) made.1.within in
+      let other = new_event s.journals t e made.1.within in
+      let same : appended s.journals t (event_made made.0 s.heap) ≡ appended s.journals t e = sym made.1.appends ∙ ap (λ (x : PlainState). x.journals) (sym stepped_to) ∙ next.makes in
+      let alike : Some (event_made made.0 s.heap) ≡ Some e = sym one ∙ ap (λ (js : Journals). at js t (count s.journals t)) same ∙ other in
+      cc
+
+  more_accesses : accesses_along r.script r.log.threads (opening_state r.script) (take (suc r.steps) order) ≡ accesses_along r.script r.log.threads (opening_state r.script) (take r.steps order) ++ access_in (region_in r.script s t) e
+  more_accesses =
+      let begun = accesses_along r.script r.log.threads (opening_state r.script) (take r.steps order) in
+      ap (λ (o : List ℕ). accesses_along r.script r.log.threads (opening_state r.script) o) one_step ∙ along_more r.script r.log.threads (take r.steps order) t (opening_state r.script)
+      ∙ ap (λ (more : List Access). begun ++ more) (ap (access_made r.script s t) made.1.wanted ∙ ap (access_in (region_in r.script s t)) event_is)
+
+  abbrev commands : List Command
+  commands = commands_of r.script t
+
+  abbrev start : Configuration
+  start = starting_configuration r.script.fuel
+
+  abbrev journal : List Event
+  journal = journal_of s.journals t
+
+  -- the access fits the thread where it is
+  pub fits_here : (config : ThreadState) → IsPast r.script t s.journals config → is_access e ≡ true → FitsFrom config.commands config.at (e ∷ [])
+  fits_here config past access =
+      let one = fits_one commands start (thread_log_of r.log.threads t) journal s.heap made.0 made.1.wanted (ap is_access event_is ∙ access) in
+      let here = subst (λ (x : Event). FitsFrom commands (configuration_after commands start journal) (x ∷ [])) event_is one in
+      let alike = (follows commands (configuration_after commands start journal) config.at (subst (λ (cs : List Command). settled cs (configuration_after cs start journal) ≡ settled cs config.at) past.commands past.journal.settles)).0 in
+      subst (λ (cs : List Command). FitsFrom cs config.at (e ∷ [])) (sym past.commands) (fits_alike commands (configuration_after commands start journal) config.at e alike here)
+
+  journals_then : (after' : ReplayState) → after' ≡ record r { steps = suc r.steps } → (plain_state after').journals ≡ appended s.journals t e
+  journals_then after' is = ap (λ (x : ReplayState). (plain_state x).journals) is ∙ next.makes
+
+  others_past : (after' : ReplayState) → after' ≡ record r { steps = suc r.steps } → (u : ℕ) (config : ThreadState) → u ≢ t → IsPast r.script u s.journals config → IsPast r.script u (plain_state after').journals config
+  others_past after' is u config differ past =
+      let same : journal_of (plain_state after').journals u ≡ journal_of s.journals u = ap (λ (js : Journals). journal_of js u) (journals_then after' is) ∙ other_journal s.journals t u e differ in
+      record {
+        commands = past.commands;
+        waits = past.waits;
+        journal = subst (λ (j : List Event). IsJournalOf start j config) (sym same) past.journal;
+        counts = subst (λ (j : List Event). CountsRegions start j config) (sym same) past.counts;
+      }
+
+  own_then : (after' : ReplayState) → after' ≡ record r { steps = suc r.steps } → journal_of (plain_state after').journals t ≡ journal ++ e ∷ []
+  own_then after' is = ap (λ (js : Journals). journal_of js t) (journals_then after' is) ∙ same_journal s.journals t e made.1.within
+
+  -- an access: the thread is past it
+  pub past_access : (after' : ReplayState) (configs : List ThreadState) (new : ThreadState) → after' ≡ record r { steps = suc r.steps } → t < length configs → new.commands ≡ commands → new.waits ≡ false
+      → IsJournalOf start (journal ++ e ∷ []) new → CountsRegions start (journal ++ e ∷ []) new → ArePast r.script s.journals configs → ArePast r.script (plain_state after').journals (slice_set configs t new)
+  past_access after' configs new is within same waits journaled counted' past = record {
+    as_many = length-set configs t new ∙ past.as_many;
+    each = λ u config at_u. elim (set_cases configs t u config new within at_u) [
+      | inr elsewhere ↦ others_past after' is u config elsewhere.0 (past.each u config elsewhere.1)
+      | inl here ↦ subst (λ (x : ThreadState). IsPast r.script u (plain_state after').journals x) (sym here.1) (subst (λ (v : ℕ). IsPast r.script v (plain_state after').journals new) (sym here.0) (record {
+        commands = same;
+        waits = waits;
+        journal = subst (λ (j : List Event). IsJournalOf start j new) (sym (own_then after' is)) journaled;
+        counts = subst (λ (j : List Event). CountsRegions start j new) (sym (own_then after' is)) counted';
+      }))
+    ];
+  }
+
+  -- a mark changes nothing of where the threads are
+  pub past_mark : (after' : ReplayState) (configs : List ThreadState) → after' ≡ record r { steps = suc r.steps } → is_access e ≡ false → ArePast r.script s.journals configs → ArePast r.script (plain_state after').journals configs
+  past_mark after' configs is no_access past = record {
+    as_many = past.as_many;
+    each = λ u config at_u. elim (cases_eq u t) [
+      | inr differ ↦ others_past after' is u config differ (past.each u config at_u)
+      | inl own ↦ subst (λ (v : ℕ). IsPast r.script v (plain_state after').journals config) (sym own) (marked e refl no_access config (subst (λ (v : ℕ). IsPast r.script v s.journals config) own (past.each u config at_u)))
+    ];
+  }
+    where
+      marked : (x : Event) → x ≡ e → is_access x ≡ false → (config : ThreadState) → IsPast r.script t s.journals config → IsPast r.script t (plain_state after').journals config
+      marked (Marked mark) same no_access' config had =
+          let own : journal_of (plain_state after').journals t ≡ journal ++ Marked mark ∷ [] = own_then after' is ∙ ap (λ (y : Event). journal ++ y ∷ []) (sym same) in
+          record {
+            commands = had.commands;
+            waits = had.waits;
+            journal = subst (λ (j : List Event). IsJournalOf start j config) (sym own) (take_marks start journal config mark had.journal);
+            counts = subst (λ (j : List Event). CountsRegions start j config) (sym own) (marks_count_none start journal config mark had.counts);
+          }
+      marked (Read object value) same no_access' config had = absurd cc
+      marked (Write object value) same no_access' config had = absurd cc
+      marked (Update object before then) same no_access' config had = absurd cc
+
+  pub gathered_access : (after' : ReplayState) (accesses new : List Access) (number : ℕ) → after' ≡ record r { steps = suc r.steps } → is_access e ≡ true → number ≡ regions_before commands start journal → number ≤ MAX_FUEL
+      → new ≡ accesses ++ record { region = record { thread = t; number = number }; event = e } ∷ [] → Gathered r accesses → Gathered after' new
+  gathered_access after' accesses new number is access numbered few new_is gathered = subst (λ (x : ReplayState). Gathered x new) (sym is) (record {
+    all = new_is ∙ ap (λ (l : List Access). l ++ one ∷ []) gathered.all ∙ ap (λ (more : List Access). accesses_along r.script r.log.threads (opening_state r.script) (take r.steps order) ++ more) (sym adds) ∙ sym more_accesses;
+    there = λ place a at_place. elim (last_cases accesses one place a (ap (λ (l : List Access). slice_get l place) (sym new_is) ∙ at_place)) [
+      | inl old ↦ gathered.there place a old
+      | inr last ↦ omega (arith, there, ap (λ (x : Access). x.region.thread) last.1)
+    ];
+    few = λ place a at_place. elim (last_cases accesses one place a (ap (λ (l : List Access). slice_get l place) (sym new_is) ∙ at_place)) [
+      | inl old ↦ gathered.few place a old
+      | inr last ↦ omega (arith, few, ap (λ (x : Access). x.region.number) last.1)
+    ];
+  })
+    where
+      one : Access
+      one = record { region = record { thread = t; number = number }; event = e }
+
+      adds : access_in (region_in r.script s t) e ≡ one ∷ []
+      adds = elim (in_cases (region_in r.script s t) e) [
+        | inl none ↦ absurd (let clash : true ≡ false = sym access ∙ none.0 in cc)
+        | inr is_one ↦ is_one.1 ∙ ap (λ (n : ℕ). record { region = record { thread = t; number = n }; event = e } ∷ []) (sym numbered)
+      ]
+
+  pub gathered_mark : (after' : ReplayState) (accesses : List Access) → after' ≡ record r { steps = suc r.steps } → is_access e ≡ false → Gathered r accesses → Gathered after' accesses
+  gathered_mark after' accesses is no_access gathered = subst (λ (x : ReplayState). Gathered x accesses) (sym is) (record {
+    all = gathered.all ∙ sym (append-nil (accesses_along r.script r.log.threads (opening_state r.script) (take r.steps order)))
+        ∙ ap (λ (more : List Access). accesses_along r.script r.log.threads (opening_state r.script) (take r.steps order) ++ more) (sym none) ∙ sym more_accesses;
+    there = gathered.there;
+    few = gathered.few;
+  })
+    where
+      none : access_in (region_in r.script s t) e ≡ []
+      none = elim (in_cases (region_in r.script s t) e) [
+        | inl is_none ↦ is_none.1
+        | inr one ↦ absurd (let clash : true ≡ false = sym one.0 ∙ no_access in cc)
+      ]
+
+-- before the first step
+pub past_none : (r : ReplayState) (script : Script) (configs : List ThreadState) → r.script ≡ script → r.steps ≡ 0 → AreAtStart script configs → ArePast script (plain_state r).journals configs
+past_none r script configs same begins starts = record {
+  as_many = starts.as_many;
+  each = λ u config at_u.
+      let none : journal_of (plain_state r).journals u ≡ [] = ap (λ (n : ℕ). journal_of (state_at r.script r.log.threads n).journals u) begins ∙ no_journal r.script.threads u in
+      subst (λ (x : ThreadState). IsPast script u (plain_state r).journals x) (sym (starts.each u config at_u)) (record {
+        commands = refl;
+        waits = refl;
+        journal = subst (λ (j : List Event). IsJournalOf (starting_configuration script.fuel) j (starting_thread script u)) (sym none) (record { fits = tt; settles = refl });
+        counts = subst (λ (j : List Event). CountsRegions (starting_configuration script.fuel) j (starting_thread script u)) (sym none) (omega arith);
+      });
+}
+
+pub gathered_none : (r : ReplayState) (accesses : List Access) → r.steps ≡ 0 → accesses ≡ [] → Gathered r accesses
+gathered_none r accesses begins none = record {
+  all = none ∙ ap (λ (n : ℕ). accesses_along r.script r.log.threads (opening_state r.script) (take n (lowest_order r.script r.log.threads))) (sym begins);
+  there = λ place a at_place. absurd (let is : slice_get [] place ≡ Some a = ap (λ (l : List Access). slice_get l place) (sym none) ∙ at_place in cc);
+  few = λ place a at_place. absurd (let is : slice_get [] place ≡ Some a = ap (λ (l : List Access). slice_get l place) (sym none) ∙ at_place in cc);
+}
+
+-- after the last step
+pub gathered_all : (r : ReplayState) (script : Script) (log : Log) (accesses : List Access) → r.script ≡ script → r.log ≡ log → length script.threads ≡ length log.threads → HasHalted r → Gathered r accesses → accesses ≡ accesses_of script log.threads
+gathered_all r script log accesses same_script same_log agree halted gathered =
+    let r_is : r ≡ record { script = script; log = log; steps = r.steps } = λ i. record { script = same_script i; log = same_log i; steps = r.steps } in
+    let g = subst (λ (x : ReplayState). Gathered x accesses) r_is gathered in
+    let ended = all_steps_made (record { script = script; log = log; steps = r.steps }) agree (subst (λ (x : ReplayState). HasHalted x) r_is halted) in
+    g.all ∙ ap (λ (o : List ℕ). accesses_along script log.threads (opening_state script) o) (take_all r.steps (lowest_order script log.threads) ended)
+
+-- the thread of the next step is past its journal
+pub here : (r : ReplayState) (script : Script) (configs : List ThreadState) (t : ℕ) (config : ThreadState) → r.script ≡ script → ArePast script (plain_state r).journals configs → (e : Event) → IsNextStep r t e
+    → config ≡ get_or configs t config → IsPast r.script t (plain_state r).journals config
+here r script configs t config same past e next was =
+    let past' = subst (λ (s : Script). ArePast s (plain_state r).journals configs) (sym same) past in
+    past'.each t config (slice_get_read configs (length configs) t config refl (omega (arith, there r t e next, past'.as_many)) was)
+
+-- regions never fall along a front
+grows_by : (commands : List Command) (c : Configuration) (journal : List Event) (event : Event) → regions_before commands c journal ≤ regions_before commands c (journal ++ event ∷ [])
+grows_by commands c journal (Marked mark) = omega (arith, before_mark commands c journal mark)
+grows_by commands c journal (Read object value) = omega (arith, before_access commands c journal (Read object value) (λ d. refl))
+grows_by commands c journal (Write object value) = omega (arith, before_access commands c journal (Write object value) (λ d. refl))
+grows_by commands c journal (Update object before then) = omega (arith, before_access commands c journal (Update object before then) (λ d. refl))
+
+module _ (script : Script) (log : List ThreadLog) where
+  abbrev number_in : PlainState → ℕ → ℕ
+  number_in s u = (region_in script s u).number
+
+  grows_number : (s : PlainState) (t u : ℕ) → number_in s u ≤ number_in (step (by_log script log) s t) u
+  grows_number s t u = by_step (by_log script log) (λ (x : PlainState). number_in s u ≤ number_in x u) s t
+      (λ o. elim (cases_eq u t) [
+        | inr differ ↦ omega (arith, ap (regions_before (commands_of script u) (starting_configuration script.fuel)) (other_journal s.journals t u (event_made o s.heap) differ))
+        | inl same ↦ elim (cases_lt t (length s.journals)) [
+          | inl lt ↦ subst (λ (v : ℕ). number_in s v ≤ number_in (performed s t o) v) (sym same)
+              (omega (arith, grows_by (commands_of script t) (starting_configuration script.fuel) (journal_of s.journals t) (event_made o s.heap), ap (regions_before (commands_of script t) (starting_configuration script.fuel)) (same_journal s.journals t (event_made o s.heap) lt)))
+          | inr past ↦ omega (arith, ap (λ (js : Journals). regions_before (commands_of script u) (starting_configuration script.fuel) (journal_of js u)) (set_past s.journals t (journal_of s.journals t ++ event_made o s.heap ∷ []) past))
+        ]
+      ]) (omega arith)
+
+  -- a step adds no access, or one in its thread's region
+  adds_cases : (s : PlainState) (t : ℕ) (n : Next) → (access_made script s t n ≡ []) ⊎ ((a : Access) × (access_made script s t n ≡ a ∷ []) × (a.region ≡ region_in script s t))
+  adds_cases s t Finished = inl refl
+  adds_cases s t NothingFits = inl refl
+  adds_cases s t (Wants o) = elim (in_cases (region_in script s t) (event_made o s.heap)) [
+    | inl none ↦ inl none.1
+    | inr one ↦ inr (record { region = region_in script s t; event = event_made o s.heap }, one.1, refl)
+  ]
+
+  lower : (front : List ℕ) (s : PlainState) (i : ℕ) (a : Access) → slice_get (accesses_along script log s front) i ≡ Some a → number_in s a.region.thread ≤ a.region.number
+  lower [] s i a is = absurd cc
+  lower (t ∷ front) s i a is =
+      let rest = accesses_along script log (step (by_log script log) s t) front in
+      let from_rest : (j : ℕ) → slice_get rest j ≡ Some a → number_in s a.region.thread ≤ a.region.number =
+      λ j at_j. omega (arith, lower front (step (by_log script log) s t) j a at_j, grows_number s t a.region.thread) in
+      elim (adds_cases s t (next_of (by_log script log) s t)) [
+        | inl none ↦ from_rest i (ap (λ (first : List Access). slice_get (first ++ rest) i) (sym none) ∙ is)
+        | inr one ↦ first_or_rest i a rest one.0 (ap (λ (first : List Access). slice_get (first ++ rest) i) (sym one.1) ∙ is) (λ same. subst (λ (x : Access). number_in s x.region.thread ≤ x.region.number) (sym same) (own one.0 s t one.2)) from_rest
+      ]
+    where
+      own : (x : Access) (z : PlainState) (u : ℕ) → x.region ≡ region_in script z u → number_in z x.region.thread ≤ x.region.number
+      own x z u is' = subst (λ (q : Region). number_in z q.thread ≤ q.number) (sym is') (omega arith)
+
+      first_or_rest : (j : ℕ) (b : Access) (rest : List Access) (x : Access) → slice_get (x ∷ rest) j ≡ Some b → (b ≡ x → number_in s b.region.thread ≤ b.region.number) → ((k : ℕ) → slice_get rest k ≡ Some b → number_in s b.region.thread ≤ b.region.number) → number_in s b.region.thread ≤ b.region.number
+      first_or_rest zero b rest x at_j first more = first (let same : x ≡ b = cc in sym same)
+      first_or_rest (suc k) b rest x at_j first more = more k at_j
+
+  rises : (front : List ℕ) (s : PlainState) → RegionsRise (accesses_along script log s front)
+  rises [] s i j one other lt is_one is_other same = absurd cc
+  rises (t ∷ front) s i j one other lt is_one is_other same =
+      let next = step (by_log script log) s t in
+      let rest = accesses_along script log next front in
+      elim (adds_cases s t (next_of (by_log script log) s t)) [
+        | inl none ↦ rises front next i j one other lt (ap (λ (first : List Access). slice_get (first ++ rest) i) (sym none) ∙ is_one) (ap (λ (first : List Access). slice_get (first ++ rest) j) (sym none) ∙ is_other) same
+        | inr added ↦ with_first added.0 rest i j (ap (λ (first : List Access). slice_get (first ++ rest) i) (sym added.1) ∙ is_one) (ap (λ (first : List Access). slice_get (first ++ rest) j) (sym added.1) ∙ is_other) lt added.2
+            (λ k m lt'. rises front next k m one other lt') (λ m at_m. lower front next m other at_m)
+      ]
+    where
+      with_first : (x : Access) (rest : List Access) (i j : ℕ) → slice_get (x ∷ rest) i ≡ Some one → slice_get (x ∷ rest) j ≡ Some other → i < j → x.region ≡ region_in script s t
+          → ((k m : ℕ) → k < m → slice_get rest k ≡ Some one → slice_get rest m ≡ Some other → one.region.thread ≡ other.region.thread → one.region.number ≤ other.region.number)
+          → ((m : ℕ) → slice_get rest m ≡ Some other → number_in (step (by_log script log) s t) other.region.thread ≤ other.region.number) → one.region.number ≤ other.region.number
+      with_first x rest i zero at_i at_j lt' own more low = absurd (omega arith)
+      with_first x rest zero (suc j) at_i at_j lt' own more low =
+          let is_x : x ≡ one = cc in
+          let region : one.region ≡ region_in script s t = ap (λ (a : Access). a.region) (sym is_x) ∙ own in
+          let thread : other.region.thread ≡ t = sym same ∙ ap (λ (q : Region). q.thread) region in
+          let least = subst (λ (u : ℕ). number_in (step (by_log script log) s t) u ≤ other.region.number) thread (low j at_j) in
+          omega (arith, least, grows_number s t t, ap (λ (q : Region). q.number) region)
+      with_first x rest (suc i) (suc j) at_i at_j lt' own more low = more i j (omega arith) at_i at_j same
+
+-- the numbers of a thread's regions never fall in the lowest order
+pub rises_in_order : (script : Script) (log : List ThreadLog) → RegionsRise (accesses_of script log)
+rises_in_order script log = rises script log (lowest_order script log) (opening_state script)
+
+pub rises_so_far : (r : ReplayState) (accesses : List Access) → Gathered r accesses → RegionsRise accesses
+rises_so_far r accesses gathered = subst RegionsRise (sym gathered.all) (rises r.script r.log.threads (take r.steps (lowest_order r.script r.log.threads)) (opening_state r.script))
+
+-- where the thread of a step is, and how far it leads, by an earlier state
+pub made_there : (r first : ReplayState) (t : ℕ) → r.script ≡ first.script → t < length r.script.threads → t < length first.script.threads
+made_there r first t same lt = subst (λ (s : Script). t < length s.threads) same lt
+
+pub made_within : (r first : ReplayState) (t : ℕ) (e : Event) → IsNextStep r t e → r.script ≡ first.script → r.log ≡ first.log → (steps : ℕ) → steps ≡ suc r.steps → steps ≤ length (lowest_order first.script first.log.threads)
+made_within r first t e next same_script same_log steps is =
+    subst (λ (s : Script). steps ≤ length (lowest_order s first.log.threads)) same_script (subst (λ (l : Log). steps ≤ length (lowest_order r.script l.threads)) same_log (omega (arith, next.within, is)))
+
+pub past_then : (r after : ReplayState) → after.script ≡ r.script → (configs : List ThreadState) → ArePast r.script (plain_state after).journals configs → ArePast after.script (plain_state after).journals configs
+past_then r after same configs past = subst (λ (s : Script). ArePast s (plain_state after).journals configs) (sym same) past
+
+-- accesses that were gathered are of threads that are there, in regions that have a number above
+pub fit_of : (r : ReplayState) (threads : ℕ) (seen : List Access) → threads ≤ MAX_THREADS → threads ≡ length r.script.threads → Gathered r seen → FitLanes threads seen
+fit_of r threads seen few many gathered = record {
+  few = few;
+  there = λ place access is. omega (arith, gathered.there place access is, many);
+  room = λ place access is. omega (arith, gathered.few place access is);
+}

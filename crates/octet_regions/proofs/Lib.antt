@@ -1,0 +1,13 @@
+pub mod Tables
+pub mod Lanes
+pub mod Waiting
+pub mod Laning
+pub mod Choosing
+pub mod Walking
+pub mod Asking
+pub mod Gathering
+pub mod Reordering
+pub mod SerialOrder
+pub mod SerialRuns
+pub mod Showing
+pub mod lemmas

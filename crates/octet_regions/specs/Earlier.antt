@@ -1,0 +1,123 @@
+-- What is known of the accesses that were seen so far.
+use Rattle.std.specs.Prelude.{◌≡◌, ◌≢◌, ℕ, ◌-◌, ◌<◌, ◌≤◌, ◌⊎◌, ◌||◌, Bool, true, false, IsTrue, List, Option, Some, None, length, nat_lt, slice_get}
+use Rattle.octet_model.specs.HappensBefore.{object_of, is_write}
+use Rattle.octet_regions.specs.declared.access.Access.{Access}
+use Rattle.octet_regions.specs.declared.bounds.Bounds.{Bounds}
+use Rattle.octet_regions.specs.declared.lane.Lane.{Lane}
+use Rattle.octet_regions.specs.declared.lane.Node.{Node}
+use Rattle.octet_regions.specs.declared.lane.Wait.{Wait}
+use Rattle.octet_regions.specs.declared.last.LastRegions.{LastRegions}
+use Rattle.octet_regions.specs.declared.region.Region.{Region}
+use Rattle.octet_regions.specs.Before.{InConflict, IsRegion, RegionBefore}
+use Rattle.octet_regions.specs.Bounds.{bound_in, last_in, IsBound}
+
+-- an access of the region is of the object, and writes where not any will do
+pub record Touches (seen : List Access) (any : Bool) (object : ℕ) (region : Region) : Type 0 where
+  pub place : ℕ
+  pub access : Access
+  pub is_there : slice_get seen place ≡ Some access
+  pub in_region : access.region ≡ region
+  pub of_object : object_of access.event ≡ Some object
+  pub writes : IsTrue (is_write access.event || any)
+
+-- an access of the region is in conflict with this one
+pub record Conflicts (seen : List Access) (region : Region) (access : Access) : Type 0 where
+  pub place : ℕ
+  pub one : Access
+  pub is_there : slice_get seen place ≡ Some one
+  pub in_region : one.region ≡ region
+  pub conflict : InConflict one access
+
+abbrev pub region_of : ℕ → ℕ → Region
+region_of thread number = record { thread = thread; number = number }
+
+-- the last regions of each thread with an access of an object
+pub record KeepsLast (seen : List Access) (last : LastRegions) : Type 0 where
+  pub all : (object thread : ℕ) → IsBound (λ number. Touches seen true object (region_of thread number)) (last_in last.all.objects.items object thread)
+  pub writing : (object thread : ℕ) → IsBound (λ number. Touches seen false object (region_of thread number)) (last_in last.writing.objects.items object thread)
+
+-- of each other thread, a bound on the regions with an access in conflict with this one
+abbrev pub BoundConflicts : List Access → Access → Bounds → Type 0
+BoundConflicts seen access bounds = (thread : ℕ) → thread ≢ access.region.thread → IsBound (λ number. Conflicts seen (region_of thread number) access) (bound_in bounds thread)
+
+-- one of the first waits is for a thread's regions past this number
+pub record IsAwaited (waits : List Wait) (upto thread number : ℕ) : Type 0 where
+  pub place : ℕ
+  pub wait : Wait
+  pub is_there : slice_get waits place ≡ Some wait
+  pub sooner : place < upto
+  pub of_thread : wait.of ≡ thread
+  pub above : number < wait.bound
+
+-- what is known is waited for
+abbrev pub KnowsWaits : List Wait → Bounds → Type 0
+KnowsWaits waits known = (thread number : ℕ) → number < bound_in known thread → IsAwaited waits (length waits) thread number
+
+-- with waits for what the bounds of other threads have beyond what is known
+pub record AddsWaits (thread : ℕ) (conflicts : Bounds) (before : List Wait) (known : Bounds) (after : List Wait) (known_then : Bounds) : Type 0 where
+  pub longer : length before ≤ length after
+  pub same : (k : ℕ) (wait : Wait) → slice_get before k ≡ Some wait → slice_get after k ≡ Some wait
+  pub added : (k : ℕ) (wait : Wait) → length before ≤ k → slice_get after k ≡ Some wait → (wait.of ≢ thread) × (0 < wait.bound) × (wait.bound ≡ bound_in conflicts wait.of)
+  pub covers : (other number : ℕ) → other ≢ thread → number < bound_in conflicts other → number < bound_in known_then other
+  pub knows : KnowsWaits before known → KnowsWaits after known_then
+
+-- a wait is for a region of another thread that is before this one
+pub record HoldsBack (seen : List Access) (region : Region) (wait : Wait) : Type 0 where
+  pub by_other : wait.of ≢ region.thread
+  pub some_bound : 0 < wait.bound
+  pub is_before : RegionBefore seen (region_of wait.of (wait.bound - 1)) region
+
+-- the regions of a thread, in order, and what they wait for: each wait is of the first region whose waits come up to it, and holds that one back; a region that is before another is waited for up to that one's last wait
+pub record KeepsLane (seen : List Access) (thread : ℕ) (nodes : List Node) (waits : List Wait) : Type 0 where
+  pub rising : (i j : ℕ) (one other : Node) → i < j → slice_get nodes i ≡ Some one → slice_get nodes j ≡ Some other → one.number < other.number
+  pub each : (i : ℕ) (node : Node) → slice_get nodes i ≡ Some node → IsRegion seen (region_of thread node.number)
+  pub all : (number : ℕ) → IsRegion seen (region_of thread number) → (i : ℕ) × (node : Node) × (slice_get nodes i ≡ Some node) × (node.number ≡ number)
+  pub in_order : (i j : ℕ) (one other : Node) → i < j → slice_get nodes i ≡ Some one → slice_get nodes j ≡ Some other → one.waits_upto ≤ other.waits_upto
+  pub within : (i : ℕ) (node : Node) → slice_get nodes i ≡ Some node → node.waits_upto ≤ length waits
+  pub spanned : (k : ℕ) → k < length waits → (i : ℕ) × (node : Node) × (slice_get nodes i ≡ Some node) × (k < node.waits_upto)
+  pub held : (i k : ℕ) (node : Node) (wait : Wait) → slice_get nodes i ≡ Some node → slice_get waits k ≡ Some wait → k < node.waits_upto
+      → ((j : ℕ) (earlier : Node) → j < i → slice_get nodes j ≡ Some earlier → earlier.waits_upto ≤ k) → HoldsBack seen (region_of thread node.number) wait
+  pub awaited : (i : ℕ) (node : Node) (region : Region) → slice_get nodes i ≡ Some node → RegionBefore seen region (region_of thread node.number) → IsAwaited waits node.waits_upto region.thread region.number
+
+-- waits of a lane that are over by these bounds are gone past, and nothing else is changed
+pub record PassesWaits (before : Lane) (taken : Bounds) (after : Lane) : Type 0 where
+  pub nodes : after.nodes ≡ before.nodes
+  pub waits : after.waits ≡ before.waits
+  pub taken_is : after.taken ≡ before.taken
+  pub further : before.over ≤ after.over
+  pub passed : (k : ℕ) (wait : Wait) → before.over ≤ k → k < after.over → slice_get before.waits.items k ≡ Some wait → wait.bound ≤ bound_in taken wait.of
+
+-- the next region waits for nothing more, or what it waits for next is not taken
+pub record IsHeld (lane : Lane) (taken : Bounds) (node : Node) : Type 0 where
+  pub is_next : slice_get lane.nodes.items lane.taken ≡ Some node
+  pub wait : Wait
+  pub is_there : slice_get lane.waits.items lane.over ≡ Some wait
+  pub sooner : lane.over < node.waits_upto
+  pub above : bound_in taken wait.of < wait.bound
+
+abbrev pub TellsFree : Lane → Bounds → Option ℕ → Type 0
+TellsFree lane taken (Some number) = (node : Node) × (slice_get lane.nodes.items lane.taken ≡ Some node) × (node.number ≡ number) × (node.waits_upto ≤ lane.over)
+TellsFree lane taken None = (slice_get lane.nodes.items lane.taken ≡ None) ⊎ ((node : Node) × IsHeld lane taken node)
+
+-- up to a place, and from the first that is not over on, a wait for a region of this thread that is not taken
+pub record IsUnmet (lane : Lane) (taken : Bounds) (upto other : ℕ) : Type 0 where
+  pub place : ℕ
+  pub wait : Wait
+  pub is_there : slice_get lane.waits.items place ≡ Some wait
+  pub from_here : lane.over ≤ place
+  pub sooner : place < upto
+  pub of_thread : wait.of ≡ other
+  pub above : bound_in taken other < wait.bound
+
+-- the lowest thread of which there is such a wait
+abbrev pub LowestUnmet : Lane → Bounds → ℕ → Option ℕ → Type 0
+LowestUnmet lane taken upto (Some other) = IsUnmet lane taken upto other × ((lower : ℕ) → lower < other → ¬ IsUnmet lane taken upto lower)
+LowestUnmet lane taken upto None = (other : ℕ) → ¬ IsUnmet lane taken upto other
+
+abbrev pub is_lower : ℕ → Option ℕ → Bool
+is_lower thread (Some other) = nat_lt thread other
+is_lower thread None = true
+
+-- the numbers of a thread's regions never fall
+abbrev pub RegionsRise : List Access → Type 0
+RegionsRise accesses = (i j : ℕ) (one other : Access) → i < j → slice_get accesses i ≡ Some one → slice_get accesses j ≡ Some other → one.region.thread ≡ other.region.thread → one.region.number ≤ other.region.number

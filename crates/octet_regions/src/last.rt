@@ -1,0 +1,108 @@
+//! Of each object and thread, the last region with an access of it.
+ghost use Rattle.std.specs.Prelude.{◌≡◌, ◌<◌, ◌+◌, ◌^◌, [], ◌∷◌, ◌++◌, ℕ, List, OnOk};
+ghost use Rattle.octet_regions.specs.declared.access.Access.{Access};
+ghost use Rattle.octet_regions.specs.Bounds.{bound_in, last_in, IsCovered, IsNoted};
+ghost use Rattle.octet_regions.specs.Earlier.{BoundConflicts, KeepsLast};
+
+use crate::access::Access;
+use crate::bounds::Bounds;
+use octet_model::{MAX_THREADS, OutOfMemory};
+use std::alloc::Global;
+
+/// For each object bounds, above the numbers of each thread's regions with a noted access of it.
+#[derive(Debug, Drop)]
+pub(crate) struct Table {
+    objects: Vec<Bounds>,
+}
+
+impl Table {
+    fn new(alloc: Global) -> Table
+        ensures { result.objects.items ≡ [] }
+    {
+        Table {
+            objects: Vec::new(alloc),
+        }
+    }
+
+    fn of(&self, object: u16) -> Bounds
+        ensures { (thread : ℕ) → bound_in result thread ≡ last_in self.now.objects.items object thread }
+    {
+        match self.objects.get(object as usize) {
+            Some(bounds) => *bounds,
+            None => Bounds::new(),
+        }
+    }
+
+    // Makes bounds for an object that has none.
+    fn cover(&mut self, object: u16) -> Result<(), OutOfMemory>
+        ensures { OnOk result (IsCovered self.old.objects.items object self.new.objects.items) }
+    {
+        let wanted = object as usize + 1;
+        if self.objects.len() < wanted {
+            self.objects.resize(wanted, Bounds::new())?;
+        }
+        Ok(())
+    }
+
+    // Notes an access by a thread in a region below the bound.
+    fn note(&mut self, object: u16, thread: usize, bound: u32) -> Result<(), OutOfMemory>
+        requires { thread < MAX_THREADS }
+        ensures { OnOk result (IsNoted self.old.objects.items object thread bound self.new.objects.items) }
+    {
+        self.cover(object)?;
+        self.objects[object as usize].raise(thread, bound);
+        Ok(())
+    }
+}
+
+/// The last regions with an access of an object, and with one that writes.
+#[derive(Debug, Drop)]
+pub(crate) struct LastRegions {
+    all: Table,
+    writing: Table,
+}
+
+impl LastRegions {
+    pub(crate) fn new(alloc: Global) -> LastRegions
+        ensures { KeepsLast [] result }
+    {
+        LastRegions {
+            all: Table::new(alloc),
+            writing: Table::new(alloc),
+        }
+    }
+
+    /// Of each other thread, the last region with a noted access in conflict with this one.
+    pub(crate) fn conflicts(&self, access: Access) -> Bounds
+        ensures { (seen : List Access) → KeepsLast seen self.now → BoundConflicts seen access result }
+    {
+        match access.object() {
+            None => Bounds::new(),
+            Some(object) => {
+                if access.writes() {
+                    self.all.of(object)
+                } else {
+                    self.writing.of(object)
+                }
+            }
+        }
+    }
+
+    /// Notes an access.
+    pub(crate) fn note(&mut self, access: Access) -> Result<(), OutOfMemory>
+        requires thread { access.region.thread < MAX_THREADS }
+        requires room { access.region.number + 1 < 2 ^ 32 }
+        ensures { OnOk result ((seen : List Access) → KeepsLast seen self.old → KeepsLast (seen ++ access ∷ []) self.new) }
+    {
+        let Some(object) = access.object() else {
+            return Ok(());
+        };
+        let thread = access.region.thread as usize;
+        let bound = access.region.number + 1;
+        self.all.note(object, thread, bound)?;
+        if access.writes() {
+            self.writing.note(object, thread, bound)?;
+        }
+        Ok(())
+    }
+}
