@@ -5,7 +5,7 @@ use denote.Ref.{Bor}
 use Rattle.octet_model.specs.declared.event.Event.{Event}
 
 -- a function of references to events, which gives answers, gives this answer at an event
-abbrev pub AnswersAt : (Bor Event → ℕ → Type 0) → Event → ℕ → Type 0
+abbrev pub AnswersAt : {Answer : Type 0} → (Bor Event → Answer → Type 0) → Event → Answer → Type 0
 AnswersAt gives event answer = (shown : Bor Event) × gives shown answer × (shown.now ≡ event)
 
 -- the events of all journals, one journal after the other

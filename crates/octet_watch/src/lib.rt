@@ -2,7 +2,9 @@
 #![tactic(auto)]
 
 mod classes;
+mod stop;
 #[cfg(test)]
 mod tests;
 
 pub use classes::{Class, Classes};
+pub use stop::{Answers, Stop, Test};

@@ -1,7 +1,7 @@
 //! Three threads, of which two read one object, and one adds to it.
 ghost use Rattle.std.specs.Prelude.{◌<◌};
 
-use crate::{Class, Classes};
+use crate::{Class, Classes, Stop, Test};
 use octet_model::{Event, List, Mark, OutOfMemory};
 use std::alloc::Global;
 use std::test::Fail;
@@ -82,5 +82,15 @@ fn accesses_of_an_object_are_counted(rt: HostRuntime) -> Result<(), Fail> {
         let counted = Classes::new(3, class).tally(alloc, &journals)?;
         assert_eq!(rt; counted.as_slice(), counts.as_slice());
     }
+    Ok(())
+}
+
+#[test]
+fn a_kept_test_answers_of_each_event(rt: HostRuntime) -> Result<(), Fail> {
+    let alloc = rt.alloc();
+    let test: Test = Box::new(alloc, |event: &Event| kind_of(event) == 3)?;
+    let draws = Stop::new(test);
+    assert!(rt; draws.asks(&marked(Mark::Draw { number: 1 })));
+    assert!(rt; !draws.asks(&READ));
     Ok(())
 }

@@ -1,0 +1,3 @@
+pub mod FirstEvents
+pub mod SameNext
+pub mod Alone

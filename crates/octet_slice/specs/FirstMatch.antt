@@ -1,0 +1,20 @@
+-- The first event of the lowest order that a test accepts.
+use Rattle.std.specs.Prelude.{◌≡◌, Bool, true, false, List, ◌∷◌, ◌++◌}
+use Rattle.std.specs.List.{All}
+use Rattle.octet_model.specs.declared.event.Event.{Event}
+use Rattle.octet_model.specs.declared.event.Place.{Place}
+use Rattle.octet_slice.specs.declared.finding.Found.{Found}
+use Rattle.octet_slice.specs.declared.finding.Found.TheVariants.{At, Nowhere}
+
+-- the trace is events at which the test answers no, then this one, at which it answers yes, and the rest
+pub record IsFirstMatch (answers : Event → Bool → Type 0) (trace : List (Place × Event)) (place : Place) (event : Event) : Type 0 where
+  pub before : List (Place × Event)
+  pub rest : List (Place × Event)
+  pub parts : trace ≡ before ++ (place, event) ∷ rest
+  pub accepted : answers event true
+  pub refused : All (λ item. answers item.1 false) before
+
+-- that is the event found; or the test answers no at every event of the trace
+abbrev pub IsFound : (Event → Bool → Type 0) → List (Place × Event) → Found → Type 0
+IsFound answers trace (At place event) = IsFirstMatch answers trace place event
+IsFound answers trace Nowhere = All (λ item. answers item.1 false) trace

@@ -1,0 +1,9 @@
+pub mod FirstEvents
+pub mod Laws
+pub mod Cursors
+pub mod Reached
+pub mod Gathering
+pub mod Cutting
+pub mod Slice
+pub mod Replaying
+pub mod FirstMatch
