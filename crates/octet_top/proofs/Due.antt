@@ -11,7 +11,6 @@ use Rattle.octet_model.specs.declared.log.Log.{Log}
 use Rattle.octet_script.proofs.lemmas.Grammar.{spells_parsed, one_script}
 use Rattle.std.specs.Option.{option_map}
 use Rattle.octet_log.specs.declared.loader.Digest.{Digest}
-use Rattle.octet_log.specs.declared.loader.Loaded.{Loaded}
 use Rattle.octet_log.specs.Readings.{reading_of}
 use Rattle.octet_log.proofs.lemmas.Readings.{spelling_read, one_reading}
 use Rattle.octet_replay.specs.declared.fitting.FitFault.{FitFault}
@@ -25,10 +24,10 @@ use Rattle.octet_top.specs.declared.reply.Status.TheVariants as exit
 use Rattle.octet_top.specs.Answer.{Answer, code_of, not_a_command, read_failed, too_long, script_refused, log_refused}
 use Rattle.octet_top.specs.Request.{Request, OfScript, OfLog, OfPair, Convert, Run, Gen, request_in}
 use Rattle.octet_top.specs.Inputs.{◌>>=◌, IsTaken, IsParsed, IsDecoded, IsChosen, IsScriptRead, IsLogRead, IsScriptChosen, IsPairRead}
-use Rattle.octet_top.specs.Delivery.{IsServed}
+use Rattle.octet_top.specs.Serving.{IsServed}
 use Rattle.octet_top.specs.Causes.{IsDue, NoneFailed}
 use Rattle.octet_top.proofs.Causes.{Ending, Whole, CutShort, Lacking, ended}
-use Rattle.octet_top.proofs.Rows.{PairRow, script_row, log_row, pair_row, run_row}
+use Rattle.octet_top.proofs.Rows.{PairRow, AllDone, NotOrdered, NotSerial, NotThere, has_event, script_row, log_row, pair_row, run_row}
 use Rattle.octet_top.specs.Commands.{Answering, Answers, RequestAnswers, IsAnswer, ScriptAnswers, LogAnswers, Matching, PairReplays, PairAnswers, Converts, ConvertAnswers, RunAnswers}
 
 -- a step ends in one way
@@ -144,10 +143,22 @@ as_said a b x y is is' same = ap (λ (z : Answer). z.status) is ∙ same ∙ ap 
 
 -- two answers of a task on a log that fits have one status
 pair_same : (task : PairTask) (pair : Pair) (a b : Answer) → PairRow task pair a → PairRow task pair b → a.status ≡ b.status
-pair_same task pair a b (inl p) (inl q) = p.0.status ∙ sym q.0.status
-pair_same task pair a b (inl p) (inr q) = absurd (q.3 (p.1 q.2))
-pair_same task pair a b (inr p) (inl q) = absurd (p.3 (q.1 p.2))
-pair_same task pair a b (inr p) (inr q) = p.1 ∙ sym q.1
+pair_same task pair a b (AllDone row ordered serial there) (AllDone row' ordered' serial' there') = row.status ∙ sym row'.status
+pair_same task pair a b (AllDone row ordered serial there) (NotOrdered row' is' checks apart) = absurd (apart (ordered checks))
+pair_same task pair a b (AllDone row ordered serial there) (NotSerial row' is' judges ordered' apart) = absurd (apart (serial judges))
+pair_same task pair a b (AllDone row ordered serial there) (NotThere row' is' ordered' none) = absurd (none there)
+pair_same task pair a b (NotOrdered row is checks apart) (AllDone row' ordered serial there) = absurd (apart (ordered checks))
+pair_same task pair a b (NotOrdered row is checks apart) (NotOrdered row' is' checks' apart') = is ∙ sym is'
+pair_same task pair a b (NotOrdered row is checks apart) (NotSerial row' is' judges ordered apart') = absurd (apart ordered)
+pair_same task pair a b (NotOrdered row is checks apart) (NotThere row' is' ordered none) = absurd (apart ordered)
+pair_same task pair a b (NotSerial row is judges ordered apart) (AllDone row' ordered' serial there) = absurd (apart (serial judges))
+pair_same task pair a b (NotSerial row is judges ordered apart) (NotOrdered row' is' checks apart') = absurd (apart' ordered)
+pair_same task pair a b (NotSerial row is judges ordered apart) (NotSerial row' is' judges' ordered' apart') = is ∙ sym is'
+pair_same task pair a b (NotSerial row is judges ordered apart) (NotThere row' is' ordered' none) = absurd (none (has_event task pair judges))
+pair_same task pair a b (NotThere row is ordered none) (AllDone row' ordered' serial there) = absurd (none there)
+pair_same task pair a b (NotThere row is ordered none) (NotOrdered row' is' checks apart) = absurd (apart ordered)
+pair_same task pair a b (NotThere row is ordered none) (NotSerial row' is' judges ordered' apart) = absurd (none (has_event task pair judges))
+pair_same task pair a b (NotThere row is ordered none) (NotThere row' is' ordered' none') = is ∙ sym is'
 
 replays_status : (task : PairTask) (pair : Pair) (a b : Answer) → PairReplays task pair a → PairReplays task pair b → a.status ≡ b.status
 replays_status task pair a b (inl p) (inl q) = as_said a b _ _ p.3 q.3 refl
@@ -201,7 +212,7 @@ comes words before after code served t tells none = by (ended words before after
     by : Ending words before after code → (code ≡ code_of exit.Memory) ⊎ ((answer : Answer) × IsAnswer words (Some t) answer × (code ≡ code_of answer.status))
     by (Whole answer (inl (answers, same)) is counts left) = inr (answer, subst (λ contents. IsAnswer words contents answer) tells answers, is)
     by (Whole answer (inr (said, rose)) is counts left) = absurd (none.takes rose)
-    by (CutShort answer found is rose left) = absurd (none.writes rose)
+    by (CutShort is rose left) = absurd (none.writes rose)
     by (Lacking is counts left) = inl is
 
 pub comes_as_due : (words : List (List ℕ)) (before after : DeskState) (code : ℕ) → IsServed (request_in words) before after code → (t : Contents) → before.contents ≡ Some t → (status : Status) → IsDue words before.contents status

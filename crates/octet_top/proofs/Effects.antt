@@ -1,20 +1,23 @@
 -- From what is served to what the top call leaves.
-use Rattle.std.proofs.Common.{◌≡◌, ◌∙◌, ◌⊎◌, ℕ, List, [], ◌∷◌, map, take, Some, inl, inr, ap, sym, refl, subst, None}
+use Rattle.std.proofs.Common.{◌≡◌, ◌∙◌, ◌⊎◌, ℕ, List, [], ◌∷◌, map, take, Some, inl, inr, ap, sym, refl, subst, Option, None}
 use Rattle.std.specs.FinMap.{get, insert}
 use Rattle.octet_base.specs.Desk.{Files, Contents, DeskState}
-use Rattle.octet_model.specs.Orders.{lowest_order, IsFaithful}
+use Rattle.octet_model.specs.Orders.{lowest_order}
 use Rattle.octet_replay.proofs.lemmas.OneAnswer.{faithful, not_refused}
 use Rattle.octet_top.specs.declared.inputs.Pair.{Pair}
+use Rattle.octet_top.specs.declared.request.PairTask.{PairTask}
+use Rattle.octet_top.specs.declared.request.PairTask.TheVariants.{Replay, Parallel, Verify, Regions, Slice, Stop, Trace, Profile}
+use Rattle.octet_top.specs.declared.reply.Status.{Status}
 use Rattle.octet_top.specs.declared.reply.Status.TheVariants as exit
 use Rattle.octet_top.specs.Answer.{Answer, code_of}
 use Rattle.octet_top.specs.Request.{Request, OfScript, OfLog, OfPair, Convert, Run, Gen, request_in, outputs_in}
 use Rattle.octet_top.specs.Commands.{Answers, RequestAnswers, PairAnswers, ConvertAnswers, IsAnswer}
-use Rattle.octet_top.specs.Delivery.{IsServed}
+use Rattle.octet_top.specs.Serving.{IsServed}
 use Rattle.octet_top.specs.Outputs.{written, ArePartlyWritten}
 use Rattle.octet_top.specs.Causes.{NoneFailed}
-use Rattle.octet_top.specs.Effects.{IsStatus, CountsFailures, IsUntouched, IsDelivered, IsGivenAnswer, Leaves, IsOneOf, KeepsOthers, KeepsFiles, HasFiles, IsWellMet}
-use Rattle.octet_top.proofs.Causes.{Ending, Whole, CutShort, Lacking, IsFound, ended}
-use Rattle.octet_top.proofs.Rows.{IsDone, Refuses, is_refusal, answers_row, request_row, script_row, log_row, pair_row, run_row}
+use Rattle.octet_top.specs.Effects.{IsStatus, CountsFailures, IsUntouched, IsCut, IsDelivered, IsGivenAnswer, Leaves, LeavesLog, IsOneOf, KeepsOthers, KeepsFiles, HasFiles, MayLack, MayEndWith, IsCompleted, IsWellMet}
+use Rattle.octet_top.proofs.Causes.{Ending, Whole, CutShort, Lacking, IsFound, IsShort, ended}
+use Rattle.octet_top.proofs.Rows.{AllDone, NotOrdered, NotSerial, NotThere, HasItsEvent, JudgesRegions, IsDone, Refuses, is_refusal, answers_row, request_row, script_row, log_row, pair_row, run_row}
 use Rattle.octet_top.proofs.Due.{script_single, log_single, pair_single, not_of_another, comes}
 use Rattle.octet_top.proofs.Left.{get-other}
 
@@ -35,7 +38,7 @@ other_of_left answer contents contents' code name other (inr (inl (part, said), 
 other_of_left answer contents contents' code name other (inr (inr (files, said), is)) = ap (λ (fs : Files). get fs name) files ∙ other_of_written answer.files contents.files name other
 
 -- a given answer writes the files of the request, or none
-names_given : (words : List (List ℕ)) (contents : Contents) (before after : ℕ) (answer : Answer) → IsGivenAnswer words contents before after answer → IsDone (outputs_in (request_in words)) answer ⊎ Refuses answer
+pub names_given : (words : List (List ℕ)) (contents : Contents) (before after : ℕ) (answer : Answer) → IsGivenAnswer words contents before after answer → IsDone (outputs_in (request_in words)) answer ⊎ Refuses answer
 names_given words contents before after answer (inl answers) = answers_row (request_in words) (Some contents) answer answers
 names_given words contents before after answer (inr (is, rose)) = inr (record { status = ap (λ (a : Answer). is_refusal a.status) is; files = ap (λ (a : Answer). a.files) is })
 
@@ -45,17 +48,17 @@ module _ (words : List (List ℕ)) (before after : DeskState) (code : ℕ) (serv
     where
       by : Ending words before after code → IsStatus code
       by (Whole answer found is same left) = (answer.status, is)
-      by (CutShort answer found is rose left) = (exit.Write, is)
+      by (CutShort is rose left) = (exit.Write, is)
       by (Lacking is same left) = (exit.Memory, is)
 
-  pub counts : CountsFailures before after code
+  pub counts : CountsFailures words before after code
   counts = by (ended words before after code served)
     where
-      by : Ending words before after code → CountsFailures before after code
-      by (Whole answer (inl (answers, kept)) is same left) = record { writes = λ write. same; takes = λ read write memory. kept }
-      by (Whole answer (inr (said, rose)) is same left) = record { writes = λ write. same; takes = λ read write memory. absurd (read (is ∙ ap (λ (a : Answer). code_of a.status) said)) }
-      by (CutShort answer found is rose left) = record { writes = λ write. absurd (write is); takes = λ read write memory. absurd (write is) }
-      by (Lacking is same left) = record { writes = λ write. same; takes = λ read write memory. absurd (memory is) }
+      by : Ending words before after code → CountsFailures words before after code
+      by (Whole answer (inl (answers, kept)) is same left) = record { writes = λ write. inl same; takes = λ read write memory. kept }
+      by (Whole answer (inr (said, rose)) is same left) = record { writes = λ write. inl same; takes = λ read write memory. absurd (read (is ∙ ap (λ (a : Answer). code_of a.status) said)) }
+      by (CutShort is rose left) = record { writes = λ write. absurd (write is); takes = λ read write memory. absurd (write is) }
+      by (Lacking is kept left) = record { writes = λ write. elim kept [ inl same ↦ inl same | inr asks ↦ inr (asks, is) ]; takes = λ read write memory. absurd (memory is) }
 
   pub leaves : Leaves words before after code
   leaves contents contents' tells tells' = by (ended words before after code served)
@@ -64,18 +67,25 @@ module _ (words : List (List ℕ)) (before after : DeskState) (code : ℕ) (serv
       given answer (inl (answers, same)) = inl (subst (λ t. IsAnswer words t answer) tells answers)
       given answer (inr failed) = inr failed
 
-      by : Ending words before after code → IsUntouched contents contents' code ⊎ ((answer : Answer) × IsGivenAnswer words contents before.take_faults after.take_faults answer × IsDelivered answer contents contents' code)
-      by (Whole answer found is same left) = inr (answer, given answer found, inl (left contents contents' tells tells', is))
-      by (CutShort answer found is rose left) = inr (answer, given answer found, inr (left contents contents' tells tells', inl is))
+      cut : IsCut code → IsShort words before after contents contents'
+          → ((answer : Answer) × IsGivenAnswer words contents before.take_faults after.take_faults answer × IsDelivered answer contents contents' code) ⊎ (LeavesLog words contents contents' × IsCut code)
+      cut is (inl (answer, found, short)) = inl (answer, given answer found, inr (short, is))
+      cut is (inr log) = inr (log, is)
+
+      by : Ending words before after code
+          → IsUntouched contents contents' code ⊎ (((answer : Answer) × IsGivenAnswer words contents before.take_faults after.take_faults answer × IsDelivered answer contents contents' code) ⊎ (LeavesLog words contents contents' × IsCut code))
+      by (Whole answer found is same left) = inr (inl (answer, given answer found, inl (left contents contents' tells tells', is)))
+      by (CutShort is rose left) = inr (cut (inl is) (left contents contents' tells tells'))
       by (Lacking is same left) = elim (left contents contents' tells tells') [
         | inl (files, said) ↦ inl (record { status = is; files = files; said = said })
-        | inr (answer, found, short) ↦ inr (answer, given answer found, inr (short, inr is))
+        | inr short ↦ inr (cut (inr is) short)
       ]
 
   pub others : KeepsOthers words before after
   others contents contents' name tells tells' other = elim (leaves contents contents' tells tells') [
     | inl nothing ↦ ap (λ (fs : Files). get fs name) nothing.files
-    | inr (answer, given, delivered) ↦ other_of_left answer contents contents' code name (elim (names_given words contents _ _ answer given) [
+    | inr (inr (log, is)) ↦ other_of_part ((log.log_name, log.bytes) ∷ []) contents.files contents'.files name (λ one. other (subst (λ (r : Option Request). IsOneOf name (outputs_in r)) (sym log.asked) one)) (inl log.file)
+    | inr (inl (answer, given, delivered)) ↦ other_of_left answer contents contents' code name (elim (names_given words contents _ _ answer given) [
       | inl whole ↦ λ one. other (subst (IsOneOf name) whole.files one)
       | inr refused ↦ λ one. subst (λ (fs : List (List ℕ × List ℕ)). IsOneOf name (map (λ file. file.0) fs)) refused.files one
     ]) delivered
@@ -84,47 +94,80 @@ module _ (words : List (List ℕ)) (before after : DeskState) (code : ℕ) (serv
   pub untouched : KeepsFiles before after code
   untouched contents contents' tells tells' done write memory = elim (leaves contents contents' tells tells') [
     | inl nothing ↦ nothing.files
-    | inr (answer, given, inr (short, inl is)) ↦ absurd (write is)
-    | inr (answer, given, inr (short, inr is)) ↦ absurd (memory is)
-    | inr (answer, given, inl (whole, is)) ↦ elim (names_given words contents _ _ answer given) [
+    | inr (inr (log, inl is)) ↦ absurd (write is)
+    | inr (inr (log, inr is)) ↦ absurd (memory is)
+    | inr (inl (answer, given, inr (short, inl is))) ↦ absurd (write is)
+    | inr (inl (answer, given, inr (short, inr is))) ↦ absurd (memory is)
+    | inr (inl (answer, given, inl (whole, is))) ↦ elim (names_given words contents _ _ answer given) [
       | inl row ↦ absurd (done (is ∙ ap code_of row.status))
       | inr refused ↦ whole.files ∙ ap (λ (fs : List (List ℕ × List ℕ)). written fs contents.files) refused.files
     ]
   ]
 
--- where all files are as they should be, each answer is done
-met_done : (request : Request) (contents : Contents) (answer : Answer) → HasFiles request contents → RequestAnswers request (Some contents) answer → answer.status ≡ exit.Done
+-- a task on regions may end with a cycle
+may_cycle : (task : PairTask) → JudgesRegions task → MayLack task exit.Cycle
+may_cycle Regions judges = tt
+may_cycle Replay judges = absurd judges
+may_cycle Parallel judges = absurd judges
+may_cycle Verify judges = absurd judges
+may_cycle (Slice thread event) judges = absurd judges
+may_cycle (Stop value) judges = absurd judges
+may_cycle Trace judges = absurd judges
+may_cycle Profile judges = absurd judges
+
+-- and one that has not its event may say so
+may_lack_event : (task : PairTask) (pair : Pair) → ¬ HasItsEvent task pair → MayLack task exit.NoEvent
+may_lack_event (Slice thread event) pair none = tt
+may_lack_event Replay pair none = absurd (none tt)
+may_lack_event Parallel pair none = absurd (none tt)
+may_lack_event Verify pair none = absurd (none tt)
+may_lack_event Regions pair none = absurd (none tt)
+may_lack_event (Stop value) pair none = absurd (none tt)
+may_lack_event Trace pair none = absurd (none tt)
+may_lack_event Profile pair none = absurd (none tt)
+
+-- all is done, or the request may end with that status
+abbrev IsMet : Request → Answer → Type 0
+IsMet request answer = (answer.status ≡ exit.Done) ⊎ ((status : Status) × MayEndWith request status × (answer.status ≡ status))
+
+-- so is each answer where all files are as they should be
+met_done : (request : Request) (contents : Contents) (answer : Answer) → HasFiles request contents → RequestAnswers request (Some contents) answer → IsMet request answer
 met_done (OfScript task script) contents answer (source, read) (inl refused) = absurd ((script_single contents script).never source answer read refused)
-met_done (OfScript task script) contents answer (source, read) (inr (other, is, answers)) = (script_row task other answer answers).status
+met_done (OfScript task script) contents answer (source, read) (inr (other, is, answers)) = inl (script_row task other answer answers).status
 met_done (OfLog task log) contents answer (read, there) (inl refused) = absurd ((log_single contents log).never read answer there refused)
-met_done (OfLog task log) contents answer (read, there) (inr (other, is, answers)) = (log_row task other answer answers).status
+met_done (OfLog task log) contents answer (read, there) (inr (other, is, answers)) = inl (log_row task other answer answers).status
 met_done (OfPair task script log object) contents answer (pair, outcome, read, own, recording) (inl refused) = absurd ((pair_single contents script log object).never pair answer read refused)
 met_done (OfPair task script log object) contents answer (pair, outcome, read, own, recording) (inr (other, is, answers)) =
     fits (subst (λ (p : Pair). PairAnswers task p answer) ((pair_single contents script log object).one other pair is read) answers)
   where
-    fits : PairAnswers task pair answer → answer.status ≡ exit.Done
+    fits : PairAnswers task pair answer → IsMet (OfPair task script log object) answer
     fits (inl (fault, another, is)) = absurd (not_of_another pair.source.text pair.loaded.digest fault own another)
     fits (inr (mine, inl (fault, memory, cause, is))) = absurd (not_refused pair.source.script pair.loaded.log.threads fault (faithful pair.source.script pair.loaded.log.threads outcome recording).0 memory cause)
     fits (inr (mine, inr (lawful, says))) = elim (pair_row task pair answer says) [
-      | inl row ↦ row.0.status
-      | inr row ↦ absurd (row.3 (recording.ordered (lowest_order pair.source.script pair.loaded.log.threads) (faithful pair.source.script pair.loaded.log.threads outcome recording).0))
+      | AllDone row ordered serial there ↦ inl row.status
+      | NotOrdered row is judges apart ↦ absurd (apart (recording.ordered (lowest_order pair.source.script pair.loaded.log.threads) (faithful pair.source.script pair.loaded.log.threads outcome recording).0))
+      | NotSerial row is judges ordered apart ↦ inr (exit.Cycle, may_cycle task judges, is)
+      | NotThere row is ordered none ↦ inr (exit.NoEvent, may_lack_event task pair none, is)
     ]
 met_done (Convert script log out) contents answer (pair, outcome, read, own, recording) (inl refused) = absurd ((pair_single contents script log None).never pair answer read refused)
 met_done (Convert script log out) contents answer (pair, outcome, read, own, recording) (inr (other, is, answers)) =
     fits (subst (λ (p : Pair). ConvertAnswers out p answer) ((pair_single contents script log None).one other pair is read) answers)
   where
-    fits : ConvertAnswers out pair answer → answer.status ≡ exit.Done
+    fits : ConvertAnswers out pair answer → IsMet (Convert script log out) answer
     fits (inl (fault, another, is)) = absurd (not_of_another pair.source.text pair.loaded.digest fault own another)
     fits (inr (mine, inl (of_script, of_log, differ, is))) = absurd (differ.differ (differ.script_has ∙ recording.is_lawful.0 ∙ sym differ.log_has))
-    fits (inr (mine, inr (threads, file, is))) = ap (λ (a : Answer). a.status) is
+    fits (inr (mine, inr (threads, file, is))) = inl (ap (λ (a : Answer). a.status) is)
 met_done (Run task script log) contents answer (source, read) (inl refused) = absurd ((script_single contents script).never source answer read refused)
-met_done (Run task script log) contents answer (source, read) (inr (other, is, answers)) = (run_row task log other answer answers).status
-met_done (Gen number script log) contents answer met answers = elim (request_row (Gen number script log) (Some contents) answer answers) [ inl row ↦ row.status | inr refused ↦ ap (λ (a : Answer). a.status) answers.5 ]
+met_done (Run task script log) contents answer (source, read) (inr (other, is, answers)) = inl (run_row task log other answer answers).status
+met_done (Gen number script log) contents answer met answers = elim (request_row (Gen number script log) (Some contents) answer answers) [ inl row ↦ inl row.status | inr refused ↦ inl (ap (λ (a : Answer). a.status) answers.5) ]
 
--- and that status comes, where no call fails, unless memory was refused
+-- and such a status comes, where no call fails, unless memory was refused
 pub complete : (words : List (List ℕ)) (before after : DeskState) (code : ℕ) → IsServed (request_in words) before after code → (contents : Contents) → before.contents ≡ Some contents → IsWellMet words contents → NoneFailed before after
-    → (code ≡ code_of exit.Done) ⊎ (code ≡ code_of exit.Memory)
+    → IsCompleted words code
 complete words before after code served contents tells (request, asked, met) none = elim (comes words before after code served contents tells none) [
-  | inl memory ↦ inr memory
-  | inr (answer, answers, is) ↦ inl (is ∙ ap code_of (met_done request contents answer met (subst (λ r. Answers r (Some contents) answer) asked answers)))
+  | inl memory ↦ inr (inl memory)
+  | inr (answer, answers, is) ↦ elim (met_done request contents answer met (subst (λ r. Answers r (Some contents) answer) asked answers)) [
+    | inl all ↦ inl (is ∙ ap code_of all)
+    | inr (status, may, ends) ↦ inr (inr (request, status, asked, may, is ∙ ap code_of ends))
+  ]
 ]

@@ -13,7 +13,7 @@ use Rattle.octet_top.specs.declared.inputs.Source.{Source}
 use Rattle.octet_top.specs.declared.request.ScriptTask.{ScriptTask}
 use Rattle.octet_top.specs.declared.request.LogTask.{LogTask}
 use Rattle.octet_top.specs.Request.{Way, Request, OfScript, OfLog, OfPair, Convert, Run, Gen}
-use Rattle.octet_top.specs.Inputs.{IsScriptRead, IsLogRead, IsPairRead, Stop, Ends, WasRefused, TakesOne, TakesBoth}
+use Rattle.octet_top.specs.Inputs.{IsScriptRead, IsLogRead, IsPairRead, Refusal, Ends, WasRefused, TakesOne, TakesBoth}
 use Rattle.octet_top.specs.Commands.{Answering, Answers, ScriptAnswers, LogAnswers, RunAnswers, RequestAnswers, PairAnswers, ConvertAnswers, IsGeneration}
 use Rattle.octet_top.specs.Replies.{Finds, Replies, IsNoSuccess, TakesFiles}
 use Rattle.octet_top.proofs.Steps.{as_short, both_as_short, one_keeps, both_keep}
@@ -24,13 +24,13 @@ found_done : {T : Type 0} (Reading : Result T Answer → Type 0) (Reply' : T →
 found_done Reading Reply' input before after (Ok reply) read same answers = inl (inr (input, read, answers), same)
 found_done Reading Reply' input before after (Err none) read same answers = tt
 
-found_refused : {T : Type 0} (Reading : Result T Answer → Type 0) (Reply' : T → Answer → Type 0) (before after : ℕ) (stop : Stop)
+found_refused : {T : Type 0} (Reading : Result T Answer → Type 0) (Reply' : T → Answer → Type 0) (before after : ℕ) (stop : Refusal)
     → Ends Reading before (Err stop) after → Finds (Answering Reading Reply') before stop after
 found_refused Reading Reply' before after (Ok reply) (inl (refused, same)) = inl (inl refused, same)
 found_refused Reading Reply' before after (Ok reply) (inr failed) = inr failed
 found_refused Reading Reply' before after (Err none) ends = tt
 
-is_short : {T : Type 0} (Reading : Result T Answer → Type 0) → ((answer : Answer) → Reading (Err answer) → Refuses answer) → (before after : ℕ) (stop : Stop) → Ends Reading before (Err stop) after → IsNoSuccess stop
+pub is_short : {T : Type 0} (Reading : Result T Answer → Type 0) → ((answer : Answer) → Reading (Err answer) → Refuses answer) → (before after : ℕ) (stop : Refusal) → Ends Reading before (Err stop) after → IsNoSuccess stop
 is_short Reading short before after (Ok reply) (inl (refused, same)) = not_done (answer_of reply) (short (answer_of reply) refused)
 is_short Reading short before after (Ok reply) (inr (is, rose)) = λ done. (let both : Read ≡ Done = ap (λ (a : Answer). a.status) (sym is) ∙ done in cc)
 is_short Reading short before after (Err none) ends = tt
@@ -45,7 +45,7 @@ module _ (request : Request) (name : List ℕ) (limit : ℕ) (T : Type 0) (Readi
     (takes : (Short : Type 0) (before after : DeskState) → TakesOne name limit Short before after → TakesFiles (Some request) Short before after)
     (answers_it : (contents : Option Contents) (answer : Answer) → Answering (Reading contents) Reply' answer → RequestAnswers request contents answer)
     (refuses_it : (contents : Option Contents) (answer : Answer) → Reading contents (Err answer) → Refuses answer) where
-  pub one_read : (before after : DeskState) (input : T) (result : Result Reply NoMemory) → Ends (Reading before.contents) before.take_faults (Ok input) after.take_faults → TakesOne name limit (WasRefused {T = T} {E = Stop} (Ok input)) before after
+  pub one_read : (before after : DeskState) (input : T) (result : Result Reply NoMemory) → Ends (Reading before.contents) before.take_faults (Ok input) after.take_faults → TakesOne name limit (WasRefused {T = T} {E = Refusal} (Ok input)) before after
       → IfOk result (λ reply. Reply' input (answer_of reply)) → Replies (Some request) before result after
   one_read before after input result ends calls answers = record {
     found = as_found (Answering (Reading before.contents) Reply') (RequestAnswers request before.contents) (answers_it before.contents) _ _ result (found_done (Reading before.contents) Reply' input _ _ result ends.0 ends.1 answers);
@@ -54,7 +54,7 @@ module _ (request : Request) (name : List ℕ) (limit : ℕ) (T : Type 0) (Readi
     write_faults = (one_keeps name limit ⊥ before after calls).1;
   }
 
-  pub one_stops : (before after : DeskState) (stop : Stop) → Ends (Reading before.contents) before.take_faults (Err stop) after.take_faults → TakesOne name limit (WasRefused {T = T} (Err stop)) before after → Replies (Some request) before stop after
+  pub one_stops : (before after : DeskState) (stop : Refusal) → Ends (Reading before.contents) before.take_faults (Err stop) after.take_faults → TakesOne name limit (WasRefused {T = T} (Err stop)) before after → Replies (Some request) before stop after
   one_stops before after stop ends calls = record {
     found = as_found (Answering (Reading before.contents) Reply') (RequestAnswers request before.contents) (answers_it before.contents) _ _ stop (found_refused (Reading before.contents) Reply' _ _ stop ends);
     calls = takes (IsNoSuccess stop) before after
@@ -65,27 +65,27 @@ module _ (request : Request) (name : List ℕ) (limit : ℕ) (T : Type 0) (Readi
 
 -- tasks on a script, tasks on a log, and runs of a script
 module _ (task : ScriptTask) (script : List ℕ) where
-  pub script_read : (before after : DeskState) (input : Source) (result : Result Reply NoMemory) → Ends (IsScriptRead script before.contents) before.take_faults (Ok input) after.take_faults → TakesOne script MAX_SCRIPT_FILE (WasRefused {T = Source} {E = Stop} (Ok input)) before after
+  pub script_read : (before after : DeskState) (input : Source) (result : Result Reply NoMemory) → Ends (IsScriptRead script before.contents) before.take_faults (Ok input) after.take_faults → TakesOne script MAX_SCRIPT_FILE (WasRefused {T = Source} {E = Refusal} (Ok input)) before after
       → IfOk result (λ reply. ScriptAnswers task input (answer_of reply)) → Replies (Some (OfScript task script)) before result after
   script_read = one_read (OfScript task script) script MAX_SCRIPT_FILE Source (IsScriptRead script) (ScriptAnswers task) (λ short before after calls. calls) (λ contents answer answers. answers) (script_refused script)
 
-  pub script_stops : (before after : DeskState) (stop : Stop) → Ends (IsScriptRead script before.contents) before.take_faults (Err stop) after.take_faults → TakesOne script MAX_SCRIPT_FILE (WasRefused {T = Source} (Err stop)) before after → Replies (Some (OfScript task script)) before stop after
+  pub script_stops : (before after : DeskState) (stop : Refusal) → Ends (IsScriptRead script before.contents) before.take_faults (Err stop) after.take_faults → TakesOne script MAX_SCRIPT_FILE (WasRefused {T = Source} (Err stop)) before after → Replies (Some (OfScript task script)) before stop after
   script_stops = one_stops (OfScript task script) script MAX_SCRIPT_FILE Source (IsScriptRead script) (ScriptAnswers task) (λ short before after calls. calls) (λ contents answer answers. answers) (script_refused script)
 
 module _ (task : LogTask) (log : List ℕ) where
-  pub log_read : (before after : DeskState) (input : Loaded) (result : Result Reply NoMemory) → Ends (IsLogRead log before.contents) before.take_faults (Ok input) after.take_faults → TakesOne log MAX_LOG_FILE (WasRefused {T = Loaded} {E = Stop} (Ok input)) before after
+  pub log_read : (before after : DeskState) (input : Loaded) (result : Result Reply NoMemory) → Ends (IsLogRead log before.contents) before.take_faults (Ok input) after.take_faults → TakesOne log MAX_LOG_FILE (WasRefused {T = Loaded} {E = Refusal} (Ok input)) before after
       → IfOk result (λ reply. LogAnswers task input (answer_of reply)) → Replies (Some (OfLog task log)) before result after
   log_read = one_read (OfLog task log) log MAX_LOG_FILE Loaded (IsLogRead log) (LogAnswers task) (λ short before after calls. calls) (λ contents answer answers. answers) (log_refused log)
 
-  pub log_stops : (before after : DeskState) (stop : Stop) → Ends (IsLogRead log before.contents) before.take_faults (Err stop) after.take_faults → TakesOne log MAX_LOG_FILE (WasRefused {T = Loaded} (Err stop)) before after → Replies (Some (OfLog task log)) before stop after
+  pub log_stops : (before after : DeskState) (stop : Refusal) → Ends (IsLogRead log before.contents) before.take_faults (Err stop) after.take_faults → TakesOne log MAX_LOG_FILE (WasRefused {T = Loaded} (Err stop)) before after → Replies (Some (OfLog task log)) before stop after
   log_stops = one_stops (OfLog task log) log MAX_LOG_FILE Loaded (IsLogRead log) (LogAnswers task) (λ short before after calls. calls) (λ contents answer answers. answers) (log_refused log)
 
 module _ (way : Way) (script log : List ℕ) where
-  pub run_read : (before after : DeskState) (input : Source) (result : Result Reply NoMemory) → Ends (IsScriptRead script before.contents) before.take_faults (Ok input) after.take_faults → TakesOne script MAX_SCRIPT_FILE (WasRefused {T = Source} {E = Stop} (Ok input)) before after
+  pub run_read : (before after : DeskState) (input : Source) (result : Result Reply NoMemory) → Ends (IsScriptRead script before.contents) before.take_faults (Ok input) after.take_faults → TakesOne script MAX_SCRIPT_FILE (WasRefused {T = Source} {E = Refusal} (Ok input)) before after
       → IfOk result (λ reply. RunAnswers way log input (answer_of reply)) → Replies (Some (Run way script log)) before result after
   run_read = one_read (Run way script log) script MAX_SCRIPT_FILE Source (IsScriptRead script) (RunAnswers way log) (λ short before after calls. calls) (λ contents answer answers. answers) (script_refused script)
 
-  pub run_stops : (before after : DeskState) (stop : Stop) → Ends (IsScriptRead script before.contents) before.take_faults (Err stop) after.take_faults → TakesOne script MAX_SCRIPT_FILE (WasRefused {T = Source} (Err stop)) before after → Replies (Some (Run way script log)) before stop after
+  pub run_stops : (before after : DeskState) (stop : Refusal) → Ends (IsScriptRead script before.contents) before.take_faults (Err stop) after.take_faults → TakesOne script MAX_SCRIPT_FILE (WasRefused {T = Source} (Err stop)) before after → Replies (Some (Run way script log)) before stop after
   run_stops = one_stops (Run way script log) script MAX_SCRIPT_FILE Source (IsScriptRead script) (RunAnswers way log) (λ short before after calls. calls) (λ contents answer answers. answers) (script_refused script)
 
 -- a request that takes a script and a log
@@ -93,7 +93,7 @@ module _ (request : Request) (script log : List ℕ) (object : Option (List ℕ)
     (takes : (Short : Type 0) (before after : DeskState) → TakesBoth script log object Short before after → TakesFiles (Some request) Short before after)
     (answers_it : (contents : Option Contents) (answer : Answer) → Answering (IsPairRead script log object contents) Reply' answer → RequestAnswers request contents answer) where
   two_read : (before after : DeskState) (pair : Pair) (result : Result Reply NoMemory) → Ends (IsPairRead script log object before.contents) before.take_faults (Ok pair) after.take_faults
-      → TakesBoth script log object (WasRefused {T = Pair} {E = Stop} (Ok pair)) before after → IfOk result (λ reply. Reply' pair (answer_of reply)) → Replies (Some request) before result after
+      → TakesBoth script log object (WasRefused {T = Pair} {E = Refusal} (Ok pair)) before after → IfOk result (λ reply. Reply' pair (answer_of reply)) → Replies (Some request) before result after
   two_read before after pair result ends calls answers = record {
     found = as_found (Answering (IsPairRead script log object before.contents) Reply') (RequestAnswers request before.contents) (answers_it before.contents) _ _ result (found_done (IsPairRead script log object before.contents) Reply' pair _ _ result ends.0 ends.1 answers);
     calls = takes (IsNoSuccess result) before after (both_as_short script log object ⊥ (IsNoSuccess result) before after (λ never. absurd never) calls);
@@ -101,7 +101,7 @@ module _ (request : Request) (script log : List ℕ) (object : Option (List ℕ)
     write_faults = (both_keep script log object ⊥ before after calls).1;
   }
 
-  two_stop : (before after : DeskState) (stop : Stop) → Ends (IsPairRead script log object before.contents) before.take_faults (Err stop) after.take_faults
+  two_stop : (before after : DeskState) (stop : Refusal) → Ends (IsPairRead script log object before.contents) before.take_faults (Err stop) after.take_faults
       → TakesBoth script log object (WasRefused {T = Pair} (Err stop)) before after → Replies (Some request) before stop after
   two_stop before after stop ends calls = record {
     found = as_found (Answering (IsPairRead script log object before.contents) Reply') (RequestAnswers request before.contents) (answers_it before.contents) _ _ stop (found_refused (IsPairRead script log object before.contents) Reply' _ _ stop ends);
@@ -113,19 +113,19 @@ module _ (request : Request) (script log : List ℕ) (object : Option (List ℕ)
 
 module _ (task : PairTask) (script log : List ℕ) (object : Option (List ℕ)) where
   pub both_read : (before after : DeskState) (pair : Pair) (result : Result Reply NoMemory) → Ends (IsPairRead script log object before.contents) before.take_faults (Ok pair) after.take_faults
-      → TakesBoth script log object (WasRefused {T = Pair} {E = Stop} (Ok pair)) before after → IfOk result (λ reply. PairAnswers task pair (answer_of reply)) → Replies (Some (OfPair task script log object)) before result after
+      → TakesBoth script log object (WasRefused {T = Pair} {E = Refusal} (Ok pair)) before after → IfOk result (λ reply. PairAnswers task pair (answer_of reply)) → Replies (Some (OfPair task script log object)) before result after
   both_read = two_read (OfPair task script log object) script log object (PairAnswers task) (λ short before after calls. calls) (λ contents answer answers. answers)
 
-  pub both_stop : (before after : DeskState) (stop : Stop) → Ends (IsPairRead script log object before.contents) before.take_faults (Err stop) after.take_faults
+  pub both_stop : (before after : DeskState) (stop : Refusal) → Ends (IsPairRead script log object before.contents) before.take_faults (Err stop) after.take_faults
       → TakesBoth script log object (WasRefused {T = Pair} (Err stop)) before after → Replies (Some (OfPair task script log object)) before stop after
   both_stop = two_stop (OfPair task script log object) script log object (PairAnswers task) (λ short before after calls. calls) (λ contents answer answers. answers)
 
 module _ (script log out : List ℕ) where
   pub conversion_read : (before after : DeskState) (pair : Pair) (result : Result Reply NoMemory) → Ends (IsPairRead script log None before.contents) before.take_faults (Ok pair) after.take_faults
-      → TakesBoth script log None (WasRefused {T = Pair} {E = Stop} (Ok pair)) before after → IfOk result (λ reply. ConvertAnswers out pair (answer_of reply)) → Replies (Some (Convert script log out)) before result after
+      → TakesBoth script log None (WasRefused {T = Pair} {E = Refusal} (Ok pair)) before after → IfOk result (λ reply. ConvertAnswers out pair (answer_of reply)) → Replies (Some (Convert script log out)) before result after
   conversion_read = two_read (Convert script log out) script log None (ConvertAnswers out) (λ short before after calls. calls) (λ contents answer answers. answers)
 
-  pub conversion_stop : (before after : DeskState) (stop : Stop) → Ends (IsPairRead script log None before.contents) before.take_faults (Err stop) after.take_faults
+  pub conversion_stop : (before after : DeskState) (stop : Refusal) → Ends (IsPairRead script log None before.contents) before.take_faults (Err stop) after.take_faults
       → TakesBoth script log None (WasRefused {T = Pair} (Err stop)) before after → Replies (Some (Convert script log out)) before stop after
   conversion_stop = two_stop (Convert script log out) script log None (ConvertAnswers out) (λ short before after calls. calls) (λ contents answer answers. answers)
 

@@ -16,12 +16,14 @@ use Rattle.octet_base.specs.Desk.{Files, Contents, DeskState, IsCalled, with_cal
 use Rattle.octet_base.specs.declared.call.Call.{Call}
 use Rattle.octet_base.specs.declared.fault.DeskFault.{DeskFault}
 use Rattle.octet_base.specs.declared.call.Call.TheVariants as call
-use Rattle.octet_top.specs.Answer.{Answer}
+use Rattle.octet_top.specs.Answer.{Answer, writes_file}
 use Rattle.octet_top.specs.Request.{Request, OfScript, OfLog, OfPair, Convert, Run, Gen}
 use Rattle.octet_top.specs.Inputs.{TakesOne, TakesBoth}
 use Rattle.octet_top.specs.Replies.{TakesFiles}
 use Rattle.octet_top.specs.Delivery.{Act, Add, Finish, Say, Makes, IsRefused, pieces, pieces_within, file_acts, acts_of}
-use Rattle.octet_top.specs.Outputs.{written, ArePartlyWritten, IsLeft}
+use Rattle.octet_top.specs.Live.{MakesSome}
+use Rattle.octet_top.proofs.Parts.{parts_acts}
+use Rattle.octet_top.specs.Outputs.{written, IsPartlyWritten, ArePartlyWritten, IsLeft}
 
 pub some_is : {x y : Contents} → Some x ≡ Some y → x ≡ y
 some_is {x} {y} is = ap (λ o. unwrap_or o x) is
@@ -56,7 +58,7 @@ more_bytes : (base : Files) (name done piece : List ℕ) → insert (insert base
 more_bytes base name done piece = insert-insert base name done _ ∙ ap (λ o. insert base name (unwrap_or o [] ++ piece)) (get-inserted base name done)
 
 -- all bytes of the pieces
-abbrev joined : List (List ℕ) → List ℕ
+abbrev pub joined : List (List ℕ) → List ℕ
 joined pieces = flat_map (λ piece. piece) pieces
 
 pieces_joined : (size n : ℕ) (bytes : List ℕ) → 0 < size → length bytes ≤ n → joined (pieces_within size n bytes) ≡ bytes
@@ -74,7 +76,7 @@ pub record Holds (files : Files) (said : List ℕ) (state : DeskState) : Type 0 
   pub said_is : contents.said ≡ said
 
 -- a call that was refused, and changed nothing
-held_called : {T : Type 0} (result : Result T DeskFault) (made : Call) (files : Files) (said : List ℕ) (before after : DeskState) → Holds files said before → IsCalled result made before.contents after.contents → Holds files said after
+pub held_called : {T : Type 0} (result : Result T DeskFault) (made : Call) (files : Files) (said : List ℕ) (before after : DeskState) → Holds files said before → IsCalled result made before.contents after.contents → Holds files said after
 held_called result made files said before after holds (inl is) =
     record { contents = _; tells = is ∙ ap (with_call made) holds.tells; files_are = holds.files_are; said_is = holds.said_is }
 held_called result made files said before after holds (inr (memory, is)) =
@@ -108,6 +110,22 @@ split_made (act ∷ acts) more before result after (inr (mid, does, makes)) = el
   | inr (end, rest, next) ↦ inr (end, inr (mid, does, rest), next)
 ]
 
+-- calls are made, and memory is refused nowhere between
+pub some_of : (acts : List Act) (before : DeskState) (result : Result (Unit {0}) DeskFault) (after : DeskState) → Makes acts before result after → MakesSome acts before result after
+some_of [] before result after made = made
+some_of (act ∷ acts) before result after (inl refused) = inr (inl refused)
+some_of (act ∷ acts) before result after (inr (mid, does, makes)) = inr (inr (mid, does, some_of acts mid result after makes))
+
+split_some : (acts more : List Act) (before : DeskState) (result : Result (Unit {0}) DeskFault) (after : DeskState) → MakesSome (acts ++ more) before result after
+    → (IsRefused result × MakesSome acts before result after) ⊎ ((mid : DeskState) × MakesSome acts before (Ok tt) mid × MakesSome more mid result after)
+split_some [] more before result after makes = inr (before, (refl, refl), makes)
+split_some (act ∷ acts) more before result after (inl (memory, same)) = inl (subst IsRefused (sym memory) tt, inl (memory, same))
+split_some (act ∷ acts) more before result after (inr (inl refused)) = inl (refused.0, inr (inl refused))
+split_some (act ∷ acts) more before result after (inr (inr (mid, does, makes))) = elim (split_some acts more mid result after makes) [
+  | inl (refused, rest) ↦ inl (refused, inr (inr (mid, does, rest)))
+  | inr (end, rest, next) ↦ inr (end, inr (inr (mid, does, rest)), next)
+]
+
 module _ (base : Files) (name : List ℕ) (said : List ℕ) where
   -- bytes are added after those that were added
   bytes_held : (done bytes : List ℕ) (made : Call) (before after : DeskState) → before.begun ≡ Some name → Holds (insert base name done) said before
@@ -124,25 +142,29 @@ module _ (base : Files) (name : List ℕ) (said : List ℕ) where
   IsAdded done bytes (Ok all) after = Holds (insert base name (done ++ bytes)) said after
   IsAdded done bytes (Err fault) after = (k : ℕ) × Holds (insert base name (done ++ take k bytes)) said after
 
-  rest_added : (pieces : List (List ℕ)) (done : List ℕ) (before : DeskState) (result : Result (Unit {0}) DeskFault) (after : DeskState) → before.begun ≡ Some name → Holds (insert base name done) said before
-      → Makes (map Add pieces ++ Finish ∷ []) before result after → IsAdded done (joined pieces) result after
-  rest_added [] done before (Ok tt) after begun holds (inl never) = absurd never.0
-  rest_added [] done before (Err fault) after begun holds (inl (refused, finishes)) =
+  rest_added : (parts : List (List ℕ)) (done : List ℕ) (before : DeskState) (result : Result (Unit {0}) DeskFault) (after : DeskState) → before.begun ≡ Some name → Holds (insert base name done) said before
+      → MakesSome (map Add parts ++ Finish ∷ []) before result after → IsAdded done (joined parts) result after
+  rest_added [] done before (Ok tt) after begun holds (inl (never, same)) = absurd cc
+  rest_added [] done before (Err fault) after begun holds (inl (memory, same)) = (0, rw (append-nil done, same) holds)
+  rest_added [] done before (Ok tt) after begun holds (inr (inl never)) = absurd never.0
+  rest_added [] done before (Err fault) after begun holds (inr (inl (refused, finishes))) =
       (0, rw (append-nil done) (held_called {T = Unit {0}} (Err fault) call.Finish _ _ before after holds (inl finishes.contents)))
-  rest_added [] done before result after begun holds (inr (mid, finishes, (ok, is))) =
+  rest_added [] done before result after begun holds (inr (inr (mid, finishes, (ok, is)))) =
       subst (λ r. IsAdded done [] r after) (sym ok) (rw (is, append-nil done) (held_called {T = Unit {0}} (Ok tt) call.Finish _ _ before mid holds (inl finishes.contents)))
-  rest_added (piece ∷ pieces) done before (Ok tt) after begun holds (inl never) = absurd never.0
-  rest_added (piece ∷ pieces) done before (Err fault) after begun holds (inl (refused, adds)) = elim adds.refused [
+  rest_added (part ∷ parts) done before (Ok tt) after begun holds (inl (never, same)) = absurd cc
+  rest_added (part ∷ parts) done before (Err fault) after begun holds (inl (memory, same)) = (0, rw (append-nil done, same) holds)
+  rest_added (part ∷ parts) done before (Ok tt) after begun holds (inr (inl never)) = absurd never.0
+  rest_added (part ∷ parts) done before (Err fault) after begun holds (inr (inl (refused, adds))) = elim adds.refused [
     | inl called ↦ (0, rw (append-nil done) (held_called {T = Unit {0}} (Err fault) _ _ _ before after holds called))
-    | inr (n, within, is) ↦ (n, rw (take-append-le n piece (joined pieces) within) (bytes_held done (take n piece) _ before after begun holds is))
+    | inr (n, within, is) ↦ (n, rw (take-append-le n part (joined parts) within) (bytes_held done (take n part) _ before after begun holds is))
   ]
-  rest_added (piece ∷ pieces) done before result after begun holds (inr (mid, adds, makes)) =
-      more result (rest_added pieces (done ++ piece) mid result after (adds.begun ∙ begun) (bytes_held done piece _ before mid begun holds adds.done) makes)
+  rest_added (part ∷ parts) done before result after begun holds (inr (inr (mid, adds, makes))) =
+      more result (rest_added parts (done ++ part) mid result after (adds.begun ∙ begun) (bytes_held done part _ before mid begun holds adds.done) makes)
     where
-      more : (result : Result (Unit {0}) DeskFault) → IsAdded (done ++ piece) (joined pieces) result after → IsAdded done (piece ++ joined pieces) result after
-      more (Ok tt) added = subst (λ bytes. Holds (insert base name bytes) said after) (append_assoc done piece (joined pieces)) added
+      more : (result : Result (Unit {0}) DeskFault) → IsAdded (done ++ part) (joined parts) result after → IsAdded done (part ++ joined parts) result after
+      more (Ok tt) added = subst (λ bytes. Holds (insert base name bytes) said after) (append_assoc done part (joined parts)) added
       more (Err fault) (k, added) =
-          (length piece + k, subst (λ bytes. Holds (insert base name bytes) said after) (append_assoc done piece (take k (joined pieces)) ∙ ap (λ rest. done ++ rest) (sym (take-append-add piece (joined pieces) k))) added)
+          (length part + k, subst (λ bytes. Holds (insert base name bytes) said after) (append_assoc done part (take k (joined parts)) ∙ ap (λ rest. done ++ rest) (sym (take-append-add part (joined parts) k))) added)
 
 -- files are written, and nothing is said
 abbrev AreLeft : List (List ℕ × List ℕ) → Files → List ℕ → Result (Unit {0}) DeskFault → DeskState → Type 0
@@ -150,28 +172,35 @@ AreLeft files base said (Ok all) after = Holds (written files base) said after
 AreLeft files base said (Err fault) after = (now : Files) × Holds now said after × ArePartlyWritten files base now
 
 -- a file that is begun
-begun_held : (file : List ℕ × List ℕ) (base : Files) (said : List ℕ) (before after : DeskState) → Holds base said before → after.contents ≡ with_call (call.Begin file.0) (with_empty file.0 before.contents) → Holds (insert base file.0 []) said after
-begun_held file base said before after holds is = record {
+begun_held : (name : List ℕ) (base : Files) (said : List ℕ) (before after : DeskState) → Holds base said before → after.contents ≡ with_call (call.Begin name) (with_empty name before.contents) → Holds (insert base name []) said after
+begun_held name base said before after holds is = record {
   contents = _;
-  tells = is ∙ ap (λ t. with_call (call.Begin file.0) (with_empty file.0 t)) holds.tells;
-  files_are = ap (λ (fs : Files). insert fs file.0 []) holds.files_are;
+  tells = is ∙ ap (λ t. with_call (call.Begin name) (with_empty name t)) holds.tells;
+  files_are = ap (λ (fs : Files). insert fs name []) holds.files_are;
   said_is = holds.said_is;
 }
 
--- one file
-file_left : (file : List ℕ × List ℕ) (base : Files) (said : List ℕ) (before : DeskState) (result : Result (Unit {0}) DeskFault) (after : DeskState) → Holds base said before → Makes (file_acts file) before result after → AreLeft (file ∷ []) base said result after
-file_left file base said before (Ok tt) after holds (inl never) = absurd never.0
-file_left file base said before (Err fault) after holds (inl (refused, begins)) = elim begins.refused [
+-- one file, by its parts
+pub parts_left : (name : List ℕ) (parts : List (List ℕ)) (base : Files) (said : List ℕ) (before : DeskState) (result : Result (Unit {0}) DeskFault) (after : DeskState) → Holds base said before → MakesSome (parts_acts name parts) before result after
+    → AreLeft ((name, joined parts) ∷ []) base said result after
+parts_left name parts base said before (Ok tt) after holds (inl (never, same)) = absurd cc
+parts_left name parts base said before (Err fault) after holds (inl (memory, same)) = (base, rw same holds, inl (inl refl))
+parts_left name parts base said before (Ok tt) after holds (inr (inl never)) = absurd never.0
+parts_left name parts base said before (Err fault) after holds (inr (inl (refused, begins))) = elim begins.refused [
   | inl called ↦ (base, held_called {T = Unit {0}} (Err fault) _ _ _ before after holds called, inl (inl refl))
-  | inr is ↦ (insert base file.0 [], begun_held file base said before after holds is, inl (inr (0, refl)))
+  | inr is ↦ (insert base name [], begun_held name base said before after holds is, inl (inr (0, refl)))
 ]
-file_left file base said before result after holds (inr (mid, begins, makes)) =
-    by result (subst (λ bytes. IsAdded base file.0 said [] bytes result after) (pieces_joined 65536 (length file.1) file.1 (omega arith) (omega arith))
-    (rest_added base file.0 said (pieces file.1) [] mid result after begins.begun_done (begun_held file base said before mid holds begins.done) makes))
+parts_left name parts base said before result after holds (inr (inr (mid, begins, makes))) =
+    by result (rest_added base name said parts [] mid result after begins.begun_done (begun_held name base said before mid holds begins.done) makes)
   where
-    by : (result : Result (Unit {0}) DeskFault) → IsAdded base file.0 said [] file.1 result after → AreLeft (file ∷ []) base said result after
+    by : (result : Result (Unit {0}) DeskFault) → IsAdded base name said [] (joined parts) result after → AreLeft ((name, joined parts) ∷ []) base said result after
     by (Ok tt) added = added
-    by (Err fault) (k, added) = (insert base file.0 (take k file.1), added, inl (inr (k, refl)))
+    by (Err fault) (k, added) = (insert base name (take k (joined parts)), added, inl (inr (k, refl)))
+
+file_left : (file : List ℕ × List ℕ) (base : Files) (said : List ℕ) (before : DeskState) (result : Result (Unit {0}) DeskFault) (after : DeskState) → Holds base said before → Makes (file_acts file) before result after → AreLeft (file ∷ []) base said result after
+file_left file base said before result after holds makes =
+    subst (λ (bytes : List ℕ). AreLeft ((file.0, bytes) ∷ []) base said result after) (pieces_joined 65536 (length file.1) file.1 (omega arith) (omega arith))
+    (parts_left file.0 (pieces file.1) base said before result after holds (some_of (file_acts file) before result after makes))
 
 -- and all of them
 files_left : (files : List (List ℕ × List ℕ)) (base : Files) (said : List ℕ) (before : DeskState) (result : Result (Unit {0}) DeskFault) (after : DeskState) → Holds base said before → Makes (flat_map file_acts files) before result after → AreLeft files base said result after
@@ -188,33 +217,70 @@ files_left (file ∷ files) base said before result after holds makes =
     by (Ok tt) (inr (mid, whole, rest)) next = next mid (file_left file base said before (Ok tt) mid holds whole) rest
     by (Err fault) (inr (mid, whole, rest)) next = let (now, held, part) = next mid (file_left file base said before (Ok tt) mid holds whole) rest in (now, held, inr part)
 
+-- a text is said after the files of an answer
+module _ (answer : Answer) (t t' : Contents) (after : DeskState) (tells' : after.contents ≡ Some t') where
+  now : (files : Files) (said : List ℕ) → Holds files said after → (t'.files ≡ files) × (t'.said ≡ said)
+  now files said holds = let same : t' ≡ holds.contents = some_is (sym tells' ∙ holds.tells) in (ap (λ (x : Contents). x.files) same ∙ holds.files_are, ap (λ (x : Contents). x.said) same ∙ holds.said_is)
+
+  spoken : (bytes : List ℕ) (made : Call) (files : Files) (mid last : DeskState) → Holds files t.said mid → last.contents ≡ with_call made (with_said bytes mid.contents) → Holds files (t.said ++ bytes) last
+  spoken bytes made files mid last holds is = record {
+    contents = _;
+    tells = is ∙ ap (λ c. with_call made (with_said bytes c)) holds.tells;
+    files_are = holds.files_are;
+    said_is = ap (λ s. s ++ bytes) holds.said_is;
+  }
+
+  -- nothing of it was said
+  unsaid : (mid : DeskState) (fault : DeskFault) → Holds (written answer.files t.files) t.said mid → after ≡ mid → IsLeft answer (Err fault) t t'
+  unsaid mid fault holds same = let both = now _ _ (rw same holds) in inr (both.0, (0, both.1 ∙ sym (append-nil t.said)))
+
+  said_left : (result : Result (Unit {0}) DeskFault) (mid : DeskState) → Holds (written answer.files t.files) t.said mid → MakesSome (Say answer.text ∷ []) mid result after → IsLeft answer result t t'
+  said_left (Ok tt) mid holds (inl (never, same)) = absurd cc
+  said_left (Err fault) mid holds (inl (memory, same)) = unsaid mid fault holds same
+  said_left (Ok tt) mid holds (inr (inl never)) = absurd never.0
+  said_left (Ok tt) mid holds (inr (inr (last, says, (ok, is)))) = let both = now _ _ (rw is (spoken answer.text _ _ mid last holds says.done)) in record { files = both.0; said = both.1 }
+  said_left (Err fault) mid holds (inr (inl (refused, says))) = elim says.refused [
+    | inl called ↦ (let both = now _ _ (held_called {T = Unit {0}} (Err fault) _ _ _ mid after holds called) in inr (both.0, (0, both.1 ∙ sym (append-nil t.said))))
+    | inr (n, within, is) ↦ (let both = now _ _ (spoken (take n answer.text) _ _ mid after holds is) in inr (both.0, (n, both.1)))
+  ]
+  said_left (Err fault) mid holds (inr (inr (last, says, (never, is)))) = absurd cc
+
+  -- the files were not written whole
+  unwritten : (fault : DeskFault) → AreLeft answer.files t.files t.said (Err fault) after → IsLeft answer (Err fault) t t'
+  unwritten fault left = let both = now left.0 t.said left.1 in inl (rw both.0 left.2, both.1)
+
 -- the calls of an answer leave it whole, or cut short
 pub answer_left : (answer : Answer) (before : DeskState) (result : Result (Unit {0}) DeskFault) (after : DeskState) (t t' : Contents) → Holds t.files t.said before → after.contents ≡ Some t' → Makes (acts_of answer) before result after → IsLeft answer result t t'
 answer_left answer before result after t t' held tells' makes = by result (split_made (flat_map file_acts answer.files) (Say answer.text ∷ []) before result after makes)
   where
-    now : (files : Files) (said : List ℕ) → Holds files said after → (t'.files ≡ files) × (t'.said ≡ said)
-    now files said holds = let same : t' ≡ holds.contents = some_is (sym tells' ∙ holds.tells) in (ap (λ (x : Contents). x.files) same ∙ holds.files_are, ap (λ (x : Contents). x.said) same ∙ holds.said_is)
-
-    spoken : (bytes : List ℕ) (made : Call) (files : Files) (mid last : DeskState) → Holds files t.said mid → last.contents ≡ with_call made (with_said bytes mid.contents) → Holds files (t.said ++ bytes) last
-    spoken bytes made files mid last holds is = record {
-      contents = _;
-      tells = is ∙ ap (λ c. with_call made (with_said bytes c)) holds.tells;
-      files_are = holds.files_are;
-      said_is = ap (λ s. s ++ bytes) holds.said_is;
-    }
-
-    said : (result : Result (Unit {0}) DeskFault) (mid : DeskState) → Holds (written answer.files t.files) t.said mid → Makes (Say answer.text ∷ []) mid result after → IsLeft answer result t t'
-    said (Ok tt) mid holds (inl never) = absurd never.0
-    said (Ok tt) mid holds (inr (last, says, (ok, is))) = let both = now _ _ (rw is (spoken answer.text _ _ mid last holds says.done)) in record { files = both.0; said = both.1 }
-    said (Err fault) mid holds (inl (refused, says)) = elim says.refused [
-      | inl called ↦ (let both = now _ _ (held_called {T = Unit {0}} (Err fault) _ _ _ mid after holds called) in inr (both.0, (0, both.1 ∙ sym (append-nil t.said))))
-      | inr (n, within, is) ↦ (let both = now _ _ (spoken (take n answer.text) _ _ mid after holds is) in inr (both.0, (n, both.1)))
-    ]
-    said (Err fault) mid holds (inr (last, says, (never, is))) = absurd cc
-
     by : (result : Result (Unit {0}) DeskFault)
         → (IsRefused result × Makes (flat_map file_acts answer.files) before result after) ⊎ ((mid : DeskState) × Makes (flat_map file_acts answer.files) before (Ok tt) mid × Makes (Say answer.text ∷ []) mid result after)
         → IsLeft answer result t t'
     by (Ok tt) (inl never) = absurd never.0
-    by (Err fault) (inl (refused, makes)) = let left = files_left answer.files t.files t.said before (Err fault) after held makes in let both = now left.0 t.said left.1 in inl (rw both.0 left.2, both.1)
-    by result (inr (mid, makes, says)) = said result mid (files_left answer.files t.files t.said before (Ok tt) mid held makes) says
+    by (Err fault) (inl (refused, makes)) = unwritten answer t t' after tells' fault (files_left answer.files t.files t.said before (Err fault) after held makes)
+    by result (inr (mid, makes, says)) = said_left answer t t' after tells' result mid (files_left answer.files t.files t.said before (Ok tt) mid held makes) (some_of (Say answer.text ∷ []) mid result after says)
+
+-- so do those of a file that is written in parts
+pub told_left : (name : List ℕ) (parts : List (List ℕ)) (text : List ℕ) (before : DeskState) (result : Result (Unit {0}) DeskFault) (after : DeskState) (t t' : Contents) → Holds t.files t.said before → after.contents ≡ Some t'
+    → MakesSome (parts_acts name parts ++ Say text ∷ []) before result after → IsLeft (writes_file name (joined parts) text) result t t'
+told_left name parts text before result after t t' held tells' makes = by result (split_some (parts_acts name parts) (Say text ∷ []) before result after makes)
+  where
+    by : (result : Result (Unit {0}) DeskFault)
+        → (IsRefused result × MakesSome (parts_acts name parts) before result after) ⊎ ((mid : DeskState) × MakesSome (parts_acts name parts) before (Ok tt) mid × MakesSome (Say text ∷ []) mid result after)
+        → IsLeft (writes_file name (joined parts) text) result t t'
+    by (Ok tt) (inl never) = absurd never.0
+    by (Err fault) (inl (refused, makes)) = unwritten (writes_file name (joined parts) text) t t' after tells' fault (parts_left name parts t.files t.said before (Err fault) after held makes)
+    by result (inr (mid, makes, says)) = said_left (writes_file name (joined parts) text) t t' after tells' result mid (parts_left name parts t.files t.said before (Ok tt) mid held makes) says
+
+-- a file that was not written whole, and nothing was said
+pub cut_left : (name : List ℕ) (parts : List (List ℕ)) (before : DeskState) (fault : DeskFault) (after : DeskState) (t t' : Contents) → Holds t.files t.said before → after.contents ≡ Some t' → MakesSome (parts_acts name parts) before (Err fault) after
+    → IsPartlyWritten (name, joined parts) t.files t'.files × (t'.said ≡ t.said)
+cut_left name parts before fault after t t' held tells' makes =
+    let (files, holds, part) = parts_left name parts t.files t.said before (Err fault) after held makes in
+    let both = now (writes_file name (joined parts) []) t t' after tells' files t.said holds in (
+      elim part [
+        | inl own ↦ rw both.0 own
+        | inr never ↦ absurd never
+      ],
+      both.1,
+    )

@@ -3,7 +3,7 @@ use Rattle.std.proofs.Common.{◌≡◌, ℕ, zero, suc, ◌+◌, ◌*◌, ◌/�
 use Rattle.std.specs.List.{flat_map, sum_by, list_all}
 use Rattle.std.specs.Global.{Vec}
 use Rattle.sha2.specs.Sha256.{sha256}
-use Rattle.std.proofs.lemmas.Bool.{leb-true, le-ltb, ltb-false}
+use Rattle.std.proofs.lemmas.Bool.{leb-true, ltb-false}
 use Rattle.std.proofs.lemmas.List.Sums.{sum_by-cons}
 use Rattle.std.proofs.lemmas.List.Concat.{flat_map-cons, flat_map-append}
 use Rattle.octet_model.specs.declared.event.Mark.{Mark}
@@ -19,10 +19,12 @@ use Rattle.octet_model.specs.Validity.{IsValidLog}
 use Rattle.octet_model.proofs.lemmas.Validity.{valid_log}
 use Rattle.octet_log.specs.declared.limits.TheConstants.{MAX_MARKS}
 use Rattle.octet_log.specs.Short.{groups, short_bytes}
-use Rattle.octet_log.specs.Pieces.{Piece, short_mark_of, short_mark_bytes, marks_bytes, piece_bytes, tail_bytes, marks_in, whole_pieces, pieced_bytes, IsSpelling}
+use Rattle.octet_log.specs.Pieces.{Piece, short_mark_of, short_mark_bytes, piece_bytes, tail_bytes, marks_in, whole_pieces, pieced_bytes, IsSpelling}
 use Rattle.octet_log.specs.declared.loader.Digest.{Digest}
 use Rattle.octet_log.proofs.lemmas.Sizes.{few_marks}
-use Rattle.octet_top.specs.Request.{Way, AsTheyCome}
+use Rattle.octet_top.specs.declared.request.RunTask.{RunTask}
+use Rattle.octet_top.specs.declared.request.RunTask.TheVariants as run
+use Rattle.octet_top.specs.Request.{shown_task}
 use Rattle.octet_top.specs.Commands.{IsLogFile, digest_kept, second_bytes}
 
 -- a short number has at most ten bytes, and a small one few
@@ -34,7 +36,7 @@ groups_few (suc more) number = elim (ltb number 128) as (λ b. length (cond b (n
   | false ↦ omega (arith, groups_few more (number / 128))
 ]
 
-groups_small : (more number : ℕ) → length (groups more number) ≤ 1 + number
+pub groups_small : (more number : ℕ) → length (groups more number) ≤ 1 + number
 unfolding groups
 groups_small zero number = omega arith
 groups_small (suc more) number = elim (ltb number 128) as (λ b. ltb number 128 ≡ b → length (cond b (number ∷ []) ((number % 128 + 128) ∷ groups more (number / 128))) ≤ 1 + number) [
@@ -54,7 +56,7 @@ mark_short gapped = of_mark gapped.mark
     of_mark (Draw number) = omega (arith, length-append (short_bytes gapped.gap) (short_bytes number), groups_small 9 gapped.gap, short_few number)
     of_mark (Fence number) = omega (arith, length-append (short_bytes gapped.gap) (short_bytes number), groups_small 9 gapped.gap, short_few number)
 
-marks_short : (marks : List Gapped) → length (flat_map short_mark_bytes marks) ≤ 13 * length marks + sum_by (λ m. m.gap) marks
+pub marks_short : (marks : List Gapped) → length (flat_map short_mark_bytes marks) ≤ 13 * length marks + sum_by (λ m. m.gap) marks
 marks_short [] = omega arith
 marks_short (m ∷ marks) =
     omega (
@@ -67,7 +69,7 @@ marks_short (m ∷ marks) =
     )
 
 -- all gaps of all threads
-abbrev gaps_in : List ThreadLog → ℕ
+abbrev pub gaps_in : List ThreadLog → ℕ
 gaps_in logs = sum_by (λ log. sum_by (λ m. m.gap) log.marks) logs
 
 -- the pieces have at most eleven bytes a thread beside their marks
@@ -98,7 +100,7 @@ pieces_short first (log ∷ logs) =
       sum_by-cons (λ (l : ThreadLog). sum_by (λ (m : Gapped). m.gap) l.marks) log logs,
     )
 
-tail_short : (logs : List ThreadLog) → length (tail_bytes logs) ≤ 1 + 10 * length logs
+pub tail_short : (logs : List ThreadLog) → length (tail_bytes logs) ≤ 1 + 10 * length logs
 tail_short logs = omega (arith, by logs)
   where
     by : (logs : List ThreadLog) → length (flat_map (λ (log : ThreadLog). short_bytes log.accesses) logs) ≤ 10 * length logs
@@ -131,6 +133,11 @@ gaps_within threads first (log ∷ logs) valid =
       sum_by-cons (λ (l : ThreadLog). l.accesses) log logs,
       sum_by-cons (λ (l : ThreadLog). sum_by (λ (m : Gapped). m.gap) l.marks) log logs,
     )
+
+pub gaps_within_log : (log : Log) → gaps_in log.threads ≤ sum_by (λ log. log.accesses) log.threads
+gaps_within_log log =
+    let logs = log.threads in
+    gaps_within (length logs) 0 logs (both_hold (leb 1 (length logs) && leb (length logs) MAX_THREADS && leb (sum_by (λ (l : ThreadLog). l.accesses) logs) MAX_ACCESSES) (are_thread_logs (length logs) 0 logs) log.valid).1
 
 pub second_is_short : (digest : List ℕ) (logs : List ThreadLog) → length digest ≡ 32 → is_log logs ≡ true → marks_in logs ≤ MAX_MARKS → length (pieced_bytes digest (whole_pieces 0 logs) logs) ≤ MAX_LOG_FILE
 second_is_short digest logs whole valid few =
@@ -167,16 +174,7 @@ module _ (text digest : List ℕ) (log : Log) (bytes : List ℕ) (of_text : dige
   pub second_file : IsLogFile (second_bytes text log.threads) (Some (sha256 text)) log.threads
   second_file = subst (λ (b : List ℕ). IsLogFile b (Some (sha256 text)) log.threads) is_second second_written
 
--- what each way to run a script writes
-pub second_by : (way : Way) (text : List ℕ) (digest : Digest) (log : Log) (result : Result (Vec ℕ) OutOfMemory) → way ≡ AsTheyCome → digest.bytes ≡ sha256 text → marks_in log.threads ≤ MAX_MARKS
-    → IfOk result (λ bytes. bytes.items ≡ pieced_bytes digest.bytes (whole_pieces 0 log.threads) log.threads) → IfOk result (λ bytes. IsSpelling bytes.items (Some digest.bytes) log.threads)
-    → IfOk result (λ bytes. IsLogFile bytes.items (digest_kept way text) log.threads)
-second_by way text digest log (Ok bytes) is of_text few whole spells =
-    subst (λ (w : Way). IsLogFile bytes.items (digest_kept w text) log.threads) (sym is) (second_written text digest.bytes log bytes.items of_text few whole spells)
-second_by way text digest log (Err none) is of_text few whole spells = tt
-
-pub first_by : (way : Way) (text : List ℕ) (log : Log) (result : Result (Vec ℕ) OutOfMemory) → digest_kept way text ≡ None → length (log_bytes log.threads) ≤ MAX_LOG_FILE
-    → IfOk result (λ bytes. bytes.items ≡ log_bytes log.threads) → IfOk result (λ bytes. IsLogFile bytes.items (digest_kept way text) log.threads)
-first_by way text log (Ok bytes) none short is =
-    subst (λ (d : Option (List ℕ)). IsLogFile bytes.items d log.threads) (sym none) (record { spelled = is; within_limit = omega (arith, ap (λ (l : List ℕ). length l) is, short) })
-first_by way text log (Err refused) none short is = tt
+-- a log that is written in version 1, after its run
+pub first_file : (task : RunTask) (text : List ℕ) (log : Log) (bytes : List ℕ) → length (log_bytes log.threads) ≤ MAX_LOG_FILE → bytes ≡ log_bytes log.threads → IsLogFile bytes (digest_kept (shown_task task) text) log.threads
+first_file run.Locked text log bytes short is = record { spelled = is; within_limit = omega (arith, ap (λ (l : List ℕ). length l) is, short) }
+first_file (run.Turns picks) text log bytes short is = record { spelled = is; within_limit = omega (arith, ap (λ (l : List ℕ). length l) is, short) }

@@ -2,6 +2,7 @@ pub mod Lengths
 pub mod Recorded
 pub mod Steps
 pub mod Counted
+pub mod Matches
 pub mod Rows
 pub mod Found
 pub mod Made
@@ -10,3 +11,10 @@ pub mod Causes
 pub mod Due
 pub mod Effects
 pub mod Promises
+pub mod PairPromises
+pub mod Checking
+pub mod Tracing
+pub mod Parts
+mod LiveFiles
+mod LiveMade
+pub mod Cut

@@ -1,18 +1,19 @@
 -- From what is served to the promises of each command.
-use Rattle.std.proofs.Common.{◌≡◌, ◌∙◌, ◌++◌, ℕ, List, Some, Ok, inl, inr, ap, sym, subst, arith, Option, None, refl, length, codes}
+use Rattle.std.proofs.Common.{◌≡◌, ◌≢◌, ◌⊎◌, ◌∙◌, ◌++◌, ℕ, List, Some, Ok, inl, inr, ap, sym, subst, arith, Option, None, refl, length, codes}
 use Rattle.std.specs.FinMap.{get, insert}
 use Rattle.octet_base.specs.Desk.{Files, Contents, DeskState}
 use Rattle.octet_model.specs.Texts.{log_bytes, outcome_text}
 use Rattle.octet_model.proofs.lemmas.LogLength.{faithful_log_is_short}
 use Rattle.octet_model.proofs.lemmas.Totals.{faithful_adds_up}
-use Rattle.octet_top.specs.declared.reply.Status.TheVariants.{Done, Read}
+use Rattle.octet_top.specs.declared.reply.Status.{Status}
+use Rattle.octet_top.specs.declared.reply.Status.TheVariants.{Done, Misfit, Read, Write, Memory, Unordered, Cycle}
 use Rattle.octet_top.specs.Answer.{Answer, code_of, writes_file, writes_both, summary}
 use Rattle.octet_top.specs.Request.{Way, Run, request_in, OfPair, Convert, Gen}
 use Rattle.octet_log.specs.Pieces.{IsSpelling}
 use Rattle.octet_top.specs.Commands.{Answers, RequestAnswers, digest_kept, second_bytes}
-use Rattle.octet_top.specs.Delivery.{IsServed}
+use Rattle.octet_top.specs.Serving.{IsServed}
 use Rattle.octet_top.specs.Outputs.{IsWhole}
-use Rattle.octet_top.specs.Promises.{IsFaithfulRun, RunsFaithfully, RunsWithExactTotals, IsOrderedPair, VerifiesOrdered, RepeatsRecordings, IsConversion, ConvertsLogs, IsGeneratedRun, GeneratesFaithfully}
+use Rattle.octet_top.specs.Promises.{IsFaithfulRun, RunsFaithfully, RunsWithExactTotals, IsConversion, ConvertsLogs, IsGeneratedRun, GeneratesFaithfully}
 use Rattle.octet_top.proofs.Recorded.{recorded_faithfully}
 use Rattle.octet_top.proofs.Causes.{same_status, has_cause}
 use Rattle.octet_top.proofs.Effects.{leaves}
@@ -22,7 +23,6 @@ use Rattle.octet_model.specs.Orders.{execution, lowest_order, IsFaithful, journa
 use Rattle.octet_replay.proofs.lemmas.OneAnswer.{faithful}
 use Rattle.octet_clock.specs.declared.verdict.Verdict.TheVariants as verdict
 use Rattle.octet_top.specs.declared.inputs.Pair.{Pair}
-use Rattle.octet_top.specs.declared.request.PairTask.TheVariants.{Replay, Verify}
 use Rattle.octet_top.proofs.Due.{pair_single}
 use Rattle.octet_top.proofs.Rows.{not_done, script_refused, pair_refused}
 use Rattle.octet_top.proofs.Left.{get-inserted, get-other}
@@ -37,21 +37,28 @@ use Rattle.octet_model.proofs.lemmas.LawfulOrders.{lawful_order_has_its_log, law
 use Rattle.octet_gen.specs.Generated.{IsGenerated}
 use Rattle.octet_gen.proofs.lemmas.Accesses.{script_makes_its_accesses}
 
--- where all is done, an answer of that status was given whole
-pub record Succeeds (words : List (List ℕ)) (contents contents' : Contents) : Type 0 where
+-- where a status comes that tells of no failure, an answer of that status was given whole
+pub record Gives (status : Status) (words : List (List ℕ)) (contents contents' : Contents) : Type 0 where
   pub answer : Answer
   pub answers : Answers (request_in words) (Some contents) answer
-  pub done : answer.status ≡ Done
+  pub done : answer.status ≡ status
   pub given : IsWhole answer contents contents'
 
-at_success : (words : List (List ℕ)) (before after : DeskState) (code : ℕ) (contents contents' : Contents) → Leaves words before after code → code ≡ code_of Done → before.contents ≡ Some contents → after.contents ≡ Some contents' → Succeeds words contents contents'
-at_success words before after code contents contents' left done tells tells' = elim (left contents contents' tells tells') [
-  | inl untouched ↦ absurd (omega (arith, done, untouched.status))
-  | inr (answer, given, inr (short, inl is)) ↦ absurd (omega (arith, done, is))
-  | inr (answer, given, inr (short, inr is)) ↦ absurd (omega (arith, done, is))
-  | inr (answer, inr (said, rose), inl (whole, is)) ↦ absurd (let read : code ≡ code_of Read = is ∙ ap (λ (a : Answer). code_of a.status) said in omega (arith, done, read))
-  | inr (answer, inl answers, inl (whole, is)) ↦ record { answer = answer; answers = answers; done = same_status answer.status Done (sym is ∙ done); given = whole }
+pub at_status : (status : Status) (words : List (List ℕ)) (before after : DeskState) (code : ℕ) (contents contents' : Contents) → code_of status ≢ code_of Memory → code_of status ≢ code_of Write → code_of status ≢ code_of Read
+    → Leaves words before after code → code ≡ code_of status → before.contents ≡ Some contents → after.contents ≡ Some contents' → Gives status words contents contents'
+at_status status words before after code contents contents' not_memory not_write not_read left done tells tells' = elim (left contents contents' tells tells') [
+  | inl untouched ↦ absurd (not_memory (sym done ∙ untouched.status))
+  | inr (inr (log, inl is)) ↦ absurd (not_write (sym done ∙ is))
+  | inr (inr (log, inr is)) ↦ absurd (not_memory (sym done ∙ is))
+  | inr (inl (answer, given, inr (short, inl is))) ↦ absurd (not_write (sym done ∙ is))
+  | inr (inl (answer, given, inr (short, inr is))) ↦ absurd (not_memory (sym done ∙ is))
+  | inr (inl (answer, inr (said, rose), inl (whole, is))) ↦ absurd (not_read (sym done ∙ is ∙ ap (λ (a : Answer). code_of a.status) said))
+  | inr (inl (answer, inl answers, inl (whole, is))) ↦ record { answer = answer; answers = answers; done = same_status answer.status status (sym is ∙ done); given = whole }
 ]
+
+pub at_success : (words : List (List ℕ)) (before after : DeskState) (code : ℕ) (contents contents' : Contents) → Leaves words before after code → code ≡ code_of Done → before.contents ≡ Some contents → after.contents ≡ Some contents' → Gives Done words contents contents'
+at_success words before after code contents contents' left done tells tells' =
+    at_status Done words before after code contents contents' (λ e. omega (arith, e)) (λ e. omega (arith, e)) (λ e. omega (arith, e)) left done tells tells'
 
 -- a run
 recorded : (way : Way) (script log : List ℕ) (contents contents' : Contents) (answer : Answer) → RequestAnswers (Run way script log) (Some contents) answer → answer.status ≡ Done → IsWhole answer contents contents' → IsFaithfulRun way script log contents contents'
@@ -83,37 +90,6 @@ pub exact_totals : (words : List (List ℕ)) (before after : DeskState) (code : 
 exact_totals words before after code served way script log contents contents' asked zero tells tells' =
     let run = headline words before after code served way script log contents contents' asked zero tells tells' in
     (run, faithful_adds_up run.script run.log.threads run.outcome run.faithful)
-
--- a check
-verified : (script log : List ℕ) (contents : Option Contents) (answer : Answer) → RequestAnswers (OfPair Verify script log None) contents answer → answer.status ≡ Done → IsOrderedPair script log contents
-verified script log contents answer (inl refused) done = absurd (not_done answer (pair_refused script log None contents answer refused) done)
-verified script log contents answer (inr (pair, read, inl (fault, another, is))) done = absurd (let both : Done ≡ _ = sym done ∙ ap (λ (a : Answer). a.status) is in cc)
-verified script log contents answer (inr (pair, read, inr (own, inl (fault, memory, cause, is)))) done = absurd (let both : Done ≡ _ = sym done ∙ ap (λ (a : Answer). a.status) is in cc)
-verified script log contents answer (inr (pair, read, inr (own, inr (lawful, (verdict.Ordered, checked, is))))) done =
-    record { pair = pair; read = read; of_script = own; lawful = lawful; ordered = checked.told.ordered.0 refl; one_outcome = checked.one_outcome refl }
-verified script log contents answer (inr (pair, read, inr (own, inr (lawful, (verdict.Unordered first second, checked, is))))) done = absurd (let both : Done ≡ _ = sym done ∙ ap (λ (a : Answer). a.status) is in cc)
-
-pub ordered : (words : List (List ℕ)) (before after : DeskState) (code : ℕ) → IsServed (request_in words) before after code → VerifiesOrdered words before code
-ordered words before after code served script log asked zero =
-    let (answer, answers, done) = has_cause words before after code served Done zero in
-    verified script log before.contents answer (subst (λ request. Answers request before.contents answer) asked answers) done
-
--- a replay
-replayed : (script log : List ℕ) (contents contents' : Contents) (pair : Pair) (outcome : Outcome) (answer : Answer) → RequestAnswers (OfPair Replay script log None) (Some contents) answer → answer.status ≡ Done → IsWhole answer contents contents'
-    → IsPairRead script log None (Some contents) (Ok pair) → IsFaithful pair.source.script pair.loaded.log.threads outcome → contents'.said ≡ contents.said ++ outcome_text pair.source.script outcome
-replayed script log contents contents' pair outcome answer (inl refused) done given there recording = absurd (not_done answer (pair_refused script log None (Some contents) answer refused) done)
-replayed script log contents contents' pair outcome answer (inr (other, read, inl (fault, another, is))) done given there recording = absurd (let both : Done ≡ _ = sym done ∙ ap (λ (a : Answer). a.status) is in cc)
-replayed script log contents contents' pair outcome answer (inr (other, read, inr (own, inl (fault, memory, cause, is)))) done given there recording = absurd (let both : Done ≡ _ = sym done ∙ ap (λ (a : Answer). a.status) is in cc)
-replayed script log contents contents' pair outcome answer (inr (other, read, inr (own, inr (lawful, is)))) done given there recording =
-    let same : other ≡ pair = (pair_single contents script log None).one other pair read there in
-    given.said ∙ ap (λ (a : Answer). contents.said ++ a.text) is
-    ∙ ap (λ (f : Pair). contents.said ++ outcome_text f.source.script (execution f.source.script f.loaded.log.threads (lowest_order f.source.script f.loaded.log.threads))) same
-    ∙ ap (λ (o : Outcome). contents.said ++ outcome_text pair.source.script o) (faithful pair.source.script pair.loaded.log.threads outcome recording).1
-
-pub repeats : (words : List (List ℕ)) (before after : DeskState) (code : ℕ) → IsServed (request_in words) before after code → RepeatsRecordings words before after code
-repeats words before after code served script log contents contents' pair outcome asked zero tells tells' there recording =
-    let success = at_success words before after code contents contents' (leaves words before after code served) zero tells tells' in
-    replayed script log contents contents' pair outcome success.answer (subst (λ request. Answers request (Some contents) success.answer) asked success.answers) success.done success.given there recording
 
 -- a conversion
 converted : (script log out : List ℕ) (contents contents' : Contents) (answer : Answer) → RequestAnswers (Convert script log out) (Some contents) answer → answer.status ≡ Done → IsWhole answer contents contents' → IsConversion script log out contents contents'

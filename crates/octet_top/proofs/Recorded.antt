@@ -9,6 +9,9 @@ use Rattle.octet_model.specs.declared.limits.TheConstants.{MAX_LOG_FILE}
 use Rattle.octet_model.specs.Texts.{log_bytes}
 use Rattle.octet_model.specs.Orders.{IsFaithful}
 use Rattle.octet_model.proofs.lemmas.LogLength.{faithful_log_is_short}
+use Rattle.octet_log.specs.declared.limits.TheConstants.{MAX_MARKS}
+use Rattle.octet_log.specs.Pieces.{marks_in}
+use Rattle.octet_top.proofs.Lengths.{first_has_few}
 use Rattle.octet_machine.specs.Turns.{IsPlayed}
 use Rattle.octet_replay.specs.Laws.{IsWholeOutcome}
 use Rattle.octet_replay.proofs.lemmas.WholeOutcomes.{whole}
@@ -34,3 +37,7 @@ pub recorded_by_picks : (way : Way) (digits picks : List ℕ) (script : Script) 
 recorded_by_picks way digits picks script (Ok r) is same played faithful =
     subst (λ (w : Way). Records w script r.log r.outcome) (sym is) (faithful, subst (λ (p : List ℕ). IsPlayed script p r) same played)
 recorded_by_picks way digits picks script (Err none) is same played faithful = tt
+
+-- and has few marks
+pub faithful_few : (script : Script) (log : Log) (outcome : Outcome) → IsFaithful script log.threads outcome → marks_in log.threads ≤ MAX_MARKS
+faithful_few script log outcome faithful = first_has_few log.threads (omega (arith, faithful_log_is_short script log.threads outcome faithful log.valid))

@@ -1,5 +1,5 @@
 -- The commands' answers, each by what was read.
-use Rattle.std.specs.Prelude.{ℕ, ◌≡◌, ◌≢◌, ◌≤◌, ◌⊎◌, List, length, codes, Option, None, Some, Result, Ok, Err}
+use Rattle.std.specs.Prelude.{ℕ, ◌≡◌, ◌≢◌, ◌≤◌, ◌⊎◌, ◌++◌, List, [], length, codes, Option, None, Some, Result, Ok, Err}
 use Rattle.sha2.specs.Sha256.{sha256}
 use Rattle.octet_base.specs.Desk.{Contents}
 use Rattle.octet_model.specs.declared.script.Script.{Script}
@@ -9,6 +9,7 @@ use Rattle.octet_model.specs.declared.log.ThreadLog.{ThreadLog}
 use Rattle.octet_model.specs.declared.outcome.Outcome.{Outcome}
 use Rattle.octet_model.specs.Texts.{log_bytes, outcome_text}
 use Rattle.octet_model.specs.Orders.{execution, journals_after, lowest_order, IsFaithful}
+use Rattle.octet_model.specs.Traces.{trace_of}
 use Rattle.octet_script.specs.Spelling.{canonical_text}
 use Rattle.octet_log.specs.Texts.{log_text}
 use Rattle.octet_log.specs.declared.loader.Loaded.{Loaded}
@@ -17,11 +18,17 @@ use Rattle.octet_replay.specs.declared.fitting.FitFault.{FitFault}
 use Rattle.octet_replay.specs.Fit.{IsOfScript, IsOfAnother}
 use Rattle.octet_replay.specs.declared.fault.ReplayFault.{ReplayFault}
 use Rattle.octet_replay.specs.declared.fault.ReplayFault.TheVariants.{ThreadsDiffer, OutOfMemory}
+use Rattle.octet_replay.specs.Line.{fit_line}
 use Rattle.octet_replay.specs.Judged.{HasCause, IsLawful}
 use Rattle.octet_clock.specs.declared.verdict.Verdict.{Verdict}
+use Rattle.octet_clock.specs.declared.verdict.Verdict.TheVariants.{Ordered, Unordered}
 use Rattle.octet_clock.specs.Verified.{IsVerified}
+use Rattle.octet_regions.specs.declared.serial.Serial.{Serial}
+use Rattle.octet_regions.specs.Accesses.{accesses_of}
+use Rattle.octet_regions.specs.Choice.{IsSerial}
+use Rattle.octet_regions.specs.Runs.{Shows}
 use Rattle.octet_gen.specs.Generated.{IsGenerated}
-use Rattle.octet_top.specs.declared.reply.Status.TheVariants.{Done}
+use Rattle.octet_top.specs.declared.reply.Status.TheVariants.{Done, Misfit}
 use Rattle.octet_top.specs.declared.inputs.Source.{Source}
 use Rattle.octet_top.specs.declared.inputs.Pair.{Pair}
 use Rattle.octet_top.specs.declared.request.ScriptTask.{ScriptTask}
@@ -29,11 +36,13 @@ use Rattle.octet_top.specs.declared.request.ScriptTask.TheVariants.{Tidy}
 use Rattle.octet_top.specs.declared.request.LogTask.{LogTask}
 use Rattle.octet_top.specs.declared.request.LogTask.TheVariants.{Show}
 use Rattle.octet_top.specs.declared.request.PairTask.{PairTask}
-use Rattle.octet_top.specs.declared.request.PairTask.TheVariants.{Replay, Verify, Profile}
-use Rattle.octet_top.specs.Answer.{Answer, says, writes_file, writes_both, not_a_command, wrong_script, does_not_fit, verdict_said, summary}
+use Rattle.octet_top.specs.declared.request.PairTask.TheVariants.{Replay, Parallel, Verify, Regions, Slice, Stop, Trace, Profile}
+use Rattle.octet_top.specs.Answer.{Answer, says, writes_file, writes_both, not_a_command, wrong_script, does_not_fit, verdict_said, serial_said, summary}
 use Rattle.octet_machine.specs.Turns.{IsPlayed}
 use Rattle.octet_top.specs.Request.{Way, AsTheyCome, BehindLock, ByPicks, Request, OfScript, OfLog, OfPair, Convert, Run, Gen, request_in}
+use Rattle.octet_top.specs.EventTexts.{trace_text}
 use Rattle.octet_top.specs.Profile.{profile_text}
+use Rattle.octet_top.specs.Slices.{SliceSays, StopSays}
 use Rattle.octet_top.specs.Inputs.{IsScriptRead, IsLogRead, IsPairRead}
 
 -- what each way to run a script records of it
@@ -59,10 +68,10 @@ IsGeneration number script_name log_name answer =
     (script : Script) × (log : Log) × (outcome : Outcome) × IsGenerated number script × IsFaithful script log.threads outcome
     × (answer ≡ writes_both (script_name, canonical_text script) (log_name, log_bytes log.threads) summary)
 
--- the log does not pair the script, and why is said; or it does, with which the command goes on
-abbrev pub Fitting : (Answer → Type 0) → Script → List ThreadLog → Answer → Type 0
-Fitting Next script log answer =
-    ((fault : ReplayFault) × (fault ≢ OutOfMemory) × HasCause script log fault × (answer ≡ does_not_fit fault))
+-- the log does not fit the script, and why is said; or it does, with which the command goes on
+abbrev pub Fitting : (ReplayFault → Answer) → (Answer → Type 0) → Script → List ThreadLog → Answer → Type 0
+Fitting refused Next script log answer =
+    ((fault : ReplayFault) × (fault ≢ OutOfMemory) × HasCause script log fault × (answer ≡ refused fault))
     ⊎ (IsLawful script log × Next answer)
 
 -- the log is of another script, and both digests are said; or it is not, with which the command goes on
@@ -79,15 +88,52 @@ ScriptAnswers Tidy source answer = answer ≡ says Done (canonical_text source.s
 abbrev pub LogAnswers : LogTask → Loaded → Answer → Type 0
 LogAnswers Show loaded answer = answer ≡ says Done (log_text loaded.log.threads)
 
--- what each on a script and a log says where the log fits, of the lowest order: its outcome, the verdict on its journals, or the counts over them
+-- the verdict, where the log does not order all conflicts; or it does, with which the command goes on
+abbrev pub WhereOrdered : (Answer → Type 0) → Pair → Answer → Type 0
+WhereOrdered Next pair answer =
+    (verdict : Verdict) × IsVerified pair.source.script pair.loaded.log.threads verdict × elim verdict [
+      | Ordered ↦ Next answer
+      | Unordered first second ↦ answer ≡ verdict_said (Unordered first second)
+    ]
+
+-- the outcome of the lowest order
+abbrev pub OutcomeSays : Pair → Answer → Type 0
+OutcomeSays pair answer = answer ≡ says Done (outcome_text pair.source.script (execution pair.source.script pair.loaded.log.threads (lowest_order pair.source.script pair.loaded.log.threads)))
+
+-- what `regions` says of a script and a log whose regions are in this serial order, or have this cycle
+abbrev pub regions_said : Pair → Serial → Answer
+regions_said pair serial = serial_said pair.source.script (execution pair.source.script pair.loaded.log.threads (lowest_order pair.source.script pair.loaded.log.threads)) serial
+
+-- the regions of the lowest order in the serial choice's order, which run so with its outcome; or the cycle to which it leads
+abbrev pub SerialSays : Pair → Answer → Type 0
+SerialSays pair answer =
+    (serial : Serial) × IsSerial (accesses_of pair.source.script pair.loaded.log.threads) serial × Shows pair.source.script pair.loaded.log.threads serial
+    × (answer ≡ regions_said pair serial)
+
+-- what each on a script and a log says where the log fits, of the lowest order: its outcome; that, where all conflicts are ordered; the verdict on its journals; its regions; the past of one event; the first event that leaves a value; its events; or the counts over them
 abbrev pub PairSays : PairTask → Pair → Answer → Type 0
-PairSays Replay pair answer = answer ≡ says Done (outcome_text pair.source.script (execution pair.source.script pair.loaded.log.threads (lowest_order pair.source.script pair.loaded.log.threads)))
+PairSays Replay pair answer = OutcomeSays pair answer
+PairSays Parallel pair answer = WhereOrdered (OutcomeSays pair) pair answer
 PairSays Verify pair answer = (verdict : Verdict) × IsVerified pair.source.script pair.loaded.log.threads verdict × (answer ≡ verdict_said verdict)
+PairSays Regions pair answer = WhereOrdered (SerialSays pair) pair answer
+PairSays (Slice thread event) pair answer = WhereOrdered (SliceSays pair.source.script pair.loaded.log.threads thread event) pair answer
+PairSays (Stop value) pair answer = StopSays pair.source.script pair.loaded.log.threads pair.wanted value answer
+PairSays Trace pair answer = answer ≡ says Done (trace_text pair.source.script (trace_of pair.source.script pair.loaded.log.threads))
 PairSays Profile pair answer = answer ≡ says Done (profile_text pair.wanted (journals_after pair.source.script pair.loaded.log.threads (lowest_order pair.source.script pair.loaded.log.threads)))
+
+-- the events that were made before the log was seen not to fit: `trace` says them, and no other task does
+abbrev pub told_before : PairTask → Pair → ReplayFault → List ℕ
+told_before Trace pair (ThreadsDiffer of_script of_log) = []
+told_before Trace pair fault = trace_text pair.source.script (trace_of pair.source.script pair.loaded.log.threads)
+told_before task pair fault = []
+
+-- and then why it does not
+abbrev pub misfit_said : PairTask → Pair → ReplayFault → Answer
+misfit_said task pair fault = says Misfit (told_before task pair fault ++ fit_line fault)
 
 -- and its answer, by the log alone, or by its digest first
 abbrev pub PairReplays : PairTask → Pair → Answer → Type 0
-PairReplays task pair answer = Fitting (PairSays task pair) pair.source.script pair.loaded.log.threads answer
+PairReplays task pair answer = Fitting (misfit_said task pair) (PairSays task pair) pair.source.script pair.loaded.log.threads answer
 
 abbrev pub PairAnswers : PairTask → Pair → Answer → Type 0
 PairAnswers task pair answer = Matching (PairReplays task pair) pair answer

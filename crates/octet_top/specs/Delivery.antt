@@ -6,10 +6,9 @@ use Rattle.octet_base.specs.declared.fault.DeskFault.{DeskFault}
 use Rattle.octet_base.specs.declared.fault.DeskFault.TheVariants.{OutOfMemory}
 use Rattle.octet_model.specs.declared.list.OutOfMemory.{OutOfMemory as NoMemory}
 use Rattle.octet_top.specs.declared.reply.Reply.{Reply}
+use Rattle.octet_top.specs.declared.reply.Status.{Status}
 use Rattle.octet_top.specs.declared.reply.Status.TheVariants.{Write, Memory}
 use Rattle.octet_top.specs.Answer.{Answer, answer_of, code_of}
-use Rattle.octet_top.specs.Request.{Request}
-use Rattle.octet_top.specs.Replies.{Replies}
 
 -- a call that writes or says, with its bytes
 pub data Act : Type 0 where
@@ -57,21 +56,14 @@ file_acts file = Begin file.0 ∷ rest_acts file.1
 abbrev pub acts_of : Answer → List Act
 acts_of answer = flat_map file_acts answer.files ++ Say answer.text ∷ []
 
--- the exit status: the answer's own, or that of the call that was refused
-abbrev pub code_after : Answer → Result (Unit {0}) DeskFault → ℕ
-code_after answer (Ok done) = code_of answer.status
-code_after answer (Err OutOfMemory) = code_of Memory
-code_after answer (Err _) = code_of Write
+-- the exit status: this one, or that of the call that was refused
+abbrev pub code_given : Status → Result (Unit {0}) DeskFault → ℕ
+code_given status (Ok done) = code_of status
+code_given status (Err OutOfMemory) = code_of Memory
+code_given status (Err _) = code_of Write
 
 -- the reply is given to the desk; or there was no memory for one, and no call is made
 abbrev pub IsGiven : Result Reply NoMemory → DeskState → DeskState → ℕ → Type 0
 IsGiven (Ok reply) before after code =
-    (made : Result (Unit {0}) DeskFault) × Makes (acts_of (answer_of reply)) before made after × (code ≡ code_after (answer_of reply) made)
+    (made : Result (Unit {0}) DeskFault) × Makes (acts_of (answer_of reply)) before made after × (code ≡ code_given reply.status made)
 IsGiven (Err none) before after code = (after ≡ before) × (code ≡ code_of Memory)
-
--- a request is served, or words that ask for nothing: first the reply is found, with all that is to be written and said, and then it is given
-pub record IsServed (request : Option Request) (before after : DeskState) (code : ℕ) : Type 0 where
-  pub mid : DeskState
-  pub reply : Result Reply NoMemory
-  pub found : Replies request before reply mid
-  pub given : IsGiven reply mid after code

@@ -1,39 +1,53 @@
 -- What the top call leaves, whatever its status.
-use Rattle.std.specs.Prelude.{ℕ, ◌≡◌, ◌≢◌, ◌⊎◌, List, [], ◌∷◌, Some, Ok, Option, None}
-use Rattle.std.specs.FinMap.{get}
+use Rattle.std.specs.Prelude.{ℕ, ◌≡◌, ◌≢◌, ◌⊎◌, ◌++◌, List, [], ◌∷◌, take, length, Some, Ok, Option, None}
+use Rattle.std.specs.FinMap.{get, insert}
 use Rattle.octet_base.specs.Desk.{Contents, DeskState, Rose}
 use Rattle.octet_model.specs.Orders.{IsFaithful}
+use Rattle.sha2.specs.Sha256.{sha256}
+use Rattle.octet_model.specs.declared.log.Log.{Log}
 use Rattle.octet_model.specs.declared.outcome.Outcome.{Outcome}
+use Rattle.octet_log.specs.Pieces.{IsSpelling}
+use Rattle.octet_model.specs.Texts.{outcome_text}
 use Rattle.octet_log.specs.declared.loader.Loaded.{Loaded}
 use Rattle.octet_replay.specs.Fit.{IsOfScript}
 use Rattle.octet_top.specs.declared.inputs.Source.{Source}
 use Rattle.octet_top.specs.declared.inputs.Pair.{Pair}
 use Rattle.octet_top.specs.declared.reply.Status.{Status}
-use Rattle.octet_top.specs.declared.reply.Status.TheVariants.{Done, Read, Write, Memory}
+use Rattle.octet_top.specs.declared.reply.Status.TheVariants.{Done, Read, Write, Memory, Cycle, NoEvent}
+use Rattle.octet_top.specs.declared.request.PairTask.{PairTask}
+use Rattle.octet_top.specs.declared.request.PairTask.TheVariants.{Regions, Slice}
 use Rattle.octet_top.specs.Answer.{Answer, code_of, read_failed}
-use Rattle.octet_top.specs.Request.{Request, OfScript, OfLog, OfPair, Convert, Run, Gen, request_in, outputs_in}
+use Rattle.octet_top.specs.Request.{Request, OfScript, OfLog, OfPair, Convert, Run, AsTheyCome, Gen, request_in, outputs_in}
 use Rattle.octet_top.specs.Inputs.{IsScriptRead, IsLogRead, IsPairRead}
 use Rattle.octet_top.specs.Commands.{IsAnswer}
-use Rattle.octet_top.specs.Outputs.{IsWhole, IsCutShort}
+use Rattle.octet_top.specs.Outputs.{IsWhole, IsCutShort, IsPartlyWritten}
 
--- the status is one of the ten
+-- the status is one of the twelve
 abbrev pub IsStatus : ℕ → Type 0
 IsStatus code = (status : Status) × (code ≡ code_of status)
 
--- a failure is counted only with the status that tells it
-pub record CountsFailures (before after : DeskState) (code : ℕ) : Type 0 where
-  pub writes : code ≢ code_of Write → after.write_faults ≡ before.write_faults
+-- the words are those of `run`
+abbrev pub AsksRun : List (List ℕ) → Type 0
+AsksRun words = (script : List ℕ) × (log : List ℕ) × (request_in words ≡ Some (Run AsTheyCome script log))
+
+-- a failure is counted only with the status that tells it; but where memory is refused to a run whose log could not be written, that is told
+pub record CountsFailures (words : List (List ℕ)) (before after : DeskState) (code : ℕ) : Type 0 where
+  pub writes : code ≢ code_of Write → (after.write_faults ≡ before.write_faults) ⊎ (AsksRun words × (code ≡ code_of Memory))
   pub takes : code ≢ code_of Read → code ≢ code_of Write → code ≢ code_of Memory → after.take_faults ≡ before.take_faults
 
 -- the words' answer, or that reading failed, where a take did
 abbrev pub IsGivenAnswer : List (List ℕ) → Contents → ℕ → ℕ → Answer → Type 0
 IsGivenAnswer words contents before after answer = IsAnswer words (Some contents) answer ⊎ ((answer ≡ read_failed) × Rose before after)
 
+-- a call failed, or memory was refused
+abbrev pub IsCut : ℕ → Type 0
+IsCut code = (code ≡ code_of Write) ⊎ (code ≡ code_of Memory)
+
 -- an answer is given whole, and the status is its own; or giving it was cut short, by a call that failed or by refused memory
 abbrev pub IsDelivered : Answer → Contents → Contents → ℕ → Type 0
 IsDelivered answer before after code =
     (IsWhole answer before after × (code ≡ code_of answer.status))
-    ⊎ (IsCutShort answer before after × ((code ≡ code_of Write) ⊎ (code ≡ code_of Memory)))
+    ⊎ (IsCutShort answer before after × IsCut code)
 
 -- memory was refused before anything was written or said
 pub record IsUntouched (before after : Contents) (code : ℕ) : Type 0 where
@@ -41,11 +55,51 @@ pub record IsUntouched (before after : Contents) (code : ℕ) : Type 0 where
   pub files : after.files ≡ before.files
   pub said : after.said ≡ before.said
 
+-- the words are those of `run`, and the script was read; the file of its log is as before, or has some first bytes of a spelling, with the digest of the script's text, of a log with as many threads, and nothing was said
+pub record LeavesLog (words : List (List ℕ)) (before after : Contents) : Type 0 where
+  pub script_name : List ℕ
+  pub log_name : List ℕ
+  pub asked : request_in words ≡ Some (Run AsTheyCome script_name log_name)
+  pub source : Source
+  pub read : IsScriptRead script_name (Some before) (Ok source)
+  pub log : Log
+  pub bytes : List ℕ
+  pub as_many : length log.threads ≡ length source.script.threads
+  pub spelled : IsSpelling bytes (Some (sha256 source.text)) log.threads
+  pub file : IsPartlyWritten (log_name, bytes) before.files after.files
+  pub said : after.said ≡ before.said
+
 -- what is left in the files and in what was said, where the desk tells them
 abbrev pub Leaves : List (List ℕ) → DeskState → DeskState → ℕ → Type 0
 Leaves words before after code =
     (contents contents' : Contents) → before.contents ≡ Some contents → after.contents ≡ Some contents'
-    → IsUntouched contents contents' code ⊎ ((answer : Answer) × IsGivenAnswer words contents before.take_faults after.take_faults answer × IsDelivered answer contents contents' code)
+    → IsUntouched contents contents' code
+    ⊎ (((answer : Answer) × IsGivenAnswer words contents before.take_faults after.take_faults answer × IsDelivered answer contents contents' code)
+    ⊎ (LeavesLog words contents contents' × IsCut code))
+
+-- a run was cut while its outcome was said: its log was written whole, and some first bytes of the outcome's text were said
+pub record LeavesText (script_name log_name : List ℕ) (before after : Contents) : Type 0 where
+  pub source : Source
+  pub read : IsScriptRead script_name (Some before) (Ok source)
+  pub log : Log
+  pub outcome : Outcome
+  pub bytes : List ℕ
+  pub faithful : IsFaithful source.script log.threads outcome
+  pub spelled : IsSpelling bytes (Some (sha256 source.text)) log.threads
+  pub count : ℕ
+  pub files : after.files ≡ insert before.files log_name bytes
+  pub said : after.said ≡ before.said ++ take count (outcome_text source.script outcome)
+
+-- no file was written, and nothing was said but some first bytes of the line of another status
+pub record LeavesLine (words : List (List ℕ)) (faults after_faults : ℕ) (before after : Contents) : Type 0 where
+  pub files : after.files ≡ before.files
+  pub said : (after.said ≡ before.said) ⊎ ((answer : Answer) × IsGivenAnswer words before faults after_faults answer × (answer.status ≢ Done) × ((n : ℕ) × (after.said ≡ before.said ++ take n answer.text)))
+
+-- what a run leaves that was cut
+abbrev pub CutsRun : List (List ℕ) → DeskState → DeskState → ℕ → Type 0
+CutsRun words before after code =
+    (script_name log_name : List ℕ) (contents contents' : Contents) → request_in words ≡ Some (Run AsTheyCome script_name log_name) → IsCut code → before.contents ≡ Some contents → after.contents ≡ Some contents'
+    → LeavesLog words contents contents' ⊎ (LeavesText script_name log_name contents contents' ⊎ LeavesLine words before.take_faults after.take_faults contents contents')
 
 abbrev pub IsOneOf : List ℕ → List (List ℕ) → Type 0
 IsOneOf name [] = ⊥
@@ -74,6 +128,22 @@ HasFiles (OfPair task script log object) contents = HasPair script log object co
 HasFiles (Convert script log out) contents = HasPair script log None contents
 HasFiles (Run task script log) contents = (source : Source) × IsScriptRead script (Some contents) (Ok source)
 HasFiles (Gen number script log) contents = Unit {0}
+
+-- with what status a task may end beside success, although all that it takes is as it should be: regions may be in a cycle, and a log may not have the event that is asked for
+abbrev pub MayLack : PairTask → Status → Type 0
+MayLack Regions Cycle = Unit {0}
+MayLack (Slice thread event) NoEvent = Unit {0}
+MayLack _ _ = ⊥
+
+abbrev pub MayEndWith : Request → Status → Type 0
+MayEndWith (OfPair task script log object) status = MayLack task status
+MayEndWith _ _ = ⊥
+
+-- all is done, or memory was refused; or the words ask for something that may end so
+abbrev pub IsCompleted : List (List ℕ) → ℕ → Type 0
+IsCompleted words code =
+    (code ≡ code_of Done) ⊎ ((code ≡ code_of Memory)
+    ⊎ ((request : Request) × (status : Status) × (request_in words ≡ Some request) × MayEndWith request status × (code ≡ code_of status)))
 
 -- the words ask for something that has its files
 abbrev pub IsWellMet : List (List ℕ) → Contents → Type 0

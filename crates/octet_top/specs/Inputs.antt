@@ -72,21 +72,21 @@ IsPairRead script_name log_name object contents =
     IsScriptChosen script_name object contents >>= λ chosen. IsLogRead log_name contents >>= λ loaded read. read ≡ Ok (record { source = chosen.0; wanted = chosen.1; loaded = loaded })
 
 -- why reading ended early: the reply that refuses, if there was memory for it
-abbrev pub Stop : Type 0
-Stop = Result Reply NoMemory
+abbrev pub Refusal : Type 0
+Refusal = Result Reply NoMemory
 
 abbrev pub WasRefused : {T E : Type 0} → Result T E → Type 0
 WasRefused (Ok value) = ⊥
 WasRefused (Err fault) = Unit {0}
 
 -- what a step comes to, unless memory was refused
-abbrev pub Comes : {T : Type 0} → (Result T Answer → Type 0) → Result T Stop → Type 0
+abbrev pub Comes : {T : Type 0} → (Result T Answer → Type 0) → Result T Refusal → Type 0
 Comes Step (Ok value) = Step (Ok value)
 Comes Step (Err (Ok reply)) = Step (Err (answer_of reply))
 Comes Step (Err (Err none)) = Unit {0}
 
 -- a reading ends as its steps say, with no failed take; or a take failed, and that is said; or memory was refused
-abbrev pub Ends : {T : Type 0} → (Result T Answer → Type 0) → ℕ → Result T Stop → ℕ → Type 0
+abbrev pub Ends : {T : Type 0} → (Result T Answer → Type 0) → ℕ → Result T Refusal → ℕ → Type 0
 Ends Steps before (Ok value) after = Steps (Ok value) × (after ≡ before)
 Ends Steps before (Err (Ok reply)) after = (Steps (Err (answer_of reply)) × (after ≡ before)) ⊎ ((answer_of reply ≡ read_failed) × Rose before after)
 Ends Steps before (Err (Err none)) after = Unit {0}

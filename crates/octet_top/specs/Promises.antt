@@ -1,6 +1,6 @@
 -- What the top call promises of each command.
 use Rattle.octet_model.specs.declared.limits.TheConstants.{MAX_LOG_FILE}
-use Rattle.std.specs.Prelude.{ℕ, ◌≡◌, ◌≤◌, ◌++◌, List, length, codes, Some, ◌≢◌, Option, None, Ok}
+use Rattle.std.specs.Prelude.{ℕ, ◌≡◌, ◌≤◌, ◌⊎◌, ◌++◌, List, length, codes, Some, ◌≢◌, Option, None, Ok}
 use Rattle.std.specs.FinMap.{get}
 use Rattle.sha2.specs.Sha256.{sha256}
 use Rattle.octet_base.specs.Desk.{Contents, DeskState}
@@ -9,22 +9,35 @@ use Rattle.octet_model.specs.declared.log.Log.{Log}
 use Rattle.octet_model.specs.declared.outcome.Outcome.{Outcome}
 use Rattle.octet_model.specs.Texts.{log_bytes, outcome_text}
 use Rattle.octet_model.specs.HappensBefore.{IsOrdered}
-use Rattle.octet_model.specs.Orders.{journals_after, lowest_order, IsLawfulOrder, IsFaithful}
+use Rattle.octet_model.specs.Orders.{execution, journals_after, lowest_order, IsLawfulOrder, IsFaithful}
 use Rattle.octet_model.specs.Totals.{AddsUp}
+use Rattle.octet_model.specs.Traces.{trace_of}
 use Rattle.octet_script.specs.Spelling.{Spells, canonical_text}
 use Rattle.octet_log.specs.Pieces.{IsSpelling}
 use Rattle.octet_replay.specs.Fit.{IsOfScript}
-use Rattle.octet_replay.specs.Judged.{IsLawful}
+use Rattle.octet_replay.specs.declared.fault.ReplayFault.{ReplayFault}
+use Rattle.octet_replay.specs.Line.{fit_line}
+use Rattle.octet_replay.specs.Judged.{HasCause, IsLawful}
 use Rattle.octet_clock.specs.Verified.{HasOneOutcome}
+use Rattle.octet_regions.specs.declared.serial.Serial.{Serial}
+use Rattle.octet_regions.specs.Accesses.{accesses_of}
+use Rattle.octet_regions.specs.Choice.{IsSerial}
+use Rattle.octet_regions.specs.Runs.{Shows}
 use Rattle.octet_gen.specs.Generated.{IsGenerated}
 use Rattle.octet_top.specs.Request.{Way, Run, request_in, OfPair, Convert, Gen}
-use Rattle.octet_top.specs.declared.reply.Status.TheVariants.{Done}
+use Rattle.octet_top.specs.declared.reply.Status.TheVariants.{Done, Misfit, Cycle}
 use Rattle.std.specs.List.{sum_by}
 use Rattle.octet_top.specs.declared.inputs.Pair.{Pair}
-use Rattle.octet_top.specs.declared.request.PairTask.TheVariants.{Replay, Verify}
+use Rattle.octet_top.specs.declared.request.PairTask.TheVariants.{Replay, Parallel, Verify, Regions, Slice, Stop, Trace}
 use Rattle.octet_top.specs.Answer.{summary, code_of}
 use Rattle.octet_top.specs.Inputs.{IsPairRead}
-use Rattle.octet_top.specs.Commands.{Records, digest_kept, second_bytes}
+use Rattle.octet_slice.specs.declared.finding.Found.{Found}
+use Rattle.octet_slice.specs.declared.slicing.Sliced.{Sliced}
+use Rattle.octet_slice.specs.FirstMatch.{IsFound}
+use Rattle.octet_slice.specs.Slice.{IsSliceOf}
+use Rattle.octet_top.specs.Slices.{slice_text, is_match, stop_text}
+use Rattle.octet_top.specs.EventTexts.{trace_text}
+use Rattle.octet_top.specs.Commands.{Records, digest_kept, second_bytes, regions_said, told_before}
 
 -- the file of the script, as it was, spells a script; that of the log, as it is, has bytes that spell a log, no more than a log's file may have: of threads that come beside each other in version 2, with the digest of the script's text; what was said grew by the text of an outcome; and the three are a faithful recording, of the run that was asked for
 pub record IsFaithfulRun (way : Way) (script_name log_name : List ℕ) (before after : Contents) : Type 0 where
@@ -71,11 +84,96 @@ pub record IsOrderedPair (script_name log_name : List ℕ) (contents : Option Co
 abbrev pub VerifiesOrdered : List (List ℕ) → DeskState → ℕ → Type 0
 VerifiesOrdered words before code = (script_name log_name : List ℕ) → request_in words ≡ Some (OfPair Verify script_name log_name None) → code ≡ code_of Done → IsOrderedPair script_name log_name before.contents
 
+-- a script and an ordered log of it were taken, and what is said is the outcome of the log's lowest order
+pub record IsReplayedOnThreads (script_name log_name : List ℕ) (before after : Contents) : Type 0 where
+  pub of : IsOrderedPair script_name log_name (Some before)
+  pub contents : after.said ≡ before.said ++ outcome_text of.pair.source.script (execution of.pair.source.script of.pair.loaded.log.threads (lowest_order of.pair.source.script of.pair.loaded.log.threads))
+
+-- where the words are those of `parallel`, all was done, and the desk tells its contents
+abbrev pub ReplaysOnThreads : List (List ℕ) → DeskState → DeskState → ℕ → Type 0
+ReplaysOnThreads words before after code =
+    (script_name log_name : List ℕ) (contents contents' : Contents) → request_in words ≡ Some (OfPair Parallel script_name log_name None) → code ≡ code_of Done → before.contents ≡ Some contents → after.contents ≡ Some contents'
+    → IsReplayedOnThreads script_name log_name contents contents'
+
+-- a script and an ordered log of it were taken; their regions have this serial order, or this cycle, and it is what was said
+pub record IsFoundRegions (script_name log_name : List ℕ) (before after : Contents) (code : ℕ) : Type 0 where
+  pub of : IsOrderedPair script_name log_name (Some before)
+  pub serial : Serial
+  pub found : IsSerial (accesses_of of.pair.source.script of.pair.loaded.log.threads) serial
+  pub shows : Shows of.pair.source.script of.pair.loaded.log.threads serial
+  pub status : code ≡ code_of (regions_said of.pair serial).status
+  pub contents : after.said ≡ before.said ++ (regions_said of.pair serial).text
+
+-- where the words are those of `regions`, the status is 0 or 10, and the desk tells its contents
+abbrev pub FindsRegions : List (List ℕ) → DeskState → DeskState → ℕ → Type 0
+FindsRegions words before after code =
+    (script_name log_name : List ℕ) (contents contents' : Contents) → request_in words ≡ Some (OfPair Regions script_name log_name None) → (code ≡ code_of Done) ⊎ (code ≡ code_of Cycle) → before.contents ≡ Some contents → after.contents ≡ Some contents'
+    → IsFoundRegions script_name log_name contents contents' code
+
 -- where the words are those of `replay`, the status is 0, and the script and the log that are there are a faithful recording, what is said is what was recorded
 abbrev pub RepeatsRecordings : List (List ℕ) → DeskState → DeskState → ℕ → Type 0
 RepeatsRecordings words before after code =
     (script_name log_name : List ℕ) (contents contents' : Contents) (pair : Pair) (outcome : Outcome) → request_in words ≡ Some (OfPair Replay script_name log_name None) → code ≡ code_of Done → before.contents ≡ Some contents → after.contents ≡ Some contents'
     → IsPairRead script_name log_name None (Some contents) (Ok pair) → IsFaithful pair.source.script pair.loaded.log.threads outcome → contents'.said ≡ contents.said ++ outcome_text pair.source.script outcome
+
+-- a script and an ordered log of it were taken; what is said is the event of the lowest order's journals at the place, and how many events lie in its past
+pub record IsSlicedPair (script_name log_name : List ℕ) (thread event : ℕ) (before after : Contents) : Type 0 where
+  pub of : IsOrderedPair script_name log_name (Some before)
+  pub sliced : Sliced
+  pub is_slice : IsSliceOf (journals_after of.pair.source.script of.pair.loaded.log.threads (lowest_order of.pair.source.script of.pair.loaded.log.threads)) (record { thread = thread; event = event }) sliced
+  pub contents : after.said ≡ before.said ++ slice_text of.pair.source.script (record { thread = thread; event = event }) sliced
+
+-- where the words are those of `slice`, all was done, and the desk tells its contents
+abbrev pub SlicesPasts : List (List ℕ) → DeskState → DeskState → ℕ → Type 0
+SlicesPasts words before after code =
+    (script_name log_name : List ℕ) (thread event : ℕ) (contents contents' : Contents) → request_in words ≡ Some (OfPair (Slice thread event) script_name log_name None) → code ≡ code_of Done → before.contents ≡ Some contents → after.contents ≡ Some contents'
+    → IsSlicedPair script_name log_name thread event contents contents'
+
+-- a script, an object of it and a log of it were taken, whose lowest order is lawful; what is said is the first event of that order that leaves the value in the object or reads it there, or that there is none
+pub record IsStoppedPair (script_name log_name name : List ℕ) (value : ℕ) (before after : Contents) : Type 0 where
+  pub pair : Pair
+  pub read : IsPairRead script_name log_name (Some name) (Some before) (Ok pair)
+  pub of_script : IsOfScript pair.source.text pair.loaded.digest
+  pub lawful : IsLawful pair.source.script pair.loaded.log.threads
+  pub found : Found
+  pub is_found : IsFound (λ event answer. answer ≡ is_match pair.wanted value event) (trace_of pair.source.script pair.loaded.log.threads) found
+  pub contents : after.said ≡ before.said ++ stop_text pair.source.script found
+
+-- where the words are those of `stop`, all was done, and the desk tells its contents
+abbrev pub StopsAtFirst : List (List ℕ) → DeskState → DeskState → ℕ → Type 0
+StopsAtFirst words before after code =
+    (script_name log_name name : List ℕ) (value : ℕ) (contents contents' : Contents) → request_in words ≡ Some (OfPair (Stop value) script_name log_name (Some name)) → code ≡ code_of Done → before.contents ≡ Some contents → after.contents ≡ Some contents'
+    → IsStoppedPair script_name log_name name value contents contents'
+
+-- a script and a log of it were taken, whose lowest order is lawful; what is said is all its events, each with its place
+pub record IsTracedPair (script_name log_name : List ℕ) (before after : Contents) : Type 0 where
+  pub pair : Pair
+  pub read : IsPairRead script_name log_name None (Some before) (Ok pair)
+  pub of_script : IsOfScript pair.source.text pair.loaded.digest
+  pub lawful : IsLawful pair.source.script pair.loaded.log.threads
+  pub contents : after.said ≡ before.said ++ trace_text pair.source.script (trace_of pair.source.script pair.loaded.log.threads)
+
+-- where the words are those of `trace`, all was done, and the desk tells its contents
+abbrev pub TracesOrders : List (List ℕ) → DeskState → DeskState → ℕ → Type 0
+TracesOrders words before after code =
+    (script_name log_name : List ℕ) (contents contents' : Contents) → request_in words ≡ Some (OfPair Trace script_name log_name None) → code ≡ code_of Done → before.contents ≡ Some contents → after.contents ≡ Some contents'
+    → IsTracedPair script_name log_name contents contents'
+
+-- a script and a log of it were taken, which do not fit; what is said is the events that were made all the same, where there are as many threads, and then why
+pub record IsTracedMisfit (script_name log_name : List ℕ) (before after : Contents) : Type 0 where
+  pub pair : Pair
+  pub read : IsPairRead script_name log_name None (Some before) (Ok pair)
+  pub of_script : IsOfScript pair.source.text pair.loaded.digest
+  pub fault : ReplayFault
+  pub cause : HasCause pair.source.script pair.loaded.log.threads fault
+  pub contents : after.said ≡ before.said ++ (told_before Trace pair fault ++ fit_line fault)
+
+-- where the words are those of `trace`, the script is the log's by its digest, the status is that of a misfit, and the desk tells its contents
+abbrev pub TracesMisfits : List (List ℕ) → DeskState → DeskState → ℕ → Type 0
+TracesMisfits words before after code =
+    (script_name log_name : List ℕ) (contents contents' : Contents) (pair : Pair) → request_in words ≡ Some (OfPair Trace script_name log_name None) → code ≡ code_of Misfit → before.contents ≡ Some contents → after.contents ≡ Some contents'
+    → IsPairRead script_name log_name None (Some contents) (Ok pair) → IsOfScript pair.source.text pair.loaded.digest
+    → IsTracedMisfit script_name log_name contents contents'
 
 -- a script and a log of it were taken, of as many threads; the file that is written has the log in version 2, with the digest of the script's text, and no more bytes than a log's file may have
 pub record IsConversion (script_name log_name out_name : List ℕ) (before after : Contents) : Type 0 where

@@ -12,7 +12,7 @@ use Rattle.octet_top.specs.declared.request.ScriptTask.TheVariants.{Tidy}
 use Rattle.octet_top.specs.declared.request.LogTask.{LogTask}
 use Rattle.octet_top.specs.declared.request.LogTask.TheVariants.{Show}
 use Rattle.octet_top.specs.declared.request.PairTask.{PairTask}
-use Rattle.octet_top.specs.declared.request.PairTask.TheVariants.{Replay, Verify, Profile}
+use Rattle.octet_top.specs.declared.request.PairTask.TheVariants.{Replay, Parallel, Verify, Regions, Slice, Stop, Trace, Profile}
 use Rattle.octet_top.specs.declared.request.RunTask.{RunTask}
 use Rattle.octet_top.specs.declared.request.RunTask.TheVariants as run
 use Rattle.octet_top.specs.declared.request.Reading.{Reading}
@@ -39,7 +39,7 @@ pub data Request : Type 0 where
   Run : (way : Way) (script log : List ℕ) → Request
   Gen : (number : ℕ) (script log : List ℕ) → Request
 
--- what two, three and four words ask for that starts no thread
+-- what two, three, four and five words ask for that starts no thread
 abbrev pub reading_of_two : List ℕ → List ℕ → Option Request
 reading_of_two word file =
     if bytes_eq word (codes "tidy") then Some (OfScript Tidy file)
@@ -49,24 +49,33 @@ abbrev pub reading_of_three : List ℕ → List ℕ → List ℕ → Option Requ
 reading_of_three word script log =
     if bytes_eq word (codes "replay") then Some (OfPair Replay script log None)
     else (if bytes_eq word (codes "verify") then Some (OfPair Verify script log None)
-    else (if bytes_eq word (codes "profile") then Some (OfPair Profile script log None) else None))
+    else (if bytes_eq word (codes "regions") then Some (OfPair Regions script log None)
+    else (if bytes_eq word (codes "trace") then Some (OfPair Trace script log None)
+    else (if bytes_eq word (codes "profile") then Some (OfPair Profile script log None) else None))))
 
 abbrev pub reading_of_four : List ℕ → List ℕ → List ℕ → List ℕ → Option Request
 reading_of_four word script log last =
     if bytes_eq word (codes "profile") then Some (OfPair Profile script log (Some last))
     else (if bytes_eq word (codes "convert") then Some (Convert script log last) else None)
 
+abbrev pub reading_of_five : List ℕ → List ℕ → List ℕ → List ℕ → List ℕ → Option Request
+reading_of_five word script log third last =
+    if bytes_eq word (codes "slice") then elim (number_of third) [ None ↦ None | Some thread ↦ option_map (λ event. OfPair (Slice thread event) script log None) (number_of last) ]
+    else (if bytes_eq word (codes "stop") then option_map (λ value. OfPair (Stop value) script log (Some third)) (number_of last) else None)
+
 abbrev pub reading_in : List (List ℕ) → Option Request
 reading_in (word ∷ file ∷ []) = reading_of_two word file
 reading_in (word ∷ script ∷ log ∷ []) = reading_of_three word script log
 reading_in (word ∷ script ∷ log ∷ last ∷ []) = reading_of_four word script log last
+reading_in (word ∷ script ∷ log ∷ third ∷ last ∷ []) = reading_of_five word script log third last
 reading_in _ = None
 
--- what three and four words ask for that runs a script
+-- what three and four words ask for that starts threads, or runs a script
 abbrev pub running_of_three : List ℕ → List ℕ → List ℕ → Option Request
 running_of_three word script log =
     if bytes_eq word (codes "run") then Some (Run AsTheyCome script log)
-    else (if bytes_eq word (codes "locked") then Some (Run BehindLock script log) else None)
+    else (if bytes_eq word (codes "locked") then Some (Run BehindLock script log)
+    else (if bytes_eq word (codes "parallel") then Some (OfPair Parallel script log None) else None))
 
 abbrev pub running_of_four : List ℕ → List ℕ → List ℕ → List ℕ → Option Request
 running_of_four word first second third =
@@ -110,10 +119,11 @@ shown_reading (reading.OfPair task script log object) = OfPair task script.now l
 shown_reading (reading.Convert script log out) = Convert script.now log.now out.now
 
 abbrev pub shown_task : RunTask → Way
-shown_task run.Run = AsTheyCome
 shown_task run.Locked = BehindLock
 shown_task (run.Turns picks) = ByPicks (map digit_value picks.now)
 
 abbrev pub shown_running : Running → Request
+shown_running (running.Live script log) = Run AsTheyCome script.now log.now
 shown_running (running.OfScript task script log) = Run (shown_task task) script.now log.now
 shown_running (running.Gen number script log) = Gen number script.now log.now
+shown_running (running.Parallel script log) = OfPair Parallel script.now log.now None

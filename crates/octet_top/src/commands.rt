@@ -1,14 +1,15 @@
-//! The commands that say what was read, what it comes to, or what it shows: `tidy SCRIPT`,
-//! `show LOG`, `replay SCRIPT LOG` and `verify SCRIPT LOG`.
+//! The commands that say what was read, or what it comes to: `tidy SCRIPT`, `show LOG`,
+//! `replay SCRIPT LOG` and `verify SCRIPT LOG`; and the check that other commands begin with.
 ghost use Rattle.std.specs.Prelude.{◌≡◌, IfOk};
 ghost use Rattle.octet_clock.specs.declared.verdict.Verdict.TheVariants as verdict;
 ghost use Rattle.octet_top.specs.declared.request.ScriptTask.TheVariants.{Tidy};
 ghost use Rattle.octet_top.specs.declared.request.LogTask.TheVariants.{Show};
-ghost use Rattle.octet_top.specs.declared.request.PairTask.TheVariants.{Replay, Verify};
+ghost use Rattle.octet_top.specs.declared.request.PairTask.TheVariants.{Replay, Parallel, Verify};
 ghost use Rattle.octet_top.specs.Answer.{answer_of, verdict_said};
 ghost use Rattle.octet_top.specs.Commands.{ScriptAnswers, LogAnswers, PairReplays};
+ghost use Rattle.octet_top.specs.Checked.{IsChecked};
 
-use crate::inputs::{Pair, Source};
+use crate::inputs::{Pair, Refusal, Source};
 use crate::refusal::does_not_fit;
 use crate::reply::{Reply, Status};
 use octet_clock::Verdict;
@@ -52,12 +53,34 @@ pub(crate) fn replay(alloc: Global, pair: &Pair) -> Result<Reply, OutOfMemory>
 pub(crate) fn verify(alloc: Global, pair: &Pair) -> Result<Reply, OutOfMemory>
     ensures { IfOk result (λ reply. PairReplays Verify pair.now (answer_of reply)) }
 {
-    let verdict = match octet_clock::verify(alloc, &pair.source.script, &pair.loaded.log) {
-        Ok(verdict) => verdict,
-        Err(ReplayFault::OutOfMemory) => return Err(OutOfMemory),
-        Err(fault) => return does_not_fit(alloc, &fault),
-    };
-    say_verdict(alloc, verdict)
+    match octet_clock::verify(alloc, &pair.source.script, &pair.loaded.log) {
+        Ok(verdict) => say_verdict(alloc, verdict),
+        Err(ReplayFault::OutOfMemory) => Err(OutOfMemory),
+        Err(fault) => does_not_fit(alloc, &fault),
+    }
+}
+
+/// Passes where the log fits the script and orders all conflicts; else it is said why not.
+pub(crate) fn check_order(alloc: Global, pair: &Pair) -> Result<(), Refusal>
+    ensures { IsChecked pair.now result }
+{
+    match octet_clock::verify(alloc, &pair.source.script, &pair.loaded.log) {
+        Ok(Verdict::Ordered) => Ok(()),
+        Ok(Verdict::Unordered { first, second }) => Err(say_unordered(alloc, first, second)),
+        Err(ReplayFault::OutOfMemory) => Err(Err(OutOfMemory)),
+        Err(fault) => Err(does_not_fit(alloc, &fault)),
+    }
+}
+
+/// The outcome of the log's lowest order is said, where the log orders all conflicts.
+#[tactic(auto, using(crate::proofs::Checking::check_refused, crate::proofs::Checking::check_passed))]
+pub(crate) fn replay_ordered(alloc: Global, pair: &Pair) -> Result<Reply, OutOfMemory>
+    ensures { IfOk result (λ reply. PairReplays Parallel pair.now (answer_of reply)) }
+{
+    match check_order(alloc, pair) {
+        Ok(()) => replay(alloc, pair),
+        Err(refusal) => refusal,
+    }
 }
 
 fn say_verdict(alloc: Global, verdict: Verdict) -> Result<Reply, OutOfMemory>

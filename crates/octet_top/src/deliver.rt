@@ -2,7 +2,7 @@
 ghost use Rattle.std.specs.Prelude.{◌≡◌, None, OnOk, map as list_map};
 ghost use Rattle.std.specs.List.{flat_map};
 ghost use Rattle.octet_top.specs.Answer.{answer_of, file_of};
-ghost use Rattle.octet_top.specs.Delivery.{Makes, file_acts, acts_of, code_after, IsGiven};
+ghost use Rattle.octet_top.specs.Delivery.{Makes, file_acts, acts_of, code_given, IsGiven};
 
 use crate::reply::{Output, Reply, Status};
 use octet_base::{Desk, DeskFault};
@@ -66,8 +66,17 @@ pub(crate) fn deliver<D: Desk>(alloc: Global, desk: &mut D, reply: Result<Reply,
     let Ok(reply) = reply else {
         return Status::Memory.code();
     };
-    match give(alloc, desk, &reply) {
-        Ok(()) => reply.status.code(),
+    let given = give(alloc, desk, &reply);
+    code_given(reply.status, given)
+}
+
+/// The exit status: this one, where all was given, or that of a call that failed or of memory that was
+/// refused.
+pub(crate) fn code_given(status: Status, given: Result<(), DeskFault>) -> u8
+    ensures { result ≡ code_given status given }
+{
+    match given {
+        Ok(()) => status.code(),
         Err(DeskFault::OutOfMemory) => Status::Memory.code(),
         Err(_) => Status::Write.code(),
     }

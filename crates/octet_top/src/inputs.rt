@@ -29,11 +29,16 @@ pub(crate) struct Pair {
     pub(crate) loaded: Loaded,
 }
 
-/// Why reading ended early: the reply that refuses, if there was memory for it.
-pub(crate) type Stop = Result<Reply, OutOfMemory>;
+/// Why a request ended early: the reply that refuses, if there was memory for it.
+pub(crate) type Refusal = Result<Reply, OutOfMemory>;
 
 /// Takes the bytes of a file that has at most `limit`.
-fn take_file<D: Desk>(alloc: Global, desk: &mut D, name: &str, limit: u32) -> Result<List<u8>, Stop>
+fn take_file<D: Desk>(
+    alloc: Global,
+    desk: &mut D,
+    name: &str,
+    limit: u32,
+) -> Result<List<u8>, Refusal>
     ensures ends { Ends (IsTaken name.now limit (D.state desk.old).contents) (D.state desk.old).take_faults result (D.state desk.new).take_faults }
     ensures calls { TakesOne name.now limit (WasRefused result) (D.state desk.old) (D.state desk.new) }
 {
@@ -46,7 +51,7 @@ fn take_file<D: Desk>(alloc: Global, desk: &mut D, name: &str, limit: u32) -> Re
     }
 }
 
-fn parse_text(alloc: Global, text: List<u8>) -> Result<Source, Stop>
+fn parse_text(alloc: Global, text: List<u8>) -> Result<Source, Refusal>
     requires { length text ≤ MAX_SCRIPT_FILE }
     ensures { Comes (IsParsed text) result }
 {
@@ -60,7 +65,7 @@ fn parse_text(alloc: Global, text: List<u8>) -> Result<Source, Stop>
     }
 }
 
-fn decode_bytes(alloc: Global, bytes: &[u8]) -> Result<Loaded, Stop>
+fn decode_bytes(alloc: Global, bytes: &[u8]) -> Result<Loaded, Refusal>
     requires { length bytes.now ≤ MAX_LOG_FILE }
     ensures comes { Comes (IsDecoded bytes.now) result }
     ensures few { IfOk result (λ loaded. marks_in loaded.log.threads ≤ MAX_MARKS) }
@@ -73,30 +78,34 @@ fn decode_bytes(alloc: Global, bytes: &[u8]) -> Result<Loaded, Stop>
 }
 
 /// Takes a file and reads it as a script.
-pub(crate) fn read_script<D: Desk>(alloc: Global, desk: &mut D, name: &str) -> Result<Source, Stop>
+pub(crate) fn read_script<D: Desk>(
+    alloc: Global,
+    desk: &mut D,
+    name: &str,
+) -> Result<Source, Refusal>
     ensures ends { Ends (IsScriptRead name.now (D.state desk.old).contents) (D.state desk.old).take_faults result (D.state desk.new).take_faults }
     ensures calls { TakesOne name.now MAX_SCRIPT_FILE (WasRefused result) (D.state desk.old) (D.state desk.new) }
 {
     match take_file(alloc, desk, name, MAX_SCRIPT_FILE) {
         Ok(text) => parse_text(alloc, text),
-        Err(stop) => Err(stop),
+        Err(refusal) => Err(refusal),
     }
 }
 
 /// Takes a file and reads it as a log.
-pub(crate) fn read_log<D: Desk>(alloc: Global, desk: &mut D, name: &str) -> Result<Loaded, Stop>
+pub(crate) fn read_log<D: Desk>(alloc: Global, desk: &mut D, name: &str) -> Result<Loaded, Refusal>
     ensures ends { Ends (IsLogRead name.now (D.state desk.old).contents) (D.state desk.old).take_faults result (D.state desk.new).take_faults }
     ensures calls { TakesOne name.now MAX_LOG_FILE (WasRefused result) (D.state desk.old) (D.state desk.new) }
     ensures few { IfOk result (λ loaded. marks_in loaded.log.threads ≤ MAX_MARKS) }
 {
     match take_file(alloc, desk, name, MAX_LOG_FILE) {
         Ok(bytes) => decode_bytes(alloc, bytes.as_slice()),
-        Err(stop) => Err(stop),
+        Err(refusal) => Err(refusal),
     }
 }
 
 /// The place of the object that the name asks for. Without a name none is asked for.
-fn choose(alloc: Global, script: &Script, name: Option<&str>) -> Result<Option<usize>, Stop>
+fn choose(alloc: Global, script: &Script, name: Option<&str>) -> Result<Option<usize>, Refusal>
     ensures { Comes (IsChosen script.now (name_in name.entry)) result }
 {
     let Some(name) = name else {
@@ -124,16 +133,16 @@ fn read_chosen<D: Desk>(
     desk: &mut D,
     script_name: &str,
     object_name: Option<&str>,
-) -> Result<(Source, Option<usize>), Stop>
+) -> Result<(Source, Option<usize>), Refusal>
     ensures ends { Ends (IsScriptChosen script_name.now (name_in object_name.entry) (D.state desk.old).contents) (D.state desk.old).take_faults result (D.state desk.new).take_faults }
     ensures calls { TakesOne script_name.now MAX_SCRIPT_FILE (WasRefused result) (D.state desk.old) (D.state desk.new) }
 {
     match read_script(alloc, desk, script_name) {
         Ok(source) => match choose(alloc, &source.script, object_name) {
             Ok(wanted) => Ok((source, wanted)),
-            Err(stop) => Err(stop),
+            Err(refusal) => Err(refusal),
         },
-        Err(stop) => Err(stop),
+        Err(refusal) => Err(refusal),
     }
 }
 
@@ -144,7 +153,7 @@ pub(crate) fn read_pair<D: Desk>(
     script_name: &str,
     log_name: &str,
     object_name: Option<&str>,
-) -> Result<Pair, Stop>
+) -> Result<Pair, Refusal>
     ensures ends { Ends (IsPairRead script_name.now log_name.now (name_in object_name.entry) (D.state desk.old).contents) (D.state desk.old).take_faults result (D.state desk.new).take_faults }
     ensures calls { TakesBoth script_name.now log_name.now (name_in object_name.entry) (WasRefused result) (D.state desk.old) (D.state desk.new) }
     ensures few { IfOk result (λ pair. marks_in pair.loaded.log.threads ≤ MAX_MARKS) }
@@ -156,8 +165,8 @@ pub(crate) fn read_pair<D: Desk>(
                 wanted,
                 loaded,
             }),
-            Err(stop) => Err(stop),
+            Err(refusal) => Err(refusal),
         },
-        Err(stop) => Err(stop),
+        Err(refusal) => Err(refusal),
     }
 }

@@ -6,11 +6,18 @@ mod convert;
 #[cfg(test)]
 mod convert_tests;
 mod deliver;
+mod event_text;
 #[cfg(test)]
 mod heap_tests;
 #[cfg(test)]
 mod hostile_tests;
 mod inputs;
+mod live;
+#[cfg(test)]
+mod live_tests;
+#[cfg(test)]
+mod pair_tests;
+mod parallel;
 mod picks;
 mod profile;
 mod program;
@@ -20,10 +27,18 @@ mod refusal;
 mod reply;
 mod request;
 mod running;
+mod serial;
+#[cfg(test)]
+mod serial_tests;
+mod slice;
+#[cfg(test)]
+mod slice_tests;
+mod stop;
 #[cfg(test)]
 mod tests;
 #[cfg(test)]
 mod thread_tests;
+mod trace;
 
 pub use program::{serve, serve_alone};
 pub use reply::Status;

@@ -2,21 +2,21 @@
 ghost use Rattle.std.specs.Prelude.{◌≡◌, ◌⊎◌, None};
 ghost use Rattle.octet_base.specs.Desk.{Contents};
 ghost use Rattle.octet_top.specs.declared.reply.Status.{Status};
-ghost use Rattle.octet_top.specs.declared.reply.Status.TheVariants.{Done, Memory};
+ghost use Rattle.octet_top.specs.declared.reply.Status.TheVariants.{Memory};
 ghost use Rattle.octet_top.specs.Answer.{code_of};
 ghost use Rattle.octet_top.specs.Request.{texts, request_in, reading_in};
 ghost use Rattle.octet_top.specs.Causes.{IsCause, IsDue, NoneFailed};
-ghost use Rattle.octet_top.specs.Effects.{IsStatus, Leaves, KeepsOthers, KeepsFiles, CountsFailures, IsWellMet};
+ghost use Rattle.octet_top.specs.Effects.{IsStatus, Leaves, CutsRun, KeepsOthers, KeepsFiles, CountsFailures, IsCompleted, IsWellMet};
 ghost use Rattle.octet_top.specs.Replies.{Replies};
-ghost use Rattle.octet_top.specs.Delivery.{IsServed};
-ghost use Rattle.octet_top.specs.Promises.{RunsFaithfully, RunsWithExactTotals, VerifiesOrdered, RepeatsRecordings, ConvertsLogs, GeneratesFaithfully};
+ghost use Rattle.octet_top.specs.Serving.{IsReplied, IsServed};
+ghost use Rattle.octet_top.specs.Promises.{RunsFaithfully, RunsWithExactTotals, VerifiesOrdered, ReplaysOnThreads, FindsRegions, RepeatsRecordings, SlicesPasts, StopsAtFirst, TracesOrders, TracesMisfits, ConvertsLogs, GeneratesFaithfully};
 
 use crate::deliver::deliver;
 use crate::reading::read;
 use crate::refusal::not_a_command;
 use crate::reply::Reply;
 use crate::request::{reading_of, running_of};
-use crate::running::run;
+use crate::running::serve_running;
 use octet_base::Desk;
 use octet_model::OutOfMemory;
 use octet_threads::HeapGate;
@@ -45,14 +45,34 @@ pub fn serve<R: Threads + Wait + Sync, D: Desk, G: HeapGate>(
     // Of a log that `verify` calls ordered: all its lawful orders have one outcome.
     ensures ordered { VerifiesOrdered (texts words.now) (D.state desk.old) result }
 
+    // Status 0 of `parallel` comes with such a log, and its outcome is said.
+    ensures parallel { ReplaysOnThreads (texts words.now) (D.state desk.old) (D.state desk.new) result }
+
     // Status 0 of `gen` comes with the generated script and a faithful recording of it.
     ensures generated { GeneratesFaithfully (texts words.now) (D.state desk.old) (D.state desk.new) result }
 
     // A replay of a recording says what was recorded.
     ensures repeats { RepeatsRecordings (texts words.now) (D.state desk.old) (D.state desk.new) result }
 
+    // Status 0 of `slice` comes with the event at the place, and how many events lie in its past.
+    ensures sliced { SlicesPasts (texts words.now) (D.state desk.old) (D.state desk.new) result }
+
+    // Status 0 of `stop` comes with the first event that reads the value of the object, or leaves it
+    // there, or there is none.
+    ensures stopped { StopsAtFirst (texts words.now) (D.state desk.old) (D.state desk.new) result }
+
+    // Status 0 of `trace` comes with all events of the lowest order. Where the log does not fit, those
+    // that were made all the same come first, and then why.
+    ensures traced { TracesOrders (texts words.now) (D.state desk.old) (D.state desk.new) result }
+    ensures traced_misfit { TracesMisfits (texts words.now) (D.state desk.old) (D.state desk.new) result }
+
     // Status 0 of `convert` comes with the log in version 2, with the digest of the script's text.
     ensures converted { ConvertsLogs (texts words.now) (D.state desk.old) (D.state desk.new) result }
+
+    // Where `regions` finds an order, the regions run one after another in it give the outcome that
+    // is said. Where it finds a cycle, the first region of each hop is before the second, and stands in
+    // its thread at or after the second region of the next hop, the last hop's next being the first.
+    ensures regions { FindsRegions (texts words.now) (D.state desk.old) (D.state desk.new) result }
 
     // Whatever status comes, its cause holds.
     ensures cause { (status : Status) → result ≡ code_of status → IsCause (texts words.now) (D.state desk.old) (D.state desk.new) status }
@@ -63,17 +83,22 @@ pub fn serve<R: Threads + Wait + Sync, D: Desk, G: HeapGate>(
         → (result ≡ code_of status) ⊎ (result ≡ code_of Memory) }
     ensures one_due { (contents : Contents) (status other : Status) → IsDue (texts words.now) (Some contents) status → IsDue (texts words.now) (Some contents) other → status ≡ other }
 
-    // And where all that the words take is as it should be, all is done.
+    // And where all that the words take is as it should be, all is done; but regions may be in a
+    // cycle, and a slice may be asked for of an event that is not there.
     ensures complete { (contents : Contents) → (D.state desk.old).contents ≡ Some contents → IsWellMet (texts words.now) contents → NoneFailed (D.state desk.old) (D.state desk.new)
-        → (result ≡ code_of Done) ⊎ (result ≡ code_of Memory) }
+        → IsCompleted (texts words.now) result }
 
     // What is left, whatever status comes: the answer given whole, or cut short, or nothing. Files
     // that the words do not name to be written are as before, and at a refusal all are.
     ensures status { IsStatus result }
     ensures left { Leaves (texts words.now) (D.state desk.old) (D.state desk.new) result }
+    // Of `run` that was cut: its file has some first bytes of the log in version 2, with the digest of
+    // the script's text, of as many threads as the script has, or is as before; and what was said is
+    // some first bytes of the outcome's text after a whole file, or of a refusal's line.
+    ensures cut { CutsRun (texts words.now) (D.state desk.old) (D.state desk.new) result }
     ensures others { KeepsOthers (texts words.now) (D.state desk.old) (D.state desk.new) }
     ensures untouched { KeepsFiles (D.state desk.old) (D.state desk.new) result }
-    ensures counts { CountsFailures (D.state desk.old) (D.state desk.new) result }
+    ensures counts { CountsFailures (texts words.now) (D.state desk.old) (D.state desk.new) result }
 
     // All calls of the desk, in order, and what they leave.
     ensures served { IsServed (request_in (texts words.now)) (D.state desk.old) (D.state desk.new) result }
@@ -92,10 +117,7 @@ fn serve_words<R: Threads + Wait + Sync, D: Desk, G: HeapGate>(
     ensures { IsServed (request_in (texts words.now)) (D.state desk.old) (D.state desk.new) result }
 {
     match running_of(words) {
-        Some(running) => {
-            let reply = run(rt, alloc, running, desk, gate);
-            deliver(alloc, desk, reply)
-        }
+        Some(running) => serve_running(rt, alloc, running, desk, gate),
         None => serve_alone(alloc, words, desk),
     }
 }
@@ -104,7 +126,7 @@ fn serve_words<R: Threads + Wait + Sync, D: Desk, G: HeapGate>(
 /// returns. To all other words it says that they are no command.
 pub fn serve_alone<D: Desk>(alloc: Global, words: &[String], desk: &mut D) -> u8
     requires { (D.state desk.old).begun ≡ None }
-    ensures { IsServed (reading_in (texts words.now)) (D.state desk.old) (D.state desk.new) result }
+    ensures { IsReplied (reading_in (texts words.now)) (D.state desk.old) (D.state desk.new) result }
 {
     let reply = reply_alone(alloc, words, desk);
     deliver(alloc, desk, reply)

@@ -5,13 +5,17 @@ ghost use Rattle.octet_top.specs.Request.{shown_reading, name_in, OfScript, OfLo
 ghost use Rattle.octet_top.specs.Commands.{ScriptAnswers, LogAnswers, PairReplays, PairAnswers};
 ghost use Rattle.octet_top.specs.Replies.{Replies};
 
-use crate::commands::{replay, show, tidy, verify};
+use crate::commands::{replay, replay_ordered, show, tidy, verify};
 use crate::convert::convert;
 use crate::inputs::{Pair, Source, read_log, read_pair, read_script};
 use crate::profile::profile;
 use crate::refusal::wrong_script;
 use crate::reply::Reply;
 use crate::request::{LogTask, PairTask, Reading, ScriptTask};
+use crate::serial::regions;
+use crate::slice::slice;
+use crate::stop::stop;
+use crate::trace::trace;
 use octet_base::Desk;
 use octet_log::Loaded;
 use octet_model::OutOfMemory;
@@ -48,7 +52,12 @@ fn replay_pair(alloc: Global, task: PairTask, pair: &Pair) -> Result<Reply, OutO
 {
     match task {
         PairTask::Replay => replay(alloc, pair),
+        PairTask::Parallel => replay_ordered(alloc, pair),
         PairTask::Verify => verify(alloc, pair),
+        PairTask::Regions => regions(alloc, pair),
+        PairTask::Slice { thread, event } => slice(alloc, pair, thread, event),
+        PairTask::Stop { value } => stop(alloc, pair, value),
+        PairTask::Trace => trace(alloc, pair),
         PairTask::Profile => profile(alloc, pair),
     }
 }
@@ -64,7 +73,7 @@ fn of_script<D: Desk>(
 {
     match read_script(alloc, desk, script) {
         Ok(source) => answer_script(alloc, task, &source),
-        Err(stop) => stop,
+        Err(refusal) => refusal,
     }
 }
 
@@ -79,7 +88,7 @@ fn of_log<D: Desk>(
 {
     match read_log(alloc, desk, log) {
         Ok(loaded) => answer_log(alloc, task, &loaded),
-        Err(stop) => stop,
+        Err(refusal) => refusal,
     }
 }
 
@@ -95,7 +104,7 @@ fn of_pair<D: Desk>(
 {
     match read_pair(alloc, desk, script, log, object) {
         Ok(pair) => answer_pair(alloc, task, &pair),
-        Err(stop) => stop,
+        Err(refusal) => refusal,
     }
 }
 
@@ -110,7 +119,7 @@ fn of_conversion<D: Desk>(
 {
     match read_pair(alloc, desk, script, log, None) {
         Ok(pair) => convert(alloc, &pair, out),
-        Err(stop) => stop,
+        Err(refusal) => refusal,
     }
 }
 

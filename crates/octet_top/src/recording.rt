@@ -7,13 +7,13 @@ use crate::picks::picks_of;
 use crate::request::RunTask;
 use octet_machine::play;
 use octet_model::{OutOfMemory, Recorded, Script};
-use octet_threads::{HeapGate, run, run_locked};
+use octet_threads::{HeapGate, run_locked};
 use std::alloc::Global;
 use std::sync::Wait;
 use std::thread::Threads;
 
-/// A faithful recording of the script: by threads beside each other, which pass the gate before
-/// each access, or by picks, on the calling thread.
+/// A faithful recording of the script: by threads over a machine behind one lock, which pass the gate
+/// before each access, or by picks, on the calling thread.
 pub(crate) fn record<R: Threads + Wait + Sync, G: HeapGate>(
     rt: &R,
     alloc: Global,
@@ -24,7 +24,6 @@ pub(crate) fn record<R: Threads + Wait + Sync, G: HeapGate>(
     ensures { IfOk result (λ recorded. Records (shown_task task.entry) script.now recorded.log recorded.outcome) }
 {
     match task {
-        RunTask::Run => run(rt, alloc, script, gate),
         RunTask::Locked => run_locked(rt, alloc, script, gate),
         RunTask::Turns { picks } => play(rt, alloc, script, &picks_of(alloc, picks)?),
     }

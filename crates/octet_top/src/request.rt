@@ -1,7 +1,7 @@
 //! What words ask for: which task, and of which files.
 ghost use Rattle.std.specs.Prelude.{◌≡◌, ◌∷◌, []};
 ghost use Rattle.std.specs.Option.{option_map};
-ghost use Rattle.octet_top.specs.Request.{texts, shown_reading, shown_running, reading_in, running_in, reading_of_two, reading_of_three, reading_of_four, running_of_three, running_of_four};
+ghost use Rattle.octet_top.specs.Request.{texts, shown_reading, shown_running, reading_in, running_in, reading_of_two, reading_of_three, reading_of_four, reading_of_five, running_of_three, running_of_four};
 
 use crate::picks::are_picks;
 use octet_script::number_of;
@@ -22,15 +22,22 @@ pub(crate) enum LogTask {
 #[derive(Clone, Copy, Debug)]
 pub(crate) enum PairTask {
     Replay,
+    /// The same, where the log orders all conflicts; on threads, where there are some.
+    Parallel,
     Verify,
+    Regions,
+    /// One event, and how many lie in its past.
+    Slice { thread: u64, event: u64 },
+    /// The first event that reads the value of the object that is named, or leaves it there.
+    Stop { value: u64 },
+    /// Each event with its place.
+    Trace,
     Profile,
 }
 
-/// Ways to run a script and write its log.
+/// Ways to run a script and then write its log.
 #[derive(Clone, Copy, Debug)]
 pub(crate) enum RunTask<'a> {
-    /// As its threads come.
-    Run,
     /// As its threads come, over a machine behind one lock.
     Locked,
     /// A turn for each hexadecimal digit, and then by rounds.
@@ -63,9 +70,14 @@ pub(crate) enum Reading<'a> {
     },
 }
 
-/// What words ask for that runs a script, and so may wait.
+/// What words ask for that starts threads or runs a script, and so may wait.
 #[derive(Clone, Copy, Debug)]
 pub(crate) enum Running<'a> {
+    /// As its threads come, beside each other, while its log is written.
+    Live {
+        script: &'a str,
+        log: &'a str,
+    },
     OfScript {
         task: RunTask<'a>,
         script: &'a str,
@@ -74,6 +86,11 @@ pub(crate) enum Running<'a> {
     /// Of the script that the number generates.
     Gen {
         number: u64,
+        script: &'a str,
+        log: &'a str,
+    },
+    /// A replay on threads.
+    Parallel {
         script: &'a str,
         log: &'a str,
     },
@@ -87,6 +104,7 @@ pub(crate) fn reading_of(words: &[String]) -> Option<Reading<'_>>
         [word, file] => reading_of_two(word, file),
         [word, script, log] => reading_of_three(word, script, log),
         [word, script, log, last] => reading_of_four(word, script, log, last),
+        [word, script, log, third, last] => reading_of_five(word, script, log, third, last),
         _ => None,
     }
 }
@@ -113,6 +131,8 @@ fn reading_of_three<'a>(word: &str, script: &'a str, log: &'a str) -> Option<Rea
     let task = match word {
         "replay" => PairTask::Replay,
         "verify" => PairTask::Verify,
+        "regions" => PairTask::Regions,
+        "trace" => PairTask::Trace,
         "profile" => PairTask::Profile,
         _ => return None,
     };
@@ -148,6 +168,37 @@ fn reading_of_four<'a>(
     }
 }
 
+fn reading_of_five<'a>(
+    word: &str,
+    script: &'a str,
+    log: &'a str,
+    third: &'a str,
+    last: &'a str,
+) -> Option<Reading<'a>>
+    ensures { option_map shown_reading result ≡ reading_of_five word.now script.now log.now third.now last.now }
+{
+    match word {
+        "slice" => Some(Reading::OfPair {
+            task: PairTask::Slice {
+                thread: number_of(third.as_bytes())?,
+                event: number_of(last.as_bytes())?,
+            },
+            script,
+            log,
+            object: None,
+        }),
+        "stop" => Some(Reading::OfPair {
+            task: PairTask::Stop {
+                value: number_of(last.as_bytes())?,
+            },
+            script,
+            log,
+            object: Some(third),
+        }),
+        _ => None,
+    }
+}
+
 /// The run that words ask for, if they ask for one.
 pub(crate) fn running_of(words: &[String]) -> Option<Running<'_>>
     ensures { option_map shown_running result ≡ running_in (texts words.now) }
@@ -162,12 +213,16 @@ pub(crate) fn running_of(words: &[String]) -> Option<Running<'_>>
 fn running_of_three<'a>(word: &str, script: &'a str, log: &'a str) -> Option<Running<'a>>
     ensures { option_map shown_running result ≡ running_of_three word.now script.now log.now }
 {
-    let task = match word {
-        "run" => RunTask::Run,
-        "locked" => RunTask::Locked,
-        _ => return None,
-    };
-    Some(Running::OfScript { task, script, log })
+    match word {
+        "run" => Some(Running::Live { script, log }),
+        "locked" => Some(Running::OfScript {
+            task: RunTask::Locked,
+            script,
+            log,
+        }),
+        "parallel" => Some(Running::Parallel { script, log }),
+        _ => None,
+    }
 }
 
 fn running_of_four<'a>(

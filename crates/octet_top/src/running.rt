@@ -1,25 +1,25 @@
-//! Requests that run a script: `run SCRIPT LOG`, `locked SCRIPT LOG`, `turns SCRIPT LOG PICKS`
-//! and `gen NUMBER SCRIPT LOG`.
-ghost use Rattle.std.specs.Prelude.{◌≡◌, ◌≤◌, length, IfOk, Some};
-ghost use Rattle.octet_model.specs.Texts.{log_bytes};
-ghost use Rattle.octet_model.specs.declared.limits.TheConstants.{MAX_LOG_FILE};
-ghost use Rattle.octet_log.specs.Pieces.{marks_in};
-ghost use Rattle.octet_log.specs.declared.limits.TheConstants.{MAX_MARKS};
+//! Requests that start threads or run a script: `run SCRIPT LOG`, `locked SCRIPT LOG`,
+//! `turns SCRIPT LOG PICKS`, `gen NUMBER SCRIPT LOG` and `parallel SCRIPT LOG`.
+ghost use Rattle.std.specs.Prelude.{◌≡◌, IfOk, None, Some};
 ghost use Rattle.octet_top.specs.Answer.{answer_of, file_of};
 ghost use Rattle.octet_top.specs.Request.{shown_running, shown_task, Run};
-ghost use Rattle.octet_top.specs.Commands.{RunAnswers, IsGeneration, IsLogFile, digest_kept};
+ghost use Rattle.octet_top.specs.Commands.{RunAnswers, IsGeneration};
 ghost use Rattle.octet_top.specs.Replies.{Replies};
+ghost use Rattle.octet_top.specs.Serving.{IsServed};
 
+use crate::deliver::deliver;
 use crate::inputs::{Source, read_script};
+use crate::live::serve_live;
+use crate::parallel::replay_on_threads;
 use crate::recording::record;
 use crate::reply::{Output, Reply};
 use crate::request::{RunTask, Running};
 use octet_base::Desk;
 use octet_gen::make;
-use octet_log::{digest, encode_v1, encode_v2};
-use octet_model::{List, Log, OutOfMemory, outcome_text};
+use octet_log::encode_v1;
+use octet_model::{List, OutOfMemory, outcome_text};
 use octet_script::print;
-use octet_threads::HeapGate;
+use octet_threads::{HeapGate, run};
 use std::alloc::Global;
 use std::sync::Wait;
 use std::thread::Threads;
@@ -27,25 +27,35 @@ use std::thread::Threads;
 /// What is said of every generated script.
 const SUMMARY: &[u8] = b"threads 8\nobjects 64\naccesses 160000\n";
 
-/// The reply to a run: the script's file is taken, and nothing is written or said yet.
-pub(crate) fn run<R: Threads + Wait + Sync, D: Desk, G: HeapGate>(
+/// Serves words that start threads or run a script.
+pub(crate) fn serve_running<R: Threads + Wait + Sync, D: Desk, G: HeapGate>(
     rt: &R,
     alloc: Global,
     running: Running<'_>,
     desk: &mut D,
     gate: &G,
-) -> Result<Reply, OutOfMemory>
-    ensures { Replies (Some (shown_running running.entry)) (D.state desk.old) result (D.state desk.new) }
+) -> u8
+    requires { (D.state desk.old).begun ≡ None }
+    ensures { IsServed (Some (shown_running running.entry)) (D.state desk.old) (D.state desk.new) result }
 {
     match running {
+        Running::Live { script, log } => serve_live(rt, alloc, desk, gate, script, log),
         Running::OfScript { task, script, log } => {
-            run_script(rt, alloc, desk, gate, task, script, log)
+            let reply = run_script(rt, alloc, desk, gate, task, script, log);
+            deliver(alloc, desk, reply)
         }
         Running::Gen {
             number,
             script,
             log,
-        } => generate(rt, alloc, gate, number, script, log),
+        } => {
+            let reply = generate(rt, alloc, gate, number, script, log);
+            deliver(alloc, desk, reply)
+        }
+        Running::Parallel { script, log } => {
+            let reply = replay_on_threads(rt, alloc, desk, gate, script, log);
+            deliver(alloc, desk, reply)
+        }
     }
 }
 
@@ -63,11 +73,11 @@ fn run_script<R: Threads + Wait + Sync, D: Desk, G: HeapGate>(
 {
     match read_script(alloc, desk, script) {
         Ok(source) => run_source(rt, alloc, gate, task, &source, log),
-        Err(stop) => stop,
+        Err(refusal) => refusal,
     }
 }
 
-/// The script is run: the log's bytes are written, and the outcome is said.
+/// The script is run: the log's bytes are written, in version 1, and the outcome is said.
 fn run_source<R: Threads + Wait + Sync, G: HeapGate>(
     rt: &R,
     alloc: Global,
@@ -80,27 +90,8 @@ fn run_source<R: Threads + Wait + Sync, G: HeapGate>(
 {
     let recorded = record(rt, alloc, task, &source.script, gate)?;
     let text = outcome_text(alloc, &source.script, &recorded.outcome)?;
-    let bytes = file_bytes(alloc, task, source.text.as_slice(), &recorded.log)?;
+    let bytes = encode_v1(alloc, &recorded.log)?;
     Reply::writing(alloc, log_name, bytes, text)
-}
-
-/// The log's bytes: in version 2, with the digest of the script's text, where the threads came
-/// beside each other, and else in version 1.
-fn file_bytes(
-    alloc: Global,
-    task: RunTask<'_>,
-    text: &[u8],
-    log: &Log,
-) -> Result<Vec<u8>, OutOfMemory>
-    requires few { marks_in log.now.threads ≤ MAX_MARKS }
-    requires short { length (log_bytes log.now.threads) ≤ MAX_LOG_FILE }
-    ensures { IfOk result (λ bytes. IsLogFile bytes.items (digest_kept (shown_task task.entry) text.now) log.now.threads) }
-{
-    match task {
-        RunTask::Run => encode_v2(alloc, log, &digest(text)),
-        RunTask::Locked => encode_v1(alloc, log),
-        RunTask::Turns { .. } => encode_v1(alloc, log),
-    }
 }
 
 /// The number's script is run: its canonical text and then the log's bytes are written, and the
@@ -116,7 +107,7 @@ fn generate<R: Threads + Wait + Sync, G: HeapGate>(
     ensures { IfOk result (λ reply. IsGeneration number script_name.now log_name.now (answer_of reply)) }
 {
     let script = make(alloc, number)?;
-    let recorded = record(rt, alloc, RunTask::Run, &script, gate)?;
+    let recorded = run(rt, alloc, &script, gate)?;
     let text = print(alloc, &script)?;
     let bytes = encode_v1(alloc, &recorded.log)?;
     let script_file = output(alloc, script_name, text)?;

@@ -149,6 +149,21 @@ pub(crate) fn answers_over_log<R: Threads + Wait + Sync + Abort>(
     answers(rt, alloc, &mut desk, line, status, said)
 }
 
+/// The same, with threads that pass the gate.
+pub(crate) fn gated_over_log<R: Threads + Wait + Sync + Abort, G: HeapGate>(
+    rt: &R,
+    alloc: Global,
+    script: &[u8],
+    log: &[u8],
+    line: &str,
+    gate: &G,
+) -> Result<(), Failed> {
+    let mut desk = desk_with_log(alloc, script, log)?;
+    let answer = status_of(rt, alloc, &mut desk, line, gate)?;
+    assert_eq!(rt; answer, Status::Done.code(), "{line}");
+    Ok(())
+}
+
 /// After these words the desk has this as the file.
 fn holds<R: Abort>(rt: &R, desk: &MemoryDesk, name: &str, wanted: Option<&[u8]>, line: &str) {
     assert_eq!(rt; desk.file(name), wanted, "{name} after {line}");
@@ -244,7 +259,16 @@ const WHOLE: usize = usize::MAX;
 
 /// The calls that fail, and how many bytes each lets through. Then the status, how much of the log
 /// is written, what is said, and how many calls failed.
-const FAILURES: &[([(u64, u32); 2], Status, Option<usize>, &[u8], (u64, u64))] = &[
+type Failure = (
+    [(u64, u32); 2],
+    Status,
+    Option<usize>,
+    &'static [u8],
+    (u64, u64),
+);
+
+/// The calls are a take, a begin, an add, a finish and a say.
+const FAILURES: &[Failure] = &[
     ([(6, 0), (7, 0)], Status::Done, Some(WHOLE), SAID, (0, 0)),
     (
         [(1, 9), (3, 0)],
@@ -261,24 +285,54 @@ const FAILURES: &[([(u64, u32); 2], Status, Option<usize>, &[u8], (u64, u64))] =
     ([(5, 3), (6, 0)], Status::Write, Some(WHOLE), b"thr", (0, 1)),
 ];
 
+/// The calls are a take, a begin, the adds of the head, of one piece and of the tail, a finish and a
+/// say.
+const LIVE_FAILURES: &[Failure] = &[
+    ([(8, 0), (9, 0)], Status::Done, Some(WHOLE), SAID, (0, 0)),
+    (
+        [(1, 9), (3, 0)],
+        Status::Read,
+        None,
+        b"read: failed\n",
+        (1, 0),
+    ),
+    ([(1, 9), (2, 0)], Status::Write, None, b"", (1, 1)),
+    ([(2, 9), (3, 0)], Status::Write, None, b"", (0, 1)),
+    ([(3, 10), (4, 0)], Status::Write, Some(10), b"", (0, 1)),
+    ([(4, 2), (5, 0)], Status::Write, Some(40), b"", (0, 1)),
+    ([(5, 1), (6, 0)], Status::Write, Some(45), b"", (0, 1)),
+    ([(6, 9), (7, 0)], Status::Write, Some(WHOLE), b"", (0, 1)),
+    ([(7, 3), (8, 0)], Status::Write, Some(WHOLE), b"thr", (0, 1)),
+];
+
 fn front(whole: &[u8], length: Option<usize>) -> Option<&[u8]> {
     let length = length?;
     Some(&whole[..length.min(whole.len())])
 }
 
-/// The calls are a take, a begin, an add, a finish and a say. The call after the one that ends the
-/// run would fail too, and be counted: it is not made.
+/// The call after the one that ends the run would fail too, and be counted: it is not made.
 #[test]
 fn failed_calls_leave_prefixes(rt: HostRuntime) -> Result<(), Failed> {
-    for (line, whole) in [("run S L", SECOND), ("locked S L", LOG)] {
-        for &(fails, status, written, said, faults) in FAILURES {
-            let left = Left {
-                status,
-                said,
-                file: front(whole, written),
-            };
-            leaves(&rt, rt.alloc(), SCRIPT, &fails, line, &left, faults)?;
-        }
+    for &(fails, status, written, said, faults) in FAILURES {
+        let left = Left {
+            status,
+            said,
+            file: front(LOG, written),
+        };
+        leaves(&rt, rt.alloc(), SCRIPT, &fails, "locked S L", &left, faults)?;
+    }
+    Ok(())
+}
+
+#[test]
+fn failed_calls_of_a_live_run_leave_prefixes(rt: HostRuntime) -> Result<(), Failed> {
+    for &(fails, status, written, said, faults) in LIVE_FAILURES {
+        let left = Left {
+            status,
+            said,
+            file: front(SECOND, written),
+        };
+        leaves(&rt, rt.alloc(), SCRIPT, &fails, "run S L", &left, faults)?;
     }
     Ok(())
 }

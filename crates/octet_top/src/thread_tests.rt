@@ -1,5 +1,5 @@
 //! Runs by threads beside each other, through the top call.
-use crate::tests::{done_over, repeats};
+use crate::tests::{bytes_of, done_over, gated_over_log, repeats};
 use octet_base::{Gate, OpenGate};
 use octet_heap::Worker;
 use octet_model::OutOfMemory;
@@ -67,18 +67,39 @@ impl HeapGate for TwoFlags {
     fn note(&self, _thread: u8, _worker: &Worker) {}
 }
 
+/// Each of two threads writes an object of its own.
+const APART: &[u8] =
+    b"object x 0\nobject y 0\nthread\nset r0 1\nwrite x r0\nthread\nset r0 2\nwrite y r0\n";
+
+/// The second thread's one mark is `Join(0, 0)`.
+const APART_LOG: &str =
+    "4f43544c 01 02 00000001 00000000 00000001 00000001 01 00000000 00 0000000000000000";
+
+fn both_passed<R: Abort>(rt: &R, gate: &TwoFlags, line: &str) {
+    let gave_up = gate.gave_up.load(Ordering::SeqCst);
+    assert_eq!(rt; (gate.are_up(), gave_up), (true, false), "{line}");
+}
+
 /// No body that runs the threads one after another, and none that leaves the gate out, passes.
 #[test]
 fn threads_run_beside_each_other(rt: HostRuntime) -> Result<(), Failed> {
     let alloc = rt.alloc();
-    let script =
-        b"object x 0\nobject y 0\nthread\nset r0 1\nwrite x r0\nthread\nset r0 2\nwrite y r0\n".as_slice();
     for line in ["run S L", "locked S L"] {
         let gate = TwoFlags::new();
-        done_over(&rt, alloc, script, line, &gate)?;
-        let gave_up = gate.gave_up.load(Ordering::SeqCst);
-        assert_eq!(rt; (gate.are_up(), gave_up), (true, false), "{line}");
+        done_over(&rt, alloc, APART, line, &gate)?;
+        both_passed(&rt, &gate, line);
     }
+    Ok(())
+}
+
+/// Nor does one that replays the threads one after another.
+#[test]
+fn threads_are_replayed_beside_each_other(rt: HostRuntime) -> Result<(), Failed> {
+    let alloc = rt.alloc();
+    let log = bytes_of(alloc, APART_LOG)?;
+    let gate = TwoFlags::new();
+    gated_over_log(&rt, alloc, APART, log.as_slice(), "parallel S L", &gate)?;
+    both_passed(&rt, &gate, "parallel S L");
     Ok(())
 }
 

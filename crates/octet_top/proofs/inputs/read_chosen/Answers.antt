@@ -14,7 +14,7 @@ returns-in-Err-choose-clause-ends g c =
     let Last : Option ℕ → Result (Source × Option ℕ) Answer → Type 0 = λ wanted read. read ≡ Ok (source, wanted) in
     let Next : Source → Result (Source × Option ℕ) Answer → Type 0 = λ source. IsChosen source.script (name_in c.args.object_name) >>= λ wanted read. read ≡ Ok (source, wanted) in
     let chosen = IsChosen source.script (name_in c.args.object_name) in
-    ends_then (IsScriptRead c.args.script_name.now before.contents) Next _ _ source (Err c.in-Err-choose.stop) c.in-Ok.ensures.ends (comes_stop chosen Last c.in-Err-choose.stop c.in-Err-choose.ensures)
+    ends_then (IsScriptRead c.args.script_name.now before.contents) Next _ _ source (Err c.in-Err-choose.refusal) c.in-Ok.ensures.ends (comes_stop chosen Last c.in-Err-choose.refusal c.in-Err-choose.ensures)
 
 pub returns-in-Err-choose-clause-calls : goal.returns-in-Err-choose-clause-calls
 returns-in-Err-choose-clause-calls g c = as_short c.args.script_name.now MAX_SCRIPT_FILE ⊥ (Unit {0}) _ _ (λ never. absurd never) c.in-Ok.ensures.calls

@@ -21,7 +21,7 @@ returns g c =
       log,
       c.in_ok-recorded.recorded.outcome,
       c.in_ok-script.ensures,
-      c.in_ok-recorded.ensures,
+      c.in_ok-recorded.ensures.faithful,
       is
           ∙ ap (λ file. writes_both file (file_of log_file) text) (c.in_ok-script_file.ensures ∙ ap (λ b. (script_name, b)) c.in_ok-text.ensures.text)
           ∙ ap (λ file. writes_both (script_name, canonical_text script) file text) (c.in_ok-log_file.ensures ∙ ap (λ b. (log_name, b)) c.in_ok-bytes.ensures)

@@ -1,0 +1,95 @@
+//! `parallel SCRIPT LOG`: a replay on threads, judged by the journals that they make.
+ghost use Rattle.std.specs.Prelude.{◌≡◌, IfOk, IfSome, None, Some};
+ghost use Rattle.octet_model.specs.Orders.{execution, lowest_order};
+ghost use Rattle.octet_clock.specs.Fronts.{OrdersConflicts};
+ghost use Rattle.octet_top.specs.declared.request.PairTask.TheVariants.{Parallel};
+ghost use Rattle.octet_top.specs.Answer.{answer_of};
+ghost use Rattle.octet_top.specs.Request.{OfPair};
+ghost use Rattle.octet_top.specs.Commands.{PairAnswers, PairReplays};
+ghost use Rattle.octet_top.specs.Replies.{Replies};
+
+use crate::commands::replay_ordered;
+use crate::inputs::{Pair, read_pair};
+use crate::refusal::wrong_script;
+use crate::reply::{Reply, Status};
+use octet_base::{Desk, Gate};
+use octet_clock::untied;
+use octet_model::{OutOfMemory, Outcome, outcome_text};
+use octet_parallel::parallel;
+use octet_replay::fit;
+use std::alloc::Global;
+use std::sync::Wait;
+use std::thread::Threads;
+
+/// Takes and reads a script and a log, replays them on threads, and says the outcome, where the log
+/// orders all conflicts.
+pub(crate) fn replay_on_threads<R: Threads + Wait + Sync, D: Desk, G: Gate>(
+    rt: &R,
+    alloc: Global,
+    desk: &mut D,
+    gate: &G,
+    script: &str,
+    log: &str,
+) -> Result<Reply, OutOfMemory>
+    ensures { Replies (Some (OfPair Parallel script.now log.now None)) (D.state desk.old) result (D.state desk.new) }
+{
+    match read_pair(alloc, desk, script, log, None) {
+        Ok(pair) => answer_pair(rt, alloc, gate, &pair),
+        Err(refusal) => refusal,
+    }
+}
+
+fn answer_pair<R: Threads + Wait + Sync, G: Gate>(
+    rt: &R,
+    alloc: Global,
+    gate: &G,
+    pair: &Pair,
+) -> Result<Reply, OutOfMemory>
+    ensures { IfOk result (λ reply. PairAnswers Parallel pair.now (answer_of reply)) }
+{
+    match fit(pair.source.text.as_slice(), &pair.loaded) {
+        Ok(()) => play_pair(rt, alloc, gate, pair),
+        Err(fault) => wrong_script(alloc, &fault),
+    }
+}
+
+/// Where the threads give no outcome, one thread finds out why.
+#[tactic(auto, using(crate::proofs::Checking::ordered_verified, octet_replay::proofs::lemmas::WholeOutcomes::whole))]
+fn play_pair<R: Threads + Wait + Sync, G: Gate>(
+    rt: &R,
+    alloc: Global,
+    gate: &G,
+    pair: &Pair,
+) -> Result<Reply, OutOfMemory>
+    ensures { IfOk result (λ reply. PairReplays Parallel pair.now (answer_of reply)) }
+{
+    match outcome_on_threads(rt, alloc, gate, pair)? {
+        Some(outcome) => {
+            let text = outcome_text(alloc, &pair.source.script, &outcome)?;
+            Ok(Reply::saying(alloc, Status::Done, text))
+        }
+        None => replay_ordered(alloc, pair),
+    }
+}
+
+/// The outcome of the log's lowest order, where the threads can be started and find that the log
+/// orders all conflicts.
+fn outcome_on_threads<R: Threads + Wait + Sync, G: Gate>(
+    rt: &R,
+    alloc: Global,
+    gate: &G,
+    pair: &Pair,
+) -> Result<Option<Outcome>, OutOfMemory>
+    ensures ordered { IfOk result (λ outcome. IfSome outcome (λ _. OrdersConflicts pair.now.source.script pair.now.loaded.log.threads)) }
+    ensures outcome { IfOk result (λ outcome. IfSome outcome (λ found. found ≡ execution pair.now.source.script pair.now.loaded.log.threads (lowest_order pair.now.source.script pair.now.loaded.log.threads))) }
+{
+    let script = &pair.source.script;
+    let log = &pair.loaded.log;
+    if script.threads.len() != log.threads.len() {
+        return Ok(None);
+    }
+    if !untied(alloc, log)? {
+        return Ok(None);
+    }
+    parallel(rt, alloc, script, log, gate)
+}
