@@ -31,6 +31,7 @@ enum Command {
     Close(u32),
     Safe,
     Pause,
+    Region,
 }
 
 #[derive(Clone, Copy)]
@@ -103,6 +104,7 @@ fn read_script(text: &str) -> Script<'_> {
             "end" => Command::Close(0),
             "safe" => Command::Safe,
             "pause" => Command::Pause,
+            "region" => Command::Region,
             word => {
                 let (_, operation) = OPERATIONS.iter().find(|pair| pair.0 == word).expect("a command");
                 Command::Calculate(*operation, register(next()), register(next()), register(next()))
@@ -159,6 +161,7 @@ fn write_script(script: &Script, out: &mut Vec<u8>) -> io::Result<()> {
                 Command::Close(_) => writeln!(out, "end")?,
                 Command::Safe => writeln!(out, "safe")?,
                 Command::Pause => writeln!(out, "pause")?,
+                Command::Region => writeln!(out, "region")?,
             }
         }
     }
@@ -252,7 +255,7 @@ fn run_thread<H: Heap>(commands: &[Command], mut fuel: u32, heap: &mut H, seen: 
                 next = past as usize;
             }
             Command::Close(back) => next = back as usize,
-            Command::Loop(..) | Command::Branch(..) | Command::Safe | Command::Pause => {}
+            Command::Loop(..) | Command::Branch(..) | Command::Safe | Command::Pause | Command::Region => {}
         }
         place = next;
     }

@@ -38,13 +38,17 @@ def log_refused(name, content, line):
 
 
 def judged(command, name, content, recorded, said, status=0):
-    return Case(f"{command}: {name}", [command, "S", "L"], {"S": content, "L": recorded}, said, status)
+    """A call on a script and a log; a command may have further words."""
+    command, *more = command.split()
+    words = [command, "S", "L", *more]
+    return Case(" ".join([command, *more]) + f": {name}", words, {"S": content, "L": recorded}, said, status)
 
 
 def recorded(name, content, log_bytes, said):
-    """A log that a run may leave: the replay says what the run said, and all conflicts are ordered."""
+    """A log that a run may leave: both replays say what the run said, and all conflicts are ordered."""
     return [
         judged("replay", name, content, log_bytes, said),
+        judged("parallel", name, content, log_bytes, said),
         judged("verify", name, content, log_bytes, text("ordered")),
     ]
 
@@ -103,6 +107,13 @@ SAME_RUNS = [
         (0,),
     ),
 ]  # fmt: skip
+# Thread 0 reads x before thread 1 writes it, and y after that wrote y.
+TWO_READS = script(
+    "object x 1 / object y 1 / thread / read r0 x / safe / read r1 y / thread / set r0 2 / write x r0 / write y r0"
+)
+SPLIT_READS = TWO_READS.replace(b"safe", b"region\nsafe")
+TWO_READS_LOG = log((2, join(1, 1, 4)), (2, join(0, 0, 1), join(1, 0, 1)))
+TWO_READS_SAID = text("thread 0 done 1 2", "thread 1 done", "object x 2", "object y 2")
 ONE_SAID = text("thread 0 done 5", "object x 5")
 RUNS = [
     *[runs("run", *each) for each in SAME_RUNS],
@@ -129,7 +140,7 @@ LOCKED = [
 EVERY_COMMAND = [
     "fuel 9", "object a 18446744073709551615", "thread", "set r0 1", "copy r1 r0", "add r2 r0 r1", "sub r3 r0 r1",
     "mul r4 r0 r1", "xor r5 r0 r1", "less r6 r0 r1", "same r7 r0 r1", "read r8 a", "write a r15", "bump a r14", "while r9",
-    "if r10", "safe", "end", "pause", "end",
+    "if r10", "safe", "end", "pause", "region", "end",
 ]  # fmt: skip
 OBJECTS = [f"object o{place} 0" for place in range(1024)]
 LONGEST = "object " + "n" * 32 + " 1"
@@ -261,6 +272,7 @@ KNOWN_LATER_LOG = log((1,), (1, join(1, 0, 1)), (1, join(0, 1, 1)))
 COUNTED = script("object n 5 / thread / set r0 2 / bump n r0 / bump n r0 / thread / set r0 3 / bump n r0")
 COUNTED_SAID = text("thread 0 done", "thread 1 done", "object n 12")
 COUNTED_LOG = log((2,), (1, join(0, 0, 2)))
+COUNTED_UNMARKED = log((2,), (1,))
 
 HIGHEST = 2**64 - 1
 
@@ -290,8 +302,8 @@ LOGS = (
     + [
         judged("replay", "without its mark", HANDOVER, HANDOVER_UNMARKED, HANDOVER_SAID),
         judged("verify", "without its mark", HANDOVER, HANDOVER_UNMARKED, text("unordered 0:0 1:0"), 9),
-        judged("replay", "bumps without marks", COUNTED, log((2,), (1,)), COUNTED_SAID),
-        judged("verify", "bumps without marks", COUNTED, log((2,), (1,)), text("unordered 0:1 1:0"), 9),
+        judged("replay", "bumps without marks", COUNTED, COUNTED_UNMARKED, COUNTED_SAID),
+        judged("verify", "bumps without marks", COUNTED, COUNTED_UNMARKED, text("unordered 0:1 1:0"), 9),
         judged(
             "verify",
             "two reads without marks, and then a write",
@@ -299,6 +311,25 @@ LOGS = (
             log((1,), (1,), (1, join(0, 0, 1))),
             text("unordered 1:0 2:1"),
             9,
+        ),
+        judged("parallel", "without its mark", HANDOVER, HANDOVER_UNMARKED, text("unordered 0:0 1:0"), 9),
+        judged("parallel", "bumps without marks", COUNTED, COUNTED_UNMARKED, text("unordered 0:1 1:0"), 9),
+        judged("parallel", "what a thread knows only later", KNOWN_LATER, KNOWN_LATER_LOG, text("unordered 0:0 2:1"), 9),
+        judged("regions", "without its mark", HANDOVER, HANDOVER_UNMARKED, text("unordered 0:0 1:0"), 9),
+        judged("regions", "none", text("thread"), log((0,)), text("serial", "thread 0 done")),
+        judged("regions", "a cycle of two", TWO_READS, TWO_READS_LOG, text("cycle", "hop 1:0 0:0", "hop 0:0 1:0"), 10),
+        judged(
+            "regions", "a way to a cycle",
+            script(
+                "object x 1 / object y 1 / object z 1 / thread / read r0 z / thread / read r0 x / write z r0 / read r1 y"
+                " / thread / set r0 2 / write x r0 / write y r0"
+            ),
+            log((1, join(0, 1, 2)), (3, join(2, 2, 4)), (2, join(0, 1, 1), join(1, 1, 1))),
+            text("cycle", "hop 2:0 1:0", "hop 1:0 2:0"), 10,
+        ),
+        judged(
+            "regions", "a region between two reads", SPLIT_READS, TWO_READS_LOG,
+            text("serial", "region 0:0", "region 1:0", "region 0:1") + TWO_READS_SAID,
         ),
         judged("verify", "what a thread knows only later", KNOWN_LATER, KNOWN_LATER_LOG, text("unordered 0:0 2:1"), 9),
         judged(
@@ -324,11 +355,33 @@ LOGS = (
     ]
 )  # fmt: skip
 
-# The story of the README: three logs in examples/.
+# Two payments that overlap (thread 0's is lost), and two that follow each other.
+BANK = example("bank.octet")
+LOST_LOG = log((3, join(1, 1, 2)), (3, join(0, 0, 1), join(1, 0, 4), join(1, 0, 4)))
+LOST_SAID = text("thread 0 done 100", "thread 1 done 100", "object balance 150", "object payments 2")
+PAID_LOG = log((3,), (3, join(0, 0, 3), join(2, 0, 3)))
+PAID_SAID = text("thread 0 done 100", "thread 1 done 130", "object balance 180", "object payments 2")
+
+# The stories of the README; three of the logs are in examples/.
 EARLY, EARLY_UNMARKED, EARLY_MISFIT = (example(f"early{name}.log") for name in ["", "-unmarked", "-misfit"])
 EARLY_SAID = text("thread 0 done", "thread 1 done 5", "object x 7")
 MISFIT_SAID = text("fit: thread 1 wants 2 accesses, found 1")
 STORY = [
+    Case("turns: a lost payment", ["turns", "S", "L", "1"], {"S": BANK}, LOST_SAID, 0, {"L": LOST_LOG}),
+    Case("turns: two payments", ["turns", "S", "L", "0"], {"S": BANK}, PAID_SAID, 0, {"L": PAID_LOG}),
+    *recorded("a lost payment", BANK, LOST_LOG, LOST_SAID),
+    *recorded("two payments", BANK, PAID_LOG, PAID_SAID),
+    judged("regions", "a lost payment", BANK, LOST_LOG, text("cycle", "hop 1:1 0:1", "hop 0:1 1:1"), 10),
+    judged("regions", "two payments", BANK, PAID_LOG, text("serial", "region 0:1", "region 1:1") + PAID_SAID),
+    judged("stop balance 150", "a lost payment", BANK, LOST_LOG, text("stop 1:3 write balance 150")),
+    judged("slice 1 3", "a lost payment", BANK, LOST_LOG, text("slice 1:3 write balance 150", "events 8 of 10")),
+    judged(
+        "trace", "a lost payment", BANK, LOST_LOG,
+        text(
+            "0:0 read balance 100", "1:0 join 0 1", "1:1 read balance 100", "0:1 join 1 2", "0:2 write balance 130",
+            "0:3 update payments 0 1", "1:2 join 0 4", "1:3 write balance 150", "1:4 join 0 4", "1:5 update payments 1 2",
+        ),
+    ),
     *recorded("examples/early.log", HANDOVER, EARLY, EARLY_SAID),
     shown(
         "examples/early.log", EARLY,
@@ -374,39 +427,89 @@ PROFILES = [
     Case("profile: no log", ["profile", "S"], {"S": ONE}, text("words: not a command"), 1),
 ]
 
+# Logs that do not fit: name, script, log, the line, and the events that the order makes before, in words.
+WROTE_AND_READ = ["0:0 write x 7", "1:0 read x 7"]
+MISFIT_LOGS = [
+    ("each event waits for the other", HANDOVER, HANDOVER_STUCK, "stuck at 0 0", []),
+    ("two threads in the log", ONE, HANDOVER_LOG, "threads 1 in the script, 2 in the log", []),
+    ("too few accesses", ONE, log((2,)), "thread 0 wants 2 accesses, found 1", ["0:0 read x 5"]),
+    ("too many accesses", ONE, log((0,)), "thread 0 wants 0 accesses, found 1", []),
+    ("a number is drawn twice", ONE, log((1, draw(0, 1), draw(0, 1))), "stuck at 1", ["0:0 draw 1"]),
+    ("a draw that is left out", ONE, log((1, draw(1, 2))), "stuck at 1", ["0:0 read x 5"]),
+    (
+        "a join of more events than there are", HANDOVER, log((1, join(0, 1, HIGHEST)), (1,)), "stuck at 0 1",
+        ["1:0 read x 5"],
+    ),
+    ("a fence of a draw that is not made", ONE, log((1, fence(1, HIGHEST))), "stuck at 1", ["0:0 read x 5"]),
+    (
+        "an end before a mark that is left", HANDOVER, log((1,), (2, join(1, 0, 9))), "thread 1 wants 2 accesses, found 1",
+        WROTE_AND_READ,
+    ),
+    (
+        "a higher thread that does not fit comes before a lower one that is stuck", HANDOVER, log((1, join(0, 1, 9)), (2,)),
+        "thread 1 wants 2 accesses, found 1", ["1:0 read x 5"],
+    ),
+    (
+        "the lower of two threads that do not fit", HANDOVER, log((2,), (2,)), "thread 0 wants 2 accesses, found 1",
+        WROTE_AND_READ,
+    ),
+    (
+        "a pair that is not ordered, and then stuck", HANDOVER, log((1, join(1, 1, 9)), (1,)), "stuck at 1 1",
+        WROTE_AND_READ,
+    ),
+    (
+        "a pair that is not ordered, and then a misfit", HANDOVER, log((1,), (2,)), "thread 1 wants 2 accesses, found 1",
+        WROTE_AND_READ,
+    ),
+]  # fmt: skip
 MISFITS = [
     judged(command, name, content, log_bytes, text(f"fit: {line}"), 4)
-    for command in ["replay", "verify", "profile"]
-    for name, content, log_bytes, line in [
-        ("each event waits for the other", HANDOVER, HANDOVER_STUCK, "stuck at 0 0"),
-        ("two threads in the log", ONE, HANDOVER_LOG, "threads 1 in the script, 2 in the log"),
-        ("too few accesses", ONE, log((2,)), "thread 0 wants 2 accesses, found 1"),
-        ("too many accesses", ONE, log((0,)), "thread 0 wants 0 accesses, found 1"),
-        ("a number is drawn twice", ONE, log((1, draw(0, 1), draw(0, 1))), "stuck at 1"),
-        ("a join of more events than there are", HANDOVER, log((1, join(0, 1, HIGHEST)), (1,)), "stuck at 0 1"),
-        ("a fence of a draw that is not made", ONE, log((1, fence(1, HIGHEST))), "stuck at 1"),
-        (
-            "an end before a mark that is left",
-            HANDOVER,
-            log((1,), (2, join(1, 0, 9))),
-            "thread 1 wants 2 accesses, found 1",
+    for command in ["replay", "parallel", "verify", "regions", "slice 0 0", "slice 9 0", "stop x 5", "profile"]
+    for name, content, log_bytes, line, _ in MISFIT_LOGS
+] + [
+    judged("trace", name, content, log_bytes, text(*events, f"fit: {line}"), 4)
+    for name, content, log_bytes, line, events in MISFIT_LOGS
+]  # fmt: skip
+
+# The past of one event, the first with a number, and all events.
+EVENTS = [
+    judged("slice 2 2", "an access behind a draw", SHARED, SHARED_LOG, text("slice 2:2 read x 9", "events 4 of 7")),
+    judged("slice 1 3", "an access behind a fence", SHARED, SHARED_LOG, text("slice 1:3 read x 9", "events 6 of 7")),
+    judged("slice 1 2", "a fence", SHARED, SHARED_LOG, text("slice 1:2 fence 1", "events 5 of 7")),
+    judged("slice 2 1", "a draw", SHARED, SHARED_LOG, text("slice 2:1 draw 1", "events 3 of 7")),
+    judged("slice 01 00", "a join, by numbers with zeros", SHARED, SHARED_LOG, text("slice 1:0 join 0 0", "events 1 of 7")),
+    judged("slice 0 0", "a write", HANDOVER, HANDOVER_LOG, text("slice 0:0 write x 7", "events 1 of 3")),
+    judged("slice 0 1", "an update", COUNTED, COUNTED_LOG, text("slice 0:1 update n 7 9", "events 2 of 4")),
+    judged("slice 1 4", "no such event", SHARED, SHARED_LOG, text("slice: events 4"), 11),
+    judged(f"slice 0 {HIGHEST}", "no event at all", SHARED, SHARED_LOG, text("slice: events 0"), 11),
+    judged("slice 3 0", "no such thread", SHARED, SHARED_LOG, text("slice: threads 3"), 11),
+    judged("slice 9 9", "neither thread nor event", SHARED, SHARED_LOG, text("slice: threads 3"), 11),
+    judged("slice 9 0", "unordered before no thread", HANDOVER, HANDOVER_UNMARKED, text("unordered 0:0 1:0"), 9),
+    judged("slice 0 9", "unordered before no event", HANDOVER, HANDOVER_UNMARKED, text("unordered 0:0 1:0"), 9),
+    judged("stop x 9", "a read", SHARED, SHARED_LOG, text("stop 1:1 read x 9")),
+    judged("stop x 8", "none", SHARED, SHARED_LOG, text("no stop")),
+    judged("stop x 7", "a write before a read", HANDOVER, HANDOVER_LOG, text("stop 0:0 write x 7")),
+    judged("stop n 9", "an update, by the value after", COUNTED, COUNTED_LOG, text("stop 0:1 update n 7 9")),
+    judged("stop n 5", "the value before an update is none", COUNTED, COUNTED_LOG, text("no stop")),
+    judged("stop n 9", "a log that is not ordered", COUNTED, COUNTED_UNMARKED, text("stop 0:1 update n 7 9")),
+    judged("stop y 9", "another object with that number", SHARED, SHARED_LOG, text("words: no such object"), 1),
+    judged("stop z 9", "an unknown name comes before the log", SHARED, b"", text("words: no such object"), 1),
+    judged("stop z 9", "a refused script comes before the name", b"", SHARED_LOG, text("script: line 1: 13 no thread"), 2),
+    judged(
+        "trace", "marks of all kinds", SHARED, SHARED_LOG,
+        text(
+            "1:0 join 0 0", "1:1 read x 9", "2:0 join 1 1", "2:1 draw 1", "1:2 fence 1", "1:3 read x 9", "2:2 read x 9",
         ),
-        (
-            "a higher thread that does not fit comes before a lower one that is stuck",
-            HANDOVER,
-            log((1, join(0, 1, 9)), (2,)),
-            "thread 1 wants 2 accesses, found 1",
-        ),
-        ("the lower of two threads that do not fit", HANDOVER, log((2,), (2,)), "thread 0 wants 2 accesses, found 1"),
-        ("a pair that is not ordered, and then stuck", HANDOVER, log((1, join(1, 1, 9)), (1,)), "stuck at 1 1"),
-        (
-            "a pair that is not ordered, and then a misfit",
-            HANDOVER,
-            log((1,), (2,)),
-            "thread 1 wants 2 accesses, found 1",
-        ),
-    ]
-]
+    ),
+    judged(
+        "trace", "updates", COUNTED, COUNTED_LOG,
+        text("0:0 update n 5 7", "0:1 update n 7 9", "1:0 join 0 2", "1:1 update n 9 12"),
+    ),
+    judged("trace", "a write", HANDOVER, HANDOVER_LOG, text("0:0 write x 7", "1:0 join 0 1", "1:1 read x 7")),
+    judged("trace", "a log that is not ordered", HANDOVER, HANDOVER_UNMARKED, text(*WROTE_AND_READ)),
+    judged("trace", "no event", text("thread"), log((0,)), b""),
+    judged("trace", "a thread that is spent", example("spent.octet"), log((1,)), text("0:0 read x 0")),
+]  # fmt: skip
 
 LOG_REFUSALS = (
     [log_refused(f"the first {size} bytes", SHARED_LOG[:size], "1 no magic") for size in range(4)]
@@ -439,7 +542,10 @@ LOG_REFUSALS = (
         shown("as many accesses as there may be", log((0x40000,)), text("threads 1", "thread 0 accesses 262144 marks 0")),
         judged("replay", "a log that is refused", HANDOVER, b"", text("log: 1 no magic"), 3),
         judged("replay", "a script that is refused", b"", HANDOVER_LOG, text("script: line 1: 13 no thread"), 2),
-        judged("verify", "a log that is refused", HANDOVER, b"", text("log: 1 no magic"), 3),
+        *[
+            judged(command, "a log that is refused", HANDOVER, b"", text("log: 1 no magic"), 3)
+            for command in ["parallel", "verify", "regions", "slice 0 0", "stop x 5", "trace"]
+        ],
     ]
 )
 
@@ -507,7 +613,10 @@ SECOND = [
     # A log of another script: one blank more makes it another.
     *[
         Case(" ".join([command, *more, ": another script"]), [command, "S", "L", *more], WITH_BLANK, OTHER_SCRIPT, 4)
-        for command, *more in [["replay"], ["verify"], ["profile"], ["profile", "x"], ["convert", "O"]]
+        for command, *more in [
+            ["replay"], ["parallel"], ["verify"], ["regions"], ["slice", "0", "0"], ["stop", "x", "5"], ["trace"],
+            ["profile"], ["profile", "x"], ["convert", "O"],
+        ]
     ],
     Case(
         "replay: a log of another script, with other threads", ["replay", "S", "L"], {"S": ONE, "L": HANDOVER_SECOND},
@@ -563,6 +672,17 @@ FAULTS = [
             ("a number of 65 bits", ["gen", str(2**64), "S", "L"]),
             ("a number of 21 digits", ["gen", "0" * 21, "S", "L"]),
             ("a log is missing", ["gen", "1", "S"]),
+            ("a log to replay on threads is missing", ["parallel", "S"]),
+            ("a log with regions is missing", ["regions", "S"]),
+            ("a log to trace is missing", ["trace", "S"]),
+            ("trace with an object", ["trace", "S", "L", "x"]),
+            ("an event is missing", ["slice", "S", "L", "0"]),
+            ("a thread that is no number", ["slice", "S", "L", "x", "0"]),
+            ("an event that is no number", ["slice", "S", "L", "0", "x"]),
+            ("a thread of 65 bits", ["slice", "S", "L", str(2**64), "0"]),
+            ("a number to stop at is missing", ["stop", "S", "L", "x"]),
+            ("a number to stop at of 65 bits", ["stop", "S", "L", "x", str(2**64)]),
+            ("a number to stop at with a sign", ["stop", "S", "L", "x", "+1"]),
         ]
     ],
     Case("read: no such log", ["verify", "S", "L"], {"S": ONE}, text("read: failed"), 5),
@@ -573,4 +693,4 @@ FAULTS = [
     Case("read: no such file", ["tidy", "S"], {}, text("read: failed"), 5),
 ]  # fmt: skip
 
-CASES = RUNS + TIDY + REFUSED + PREFIXES + LOGS + STORY + PROFILES + MISFITS + LOG_REFUSALS + SECOND + FAULTS
+CASES = RUNS + TIDY + REFUSED + PREFIXES + LOGS + STORY + PROFILES + MISFITS + EVENTS + LOG_REFUSALS + SECOND + FAULTS

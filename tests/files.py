@@ -11,8 +11,10 @@ import shutil
 import signal
 import subprocess
 import tempfile
+import time
 
 from case import join, log, script, second, short, tail, text
+from cases import TWO_READS, TWO_READS_LOG
 
 TOP = pathlib.Path(__file__).resolve().parent.parent
 LAUNCHER = TOP / "bin" / "octet"
@@ -39,6 +41,25 @@ def octet(words, folder, **how):
     return called([str(OCTET), *words], folder, **how)
 
 
+def in_bursts(words, folder):
+    """Lets a call run for a fifth of a millisecond at a time, and gives it each time that it stands still."""
+    with subprocess.Popen([str(OCTET), *words], cwd=folder, stdout=subprocess.DEVNULL) as process:
+        until = time.monotonic() + SECONDS
+        try:
+            while True:
+                time.sleep(0.0002)
+                os.kill(process.pid, signal.SIGSTOP)
+                how = os.waitid(os.P_PID, process.pid, os.WSTOPPED | os.WEXITED | os.WNOWAIT).si_code
+                if how != os.CLD_STOPPED:
+                    return
+                yield process
+                if time.monotonic() > until:
+                    raise subprocess.TimeoutExpired(words, SECONDS)
+                os.kill(process.pid, signal.SIGCONT)
+        finally:
+            process.kill()
+
+
 def differs(what, found, wanted):
     return None if found == wanted else f"{what}: {found!r:.300}, not {wanted!r:.300}"
 
@@ -56,12 +77,15 @@ def folder_with(**files):
 
 
 def full_output():
-    with folder_with(S=ONE) as folder, open("/dev/full", "wb") as full:
+    with folder_with(S=ONE, C=TWO_READS, M=TWO_READS_LOG) as folder, open("/dev/full", "wb") as full:
         return first(
             differs("tidy", octet(["tidy", "S"], folder, stdout=full), (6, b"")),
             differs("run", octet(["run", "S", "L"], folder, stdout=full), (6, b"")),
             differs("the log", pathlib.Path(folder, "L").read_bytes(), ONE_RUN),
             differs("a refusal", octet(["tidy"], folder, stdout=full), (6, b"")),
+            differs("no event", octet(["slice", "S", "L", "0", "1"], folder, stdout=full), (6, b"")),
+            differs("a cycle", octet(["regions", "C", "M"], folder, stdout=full), (6, b"")),
+            differs("a trace", octet(["trace", "S", "L"], folder, stdout=full), (6, b"")),
         )
 
 
@@ -280,6 +304,26 @@ def through_links():
         )
 
 
+def clone_that_cannot_be_written():
+    """Where the program is still to be built and cannot be, `bin/octet` says so and ends with 70."""
+    with tempfile.TemporaryDirectory() as folder:
+        here = pathlib.Path(folder)
+        (here / "bin").mkdir()
+        (here / "crates" / "octet").mkdir(parents=True)
+        (here / "crates.txt").write_bytes(b"")
+        launcher = shutil.copy(LAUNCHER, here / "bin" / "octet")
+        folders = [here, here / "bin", here / "crates", here / "crates" / "octet"]
+        for each in folders:
+            os.chmod(each, 0o555)
+        user = {"user": "nobody"} if os.geteuid() == 0 else {}
+        status, said, *errors = called([launcher, "tidy", "S"], folder, **user)
+        for each in folders:
+            os.chmod(each, 0o755)
+        log = here.resolve() / "crates" / "octet" / "build.log"
+        wanted = f"octet: the program is still to be built, and {log} cannot be written\n".encode()
+        return differs("bin/octet", (status, said, *errors), (70, b"", wanted))
+
+
 TESTS = {
     "standard output is full": full_output,
     "standard output is closed": closed_output,
@@ -295,4 +339,5 @@ TESTS = {
     "names with blanks, and no UTF-8": odd_names,
     "one file by two names": one_file_by_two_names,
     "bin/octet through links": through_links,
+    "bin/octet in a clone that cannot be written": clone_that_cannot_be_written,
 }

@@ -6,8 +6,10 @@ little: each keeps most of its form, so that it comes far before something is wr
 
 import re
 from hashlib import sha256
+from typing import NamedTuple
 
 import paths
+import serial
 from case import ACCESSES, draw, fence, join, log, piece, second, tail, text
 from machine import Running, make_write, read_script
 
@@ -15,7 +17,7 @@ from machine import Running, make_write, read_script
 ARGUMENTS = {
     "fuel": "N", "object": "DN", "thread": "", "set": "RN", "copy": "RR", "add": "RRR", "sub": "RRR", "mul": "RRR",
     "xor": "RRR", "less": "RRR", "same": "RRR", "read": "RO", "write": "OR", "bump": "OR", "while": "R", "if": "R", "end": "",
-    "safe": "", "pause": "",
+    "safe": "", "pause": "", "region": "",
 }  # fmt: skip
 REFUSALS = [
     "not UTF-8", "unknown word", "wrong count of words", "bad number", "bad name", "name given twice", "no such object",
@@ -289,14 +291,17 @@ def shown(content):
     return 0, text(*lines)
 
 
+MARK_WORDS = {paths.JOIN: "join", paths.DRAW: "draw", paths.FENCE: "fence"}
+
+
 class Replayed:
-    """One thread of a replay: its script's run, and what is left of its log."""
+    """One thread of a replay: its script's run, what is left of its log, and its events in words."""
 
     def __init__(self, commands, fuel, thread_log):
         self.running = Running(commands, fuel)
         self.wanted, self.marks = thread_log[0], list(thread_log[1])
         self.made = self.gap = 0
-        self.journal, self.reads = [], []
+        self.journal, self.told, self.reads, self.region = [], [], [], 0
 
     def demand(self):
         while (words := self.running.demand())[0] in ("safe", "pause"):
@@ -318,16 +323,20 @@ class Replayed:
     def step(self, heap):
         event = self.next_event()
         self.journal.append(event)
-        if event is not None and event[0] not in ACCESSES:
+        if event[0] not in ACCESSES:
             self.marks.pop(0)
             self.gap = 0
+            self.told.append([MARK_WORDS[event[0]], *(event[2:] if event[0] == paths.JOIN else event[3:])])
             return
-        words = self.demand()
-        if event[0] == "read":
-            self.running.registers[words[1]] = heap[event[1]]
-            self.reads.append(heap[event[1]])
+        words, self.region = self.demand(), self.running.regions
+        kind, name = event
+        before = heap[name]
+        if kind == "read":
+            self.running.registers[words[1]] = before
+            self.reads.append(before)
         else:
             make_write(heap, words, self.running.registers)
+        self.told.append(["update", name, before, heap[name]] if kind == "bump" else [kind, name, heap[name]])
         self.running.pass_by()
         self.made += 1
         self.gap += 1
@@ -342,39 +351,93 @@ class Replayed:
         return not self.is_access() and self.made == self.wanted and not self.marks
 
 
-def replayed(content, log_content):
-    """What `replay` and `verify` owe to a script that is whole and good."""
+class Replay:
+    """The lowest order of a script and a log with as many threads."""
+
+    def __init__(self, content, logs):
+        fuel, self.heap, commands = read_script(content)
+        self.threads = [Replayed(each, fuel, its_log) for each, its_log in zip(commands, logs)]
+        # The places of its events, and the accesses with their regions.
+        self.order, self.accesses = [], []
+        draws = 0
+        while (lowest := lowest_thread(self.threads, draws)) is not None:
+            thread = self.threads[lowest]
+            event = thread.next_event()
+            draws += event[0] == paths.DRAW
+            self.order.append((lowest, len(thread.journal)))
+            thread.step(self.heap)
+            if event[0] in ACCESSES:
+                self.accesses.append(((lowest, thread.region), event))
+
+    def journals(self):
+        return [thread.journal for thread in self.threads]
+
+    def event_text(self, thread, event):
+        return f"{thread}:{event} " + " ".join(map(str, self.threads[thread].told[event]))
+
+    def misfit(self):
+        """Why the order does not fit, or None."""
+        for number, thread in enumerate(self.threads):
+            if thread.found() is not None:
+                return text(f"fit: thread {number} wants {thread.wanted} accesses, found {thread.found()}")
+        if not all(thread.is_through() for thread in self.threads):
+            return text("fit: stuck at " + " ".join(str(len(thread.journal)) for thread in self.threads))
+        return None
+
+    def outcome(self):
+        lines = [
+            " ".join([f"thread {number} {thread.demand()[0]}", *map(str, thread.reads)])
+            for number, thread in enumerate(self.threads)
+        ]
+        return text(*lines, *[f"object {name} {value}" for name, value in self.heap.items()])
+
+
+class Answers(NamedTuple):
+    """What the commands that replay a log owe: each a status and what is said."""
+
+    replay: tuple
+    verify: tuple
+    parallel: tuple
+    regions: tuple
+    trace: tuple
+
+
+def unreplayed(content, log_content):
+    """What all commands that replay a log owe where no order is taken, the script being whole and good; else None."""
     logs = read_log(log_content)
     if isinstance(logs, str):
-        return [(3, text(f"log: {logs}"))] * 2
+        return 3, text(f"log: {logs}")
     if (other := another_script(content, log_content)) is not None:
-        return [other] * 2
-    fuel, heap, commands = read_script(content)
+        return other
+    _, _, commands = read_script(content)
     if len(commands) != len(logs):
-        return [(4, text(f"fit: threads {len(commands)} in the script, {len(logs)} in the log"))] * 2
-    threads = [Replayed(each, fuel, its_log) for each, its_log in zip(commands, logs)]
-    order, draws = [], 0
-    while (lowest := lowest_thread(threads, draws)) is not None:
-        thread = threads[lowest]
-        draws += thread.next_event()[0] == paths.DRAW
-        order.append((lowest, len(thread.journal)))
-        thread.step(heap)
-    for number, thread in enumerate(threads):
-        if thread.found() is not None:
-            line = f"fit: thread {number} wants {thread.wanted} accesses, found {thread.found()}"
-            return [(4, text(line))] * 2
-    if not all(thread.is_through() for thread in threads):
-        return [(4, text("fit: stuck at " + " ".join(str(len(thread.journal)) for thread in threads)))] * 2
-    lines = [
-        " ".join([f"thread {number} {thread.demand()[0]}", *map(str, thread.reads)])
-        for number, thread in enumerate(threads)
-    ]
-    said = text(*lines, *[f"object {name} {value}" for name, value in heap.items()])
-    pair = paths.by_paths([thread.journal for thread in threads], order)
-    if pair is None:
-        return [(0, said), (0, text("ordered"))]
-    (thread, event), (other, at) = pair
-    return [(0, said), (9, text(f"unordered {thread}:{event} {other}:{at}"))]
+        return 4, text(f"fit: threads {len(commands)} in the script, {len(logs)} in the log")
+    return None
+
+
+def replayed(content, log_content):
+    """What is owed to a script that is whole and good and any log."""
+    if (refused := unreplayed(content, log_content)) is not None:
+        return Answers(*[refused] * 5)
+    replay = Replay(content, read_log(log_content))
+    events = text(*[replay.event_text(*place) for place in replay.order])
+    if (line := replay.misfit()) is not None:
+        return Answers(*[(4, line)] * 4, (4, events + line))
+    done, trace = (0, replay.outcome()), (0, events)
+    pair = paths.by_paths(replay.journals(), replay.order)
+    if pair is not None:
+        (thread, event), (other, at) = pair
+        unordered = 9, text(f"unordered {thread}:{event} {other}:{at}")
+        return Answers(done, unordered, unordered, unordered, trace)
+    regions, hops = serial.found(replay.accesses)
+    lines = text(*serial.lines(regions, hops))
+    return Answers(done, (0, text("ordered")), done, (0, lines + done[1]) if hops is None else (10, lines), trace)
+
+
+def is_faithful(content, log_content, said):
+    """Whether by a plain replay the log gives what was said, and orders all conflicts."""
+    answers = replayed(content, log_content)
+    return answers.replay == (0, said) and answers.verify == (0, text("ordered"))
 
 
 def lowest_thread(threads, draws):
@@ -389,7 +452,7 @@ def lowest_thread(threads, draws):
 WORDS = [
     "r0", "r15", "r16", "r01", "r", "x", "y", "z", "X", "0", "007", "1", "-1", "18446744073709551615",
     "18446744073709551616", "000000000000000000001", "fuel", "object", "thread", "set", "read", "write", "bump", "while", "if",
-    "end", "safe", "pause", "add", "jump", "#", "\u00fc", "x\u000b", "\ufeffthread", "n" * 32, "n" * 33,
+    "end", "safe", "pause", "region", "add", "jump", "#", "\u00fc", "x\u000b", "\ufeffthread", "n" * 32, "n" * 33,
 ]  # fmt: skip
 
 

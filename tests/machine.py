@@ -32,11 +32,11 @@ def read_script(content):
 
 
 class Running:
-    """One thread of a script: its place, its registers and its fuel."""
+    """One thread of a script: its place, its registers, its fuel, and how many regions it began."""
 
     def __init__(self, commands, fuel):
         self.commands, self.fuel = commands, fuel
-        self.place, self.registers = 0, dict.fromkeys((f"r{n}" for n in range(16)), 0)
+        self.place, self.regions, self.registers = 0, 0, dict.fromkeys((f"r{n}" for n in range(16)), 0)
         self.partner, still_open = {}, []
         for place, words in enumerate(commands):
             if words[0] in JUMPS:
@@ -67,7 +67,9 @@ class Running:
         if kind == "end":
             opener = self.partner[self.place]
             return opener if self.commands[opener][0] == "while" else self.place + 1
-        if kind == "set":
+        if kind == "region":
+            self.regions += 1
+        elif kind == "set":
             r[words[1]] = int(words[2])
         elif kind == "copy":
             r[words[1]] = r[words[2]]

@@ -4,7 +4,7 @@ import random
 
 import machine
 from case import Case, draw, fence, join, log, script, text
-from cases import COUNTED, COUNTED_LOG, COUNTED_SAID
+from cases import COUNTED, COUNTED_LOG, COUNTED_SAID, SPLIT_READS, TWO_READS, TWO_READS_LOG, TWO_READS_SAID
 
 HANDOVER = script("object x 5 / thread / set r0 7 / write x r0 / thread / read r0 x")
 
@@ -79,6 +79,20 @@ ROWS = [
         log((2, join(1, 1, 2)), (1, join(0, 0, 1))),
     ),
     (
+        "a read on either side of two writes",
+        TWO_READS,
+        "000111100111111100011111",
+        TWO_READS_SAID,
+        TWO_READS_LOG,
+    ),
+    (
+        "the same, and a region between the reads",
+        SPLIT_READS,
+        "000111100111111100011111",
+        TWO_READS_SAID,
+        TWO_READS_LOG,
+    ),
+    (
         "a claim that comes too late",
         script("object x 0 / thread / thread / set r0 1 / write x r0 / thread / set r0 2 / write x r0"),
         "1212121111",
@@ -94,6 +108,7 @@ def cases():
         both = {"S": content, "L": recorded}
         yield Case(f"turns: {name}", ["turns", "S", "L", picks], {"S": content}, said, 0, {"L": recorded})
         yield Case(f"turns, replayed: {name}", ["replay", "S", "L"], both, said)
+        yield Case(f"turns, replayed on threads: {name}", ["parallel", "S", "L"], both, said)
         yield Case(f"turns, verified: {name}", ["verify", "S", "L"], both, text("ordered"))
     for name, picks in [("none", ""), ("no digit", "01g"), ("a blank", "0 1"), ("65,537 of them", "0" * 65537)]:
         yield Case(f"turns: picks, {name}", ["turns", "S", "L", picks], {"S": HANDOVER}, text("words: not a command"), 1)
@@ -113,7 +128,7 @@ def some_commands(dice, depth=2):
     """A few commands, among them loops that end."""
     lines = []
     for _ in range(dice.randint(0, 5)):
-        kind = dice.choice(["read", "write", "read", "write", "bump", "safe", "pause", "add", "while", "if"])
+        kind = dice.choice(["read", "write", "read", "write", "bump", "safe", "pause", "region", "add", "while", "if"])
         if kind == "read":
             lines.append(f"read r{dice.randint(0, 3)} {dice.choice('xy')}")
         elif kind in ("write", "bump"):
@@ -127,7 +142,7 @@ def some_commands(dice, depth=2):
             body = some_commands(dice, depth - 1)
             lines += [f"set {counter} {dice.randint(0, 3)}", "set r15 1", f"while {counter}"]
             lines += [*body, f"sub {counter} {counter} r15", "end"]
-        elif kind in ("safe", "pause"):
+        elif kind in ("safe", "pause", "region"):
             lines.append(kind)
     return lines
 
