@@ -79,6 +79,7 @@ impl Config {
     }
 
     /// Runs to the next demand and answers it. A read then waits for its value.
+    #[inline(always)]
     pub fn next(&mut self) -> Demand
         requires { self.old.waits ≡ false }
         ensures demand { result ≡ next_demand self.old }
@@ -110,6 +111,7 @@ impl Config {
     }
 
     /// Gives the read that waits its value.
+    #[inline(always)]
     pub fn give(&mut self, value: u64)
         requires { self.old.waits ≡ true }
         ensures { self.new ≡ given self.old value }

@@ -145,6 +145,8 @@ fn obey(context: &mut Context, command: Command, lead: usize)
 }
 
 /// Runs on to the next command that is a demand, or to the thread's end, and answers the demand.
+/// Inlined, so that a context and its demand go through no memory.
+#[inline(always)]
 pub(crate) fn advance(commands: &[Command], leads: &[usize], context: &mut Context) -> Demand
     requires registers { All HasRegisters commands.now }
     requires leads { IsLeadTable commands.now leads.now }
