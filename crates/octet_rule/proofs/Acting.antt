@@ -1,5 +1,5 @@
 -- Each call acts by the operation of its step.
-use Rattle.std.proofs.Common.{◌≡◌, ℕ, ◌+◌, ◌-◌, ◌*◌, ◌/◌, ◌^◌, ◌<◌, ⊎_elim, true, false, List, length, IsTrue, ◌≢◌, Some, None, sym, refl, ap, ◌∙◌, arith}
+use Rattle.std.proofs.Common.{◌≡◌, ℕ, ◌+◌, ◌-◌, ◌*◌, ◌/◌, ◌^◌, ◌<◌, ⊎_elim, true, false, List, length, IsTrue, ◌≢◌, sym, refl, ap, ◌∙◌, arith}
 use Rattle.atomic_table.specs.Table.{State, Me, Step as TableStep, Allows}
 use Rattle.std.specs.Prelude.{bit_or, ◌==◌, ◌%◌}
 use prog.Atomic.{either}

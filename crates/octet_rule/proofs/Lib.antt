@@ -7,3 +7,4 @@ pub mod LaidOut
 pub mod Ending
 pub mod Letting
 pub mod Pairs
+pub mod MadeAtOnce

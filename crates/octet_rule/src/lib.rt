@@ -3,6 +3,8 @@
 #![tactic(auto)]
 
 mod closing;
+mod entered;
+mod entering;
 pub mod laws;
 mod objects;
 mod opening;
@@ -17,5 +19,6 @@ mod tried;
 mod view;
 mod words;
 
+pub use entered::Entered;
 pub use tried::Tried;
 pub use words::{Seat, Words};

@@ -146,7 +146,7 @@ impl Words {
     }
 
     // A play knows its mode by its type.
-    fn load_by_mode(
+    pub(crate) fn load_by_mode(
         &self,
         inner: &mut atomic_table::Seat<(), View>,
         place: usize,
