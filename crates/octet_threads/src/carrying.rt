@@ -62,8 +62,13 @@ fn access<R: Threads + Wait + Sync, G: HeapGate>(
     let thread = worker.thread();
     gate.pass(rt, thread, worker.accesses());
     gate.note(thread, worker);
-    heap.begin(worker, object, mode, value);
-    make(rt, heap, worker, patience)
+    match heap.access_or_begin(worker, object, mode, value) {
+        Poll::Ready { value } => value,
+        Poll::Pending { why } => {
+            patience.wait(rt, why, worker.accesses());
+            make(rt, heap, worker, patience)
+        }
+    }
 }
 
 /// `carry`, by a worker that keeps its patience from one demand to the next.

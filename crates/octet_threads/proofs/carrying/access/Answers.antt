@@ -1,11 +1,21 @@
-use Rattle.std.proofs.Common.{subst}
-use Rattle.octet_rule.specs.Views.{SeatView}
 use Rattle.octet_heap.specs.declared.wish.Wish.{Wish}
+use Rattle.octet_heap.specs.declared.poll.Poll.TheVariants.{Ready}
 use Rattle.octet_heap.specs.Workers.{seat_of}
-use Rattle.octet_threads.specs.Tasks.{access_task, Does}
+use Rattle.octet_threads.specs.Tasks.{access_task}
+use Rattle.octet_threads.proofs.Doing.{gone_and_done}
+use Rattle.octet_threads.proofs.Polling.{pending_goes, ready_does, adds_none, adds_more, adds_last}
 use Rattle.octet_threads.proofs.carrying.access.Goals as goal
 
-pub returns-clause-steps : goal.returns-clause-steps
-returns-clause-steps g c =
-    let wish : Wish = record { object = c.args.object; mode = c.args.mode; value = c.args.value } in
-    subst (λ (v : SeatView). Does (access_task wish) v (seat_of c.make.new.worker)) c.begin.ensures.same (c.make.ensures.steps wish c.begin.ensures.wish)
+pub returns-in-Ready-clause-steps : goal.returns-in-Ready-clause-steps
+returns-in-Ready-clause-steps g c = let wish : Wish = record { object = c.args.object; mode = c.args.mode; value = c.args.value } in
+    ready_does wish (seat_of c.args.worker.now) (seat_of c.access_or_begin.new.worker) c.in-Ready.value c.in-Ready.ensures.steps
+
+pub returns-in-Pending-clause-steps : goal.returns-in-Pending-clause-steps
+returns-in-Pending-clause-steps g c = let wish : Wish = record { object = c.args.object; mode = c.args.mode; value = c.args.value } in
+    let v = seat_of c.args.worker.now in let u = seat_of c.access_or_begin.new.worker in
+    gone_and_done (access_task wish) v u (seat_of c.make.new.worker) (pending_goes wish v u c.in-Pending.why c.in-Pending.ensures.steps) (c.make.ensures.steps wish c.in-Pending.ensures.wish)
+
+pub returns-in-Pending-clause-journal : goal.returns-in-Pending-clause-journal
+returns-in-Pending-clause-journal g c = let wish : Wish = record { object = c.args.object; mode = c.args.mode; value = c.args.value } in
+    let v = seat_of c.args.worker.now in let u = seat_of c.access_or_begin.new.worker in
+    adds_last wish v u (seat_of c.make.new.worker) (Ready c.make.result) (adds_more wish v v u c.in-Pending.why (adds_none v) c.in-Pending.ensures.journal) (c.make.ensures.journal wish c.in-Pending.ensures.wish)
