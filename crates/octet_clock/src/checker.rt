@@ -139,7 +139,7 @@ impl Checker {
 /// takes in what the thread knew when it had made these, and not what it knows by now.
 pub(crate) fn judge(
     alloc: Global,
-    replayer: &mut Replayer,
+    replayer: &mut Replayer<'_>,
     threads: usize,
 ) -> Result<Verdict, OutOfMemory>
     requires threads { threads ≡ length replayer.old.log.threads }

@@ -42,7 +42,7 @@ fn empty_lanes(alloc: Global, threads: usize) -> Result<Vec<Lane>, OutOfMemory>
 pub(crate) fn lanes_of(
     alloc: Global,
     threads: usize,
-    accesses: &mut Accesses,
+    accesses: &mut Accesses<'_>,
 ) -> Result<Vec<Lane>, OutOfMemory>
     requires few { threads ≤ MAX_THREADS }
     requires threads { threads ≡ length accesses.old.replayer.script.threads }

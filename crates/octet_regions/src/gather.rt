@@ -76,14 +76,18 @@ fn configs_of(alloc: Global, script: &Script) -> Result<Vec<Config>, OutOfMemory
 /// The accesses of a script and a log in the lowest order, each with its region, as a replay makes
 /// them.
 #[derive(Drop)]
-pub(crate) struct Accesses {
-    pub(crate) replayer: Replayer,
+pub(crate) struct Accesses<'a> {
+    pub(crate) replayer: Replayer<'a>,
     pub(crate) configs: Vec<Config>,
 }
 
-impl Accesses {
+impl<'a> Accesses<'a> {
     /// Before the first access.
-    pub(crate) fn new(alloc: Global, script: &Script, log: &Log) -> Result<Accesses, ReplayFault>
+    pub(crate) fn new(
+        alloc: Global,
+        script: &Script,
+        log: &'a Log,
+    ) -> Result<Accesses<'a>, ReplayFault>
         ensures begins { IfOk result (HasBegun script.now log.now) }
         ensures refused { IfErr result (IsNotBegun script.now log.now.threads) }
     {

@@ -1,13 +1,15 @@
 -- What a thread that is asked for its next access or its end tells.
-use Rattle.std.proofs.Common.{◌≡◌, ℕ, ◌⊎◌, inl, inr, false, List, sym, ap, ◌∙◌, subst}
+use Rattle.std.proofs.Common.{◌≡◌, ℕ, ◌+◌, ◌⊎◌, inl, inr, false, List, [], refl, sym, ap, ◌∙◌, subst, arith, zero-add}
 use Rattle.octet_model.specs.declared.command.Command.{Command}
 use Rattle.octet_model.specs.declared.outcome.End.{End}
 use Rattle.octet_model.specs.Thread.{Configuration, settled, demanded, past_demanded}
 use Rattle.octet_interp.specs.declared.demand.Demand.{Demand}
 use Rattle.octet_interp.specs.declared.demand.Demand.TheVariants.{Read, Write, Bump, Safe, Pause, Ended}
-use Rattle.octet_interp.specs.Demands.{ThreadState, next_demand, after_demand, given, is_read}
-use Rattle.octet_interp.specs.Laws.{Agrees}
+use Rattle.octet_interp.specs.Demands.{ThreadState, next_demand, after_demand, given, is_demand, is_read}
+use Rattle.octet_interp.specs.Laws.{Agrees, CountsPast}
+use Rattle.octet_interp.specs.Regions.{regions_ahead, regions_to}
 use Rattle.octet_interp.proofs.Agreement.{agrees, follows}
+use Rattle.octet_interp.proofs.RegionsRun.{counted}
 use Rattle.octet_replay.specs.declared.thread.NextDemand.{NextDemand}
 use Rattle.octet_replay.specs.declared.thread.NextDemand.TheVariants.{Read as ReadNext, Write as WriteNext, Bump as BumpNext, Ended as EndNext}
 use Rattle.octet_replay.specs.NextDemand.{demand_of, IsBeforeDemand, IsDemandedNext}
@@ -61,3 +63,38 @@ module _ (commands : List Command) (c : Configuration) (s after : ThreadState) w
   asked_on demand (inr is) a =
       let at_pause = subst (λ (d : Demand). Asked commands c s d after) is a in
       (ap (λ (x : ThreadState). x.waits) a.stands ∙ ap is_read (sym at_pause.tells), agrees_here Pause at_pause ∙ a.settles)
+
+-- the `region` commands that were counted and those ahead are as many, wherever the thread is asked on the way
+module _ (s after : ThreadState) (stands : after ≡ after_demand s) (total : ℕ) (all : s.regions + regions_ahead s.commands s.at ≡ total) where
+  abbrev run_here : ℕ
+  run_here = regions_to is_demand s.commands s.at.fuel s.at
+
+  abbrev uncounted : ThreadState
+  uncounted = record s { regions = 0 }
+
+  counts_past : (demand : Demand) → demand ≡ next_demand s → CountsPast s.at [] demand (after_demand uncounted)
+  counts_past demand tells =
+      subst (λ (d : Demand). CountsPast s.at [] d (after_demand uncounted)) (sym tells)
+      (counted s.at [] uncounted (record { fits = tt; settles = refl }) (zero-add (regions_ahead s.commands s.at)))
+
+  counts_all : 0 + run_here ≡ regions_ahead s.commands s.at → after.regions ≡ total
+  counts_all run = omega (arith, all, run, ap (λ (x : ThreadState). x.regions) stands)
+
+  pub counts_at_read : (object : ℕ) → Read object ≡ next_demand s → after.regions ≡ total
+  counts_at_read object tells = counts_all (counts_past (Read object) tells).0
+
+  pub counts_at_write : (object value : ℕ) → Write object value ≡ next_demand s → after.regions ≡ total
+  counts_at_write object value tells = counts_all (counts_past (Write object value) tells).0
+
+  pub counts_at_bump : (object amount : ℕ) → Bump object amount ≡ next_demand s → after.regions ≡ total
+  counts_at_bump object amount tells = counts_all (counts_past (Bump object amount) tells).0
+
+  pub counts_at_end : (end : End) → Ended end ≡ next_demand s → after.regions ≡ total
+  counts_at_end end tells = counts_all (counts_past (Ended end) tells)
+
+  counts_still : 0 + run_here + regions_ahead s.commands (after_demand s).at ≡ regions_ahead s.commands s.at → after.regions + regions_ahead after.commands after.at ≡ total
+  counts_still run = ap (λ (x : ThreadState). x.regions + regions_ahead x.commands x.at) stands ∙ omega (arith, all, run)
+
+  pub counts_on : (demand : Demand) → (demand ≡ Safe) ⊎ (demand ≡ Pause) → demand ≡ next_demand s → after.regions + regions_ahead after.commands after.at ≡ total
+  counts_on demand (inl is) tells = counts_still (counts_past Safe (sym is ∙ tells))
+  counts_on demand (inr is) tells = counts_still (counts_past Pause (sym is ∙ tells))

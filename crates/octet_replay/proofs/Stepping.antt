@@ -31,7 +31,7 @@ use Rattle.octet_replay.specs.declared.thread.ThreadReplay.{ThreadReplay}
 use Rattle.octet_replay.specs.declared.state.Replay.{Replay}
 use Rattle.octet_replay.specs.NextDemand.{demand_of, NamesObject}
 use Rattle.octet_replay.specs.Needs.{NeedsAndCounts, after_step, no_counts, is_ready, IsLowestReady, NamesThread}
-use Rattle.octet_replay.specs.ReplayState.{ReplayState, state_at, plain_state, HasHalted, IsNextStep}
+use Rattle.octet_replay.specs.ReplayState.{ReplayState, state_at, plain_state, regions_of, HasHalted, IsNextStep, IsNextThread}
 use Rattle.octet_replay.specs.Replayed.{state_of, is_draw, AllNameObjects, AreNeedsOf, AreReplaysOf, CanMake, IsAt, MakesEvent, StandsAt}
 use Rattle.octet_replay.specs.Threads.{need_of, next_by_counts, next_event, Grown, HasRoomFor, IsReplayOf, StandsFor, WritesWithin}
 use Rattle.octet_replay.proofs.lemmas.Awaiting as awaiting
@@ -160,6 +160,21 @@ module _ (r : Replay) (at : IsAt r) where
 
   pub halted : ((t : ℕ) → is_ready r.waits t ≡ false) → HasHalted (state_of r)
   halted none t = sym (ready_may r.script.value r.log.value.threads (plain_state (state_of r)) r.threads.items r.heap.items r.waits at.stands t) ∙ none t
+
+  pub next_thread : (t : ℕ) → IsLowestReady r.waits t → IsNextThread (state_of r) t
+  next_thread t lowest =
+      let ready = ready_may r.script.value r.log.value.threads (plain_state (state_of r)) r.threads.items r.heap.items r.waits at.stands in
+      let more =
+      one_more (by_log r.script.value r.log.value.threads) (sum r.waits.events) (lowest_order r.script.value r.log.value.threads) (opening_state r.script.value)
+      (lowest_order_is_lowest r.script.value r.log.value.threads at.agree) t (sym (ready t) ∙ lowest.is_met) (λ u below. sym (ready u) ∙ lowest.lowest u below) in
+      record { there = omega (arith, within_log t lowest.is_met, at.agree); within = more.within; is_of = more.is_of; may = sym (ready t) ∙ lowest.is_met }
+
+  pub has_thread : (t : ℕ) → t < length r.script.value.threads → t < length r.threads.items
+  has_thread t within = omega (arith, at.stands.as_many, as_many_logs, at.agree)
+
+  pub regions_are : (t : ℕ) (x : ThreadReplay) → x ≡ get_or r.threads.items t x → t < length r.script.value.threads → x.config.regions ≡ regions_of (state_of r) t
+  regions_are t x is within =
+      (at.stands.each t x (slice_get-get_or r.threads.items t x (has_thread t within) ∙ ap (λ (z : ThreadReplay). Some z) (sym is))).regions
 
   module _ (t : ℕ) (lowest : IsLowestReady r.waits t) (x : ThreadReplay) (there : slice_get r.threads.items t ≡ Some x) (event : Event)
       (is : next_event (next_by_counts (thread_log_of r.log.value.threads t) x) r.heap.items ≡ Some event) where

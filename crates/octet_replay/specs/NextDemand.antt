@@ -1,8 +1,9 @@
 -- What a thread demands next.
-use Rattle.std.specs.Prelude.{◌≡◌, ℕ, ◌<◌, true, false, List}
+use Rattle.std.specs.Prelude.{◌≡◌, ℕ, ◌+◌, ◌<◌, true, false, List}
 use Rattle.octet_model.specs.declared.command.Command.{Command}
 use Rattle.octet_model.specs.Thread.{Configuration, AccessOrEnd, ToRead, ToWrite, ToBump, ToEnd, demanded, past_demanded}
 use Rattle.octet_interp.specs.Demands.{ThreadState, given}
+use Rattle.octet_interp.specs.Regions.{regions_ahead}
 use Rattle.octet_replay.specs.declared.thread.NextDemand.{NextDemand}
 use Rattle.octet_replay.specs.declared.thread.NextDemand.TheVariants.{Read, Write, Bump, Ended}
 
@@ -23,6 +24,10 @@ IsBeforeDemand commands c (Ended end) s = Unit {0}
 pub record IsDemandedNext (commands : List Command) (c : Configuration) (up_next : NextDemand) (s : ThreadState) : Type 0 where
   pub demands : demanded commands c ≡ demand_of up_next
   pub stands : IsBeforeDemand commands c up_next s
+
+-- from one state to the next, the `region` commands ahead of what the first demands were counted
+abbrev pub CountsAhead : ThreadState → ThreadState → Type 0
+CountsAhead before after = after.regions ≡ before.regions + regions_ahead before.commands before.at
 
 -- what it demands next names one of the objects, by their number
 abbrev pub NamesObject : ℕ → NextDemand → Type 0

@@ -4,8 +4,10 @@ use Rattle.octet_model.specs.declared.event.Event.{Event}
 use Rattle.octet_model.specs.declared.script.Script.{Script}
 use Rattle.octet_model.specs.declared.log.Log.{Log}
 use Rattle.octet_model.specs.declared.log.ThreadLog.{ThreadLog}
-use Rattle.octet_model.specs.Machine.{PlainState, may_step, appended}
-use Rattle.octet_model.specs.Orders.{by_log, lowest_order, state_after}
+use Rattle.octet_model.specs.Machine.{PlainState, journal_of, may_step, appended}
+use Rattle.octet_model.specs.Orders.{by_log, commands_of, lowest_order, state_after}
+use Rattle.octet_model.specs.Thread.{starting_configuration}
+use Rattle.octet_interp.specs.Regions.{regions_before}
 use Rattle.octet_replay.specs.declared.fault.ReplayFault.{ReplayFault}
 use Rattle.octet_replay.specs.declared.fault.ReplayFault.TheVariants.{ThreadsDiffer, OutOfMemory}
 use Rattle.octet_replay.specs.declared.stepped.Stepped.{Stepped}
@@ -36,10 +38,21 @@ pub record IsNextStep (r : ReplayState) (thread : ℕ) (event : Event) : Type 0 
   pub may : IsTrue (may_step (by_log r.script r.log.threads) (plain_state r) thread)
   pub makes : (state_at r.script r.log.threads (suc r.steps)).journals ≡ appended (plain_state r).journals thread event
 
+-- the next step of the lowest order is of the thread, which may step
+pub record IsNextThread (r : ReplayState) (thread : ℕ) : Type 0 where
+  pub there : thread < length r.script.threads
+  pub within : r.steps < length (lowest_order r.script r.log.threads)
+  pub is_of : slice_index (lowest_order r.script r.log.threads) r.steps ≡ thread
+  pub may : IsTrue (may_step (by_log r.script r.log.threads) (plain_state r) thread)
+
 -- one step more, or nothing where no thread may step
 abbrev pub StepsTo : ReplayState → Stepped → ReplayState → Type 0
 StepsTo before (Made thread event) after = IsNextStep before thread event × (after ≡ record before { steps = suc before.steps })
 StepsTo before Halted after = HasHalted before × (after ≡ before)
+
+-- how many `region` commands a thread has run before its next access, or before its end where it makes none more
+abbrev pub regions_of : ReplayState → ℕ → ℕ
+regions_of r thread = regions_before (commands_of r.script thread) (starting_configuration r.script.fuel) (journal_of (plain_state r).journals thread)
 
 -- why no replay is begun: the numbers of threads differ. Out of memory alone may come at any time
 abbrev pub IsNotBegun : Script → List ThreadLog → ReplayFault → Type 0

@@ -11,10 +11,11 @@ use Rattle.octet_model.specs.Machine.{Next, Wants, Finished, NothingFits, MakeMa
 use Rattle.octet_model.specs.Journals.{access_count, mark_count, gap_after, due_mark, next_access, mark_first}
 use Rattle.octet_model.specs.Orders.{values_read}
 use Rattle.octet_interp.specs.Demands.{given}
+use Rattle.octet_interp.specs.Regions.{regions_before}
 use Rattle.octet_replay.specs.declared.need.Need.{Need}
 use Rattle.octet_replay.specs.declared.need.Need.TheVariants.{Free, Events, DrawsAre, DrawsReach, Never}
 use Rattle.octet_replay.specs.declared.thread.ThreadReplay.{ThreadReplay}
-use Rattle.octet_replay.specs.NextDemand.{demand_of, IsDemandedNext, NamesObject}
+use Rattle.octet_replay.specs.NextDemand.{demand_of, CountsAhead, IsDemandedNext, NamesObject}
 
 -- the counts are those of the journal
 pub record HasCounts (journal : List Event) (t : ThreadReplay) : Type 0 where
@@ -22,12 +23,13 @@ pub record HasCounts (journal : List Event) (t : ThreadReplay) : Type 0 where
   pub counts_accesses : t.accesses ≡ access_count journal
   pub counts_gap : t.gap ≡ gap_after 0 journal
 
--- a thread with these commands and this log, after a journal from the start: its counts and the values read are those of the journal, and what it demands next is what it demands then
+-- a thread with these commands and this log, after a journal from the start: its counts and the values read are those of the journal, what it demands next is what it demands then, and the `region` commands that it ran are those before that
 pub record IsReplayOf (commands : List Command) (start : Configuration) (objects : ℕ) (log : ThreadLog) (journal : List Event) (t : ThreadReplay) : Type 0 where
   pub counts : HasCounts journal t
   pub comes : IsDemandedNext commands (configuration_after commands start journal) t.up_next t.config
   pub runs : t.config.commands ≡ commands
   pub has : t.config.objects ≡ objects
+  pub regions : t.config.regions ≡ regions_before commands start journal
   pub names : NamesObject objects t.up_next
   pub reads : t.reads.items ≡ values_read journal
   pub room : log.accesses ≤ vec_capacity t.reads
@@ -84,6 +86,13 @@ IsPastEvent (Write object value) before after = IsDemandedNext before.config.com
 IsPastEvent (Update object old new) before after = IsDemandedNext before.config.commands before.config.at after.up_next after.config
 IsPastEvent (Marked mark) before after = (after.up_next ≡ before.up_next) × (after.config ≡ before.config)
 
+-- past an access it ran the `region` commands up to the next one
+abbrev pub CountsOn : Event → ThreadReplay → ThreadReplay → Type 0
+CountsOn (Read object value) before after = CountsAhead (given before.config value) after.config
+CountsOn (Write object value) before after = CountsAhead before.config after.config
+CountsOn (Update object old new) before after = CountsAhead before.config after.config
+CountsOn (Marked mark) before after = after.config.regions ≡ before.config.regions
+
 -- one thread before an event and after it
 pub record Grown (before : ThreadReplay) (event : Event) (after : ThreadReplay) : Type 0 where
   pub reads : after.reads.items ≡ before.reads.items ++ values_read (event ∷ [])
@@ -92,6 +101,7 @@ pub record Grown (before : ThreadReplay) (event : Event) (after : ThreadReplay) 
   pub accesses : after.accesses ≡ before.accesses + access_count (event ∷ [])
   pub gap : after.gap ≡ gap_after before.gap (event ∷ [])
   pub comes : IsPastEvent event before after
+  pub regions : CountsOn event before after
   pub runs : after.config.commands ≡ before.config.commands
   pub has : after.config.objects ≡ before.config.objects
   pub names : NamesObject before.config.objects before.up_next → NamesObject before.config.objects after.up_next
@@ -103,6 +113,7 @@ pub record Counted (before after : ThreadReplay) : Type 0 where
   pub accesses : after.accesses ≡ suc before.accesses
   pub gap : after.gap ≡ suc before.gap
   pub comes : IsDemandedNext before.config.commands before.config.at after.up_next after.config
+  pub regions : CountsAhead before.config after.config
   pub runs : after.config.commands ≡ before.config.commands
   pub has : after.config.objects ≡ before.config.objects
   pub names : NamesObject before.config.objects after.up_next

@@ -38,7 +38,7 @@ fn empty_journals(alloc: Global, threads: usize) -> Result<Vec<List<Event>>, Out
 // Steps to the end of the lowest order, and keeps the events.
 fn collect(
     alloc: Global,
-    replayer: &mut Replayer,
+    replayer: &mut Replayer<'_>,
     threads: usize,
 ) -> Result<List<List<Event>>, OutOfMemory>
     requires begins { replayer.old.steps ≡ 0 }
@@ -55,7 +55,7 @@ fn collect(
 }
 
 /// Replays a log in the lowest order, and answers the threads' journals where that order is
-/// lawful, with the values that were read. Refuses as `replay` does. Copies the log's marks.
+/// lawful, with the values that were read. Refuses as `replay` does.
 pub fn journals(alloc: Global, script: &Script, log: &Log) -> Result<List<List<Event>>, ReplayFault>
     ensures lawful { IfOk result (λ _. IsLawful script.now log.now.threads) }
     ensures journals { IfOk result (λ journals. journals ≡ journals_after script.now log.now.threads (lowest_order script.now log.now.threads)) }

@@ -1,8 +1,9 @@
 //! A replay that is stepped by its caller.
-ghost use Rattle.std.specs.Prelude.{◌≡◌, length, IfOk, IfErr};
+ghost use Rattle.std.specs.Prelude.{◌≡◌, ◌<◌, ◌≤◌, length, IfErr, IfOk, IfSome, IsNone};
+ghost use Rattle.octet_model.specs.declared.limits.TheConstants.{MAX_FUEL};
 ghost use Rattle.octet_model.specs.Orders.{execution, lowest_order};
 ghost use Rattle.octet_replay.specs.Judged.{HasCause, IsLawful};
-ghost use Rattle.octet_replay.specs.ReplayState.{HasHalted, IsNotBegun, StepsTo};
+ghost use Rattle.octet_replay.specs.ReplayState.{regions_of, HasHalted, IsNextThread, IsNotBegun, StepsTo};
 
 use crate::ending::end;
 use crate::state::Replay;
@@ -12,14 +13,14 @@ use std::alloc::Global;
 use std::marker::Model;
 
 /// A replay of a log in the lowest order, step by step: always the lowest thread steps that may.
-/// Seen as the script, the log, and how many steps were made.
+/// Seen as the script, the log, which its caller lends, and how many steps were made.
 #[derive(Drop)]
-pub struct Replayer {
+pub struct Replayer<'a> {
     replay: Replay,
-    log: Log,
+    log: &'a Log,
 }
 
-impl Model for Replayer {
+impl<'a> Model for Replayer<'a> {
     ghost use Rattle.octet_replay.specs.ReplayState.{ReplayState};
 
     ghost Value = { ReplayState };
@@ -29,20 +30,20 @@ impl Model for Replayer {
 
     ghost view = { λ r. state_of r.replay };
 
-    ghost invariant = { λ r. IsAt r.replay × (r.log ≡ r.replay.log.value) };
+    ghost invariant = { λ r. IsAt r.replay × (r.log.now ≡ r.replay.log.value) };
 }
 
-impl Replayer {
-    /// Before the first step. Copies what it needs, and takes the room for all values that can be
-    /// read. Refuses a log that has not as many threads as the script.
-    pub fn new(alloc: Global, script: &Script, log: &Log) -> Result<Replayer, ReplayFault>
+impl<'a> Replayer<'a> {
+    /// Before the first step. Copies what it needs of the script, and takes the room for all values
+    /// that can be read. Refuses a log that has not as many threads as the script.
+    pub fn new(alloc: Global, script: &Script, log: &'a Log) -> Result<Replayer<'a>, ReplayFault>
         ensures opens { IfOk result (λ replayer. replayer ≡ record { script = script.now; log = log.now; steps = 0 }) }
         ensures agree { IfOk result (λ _. length script.now.threads ≡ length log.now.threads) }
         ensures refused { IfErr result (IsNotBegun script.now log.now.threads) }
     {
         Ok(Replayer {
             replay: Replay::new(alloc, script, log)?,
-            log: log.try_clone(alloc)?,
+            log,
         })
     }
 
@@ -52,7 +53,25 @@ impl Replayer {
     pub fn step(&mut self) -> Stepped
         ensures { StepsTo self.old result self.new }
     {
-        self.replay.step(&self.log)
+        self.replay.step(self.log)
+    }
+
+    /// The thread that makes the next step of the lowest order. Takes no memory.
+    pub fn next_thread(&self) -> Option<u8>
+        ensures some { IfSome result (IsNextThread self.now) }
+        ensures none { IsNone result → HasHalted self.now }
+    {
+        self.replay.next_thread()
+    }
+
+    /// How many `region` commands a thread runs before its next access, or before its end where it
+    /// makes none more. Takes no memory.
+    pub fn regions(&self, thread: u8) -> u32
+        requires { thread < length self.now.script.threads }
+        ensures regions { result ≡ regions_of self.now thread }
+        ensures few { result ≤ MAX_FUEL }
+    {
+        self.replay.regions(thread)
     }
 
     /// Steps on until no thread may step. Takes no memory.
@@ -61,16 +80,16 @@ impl Replayer {
         ensures script { self.new.script ≡ self.old.script }
         ensures log { self.new.log ≡ self.old.log }
     {
-        self.replay.run(&self.log);
+        self.replay.run(self.log);
     }
 
     /// What the lowest order comes to, at its end: the outcome where it is lawful, else why not.
     pub fn end(self, alloc: Global) -> Result<Outcome, ReplayFault>
         requires { HasHalted self }
-        ensures lawful { IfOk result (λ _. IsLawful self.script self.log.threads) }
-        ensures outcome { IfOk result (λ outcome. outcome ≡ execution self.script self.log.threads (lowest_order self.script self.log.threads)) }
-        ensures refused { IfErr result (HasCause self.script self.log.threads) }
+        ensures lawful { IfOk result (λ _. IsLawful self.entry.script self.entry.log.threads) }
+        ensures outcome { IfOk result (λ outcome. outcome ≡ execution self.entry.script self.entry.log.threads (lowest_order self.entry.script self.entry.log.threads)) }
+        ensures refused { IfErr result (HasCause self.entry.script self.entry.log.threads) }
     {
-        end(alloc, self.replay, &self.log)
+        end(alloc, self.replay, self.log)
     }
 }

@@ -1,10 +1,11 @@
 //! All threads as far as they are replayed.
-ghost use Rattle.std.specs.Prelude.{◌≡◌, ◌<◌, ◌≤◌, ◌^◌, length, All, IfOk, IfErr, IsTrue};
+ghost use Rattle.std.specs.Prelude.{◌≡◌, ◌<◌, ◌≤◌, ◌^◌, length, All, IfOk, IfErr, IfSome, IsNone, IsTrue};
+ghost use Rattle.octet_model.specs.declared.limits.TheConstants.{MAX_FUEL};
 ghost use Rattle.octet_model.specs.Machine.{heap_after, no_events};
 ghost use Rattle.octet_model.specs.Orders.{thread_log_of};
 ghost use Rattle.octet_model.specs.Plays.{operation_of};
 ghost use Rattle.octet_replay.specs.Replayed.{is_draw, state_of, AreNeedsOf, AreReplaysOf, CanMake, IsAt, MakesEvent};
-ghost use Rattle.octet_replay.specs.ReplayState.{HasHalted, IsNotBegun, StepsTo};
+ghost use Rattle.octet_replay.specs.ReplayState.{regions_of, HasHalted, IsNextThread, IsNotBegun, StepsTo};
 ghost use Rattle.octet_replay.specs.Threads.{WritesWithin};
 
 use crate::thread::ThreadReplay;
@@ -113,6 +114,7 @@ impl Replay {
     }
 
     // Makes the event of a thread that may step, by its log.
+    #[inline(always)]
     fn make(&mut self, thread: u8, event: Event, log: &ThreadLog)
         requires can { CanMake self.old thread event }
         requires of_log { log.now ≡ thread_log_of self.old.log.value.threads thread }
@@ -145,6 +147,28 @@ impl Replay {
         };
         self.make(thread, event, of_log);
         Stepped::Made { thread, event }
+    }
+
+    /// The thread that makes the next step of the lowest order.
+    pub(crate) fn next_thread(&self) -> Option<u8>
+        requires { IsAt self.now }
+        ensures some { IfSome result (IsNextThread (state_of self.now)) }
+        ensures none { IsNone result → HasHalted (state_of self.now) }
+    {
+        let Some(thread) = self.waits.lowest() else {
+            return None;
+        };
+        Some(thread)
+    }
+
+    /// How many `region` commands a thread has run: it was asked for its next access.
+    pub(crate) fn regions(&self, thread: u8) -> u32
+        requires at { IsAt self.now }
+        requires within { thread < length self.now.script.value.threads }
+        ensures regions { result ≡ regions_of (state_of self.now) thread }
+        ensures few { result ≤ MAX_FUEL }
+    {
+        self.threads[thread as usize].config.regions()
     }
 
     /// Steps on until no thread may step.

@@ -341,7 +341,8 @@ fn updates_add_to_what_the_object_has(rt: HostRuntime) -> Result<(), Fail> {
 #[test]
 fn replayer_gives_the_events_one_by_one(rt: HostRuntime) -> Result<(), Fail> {
     let alloc = rt.alloc();
-    let mut replayer = Replayer::new(alloc, &shared_reads(alloc)?, &shared_log(alloc)?)?;
+    let log = shared_log(alloc)?;
+    let mut replayer = Replayer::new(alloc, &shared_reads(alloc)?, &log)?;
     for (thread, event) in [
         (1, marked(Mark::Join { from: 0, upto: 0 })),
         (1, READ_9),
@@ -366,7 +367,7 @@ fn replayer_gives_the_events_one_by_one(rt: HostRuntime) -> Result<(), Fail> {
 
 fn assert_traced(
     rt: &impl Abort,
-    tracer: &mut Tracer,
+    tracer: &mut Tracer<'_>,
     wanted: &[(u8, u32, Event)],
 ) -> Result<(), Fail> {
     for told in wanted {
@@ -380,7 +381,8 @@ fn assert_traced(
 #[test]
 fn traces_tell_each_event_with_its_place(rt: HostRuntime) -> Result<(), Fail> {
     let alloc = rt.alloc();
-    let mut tracer = Tracer::new(alloc, &shared_reads(alloc)?, &shared_log(alloc)?)?;
+    let log = shared_log(alloc)?;
+    let mut tracer = Tracer::new(alloc, &shared_reads(alloc)?, &log)?;
     let trace = [
         (1, 0, marked(Mark::Join { from: 0, upto: 0 })),
         (1, 1, READ_9),

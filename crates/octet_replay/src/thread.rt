@@ -3,7 +3,7 @@ ghost use Rattle.std.specs.Prelude.{◌≡◌, ◌<◌, ◌^◌, suc, [], false,
 ghost use Rattle.octet_model.specs.Journals.{due_mark};
 ghost use Rattle.octet_model.specs.Orders.{commands_of};
 ghost use Rattle.octet_model.specs.Thread.{starting_configuration};
-ghost use Rattle.octet_replay.specs.NextDemand.{IsDemandedNext, NamesObject};
+ghost use Rattle.octet_replay.specs.NextDemand.{CountsAhead, IsDemandedNext, NamesObject};
 ghost use Rattle.octet_replay.specs.Threads.{need_of, next_by_counts, next_event, Counted, Grown, HasRoomFor, IsReplayOf, StandsFor};
 
 use crate::Need;
@@ -39,6 +39,7 @@ fn ask(config: &mut Config) -> NextDemand
     ensures names { NamesObject config.old.objects result }
     ensures commands { config.new.commands ≡ config.old.commands }
     ensures objects { config.new.objects ≡ config.old.objects }
+    ensures regions { CountsAhead config.old config.new }
 {
     loop {
         match config.next() {

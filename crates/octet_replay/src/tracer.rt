@@ -11,14 +11,14 @@ use std::alloc::Global;
 use std::marker::Model;
 
 /// A replay in the lowest order that tells its trace: each event as it is made, with its place.
-/// Seen as the script, the log, and how many events of the trace were told.
+/// Seen as the script, the log, which its caller lends, and how many events of the trace were told.
 #[derive(Drop)]
-pub struct Tracer {
-    replayer: Replayer,
+pub struct Tracer<'a> {
+    replayer: Replayer<'a>,
     made: [u32; MAX_THREADS],
 }
 
-impl Model for Tracer {
+impl<'a> Model for Tracer<'a> {
     ghost use Rattle.octet_replay.specs.TracerState.{TracerState, IsTracedTo};
 
     ghost Value = { TracerState };
@@ -28,10 +28,10 @@ impl Model for Tracer {
     ghost invariant = { λ t. IsTracedTo t.replayer t.made };
 }
 
-impl Tracer {
-    /// Before the first event. Copies what it needs, and takes the room for all values that can be
-    /// read. Refuses a log that has not as many threads as the script.
-    pub fn new(alloc: Global, script: &Script, log: &Log) -> Result<Tracer, ReplayFault>
+impl<'a> Tracer<'a> {
+    /// Before the first event. Copies what it needs of the script, and takes the room for all values
+    /// that can be read. Refuses a log that has not as many threads as the script.
+    pub fn new(alloc: Global, script: &Script, log: &'a Log) -> Result<Tracer<'a>, ReplayFault>
         ensures begins { IfOk result (λ tracer. tracer ≡ record { script = script.now; log = log.now; told = 0 }) }
         ensures agree { IfOk result (λ _. length script.now.threads ≡ length log.now.threads) }
         ensures refused { IfErr result (IsNotBegun script.now log.now.threads) }
@@ -63,9 +63,9 @@ impl Tracer {
     /// Steps on to the end of the lowest order, and answers what it comes to: the outcome where
     /// it is lawful, else why not.
     pub fn end(mut self, alloc: Global) -> Result<Outcome, ReplayFault>
-        ensures lawful { IfOk result (λ _. IsLawful self.script self.log.threads) }
-        ensures outcome { IfOk result (λ outcome. outcome ≡ execution self.script self.log.threads (lowest_order self.script self.log.threads)) }
-        ensures refused { IfErr result (HasCause self.script self.log.threads) }
+        ensures lawful { IfOk result (λ _. IsLawful self.entry.script self.entry.log.threads) }
+        ensures outcome { IfOk result (λ outcome. outcome ≡ execution self.entry.script self.entry.log.threads (lowest_order self.entry.script self.entry.log.threads)) }
+        ensures refused { IfErr result (HasCause self.entry.script self.entry.log.threads) }
     {
         self.replayer.run();
         self.replayer.end(alloc)

@@ -19,7 +19,7 @@ pub enum Found {
 }
 
 // Goes by a trace up to the first event that the test accepts, or to its end.
-fn seek(tracer: &mut Tracer, test: &Stop) -> Found
+fn seek(tracer: &mut Tracer<'_>, test: &Stop) -> Found
     requires begins { tracer.old.told ≡ 0 }
     ensures script { tracer.new.script ≡ tracer.old.script }
     ensures log { tracer.new.log ≡ tracer.old.log }

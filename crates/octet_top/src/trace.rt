@@ -37,7 +37,11 @@ pub(crate) fn trace(alloc: Global, pair: &Pair) -> Result<Reply, OutOfMemory>
 }
 
 // Tells all events that are left.
-fn trace_text(alloc: Global, script: &Script, tracer: &mut Tracer) -> Result<Vec<u8>, OutOfMemory>
+fn trace_text(
+    alloc: Global,
+    script: &Script,
+    tracer: &mut Tracer<'_>,
+) -> Result<Vec<u8>, OutOfMemory>
     requires begins { tracer.old.told ≡ 0 }
     ensures text { IfOk result (λ text. text.items ≡ trace_text script.now (trace_of tracer.old.script tracer.old.log.threads)) }
     ensures script { tracer.new.script ≡ tracer.old.script }

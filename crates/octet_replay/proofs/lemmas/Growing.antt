@@ -14,11 +14,13 @@ use Rattle.std.specs.Vec.{vec_len, vec_capacity}
 use Rattle.octet_model.specs.Orders.{values_read}
 use Rattle.octet_model.proofs.lemmas.Splits.{accesses_split, marks_split, values_split, gap_split, configuration_split}
 use Rattle.octet_interp.specs.Demands.{ThreadState, given}
+use Rattle.octet_interp.specs.Regions.{regions_ahead, regions_before}
+use Rattle.octet_interp.proofs.RegionsRun.{before_access, before_mark}
 use Rattle.octet_replay.specs.declared.thread.NextDemand.{NextDemand}
 use Rattle.octet_replay.specs.declared.thread.NextDemand.TheVariants.{Read as ReadNext, Write as WriteNext, Bump as BumpNext, Ended as EndNext}
 use Rattle.octet_replay.specs.declared.thread.ThreadReplay.{ThreadReplay}
 use Rattle.octet_replay.specs.NextDemand.{demand_of, IsBeforeDemand, IsDemandedNext, NamesObject}
-use Rattle.octet_replay.specs.Threads.{next_by_counts, next_event, IsPastEvent, Grown, HasRoomFor, IsReplayOf, StandsFor, WritesWithin}
+use Rattle.octet_replay.specs.Threads.{next_by_counts, next_event, CountsOn, IsPastEvent, Grown, HasRoomFor, IsReplayOf, StandsFor, WritesWithin}
 use Rattle.octet_replay.proofs.lemmas.EventsMade.{due_there, gap_within}
 
 -- the event comes of what it demands next
@@ -132,6 +134,7 @@ module _ (commands : List Command) (start : Configuration) (objects : ℕ) (log 
           subst (λ (c : Configuration). IsDemandedNext commands c after.up_next after.config) (sym (configuration_split commands start journal (event ∷ []))) (moved event (came_here log t heap event is).comes grown.comes);
       runs = grown.runs ∙ replay.runs;
       has = grown.has ∙ replay.has;
+      regions = counts event (came_here log t heap event is).comes grown.regions;
       names = subst (λ (n : ℕ). NamesObject n after.up_next) replay.has (grown.names (subst (λ (n : ℕ). NamesObject n t.up_next) (sym replay.has) replay.names));
       reads = grown.reads ∙ ap (λ (xs : List ℕ). xs ++ values_read (event ∷ [])) replay.reads ∙ sym (values_split journal (event ∷ []));
       room = omega (arith, grown.room, replay.room);
@@ -172,3 +175,21 @@ module _ (commands : List Command) (start : Configuration) (objects : ℕ) (log 
         moved (Marked mark) of past =
             let there = subst (λ (x : NextDemand). IsDemandedNext commands here x t.config) (sym past.0) replay.comes in
             subst (λ (s : ThreadState). IsDemandedNext commands here after.up_next s) (sym past.1) there
+
+        -- the `region` commands past an access are those before it and those ahead of the next one
+        on_to : (e : Event) (at : Configuration) → ((c : Configuration) → regions_before commands c (e ∷ []) ≡ regions_ahead commands c + regions_ahead commands (configuration_after commands c (e ∷ [])))
+            → at ≡ configuration_after commands here (e ∷ []) → after.config.regions ≡ t.config.regions + regions_ahead t.config.commands at → after.config.regions ≡ regions_before commands start (journal ++ e ∷ [])
+        on_to e at on leaves past =
+            omega (arith, past, replay.regions, before_access commands start journal e on, ap (λ (cs : List Command). regions_ahead cs at) replay.runs, ap (regions_ahead commands) leaves)
+
+        counts : (e : Event) → ComesOf e t.up_next → CountsOn e t after → after.config.regions ≡ regions_before commands start (journal ++ e ∷ [])
+        counts (Read object value) of past =
+            let stands = subst (λ (x : NextDemand). IsBeforeDemand commands here x t.config) of replay.comes.stands in
+            on_to (Read object value) (given t.config value).at (λ c. refl) (stands.1 value) past
+        counts (Write object value) of past =
+            let stands = subst (λ (x : NextDemand). IsBeforeDemand commands here x t.config) of replay.comes.stands in
+            on_to (Write object value) t.config.at (λ c. refl) (stands.1 value) past
+        counts (Update object old new) of past =
+            let stands = subst (λ (x : NextDemand). IsBeforeDemand commands here x t.config) of.1 replay.comes.stands in
+            on_to (Update object old new) t.config.at (λ c. refl) (stands.1 new) past
+        counts (Marked mark) of past = past ∙ replay.regions ∙ sym (before_mark commands start journal mark)

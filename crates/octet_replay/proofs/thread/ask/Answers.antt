@@ -1,6 +1,6 @@
 use Rattle.std.proofs.Common.{ap, ◌∙◌}
 use Rattle.octet_interp.specs.Demands.{ThreadState}
-use Rattle.octet_replay.proofs.Asking.{asked_read, asked_write, asked_bump, asked_end, asked_on}
+use Rattle.octet_replay.proofs.Asking.{asked_read, asked_write, asked_bump, asked_end, asked_on, counts_at_read, counts_at_write, counts_at_bump, counts_at_end, counts_on}
 use Rattle.octet_replay.proofs.thread.ask.Goals as goal
 
 pub returns-in-Read-clause-up_next : goal.returns-in-Read-clause-up_next
@@ -27,9 +27,22 @@ loop-object-preserved c =
       has = ap (λ (x : ThreadState). x.objects) c.next.ensures.state ∙ c.loop-object.invariant.has;
       asked = on.0;
       settles = on.1;
+      counts = counts_on c.loop-object.config c.next.new.self c.next.ensures.state _ c.loop-object.invariant.counts c.next.result c.in-Safe.is c.next.ensures.demand;
     }
 
 pub returns-in-Ended-clause-up_next : goal.returns-in-Ended-clause-up_next
 returns-in-Ended-clause-up_next c =
     asked_end c.args.config.now.commands c.args.config.now.at c.loop-object.config c.next.new.self c.in-Ended.end
     (record { runs = c.loop-object.invariant.runs; settles = c.loop-object.invariant.settles; tells = c.in-Ended.ensures.demand; stands = c.in-Ended.ensures.state })
+
+pub returns-in-Read-clause-regions : goal.returns-in-Read-clause-regions
+returns-in-Read-clause-regions c = counts_at_read c.loop-object.config c.next.new.self c.in-Read.ensures.state _ c.loop-object.invariant.counts c.in-Read.object c.in-Read.ensures.demand
+
+pub returns-in-Write-clause-regions : goal.returns-in-Write-clause-regions
+returns-in-Write-clause-regions c = counts_at_write c.loop-object.config c.next.new.self c.in-Write.ensures.state _ c.loop-object.invariant.counts c.in-Write.object c.in-Write.value c.in-Write.ensures.demand
+
+pub returns-in-Bump-clause-regions : goal.returns-in-Bump-clause-regions
+returns-in-Bump-clause-regions c = counts_at_bump c.loop-object.config c.next.new.self c.in-Bump.ensures.state _ c.loop-object.invariant.counts c.in-Bump.object c.in-Bump.amount c.in-Bump.ensures.demand
+
+pub returns-in-Ended-clause-regions : goal.returns-in-Ended-clause-regions
+returns-in-Ended-clause-regions c = counts_at_end c.loop-object.config c.next.new.self c.in-Ended.ensures.state _ c.loop-object.invariant.counts c.in-Ended.end c.in-Ended.ensures.demand
