@@ -54,6 +54,7 @@ fn ask(config: &mut Config) -> NextDemand
 
 /// The mark of a log that is next after a number of marks, where as many accesses as its gap were
 /// made since the last of these.
+#[inline(always)]
 pub fn due_mark(log: &ThreadLog, marks: usize, gap: u32) -> Option<Mark>
     ensures { result ≡ due_mark (slice_get log.now.marks marks) gap }
 {
@@ -89,6 +90,7 @@ impl ThreadReplay {
     }
 
     /// The event that is next by the log, where a read would take its value from the heap now.
+    #[inline(always)]
     pub(crate) fn next_event(&self, log: &ThreadLog, heap: &[u64]) -> Option<Event>
         requires { NamesObject (length heap.now) self.now.up_next }
         ensures { result ≡ next_event (next_by_counts log.now self.now) heap.now }
@@ -118,6 +120,7 @@ impl ThreadReplay {
     }
 
     /// What the thread waits for before the step that is next by the log.
+    #[inline(always)]
     pub(crate) fn need(&self, log: &ThreadLog) -> Need
         ensures { result ≡ need_of (next_by_counts log.now self.now) }
     {
@@ -148,6 +151,7 @@ impl ThreadReplay {
     }
 
     /// Makes an event.
+    #[inline(always)]
     pub fn make(&mut self, event: Event)
         requires stands { StandsFor event self.old }
         requires room { HasRoomFor event self.old }

@@ -16,6 +16,12 @@ impl ThreadSet {
         ThreadSet { bits: 0 }
     }
 
+    pub(crate) fn is_empty(&self) -> bool
+        ensures { result ≡ true → (thread : ℕ) → has self.now thread ≡ false }
+    {
+        self.lowest().is_none()
+    }
+
     pub(crate) fn insert(&mut self, thread: u8)
         requires { thread < MAX_THREADS }
         ensures own { has self.new thread ≡ true }

@@ -33,6 +33,7 @@ impl WaitingList {
     }
 
     /// Takes out all threads, where the count has come to the number of one of them; else none.
+    #[inline(always)]
     pub(crate) fn take_due(&mut self, count: u64) -> ThreadSet
         ensures { (thread at : ℕ) → Awaits self.old thread at → (has result thread ≡ true) ⊎ ((count < at) × Awaits self.new thread at) }
     {

@@ -25,6 +25,7 @@ struct Lists {
 }
 
 impl Lists {
+    #[inline(always)]
     fn is_met(&self, need: Need) -> bool
         requires { NamesThread (length self.now.events.items) need }
         ensures { result ≡ is_met self.now.events.items self.now.draws need }
@@ -39,6 +40,7 @@ impl Lists {
     }
 
     // Puts a thread on the list of the count at which its need changes, if that can come.
+    #[inline(always)]
     fn enlist(&mut self, thread: u8, need: Need)
         requires thread { thread < MAX_THREADS }
         requires events { NamesThread (length self.old.events.items) need }
@@ -91,7 +93,22 @@ impl Lists {
         self.enlist(thread, need);
     }
 
-    fn place_all(&mut self, mut threads: ThreadSet)
+    // Places the threads that are due: mostly there are none.
+    #[inline(always)]
+    fn place_all(&mut self, threads: ThreadSet)
+        requires { IsSized self.old }
+        ensures placed { (thread : ℕ) → has threads thread ≡ true → thread < length self.old.needs.items → IsPlaced self.new thread }
+        ensures others { (other : ℕ) → IsPlaced self.old other → IsPlaced self.new other }
+        ensures sized { IsSized self.new }
+        ensures kept { Keeps (counts_of self.old) self.old self.new }
+    {
+        if threads.is_empty() {
+            return;
+        }
+        self.place_each(threads);
+    }
+
+    fn place_each(&mut self, mut threads: ThreadSet)
         requires { IsSized self.old }
         ensures placed { (thread : ℕ) → has threads thread ≡ true → thread < length self.old.needs.items → IsPlaced self.new thread }
         ensures others { (other : ℕ) → IsPlaced self.old other → IsPlaced self.new other }
@@ -105,6 +122,7 @@ impl Lists {
     }
 
     // Counts an event of a thread, and places the threads that waited for it.
+    #[inline(always)]
     fn count_event(&mut self, thread: u8)
         requires sized { IsSized self.old }
         requires within { thread < length self.old.needs.items }

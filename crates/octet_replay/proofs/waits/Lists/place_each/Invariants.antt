@@ -1,7 +1,7 @@
 use Rattle.std.proofs.Common.{◌≡◌, ℕ, ◌⊎◌, ◌<◌, true, length}
 use Rattle.octet_replay.specs.ThreadSet.{has}
 use Rattle.octet_replay.specs.WaitingLists.{counts_of, IsPlaced, IsSized, Keeps}
-use Rattle.octet_replay.proofs.waits.Lists.place_all.Given as goal
+use Rattle.octet_replay.proofs.waits.Lists.place_each.Given as goal
 
 abbrev pub invariant-loop-thread : goal.invariant-loop-thread
 invariant-loop-thread l = record {
