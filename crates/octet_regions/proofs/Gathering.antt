@@ -25,14 +25,14 @@ use Rattle.octet_interp.specs.Regions.{regions_before}
 use Rattle.octet_interp.proofs.Agreement.{follows}
 use Rattle.octet_interp.proofs.Journaled.{take_marks}
 use Rattle.octet_interp.proofs.RegionsRun.{before_access, before_mark, marks_count_none}
-use Rattle.octet_replay.specs.ReplayState.{HasHalted, ReplayState, IsNextStep, plain_state, state_at}
+use Rattle.octet_replay.specs.ReplayState.{HasHalted, ReplayState, IsNextStep, IsNextThread, plain_state, state_at}
 use Rattle.octet_replay.proofs.lemmas.Halting.{all_steps_made}
 use Rattle.octet_regions.specs.declared.access.Access.{Access}
 use Rattle.octet_regions.specs.declared.region.Region.{Region}
 use Rattle.octet_regions.specs.Accesses.{access_in, access_made, accesses_along, accesses_of, region_in}
 use Rattle.octet_regions.specs.Chooser.{FitLanes}
 use Rattle.octet_regions.specs.Earlier.{RegionsRise}
-use Rattle.octet_regions.specs.Gather.{AreAtStart, ArePast, Gathered, IsPast, is_access}
+use Rattle.octet_regions.specs.Gather.{Gathered, is_access}
 use Rattle.octet_regions.proofs.Lanes.{set_cases}
 use Rattle.octet_regions.proofs.Tables.{last_cases}
 
@@ -51,25 +51,6 @@ along_more script log (u ∷ front) t s =
     let first = access_made script s u (next_of (by_log script log) s u) in
     ap (λ (rest : List Access). first ++ rest) (along_more script log front t (step (by_log script log) s u))
     ∙ sym (append_assoc first (accesses_along script log (step (by_log script log) s u) front) _)
-
--- an access fits the configuration where the journal leaves it
-fits_one : (commands : List Command) (c : Configuration) (log : ThreadLog) (journal : List Event) (heap : List ℕ) (o : Operation) → next_by_log commands c log journal ≡ Wants o → is_access (event_made o heap) ≡ true
-    → FitsFrom commands (configuration_after commands c journal) (event_made o heap ∷ [])
-fits_one commands c log journal heap o is access = go o (next_by commands c log journal o is) access
-  where
-    go : (v : Operation) → IsNext (due_mark (slice_get log.marks (mark_count journal)) (gap_after 0 journal)) (demanded commands (configuration_after commands c journal)) (nat_lt (access_count journal) log.accesses) v
-        → is_access (event_made v heap) ≡ true → FitsFrom commands (configuration_after commands c journal) (event_made v heap ∷ [])
-    go (MakeMark mark) n a = absurd cc
-    go (MakeRead object) n a = (n.0, tt)
-    go (MakeWrite object value) n a = (n.0, tt)
-    go (MakeUpdate object change) n a = ((n.0.0, n.0.1, ap (λ (f : ℕ → ℕ). f (slice_index heap object)) n.0.2), tt)
-
--- whether it fits follows from what is demanded
-fits_alike : (commands : List Command) (c d : Configuration) (event : Event) → demanded commands c ≡ demanded commands d → FitsFrom commands c (event ∷ []) → FitsFrom commands d (event ∷ [])
-fits_alike commands c d (Read object value) same fits = (sym same ∙ fits.0, tt)
-fits_alike commands c d (Write object value) same fits = (sym same ∙ fits.0, tt)
-fits_alike commands c d (Update object before then) same fits = ((fits.0.0, sym same ∙ fits.0.1, fits.0.2), tt)
-fits_alike commands c d (Marked mark) same fits = tt
 
 as_many_state : (script : Script) (log : List ThreadLog) (order : List ℕ) → length (state_after script log order).journals ≡ length script.threads
 as_many_state script log order = as_many_after (by_log script log) order (opening_state script) ∙ length-map script.threads (λ (c : List Command). [])
@@ -120,69 +101,6 @@ module _ (r : ReplayState) (t : ℕ) (e : Event) (next : IsNextStep r t e) where
   abbrev journal : List Event
   journal = journal_of s.journals t
 
-  -- the access fits the thread where it is
-  pub fits_here : (config : ThreadState) → IsPast r.script t s.journals config → is_access e ≡ true → FitsFrom config.commands config.at (e ∷ [])
-  fits_here config past access =
-      let one = fits_one commands start (thread_log_of r.log.threads t) journal s.heap made.0 made.1.wanted (ap is_access event_is ∙ access) in
-      let here = subst (λ (x : Event). FitsFrom commands (configuration_after commands start journal) (x ∷ [])) event_is one in
-      let alike = (follows commands (configuration_after commands start journal) config.at (subst (λ (cs : List Command). settled cs (configuration_after cs start journal) ≡ settled cs config.at) past.commands past.journal.settles)).0 in
-      subst (λ (cs : List Command). FitsFrom cs config.at (e ∷ [])) (sym past.commands) (fits_alike commands (configuration_after commands start journal) config.at e alike here)
-
-  journals_then : (after' : ReplayState) → after' ≡ record r { steps = suc r.steps } → (plain_state after').journals ≡ appended s.journals t e
-  journals_then after' is = ap (λ (x : ReplayState). (plain_state x).journals) is ∙ next.makes
-
-  others_past : (after' : ReplayState) → after' ≡ record r { steps = suc r.steps } → (u : ℕ) (config : ThreadState) → u ≢ t → IsPast r.script u s.journals config → IsPast r.script u (plain_state after').journals config
-  others_past after' is u config differ past =
-      let same : journal_of (plain_state after').journals u ≡ journal_of s.journals u = ap (λ (js : Journals). journal_of js u) (journals_then after' is) ∙ other_journal s.journals t u e differ in
-      record {
-        commands = past.commands;
-        waits = past.waits;
-        journal = subst (λ (j : List Event). IsJournalOf start j config) (sym same) past.journal;
-        counts = subst (λ (j : List Event). CountsRegions start j config) (sym same) past.counts;
-      }
-
-  own_then : (after' : ReplayState) → after' ≡ record r { steps = suc r.steps } → journal_of (plain_state after').journals t ≡ journal ++ e ∷ []
-  own_then after' is = ap (λ (js : Journals). journal_of js t) (journals_then after' is) ∙ same_journal s.journals t e made.1.within
-
-  -- an access: the thread is past it
-  pub past_access : (after' : ReplayState) (configs : List ThreadState) (new : ThreadState) → after' ≡ record r { steps = suc r.steps } → t < length configs → new.commands ≡ commands → new.waits ≡ false
-      → IsJournalOf start (journal ++ e ∷ []) new → CountsRegions start (journal ++ e ∷ []) new → ArePast r.script s.journals configs → ArePast r.script (plain_state after').journals (slice_set configs t new)
-  past_access after' configs new is within same waits journaled counted' past = record {
-    as_many = length-set configs t new ∙ past.as_many;
-    each = λ u config at_u. elim (set_cases configs t u config new within at_u) [
-      | inr elsewhere ↦ others_past after' is u config elsewhere.0 (past.each u config elsewhere.1)
-      | inl here ↦ subst (λ (x : ThreadState). IsPast r.script u (plain_state after').journals x) (sym here.1) (subst (λ (v : ℕ). IsPast r.script v (plain_state after').journals new) (sym here.0) (record {
-        commands = same;
-        waits = waits;
-        journal = subst (λ (j : List Event). IsJournalOf start j new) (sym (own_then after' is)) journaled;
-        counts = subst (λ (j : List Event). CountsRegions start j new) (sym (own_then after' is)) counted';
-      }))
-    ];
-  }
-
-  -- a mark changes nothing of where the threads are
-  pub past_mark : (after' : ReplayState) (configs : List ThreadState) → after' ≡ record r { steps = suc r.steps } → is_access e ≡ false → ArePast r.script s.journals configs → ArePast r.script (plain_state after').journals configs
-  past_mark after' configs is no_access past = record {
-    as_many = past.as_many;
-    each = λ u config at_u. elim (cases_eq u t) [
-      | inr differ ↦ others_past after' is u config differ (past.each u config at_u)
-      | inl own ↦ subst (λ (v : ℕ). IsPast r.script v (plain_state after').journals config) (sym own) (marked e refl no_access config (subst (λ (v : ℕ). IsPast r.script v s.journals config) own (past.each u config at_u)))
-    ];
-  }
-    where
-      marked : (x : Event) → x ≡ e → is_access x ≡ false → (config : ThreadState) → IsPast r.script t s.journals config → IsPast r.script t (plain_state after').journals config
-      marked (Marked mark) same no_access' config had =
-          let own : journal_of (plain_state after').journals t ≡ journal ++ Marked mark ∷ [] = own_then after' is ∙ ap (λ (y : Event). journal ++ y ∷ []) (sym same) in
-          record {
-            commands = had.commands;
-            waits = had.waits;
-            journal = subst (λ (j : List Event). IsJournalOf start j config) (sym own) (take_marks start journal config mark had.journal);
-            counts = subst (λ (j : List Event). CountsRegions start j config) (sym own) (marks_count_none start journal config mark had.counts);
-          }
-      marked (Read object value) same no_access' config had = absurd cc
-      marked (Write object value) same no_access' config had = absurd cc
-      marked (Update object before then) same no_access' config had = absurd cc
-
   pub gathered_access : (after' : ReplayState) (accesses new : List Access) (number : ℕ) → after' ≡ record r { steps = suc r.steps } → is_access e ≡ true → number ≡ regions_before commands start journal → number ≤ MAX_FUEL
       → new ≡ accesses ++ record { region = record { thread = t; number = number }; event = e } ∷ [] → Gathered r accesses → Gathered after' new
   gathered_access after' accesses new number is access numbered few new_is gathered = subst (λ (x : ReplayState). Gathered x new) (sym is) (record {
@@ -221,19 +139,6 @@ module _ (r : ReplayState) (t : ℕ) (e : Event) (next : IsNextStep r t e) where
       ]
 
 -- before the first step
-pub past_none : (r : ReplayState) (script : Script) (configs : List ThreadState) → r.script ≡ script → r.steps ≡ 0 → AreAtStart script configs → ArePast script (plain_state r).journals configs
-past_none r script configs same begins starts = record {
-  as_many = starts.as_many;
-  each = λ u config at_u.
-      let none : journal_of (plain_state r).journals u ≡ [] = ap (λ (n : ℕ). journal_of (state_at r.script r.log.threads n).journals u) begins ∙ no_journal r.script.threads u in
-      subst (λ (x : ThreadState). IsPast script u (plain_state r).journals x) (sym (starts.each u config at_u)) (record {
-        commands = refl;
-        waits = refl;
-        journal = subst (λ (j : List Event). IsJournalOf (starting_configuration script.fuel) j (starting_thread script u)) (sym none) (record { fits = tt; settles = refl });
-        counts = subst (λ (j : List Event). CountsRegions (starting_configuration script.fuel) j (starting_thread script u)) (sym none) (omega arith);
-      });
-}
-
 pub gathered_none : (r : ReplayState) (accesses : List Access) → r.steps ≡ 0 → accesses ≡ [] → Gathered r accesses
 gathered_none r accesses begins none = record {
   all = none ∙ ap (λ (n : ℕ). accesses_along r.script r.log.threads (opening_state r.script) (take n (lowest_order r.script r.log.threads))) (sym begins);
@@ -248,13 +153,6 @@ gathered_all r script log accesses same_script same_log agree halted gathered =
     let g = subst (λ (x : ReplayState). Gathered x accesses) r_is gathered in
     let ended = all_steps_made (record { script = script; log = log; steps = r.steps }) agree (subst (λ (x : ReplayState). HasHalted x) r_is halted) in
     g.all ∙ ap (λ (o : List ℕ). accesses_along script log.threads (opening_state script) o) (take_all r.steps (lowest_order script log.threads) ended)
-
--- the thread of the next step is past its journal
-pub here : (r : ReplayState) (script : Script) (configs : List ThreadState) (t : ℕ) (config : ThreadState) → r.script ≡ script → ArePast script (plain_state r).journals configs → (e : Event) → IsNextStep r t e
-    → config ≡ get_or configs t config → IsPast r.script t (plain_state r).journals config
-here r script configs t config same past e next was =
-    let past' = subst (λ (s : Script). ArePast s (plain_state r).journals configs) (sym same) past in
-    past'.each t config (slice_get_read configs (length configs) t config refl (omega (arith, there r t e next, past'.as_many)) was)
 
 -- regions never fall along a front
 grows_by : (commands : List Command) (c : Configuration) (journal : List Event) (event : Event) → regions_before commands c journal ≤ regions_before commands c (journal ++ event ∷ [])
@@ -335,6 +233,14 @@ rises_in_order script log = rises script log (lowest_order script log) (opening_
 pub rises_so_far : (r : ReplayState) (accesses : List Access) → Gathered r accesses → RegionsRise accesses
 rises_so_far r accesses gathered = subst RegionsRise (sym gathered.all) (rises r.script r.log.threads (take r.steps (lowest_order r.script r.log.threads)) (opening_state r.script))
 
+-- the step is that of the thread that is next
+pub at_next : (r : ReplayState) (t u : ℕ) (e : Event) → IsNextThread r t → IsNextStep r u e → IsNextStep r t e
+at_next r t u e there next = subst (λ (v : ℕ). IsNextStep r v e) (sym next.is_of ∙ there.is_of) next
+
+-- where a thread is next, the replay has not halted
+pub steps_still : (r : ReplayState) (t : ℕ) → IsNextThread r t → HasHalted r → ⊥
+steps_still r t there halted = let clash : true ≡ false = sym there.may ∙ halted t in cc
+
 -- where the thread of a step is, and how far it leads, by an earlier state
 pub made_there : (r first : ReplayState) (t : ℕ) → r.script ≡ first.script → t < length r.script.threads → t < length first.script.threads
 made_there r first t same lt = subst (λ (s : Script). t < length s.threads) same lt
@@ -342,9 +248,6 @@ made_there r first t same lt = subst (λ (s : Script). t < length s.threads) sam
 pub made_within : (r first : ReplayState) (t : ℕ) (e : Event) → IsNextStep r t e → r.script ≡ first.script → r.log ≡ first.log → (steps : ℕ) → steps ≡ suc r.steps → steps ≤ length (lowest_order first.script first.log.threads)
 made_within r first t e next same_script same_log steps is =
     subst (λ (s : Script). steps ≤ length (lowest_order s first.log.threads)) same_script (subst (λ (l : Log). steps ≤ length (lowest_order r.script l.threads)) same_log (omega (arith, next.within, is)))
-
-pub past_then : (r after : ReplayState) → after.script ≡ r.script → (configs : List ThreadState) → ArePast r.script (plain_state after).journals configs → ArePast after.script (plain_state after).journals configs
-past_then r after same configs past = subst (λ (s : Script). ArePast s (plain_state after).journals configs) (sym same) past
 
 -- accesses that were gathered are of threads that are there, in regions that have a number above
 pub fit_of : (r : ReplayState) (threads : ℕ) (seen : List Access) → threads ≤ MAX_THREADS → threads ≡ length r.script.threads → Gathered r seen → FitLanes threads seen

@@ -112,7 +112,7 @@ module _ (seen : List Access) (access : Access) where
     awaited = λ i node region is before. keeps.awaited i node region is (before_other region (region_of thread node.number) (λ same. differ (sym (ap (λ (q : Region). q.thread) same))) before);
   }
 
-  module _ (thread number : ℕ) (is_in : access.region ≡ region_of thread number) (rise : RegionsRise grown) (nodes : List Node) (waits more : List Wait) (known known_then conflicts : Bounds) (by : BoundConflicts seen access conflicts)
+  module _ (thread number : ℕ) (is_in : access.region ≡ region_of thread number) (rise : RegionsRise grown) (nodes : List Node) (waits more : List Wait) (known known_then : Bounds) (conflicts : ℕ → ℕ) (by : BoundConflicts seen access conflicts)
       (adds : AddsWaits thread conflicts waits known more known_then) (knows : KnowsWaits waits known) (keeps : KeepsLane seen thread nodes waits) where
     -- no region of the thread has a higher number
     highest : (i : ℕ) (node : Node) → slice_get nodes i ≡ Some node → node.number ≤ number

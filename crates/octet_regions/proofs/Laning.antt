@@ -52,7 +52,7 @@ lanes_begin threads lanes empty = record {
 }
 
 -- with one more access
-pub lanes_more : (threads : ℕ) (seen : List Access) (access : Access) (lanes : List Lane) (old new : Lane) (conflicts : Bounds) → RegionsRise (seen ++ access ∷ []) → AreLanesOf threads seen lanes → access.region.thread < length lanes
+pub lanes_more : (threads : ℕ) (seen : List Access) (access : Access) (lanes : List Lane) (old new : Lane) (conflicts : ℕ → ℕ) → RegionsRise (seen ++ access ∷ []) → AreLanesOf threads seen lanes → access.region.thread < length lanes
     → old ≡ get_or lanes access.region.thread old → BoundConflicts seen access conflicts → new.taken ≡ old.taken → new.over ≡ old.over → (KnowsWaits old.waits.items old.known → KnowsWaits new.waits.items new.known)
     → ((seen : List Access) (one : Access) → one.region ≡ access.region → RegionsRise (seen ++ one ∷ []) → BoundConflicts seen one conflicts → KnowsWaits old.waits.items old.known
     → KeepsLane seen access.region.thread old.nodes.items old.waits.items → KeepsLane (seen ++ one ∷ []) access.region.thread new.nodes.items new.waits.items)

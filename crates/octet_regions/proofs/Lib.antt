@@ -4,7 +4,6 @@ pub mod Waiting
 pub mod Laning
 pub mod Choosing
 pub mod Walking
-pub mod Asking
 pub mod Gathering
 pub mod Reordering
 pub mod SerialOrder

@@ -120,7 +120,7 @@ or_false true is = refl
 or_false false is = cc is
 
 -- the conflicts with an access, by the table of its kind
-module _ (seen : List Access) (access : Access) (bounds : Bounds) where
+module _ (seen : List Access) (access : Access) (bound : ℕ → ℕ) where
   conflict_from : (object : ℕ) (w : Bool) → object_of access.event ≡ Some object → is_write access.event ≡ w → (thread : ℕ) → thread ≢ access.region.thread → (number : ℕ)
       → Touches seen w object (region_of thread number) → Conflicts seen (region_of thread number) access
   conflict_from object w of writes thread differ number t = record {
@@ -152,12 +152,12 @@ module _ (seen : List Access) (access : Access) (bounds : Bounds) where
 
   pub conflicts_by : (object : ℕ) (w : Bool) (table : List Bounds) → object_of access.event ≡ Some object → is_write access.event ≡ w
       → ((o thread : ℕ) → IsBound (λ number. Touches seen w o (region_of thread number)) (last_in table o thread))
-      → ((thread : ℕ) → bound_in bounds thread ≡ last_in table object thread) → BoundConflicts seen access bounds
+      → ((thread : ℕ) → thread ≢ access.region.thread → bound thread ≡ last_in table object thread) → BoundConflicts seen access bound
   conflicts_by object w table of writes keeps is thread differ =
       same_bounded (λ number. Touches seen w object (region_of thread number)) (λ number. Conflicts seen (region_of thread number) access) _ _
-      (λ number t. conflict_from object w of writes thread differ number t) (λ number c. touch_from object w of writes thread number c) (sym (is thread)) (keeps object thread)
+      (λ number t. conflict_from object w of writes thread differ number t) (λ number c. touch_from object w of writes thread number c) (sym (is thread differ)) (keeps object thread)
 
-  pub no_conflicts : object_of access.event ≡ None → ((thread : ℕ) → bound_in bounds thread ≡ 0) → BoundConflicts seen access bounds
+  pub no_conflicts : object_of access.event ≡ None → ((thread : ℕ) → bound thread ≡ 0) → BoundConflicts seen access bound
   no_conflicts of is thread differ =
       subst (IsBound (λ number. Conflicts seen (region_of thread number) access)) (sym (is thread))
       (none_bounded _ (λ number c. (let none : None ≡ Some c.conflict.object = sym of ∙ c.conflict.of_same in cc)))

@@ -11,14 +11,14 @@ use Rattle.octet_regions.specs.Earlier.{AddsWaits, IsUnmet, KnowsWaits, LowestUn
 use Rattle.octet_regions.proofs.Tables.{last_cases}
 
 -- waits are added for the threads below a number
-pub record AddsBelow (limit thread : ℕ) (conflicts : Bounds) (before : List Wait) (known : Bounds) (after : List Wait) (known_then : Bounds) : Type 0 where
+pub record AddsBelow (limit thread : ℕ) (conflicts : ℕ → ℕ) (before : List Wait) (known : Bounds) (after : List Wait) (known_then : Bounds) : Type 0 where
   pub longer : length before ≤ length after
   pub same : (k : ℕ) (wait : Wait) → slice_get before k ≡ Some wait → slice_get after k ≡ Some wait
-  pub added : (k : ℕ) (wait : Wait) → length before ≤ k → slice_get after k ≡ Some wait → (wait.of ≢ thread) × (0 < wait.bound) × (wait.bound ≡ bound_in conflicts wait.of)
-  pub covers : (other number : ℕ) → other < limit → other ≢ thread → number < bound_in conflicts other → number < bound_in known_then other
+  pub added : (k : ℕ) (wait : Wait) → length before ≤ k → slice_get after k ≡ Some wait → (wait.of ≢ thread) × (0 < wait.bound) × (wait.bound ≡ conflicts wait.of)
+  pub covers : (other number : ℕ) → other < limit → other ≢ thread → number < conflicts other → number < bound_in known_then other
   pub knows : KnowsWaits before known → KnowsWaits after known_then
 
-pub adds_none : (thread : ℕ) (conflicts : Bounds) (before : List Wait) (known : Bounds) → AddsBelow 0 thread conflicts before known before known
+pub adds_none : (thread : ℕ) (conflicts : ℕ → ℕ) (before : List Wait) (known : Bounds) → AddsBelow 0 thread conflicts before known before known
 adds_none thread conflicts before known = record {
   longer = omega arith;
   same = λ k wait is. is;
@@ -27,8 +27,18 @@ adds_none thread conflicts before known = record {
   knows = λ knows. knows;
 }
 
+-- nothing is added where there are no conflicts
+pub adds_nothing : (thread : ℕ) (before : List Wait) (known : Bounds) → AddsWaits thread (λ other. 0) before known before known
+adds_nothing thread before known = record {
+  longer = omega arith;
+  same = λ k wait is. is;
+  added = λ k wait ge is. absurd (omega (arith, ge, slice_get_within before k wait is));
+  covers = λ other number differ lt. absurd (omega (arith, lt));
+  knows = λ knows. knows;
+}
+
 -- one more thread, of which nothing is added: it is the own one, or its bound is known
-pub adds_skip : (limit thread : ℕ) (conflicts : Bounds) (before : List Wait) (known : Bounds) (after : List Wait) (known_then : Bounds) → (limit ≢ thread → bound_in conflicts limit ≤ bound_in known_then limit)
+pub adds_skip : (limit thread : ℕ) (conflicts : ℕ → ℕ) (before : List Wait) (known : Bounds) (after : List Wait) (known_then : Bounds) → (limit ≢ thread → conflicts limit ≤ bound_in known_then limit)
     → AddsBelow limit thread conflicts before known after known_then → AddsBelow (limit + 1) thread conflicts before known after known_then
 adds_skip limit thread conflicts before known after known_then is_known adds = record {
   longer = adds.longer;
@@ -37,28 +47,28 @@ adds_skip limit thread conflicts before known after known_then is_known adds = r
   covers = λ other number lt differ above. elim (cases_eq other limit) [
     | inr not ↦ adds.covers other number (omega (arith, lt, not)) differ above
     | inl own ↦ subst (λ (o : ℕ). number < bound_in known_then o) (sym own) (
-        let above' : number < bound_in conflicts limit = subst (λ (o : ℕ). number < bound_in conflicts o) own above in
+        let above' : number < conflicts limit = subst (λ (o : ℕ). number < conflicts o) own above in
         omega (arith, above', is_known (λ same. differ (own ∙ same))))
   ];
   knows = adds.knows;
 }
 
 -- one more thread, of which a wait is added
-pub adds_more : (limit thread : ℕ) (conflicts : Bounds) (before : List Wait) (known : Bounds) (after more : List Wait) (known_then known_more : Bounds) (wait : Wait) → limit ≢ thread → bound_in known_then limit < wait.bound
-    → wait.of ≡ limit → wait.bound ≡ bound_in conflicts limit → more ≡ after ++ wait ∷ [] → IsRaised known_then limit wait.bound known_more
+pub adds_more : (limit thread : ℕ) (conflicts : ℕ → ℕ) (before : List Wait) (known : Bounds) (after more : List Wait) (known_then known_more : Bounds) (wait : Wait) → limit ≢ thread → bound_in known_then limit < wait.bound
+    → wait.of ≡ limit → wait.bound ≡ conflicts limit → more ≡ after ++ wait ∷ [] → IsRaised known_then limit wait.bound known_more
     → AddsBelow limit thread conflicts before known after known_then → AddsBelow (limit + 1) thread conflicts before known more known_more
 adds_more limit thread conflicts before known after more known_then known_more wait differ above of_is bound_is more_is raised adds = subst (λ (l : List Wait). AddsBelow (limit + 1) thread conflicts before known l known_more) (sym more_is) (record {
   longer = omega (arith, adds.longer, length-append after (wait ∷ []));
   same = λ k one is. slice_get-append after (wait ∷ []) k one (adds.same k one is);
   added = λ k one ge is. elim (last_cases after wait k one is) [
     | inl old ↦ adds.added k one ge old
-    | inr new ↦ subst (λ (w : Wait). (w.of ≢ thread) × (0 < w.bound) × (w.bound ≡ bound_in conflicts w.of)) (sym new.1)
-        (λ same. differ (sym of_is ∙ same), omega (arith, above), bound_is ∙ ap (bound_in conflicts) (sym of_is))
+    | inr new ↦ subst (λ (w : Wait). (w.of ≢ thread) × (0 < w.bound) × (w.bound ≡ conflicts w.of)) (sym new.1)
+        (λ same. differ (sym of_is ∙ same), omega (arith, above), bound_is ∙ ap conflicts (sym of_is))
   ];
   covers = λ other number lt differ' below. elim (cases_eq other limit) [
     | inr not ↦ omega (arith, adds.covers other number (omega (arith, lt, not)) differ' below, raised.others other not)
     | inl own ↦ subst (λ (o : ℕ). number < bound_in known_more o) (sym own) (
-        let below' : number < bound_in conflicts limit = subst (λ (o : ℕ). number < bound_in conflicts o) own below in
+        let below' : number < conflicts limit = subst (λ (o : ℕ). number < conflicts o) own below in
         let own' = raised.own in omega (arith, below', bound_is, own_is))
   ];
   knows = λ knows other number lt. elim (cases_eq other limit) [
@@ -82,8 +92,11 @@ nothing_past [] i le = refl
 nothing_past (x ∷ xs) zero le = absurd (omega arith)
 nothing_past (x ∷ xs) (suc i) le = nothing_past xs i (omega arith)
 
+pub none_past : (bounds : Bounds) (thread : ℕ) → length bounds.bounds ≤ thread → bound_in bounds thread ≡ 0
+none_past bounds thread le = nothing_past bounds.bounds thread le
+
 -- all threads
-pub adds_all : (limit thread : ℕ) (conflicts : Bounds) (before : List Wait) (known : Bounds) (after : List Wait) (known_then : Bounds) → length conflicts.bounds ≤ limit → AddsBelow limit thread conflicts before known after known_then
+pub adds_all : (limit thread : ℕ) (conflicts : ℕ → ℕ) (before : List Wait) (known : Bounds) (after : List Wait) (known_then : Bounds) → ((other : ℕ) → limit ≤ other → conflicts other ≡ 0) → AddsBelow limit thread conflicts before known after known_then
     → AddsWaits thread conflicts before known after known_then
 adds_all limit thread conflicts before known after known_then all adds = record {
   longer = adds.longer;
@@ -91,7 +104,7 @@ adds_all limit thread conflicts before known after known_then all adds = record 
   added = adds.added;
   covers = λ other number differ above. elim (cases_lt other limit) [
     | inl lt ↦ adds.covers other number lt differ above
-    | inr ge ↦ absurd (omega (arith, above, nothing_past conflicts.bounds other (omega (arith, ge, all))))
+    | inr ge ↦ absurd (omega (arith, above, all other ge))
   ];
   knows = adds.knows;
 }

@@ -140,11 +140,11 @@ module _ (accesses : List Access) (place thread from : ℕ) (region : Region) (l
       })) is
 
 -- what is_before tells, by the bound of the conflicts
-module _ (later : LastRegions) (access : Access) (other : ℕ) (bounds : Bounds) (differ : access.region.thread ≢ other) (by : (seen : List Access) → KeepsLast seen later → BoundConflicts seen access bounds) where
-  pub some_conflict : 0 < bound_in bounds other → (seen : List Access) → KeepsLast seen later → (number : ℕ) × Conflicts seen (region_of other number) access
-  some_conflict above seen keeps = let number = bound_in bounds other - 1 in (number, (by seen keeps other (λ same. differ (sym same))).reached number (omega (arith, above)))
+module _ (later : LastRegions) (access : Access) (other : ℕ) (bound : ℕ → ℕ) (differ : access.region.thread ≢ other) (by : (seen : List Access) → KeepsLast seen later → BoundConflicts seen access bound) where
+  pub some_conflict : 0 < bound other → (seen : List Access) → KeepsLast seen later → (number : ℕ) × Conflicts seen (region_of other number) access
+  some_conflict above seen keeps = let number = bound other - 1 in (number, (by seen keeps other (λ same. differ (sym same))).reached number (omega (arith, above)))
 
-  pub no_conflict : bound_in bounds other ≤ 0 → (seen : List Access) → KeepsLast seen later → (number : ℕ) → ¬ Conflicts seen (region_of other number) access
+  pub no_conflict : bound other ≤ 0 → (seen : List Access) → KeepsLast seen later → (number : ℕ) → ¬ Conflicts seen (region_of other number) access
   no_conflict none seen keeps number c = omega (arith, none, (by seen keeps other (λ same. differ (sym same))).below number c)
 
 -- the hop into a thread's next region, where the choice ended

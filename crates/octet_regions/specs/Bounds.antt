@@ -1,5 +1,5 @@
 -- Bounds, one for each thread.
-use Rattle.std.specs.Prelude.{◌≡◌, ◌≢◌, ℕ, suc, ◌<◌, ◌⊎◌, max, List, Some, None, slice_get, length, get_or}
+use Rattle.std.specs.Prelude.{◌≡◌, ◌≢◌, ℕ, suc, ◌<◌, ◌⊎◌, max, List, Option, Some, None, slice_get, length, get_or}
 use Rattle.octet_regions.specs.declared.bounds.Bounds.{Bounds}
 
 abbrev pub bound_in : Bounds → ℕ → ℕ
@@ -10,9 +10,10 @@ pub record IsRaised (before : Bounds) (thread bound : ℕ) (after : Bounds) : Ty
   pub own : bound_in after thread ≡ max (bound_in before thread) bound
   pub others : (other : ℕ) → other ≢ thread → bound_in after other ≡ bound_in before other
 
--- of each thread the higher of two bounds
-abbrev pub IsJoined : Bounds → Bounds → Bounds → Type 0
-IsJoined one other both = (thread : ℕ) → bound_in both thread ≡ max (bound_in one thread) (bound_in other thread)
+-- the bounds, where there are some
+abbrev pub bounds_of : Option Bounds → ℕ → ℕ
+bounds_of None thread = 0
+bounds_of (Some bounds) thread = bound_in bounds thread
 
 -- the least number above all for which something holds, 0 where it holds for none
 pub record IsBound (Holds : ℕ → Type 0) (bound : ℕ) : Type 0 where

@@ -37,8 +37,8 @@ pub record KeepsLast (seen : List Access) (last : LastRegions) : Type 0 where
   pub writing : (object thread : ℕ) → IsBound (λ number. Touches seen false object (region_of thread number)) (last_in last.writing.objects.items object thread)
 
 -- of each other thread, a bound on the regions with an access in conflict with this one
-abbrev pub BoundConflicts : List Access → Access → Bounds → Type 0
-BoundConflicts seen access bounds = (thread : ℕ) → thread ≢ access.region.thread → IsBound (λ number. Conflicts seen (region_of thread number) access) (bound_in bounds thread)
+abbrev pub BoundConflicts : List Access → Access → (ℕ → ℕ) → Type 0
+BoundConflicts seen access bound = (thread : ℕ) → thread ≢ access.region.thread → IsBound (λ number. Conflicts seen (region_of thread number) access) (bound thread)
 
 -- one of the first waits is for a thread's regions past this number
 pub record IsAwaited (waits : List Wait) (upto thread number : ℕ) : Type 0 where
@@ -54,11 +54,11 @@ abbrev pub KnowsWaits : List Wait → Bounds → Type 0
 KnowsWaits waits known = (thread number : ℕ) → number < bound_in known thread → IsAwaited waits (length waits) thread number
 
 -- with waits for what the bounds of other threads have beyond what is known
-pub record AddsWaits (thread : ℕ) (conflicts : Bounds) (before : List Wait) (known : Bounds) (after : List Wait) (known_then : Bounds) : Type 0 where
+pub record AddsWaits (thread : ℕ) (conflicts : ℕ → ℕ) (before : List Wait) (known : Bounds) (after : List Wait) (known_then : Bounds) : Type 0 where
   pub longer : length before ≤ length after
   pub same : (k : ℕ) (wait : Wait) → slice_get before k ≡ Some wait → slice_get after k ≡ Some wait
-  pub added : (k : ℕ) (wait : Wait) → length before ≤ k → slice_get after k ≡ Some wait → (wait.of ≢ thread) × (0 < wait.bound) × (wait.bound ≡ bound_in conflicts wait.of)
-  pub covers : (other number : ℕ) → other ≢ thread → number < bound_in conflicts other → number < bound_in known_then other
+  pub added : (k : ℕ) (wait : Wait) → length before ≤ k → slice_get after k ≡ Some wait → (wait.of ≢ thread) × (0 < wait.bound) × (wait.bound ≡ conflicts wait.of)
+  pub covers : (other number : ℕ) → other ≢ thread → number < conflicts other → number < bound_in known_then other
   pub knows : KnowsWaits before known → KnowsWaits after known_then
 
 -- a wait is for a region of another thread that is before this one

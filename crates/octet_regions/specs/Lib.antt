@@ -1,6 +1,7 @@
 pub mod Accesses
 pub mod Before
 pub mod Gather
+pub mod Holders
 pub mod Bounds
 pub mod Earlier
 pub mod Choice

@@ -6,17 +6,17 @@ ghost use Rattle.octet_regions.specs.Bounds.{bound_in};
 ghost use Rattle.octet_regions.specs.Choice.{IsChosen, IsFree, IsSerialChoice};
 ghost use Rattle.octet_regions.specs.Chooser.{AreEmptyLanes, AreLanesOf, AreWithin, ChosenIs, FitLanes, FreeIs, HasChosen, IsBehind, KeepsChoice, left_of, LowestBehind};
 ghost use Rattle.octet_regions.specs.Accesses.{accesses_of};
-ghost use Rattle.octet_regions.specs.Gather.{Gathered, IsUnderway};
 ghost use Rattle.octet_replay.specs.ReplayState.{HasHalted};
 ghost use Rattle.octet_regions.specs.declared.access.Access.{Access as AccessOf};
 ghost use Rattle.octet_regions.specs.declared.region.Region.{Region as RegionOf};
 
 use crate::Region;
 use crate::bounds::Bounds;
-use crate::gather::Accesses;
+use crate::gather::next_access;
 use crate::lane::Lane;
 use crate::last::LastRegions;
 use octet_model::{MAX_THREADS, OutOfMemory};
+use octet_replay::Replayer;
 use std::alloc::Global;
 
 /// The regions of each thread, of each thread a bound on the regions that were taken, and these in
@@ -42,25 +42,24 @@ fn empty_lanes(alloc: Global, threads: usize) -> Result<Vec<Lane>, OutOfMemory>
 pub(crate) fn lanes_of(
     alloc: Global,
     threads: usize,
-    accesses: &mut Accesses<'_>,
+    replayer: &mut Replayer<'_>,
 ) -> Result<Vec<Lane>, OutOfMemory>
     requires few { threads ≤ MAX_THREADS }
-    requires threads { threads ≡ length accesses.old.replayer.script.threads }
-    requires agree { length accesses.old.replayer.script.threads ≡ length accesses.old.replayer.log.threads }
-    requires underway { IsUnderway accesses.old }
-    requires none { Gathered accesses.old.replayer [] }
-    ensures script { OnOk result (accesses.new.replayer.script ≡ accesses.old.replayer.script) }
-    ensures log { OnOk result (accesses.new.replayer.log ≡ accesses.old.replayer.log) }
-    ensures halted { OnOk result (HasHalted accesses.new.replayer) }
-    ensures fit { OnOk result (FitLanes threads (accesses_of accesses.old.replayer.script accesses.old.replayer.log.threads)) }
-    ensures lanes { IfOk result (λ lanes. AreLanesOf threads (accesses_of accesses.old.replayer.script accesses.old.replayer.log.threads) lanes.items) }
+    requires threads { threads ≡ length replayer.old.script.threads }
+    requires agree { length replayer.old.script.threads ≡ length replayer.old.log.threads }
+    requires begins { replayer.old.steps ≡ 0 }
+    ensures script { OnOk result (replayer.new.script ≡ replayer.old.script) }
+    ensures log { OnOk result (replayer.new.log ≡ replayer.old.log) }
+    ensures halted { OnOk result (HasHalted replayer.new) }
+    ensures fit { OnOk result (FitLanes threads (accesses_of replayer.old.script replayer.old.log.threads)) }
+    ensures lanes { IfOk result (λ lanes. AreLanesOf threads (accesses_of replayer.old.script replayer.old.log.threads) lanes.items) }
 {
     let mut lanes = empty_lanes(alloc, threads)?;
     let mut last = LastRegions::new(alloc);
-    while let Some(access) = accesses.next() {
+    while let Some(access) = next_access(replayer) {
         let conflicts = last.conflicts(access);
         let lane = &mut lanes[access.region.thread as usize];
-        lane.take_in(access.region, &conflicts)?;
+        lane.take_in(access.region, conflicts)?;
         last.note(access)?;
     }
     Ok(lanes)
@@ -131,7 +130,7 @@ impl Chooser {
         let thread = region.thread as usize;
         self.order.push(region)?;
         self.lanes[thread].take();
-        self.upto.raise(thread, region.number + 1);
+        self.upto.raise(region.thread, region.number + 1);
         Ok(())
     }
 

@@ -1,7 +1,7 @@
 //! The regions of one thread, and what they wait for.
 ghost use Rattle.std.specs.Prelude.{◌≡◌, ◌+◌, ◌<◌, ◌≤◌, ◌∷◌, ◌++◌, [], ℕ, List, Some, OnOk, length, slice_get};
 ghost use Rattle.octet_regions.specs.declared.access.Access.{Access};
-ghost use Rattle.octet_regions.specs.Bounds.{bound_in};
+ghost use Rattle.octet_regions.specs.Bounds.{bound_in, bounds_of};
 ghost use Rattle.octet_regions.specs.Earlier.{AddsWaits, BoundConflicts, KeepsLane, KnowsWaits, LowestUnmet, PassesWaits, RegionsRise, TellsFree, is_lower};
 ghost use Rattle.octet_regions.specs.declared.lane.Node.{Node as NodeOf};
 
@@ -70,11 +70,11 @@ impl Lane {
     }
 
     // Adds a wait for each other thread of which a bound is not known.
-    fn add_waits(&mut self, thread: u8, conflicts: &Bounds) -> Result<(), OutOfMemory>
+    fn add_each(&mut self, thread: u8, conflicts: &Bounds) -> Result<(), OutOfMemory>
         ensures nodes { OnOk result (self.new.nodes ≡ self.old.nodes) }
         ensures taken { OnOk result (self.new.taken ≡ self.old.taken) }
         ensures over { OnOk result (self.new.over ≡ self.old.over) }
-        ensures adds { OnOk result (AddsWaits thread conflicts.now self.old.waits.items self.old.known self.new.waits.items self.new.known) }
+        ensures adds { OnOk result (AddsWaits thread (bound_in conflicts.now) self.old.waits.items self.old.known self.new.waits.items self.new.known) }
     {
         for other in 0..MAX_THREADS {
             if other == thread as usize {
@@ -88,18 +88,37 @@ impl Lane {
                 of: other as u8,
                 bound,
             })?;
-            self.known.raise(other, bound);
+            self.known.raise(other as u8, bound);
         }
         Ok(())
     }
 
+    // The same, where there are conflicts.
+    #[inline(always)]
+    fn add_waits(&mut self, thread: u8, conflicts: Option<Bounds>) -> Result<(), OutOfMemory>
+        ensures nodes { OnOk result (self.new.nodes ≡ self.old.nodes) }
+        ensures taken { OnOk result (self.new.taken ≡ self.old.taken) }
+        ensures over { OnOk result (self.new.over ≡ self.old.over) }
+        ensures adds { OnOk result (AddsWaits thread (bounds_of conflicts) self.old.waits.items self.old.known self.new.waits.items self.new.known) }
+    {
+        match conflicts {
+            Some(bounds) => self.add_each(thread, &bounds),
+            None => Ok(()),
+        }
+    }
+
     /// Takes in an access in this region, with bounds on the regions that have an earlier access in
-    /// conflict with it.
-    pub(crate) fn take_in(&mut self, region: Region, conflicts: &Bounds) -> Result<(), OutOfMemory>
+    /// conflict with it, where there are any.
+    #[inline(always)]
+    pub(crate) fn take_in(
+        &mut self,
+        region: Region,
+        conflicts: Option<Bounds>,
+    ) -> Result<(), OutOfMemory>
         ensures taken { OnOk result (self.new.taken ≡ self.old.taken) }
         ensures over { OnOk result (self.new.over ≡ self.old.over) }
         ensures knows { OnOk result (KnowsWaits self.old.waits.items self.old.known → KnowsWaits self.new.waits.items self.new.known) }
-        ensures keeps { OnOk result ((seen : List Access) (access : Access) → access.region ≡ region → RegionsRise (seen ++ access ∷ []) → BoundConflicts seen access conflicts.now → KnowsWaits self.old.waits.items self.old.known → KeepsLane seen region.thread self.old.nodes.items self.old.waits.items → KeepsLane (seen ++ access ∷ []) region.thread self.new.nodes.items self.new.waits.items) }
+        ensures keeps { OnOk result ((seen : List Access) (access : Access) → access.region ≡ region → RegionsRise (seen ++ access ∷ []) → BoundConflicts seen access (bounds_of conflicts) → KnowsWaits self.old.waits.items self.old.known → KeepsLane seen region.thread self.old.nodes.items self.old.waits.items → KeepsLane (seen ++ access ∷ []) region.thread self.new.nodes.items self.new.waits.items) }
     {
         self.add_waits(region.thread, conflicts)?;
         let waits_upto = self.waits.len();

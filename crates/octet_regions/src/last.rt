@@ -1,7 +1,7 @@
 //! Of each object and thread, the last region with an access of it.
-ghost use Rattle.std.specs.Prelude.{◌≡◌, ◌<◌, ◌+◌, ◌^◌, [], ◌∷◌, ◌++◌, ℕ, List, OnOk};
+ghost use Rattle.std.specs.Prelude.{◌≡◌, ◌≢◌, ◌<◌, ◌+◌, ◌^◌, [], ◌∷◌, ◌++◌, ℕ, List, OnOk};
 ghost use Rattle.octet_regions.specs.declared.access.Access.{Access};
-ghost use Rattle.octet_regions.specs.Bounds.{bound_in, last_in, IsCovered, IsNoted};
+ghost use Rattle.octet_regions.specs.Bounds.{bounds_of, last_in, IsCovered, IsNoted};
 ghost use Rattle.octet_regions.specs.Earlier.{BoundConflicts, KeepsLast};
 
 use crate::access::Access;
@@ -24,16 +24,20 @@ impl Table {
         }
     }
 
-    fn of(&self, object: u16) -> Bounds
-        ensures { (thread : ℕ) → bound_in result thread ≡ last_in self.now.objects.items object thread }
+    // The bounds of an object, where another thread than this one has any.
+    #[inline(always)]
+    fn beside(&self, object: u16, thread: u8) -> Option<Bounds>
+        ensures { (other : ℕ) → other ≢ thread → bounds_of result other ≡ last_in self.now.objects.items object other }
     {
-        match self.objects.get(object as usize) {
-            Some(bounds) => *bounds,
-            None => Bounds::new(),
+        let bounds = self.objects.get(object as usize)?;
+        if bounds.is_alone(thread) {
+            return None;
         }
+        Some(*bounds)
     }
 
     // Makes bounds for an object that has none.
+    #[inline(always)]
     fn cover(&mut self, object: u16) -> Result<(), OutOfMemory>
         ensures { OnOk result (IsCovered self.old.objects.items object self.new.objects.items) }
     {
@@ -45,7 +49,8 @@ impl Table {
     }
 
     // Notes an access by a thread in a region below the bound.
-    fn note(&mut self, object: u16, thread: usize, bound: u32) -> Result<(), OutOfMemory>
+    #[inline(always)]
+    fn note(&mut self, object: u16, thread: u8, bound: u32) -> Result<(), OutOfMemory>
         requires { thread < MAX_THREADS }
         ensures { OnOk result (IsNoted self.old.objects.items object thread bound self.new.objects.items) }
     {
@@ -72,23 +77,27 @@ impl LastRegions {
         }
     }
 
-    /// Of each other thread, the last region with a noted access in conflict with this one.
-    pub(crate) fn conflicts(&self, access: Access) -> Bounds
-        ensures { (seen : List Access) → KeepsLast seen self.now → BoundConflicts seen access result }
+    /// Of each other thread, the last region with a noted access in conflict with this one, where
+    /// there is any.
+    #[inline(always)]
+    pub(crate) fn conflicts(&self, access: Access) -> Option<Bounds>
+        ensures { (seen : List Access) → KeepsLast seen self.now → BoundConflicts seen access (bounds_of result) }
     {
+        let thread = access.region.thread;
         match access.object() {
-            None => Bounds::new(),
+            None => None,
             Some(object) => {
                 if access.writes() {
-                    self.all.of(object)
+                    self.all.beside(object, thread)
                 } else {
-                    self.writing.of(object)
+                    self.writing.beside(object, thread)
                 }
             }
         }
     }
 
     /// Notes an access.
+    #[inline(always)]
     pub(crate) fn note(&mut self, access: Access) -> Result<(), OutOfMemory>
         requires thread { access.region.thread < MAX_THREADS }
         requires room { access.region.number + 1 < 2 ^ 32 }
@@ -97,7 +106,7 @@ impl LastRegions {
         let Some(object) = access.object() else {
             return Ok(());
         };
-        let thread = access.region.thread as usize;
+        let thread = access.region.thread;
         let bound = access.region.number + 1;
         self.all.note(object, thread, bound)?;
         if access.writes() {

@@ -9,11 +9,11 @@ ghost use Rattle.octet_replay.specs.ReplayState.{IsNotBegun};
 ghost use Rattle.octet_regions.specs.Runs.{Shows};
 
 use crate::chooser::{Chooser, lanes_of};
-use crate::gather::{Accesses, gather};
+use crate::gather::gather;
 use crate::lane::Lane;
 use crate::{Serial, Serialized};
 use octet_model::{List, Log, Script};
-use octet_replay::ReplayFault;
+use octet_replay::{ReplayFault, Replayer};
 use std::alloc::Global;
 
 // The serial choice among the regions of a script and a log, or the cycle to which it leads. The walk
@@ -53,9 +53,9 @@ pub fn serialize(alloc: Global, script: &Script, log: &Log) -> Result<Serialized
     ensures outcome { IfOk result (λ found. found.outcome ≡ execution script.now log.now.threads (lowest_order script.now log.now.threads)) }
     ensures refused { IfErr result (HasCause script.now log.now.threads) }
 {
-    let mut accesses = Accesses::new(alloc, script, log)?;
-    let lanes = lanes_of(alloc, script.threads.len(), &mut accesses)?;
-    let outcome = accesses.replayer.end(alloc)?;
+    let mut replayer = Replayer::new(alloc, script, log)?;
+    let lanes = lanes_of(alloc, script.threads.len(), &mut replayer)?;
+    let outcome = replayer.end(alloc)?;
     let serial = serial_of(alloc, script, log, lanes)?;
     Ok(Serialized { serial, outcome })
 }

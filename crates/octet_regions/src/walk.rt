@@ -26,7 +26,10 @@ fn is_before(later: &LastRegions, access: Access, thread: u8, from: u32, other: 
     if access.region.number < from {
         return false;
     }
-    later.conflicts(access).of(other as usize) > 0
+    match later.conflicts(access) {
+        Some(bounds) => bounds.of(other as usize) > 0,
+        None => false,
+    }
 }
 
 // The earliest region of a thread, from this number on, that is before a region. Goes through the

@@ -57,6 +57,7 @@ impl<'a> Replayer<'a> {
     }
 
     /// The thread that makes the next step of the lowest order. Takes no memory.
+    #[inline(always)]
     pub fn next_thread(&self) -> Option<u8>
         ensures some { IfSome result (IsNextThread self.now) }
         ensures none { IsNone result → HasHalted self.now }
@@ -66,6 +67,7 @@ impl<'a> Replayer<'a> {
 
     /// How many `region` commands a thread runs before its next access, or before its end where it
     /// makes none more. Takes no memory.
+    #[inline(always)]
     pub fn regions(&self, thread: u8) -> u32
         requires { thread < length self.now.script.threads }
         ensures regions { result ≡ regions_of self.now thread }

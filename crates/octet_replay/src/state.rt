@@ -150,6 +150,7 @@ impl Replay {
     }
 
     /// The thread that makes the next step of the lowest order.
+    #[inline(always)]
     pub(crate) fn next_thread(&self) -> Option<u8>
         requires { IsAt self.now }
         ensures some { IfSome result (IsNextThread (state_of self.now)) }
@@ -162,6 +163,7 @@ impl Replay {
     }
 
     /// How many `region` commands a thread has run: it was asked for its next access.
+    #[inline(always)]
     pub(crate) fn regions(&self, thread: u8) -> u32
         requires at { IsAt self.now }
         requires within { thread < length self.now.script.value.threads }

@@ -41,6 +41,7 @@ impl ThreadSet {
     }
 
     /// The lowest thread of the set.
+    #[inline(always)]
     pub(crate) fn lowest(&self) -> Option<u8>
         ensures some { IfSome result (IsLowestIn self.now) }
         ensures none { IsNone result → (thread : ℕ) → has self.now thread ≡ false }

@@ -231,6 +231,7 @@ impl Waits {
     }
 
     /// The lowest thread whose need is met, found without looking at the others. Takes no memory.
+    #[inline(always)]
     pub fn lowest(&self) -> Option<u8>
         ensures some { IfSome result (IsLowestReady self.now) }
         ensures none { IsNone result → (thread : ℕ) → is_ready self.now thread ≡ false }

@@ -1,8 +1,9 @@
 use Rattle.std.proofs.Common.{◌<◌, List, [], ◌∷◌, ◌++◌, length, rules, refl, sym, ap, ◌∙◌, subst, arith}
 use Rattle.octet_model.specs.declared.script.Script.{Script}
 use Rattle.octet_regions.specs.declared.access.Access.{Access}
+use Rattle.octet_regions.specs.Bounds.{bounds_of}
 use Rattle.octet_regions.specs.Chooser.{AreLanesOf, FitLanes}
-use Rattle.octet_regions.proofs.Gathering.{fit_of, gathered_all, rises_so_far}
+use Rattle.octet_regions.proofs.Gathering.{fit_of, gathered_all, gathered_none, rises_so_far}
 use Rattle.octet_regions.proofs.Laning.{lanes_begin, lanes_more}
 use Rattle.octet_regions.proofs.chooser.lanes_of.Goals as goal
 
@@ -10,9 +11,8 @@ pub loop-access-init : goal.loop-access-init
 loop-access-init c = record {
   script = refl;
   log = refl;
-  underway = c.requires.underway;
   seen = [];
-  gathered = c.requires.none;
+  gathered = gathered_none c.args.replayer.now [] c.requires.begins refl;
   lanes = lanes_begin c.args.threads c.in_ok-lanes.lanes.items c.in_ok-lanes.ensures;
   last = c.new-last.ensures;
 }
@@ -35,13 +35,12 @@ loop-access-preserved c =
     let inv = c.loop-access.invariant in
     let gathered = c.in-Some.ensures.adds.0 inv.seen inv.gathered in
     record {
-      script = c.next.ensures.script ∙ inv.script;
-      log = c.next.ensures.log ∙ inv.log;
-      underway = c.next.ensures.underway;
+      script = c.next_access.ensures.script ∙ inv.script;
+      log = c.next_access.ensures.log ∙ inv.log;
       seen = inv.seen ++ c.in-Some.access ∷ [];
       gathered = gathered;
       lanes =
-          lanes_more c.args.threads inv.seen c.in-Some.access c.loop-access.lanes.items c.index_mut-lane.result.now c.take_in.new.self c.conflicts-conflicts.result (rises_so_far c.next.new.self.replayer (inv.seen ++ c.in-Some.access ∷ []) gathered) inv.lanes
+          lanes_more c.args.threads inv.seen c.in-Some.access c.loop-access.lanes.items c.index_mut-lane.result.now c.take_in.new.self (bounds_of c.conflicts-conflicts.result) (rises_so_far c.next_access.new.replayer (inv.seen ++ c.in-Some.access ∷ []) gathered) inv.lanes
           (omega (arith, c.in-Some.ensures.adds.1, c.requires.threads, ap (λ (s : Script). length s.threads) inv.script, inv.lanes.as_many)) c.index_mut-lane.ensures.value
           (c.conflicts-conflicts.ensures inv.seen inv.last) c.in_ok-take_in.ensures.taken c.in_ok-take_in.ensures.over c.in_ok-take_in.ensures.knows c.in_ok-take_in.ensures.keeps;
       last = c.in_ok-note.ensures inv.seen inv.last;
@@ -50,13 +49,13 @@ loop-access-preserved c =
 pub returns-clause-fit : goal.returns-clause-fit
 returns-clause-fit c =
     let inv = c.loop-access.invariant in
-    let s = c.args.accesses.now.replayer in
-    let is = gathered_all c.next.new.self.replayer s.script s.log inv.seen (c.next.ensures.script ∙ inv.script) (c.next.ensures.log ∙ inv.log) c.requires.agree c.in_default.ensures.adds.1 (c.in_default.ensures.adds.0 inv.seen inv.gathered) in
-    subst (λ (seen : List Access). FitLanes c.args.threads seen) is (fit_of c.loop-access.accesses.replayer c.args.threads inv.seen c.requires.few (c.requires.threads ∙ sym (ap (λ (x : Script). length x.threads) inv.script)) inv.gathered)
+    let s = c.args.replayer.now in
+    let is = gathered_all c.next_access.new.replayer s.script s.log inv.seen (c.next_access.ensures.script ∙ inv.script) (c.next_access.ensures.log ∙ inv.log) c.requires.agree c.in_default.ensures.adds.1 (c.in_default.ensures.adds.0 inv.seen inv.gathered) in
+    subst (λ (seen : List Access). FitLanes c.args.threads seen) is (fit_of c.loop-access.replayer c.args.threads inv.seen c.requires.few (c.requires.threads ∙ sym (ap (λ (x : Script). length x.threads) inv.script)) inv.gathered)
 
 pub returns-clause-lanes : goal.returns-clause-lanes
 returns-clause-lanes c =
     let inv = c.loop-access.invariant in
-    let s = c.args.accesses.now.replayer in
-    let is = gathered_all c.next.new.self.replayer s.script s.log inv.seen (c.next.ensures.script ∙ inv.script) (c.next.ensures.log ∙ inv.log) c.requires.agree c.in_default.ensures.adds.1 (c.in_default.ensures.adds.0 inv.seen inv.gathered) in
+    let s = c.args.replayer.now in
+    let is = gathered_all c.next_access.new.replayer s.script s.log inv.seen (c.next_access.ensures.script ∙ inv.script) (c.next_access.ensures.log ∙ inv.log) c.requires.agree c.in_default.ensures.adds.1 (c.in_default.ensures.adds.0 inv.seen inv.gathered) in
     subst (λ (seen : List Access). AreLanesOf c.args.threads seen c.loop-access.lanes.items) is inv.lanes

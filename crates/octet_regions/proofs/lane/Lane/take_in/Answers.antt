@@ -1,6 +1,7 @@
 use Rattle.std.proofs.Common.{rules, length, ◌≡◌, ℕ, ◌-◌, List, Some, ◌∷◌, ◌++◌, [], Vec, Global, slice_get, get_or, refl, sym, ap, ◌∙◌, subst, arith}
 use Rattle.std.proofs.lemmas.Option.{slice_get_read}
 use Rattle.octet_regions.specs.declared.lane.Node.{Node}
+use Rattle.octet_regions.specs.Bounds.{bounds_of}
 use Rattle.octet_regions.specs.Earlier.{KeepsLane}
 use Rattle.octet_regions.proofs.Lanes.{lane_begins, lane_joins, same_region}
 use Rattle.octet_regions.proofs.lane.Lane.take_in.Goals.{else-many-gt0-via-then-many-gt0+else-index-region, else-many-gt0-via-else-many-gt0}
@@ -16,7 +17,7 @@ returns-then-index-region-clause-keeps c = λ seen access is rise by knows keeps
     let at' = slice_get_read lane.nodes.items c.len-many.result last c.index.result.now many (omega arith) c.index.ensures in
     let same : c.index_mut.result.now ≡ c.index.result.now = cc in
     let named : c.index_mut.result.now.number ≡ c.args.region.number = ap (λ (n : Node). n.number) same ∙ c.if-index-region.true in
-    lane_joins seen access c.args.region.thread c.args.region.number (is ∙ same_region c.args.region c.args.region.thread c.args.region.number refl refl) rise lane.nodes.items c.args.self.now.waits.items lane.waits.items c.args.self.now.known lane.known c.args.conflicts.now by
+    lane_joins seen access c.args.region.thread c.args.region.number (is ∙ same_region c.args.region c.args.region.thread c.args.region.number refl refl) rise lane.nodes.items c.args.self.now.waits.items lane.waits.items c.args.self.now.known lane.known (bounds_of c.args.conflicts) by
     c.in_ok-add_waits.ensures.adds knows keeps' last c.index_mut.result.now (record { number = c.index_mut.result.now.number; waits_upto = c.len-waits_upto.result }) at (omega (arith, many)) named named (search rules)
 
 pub returns-clause-keeps : goal.returns-clause-keeps
@@ -26,7 +27,7 @@ returns-clause-keeps c = λ seen access is rise by knows keeps.
     let many : c.len-many.result ≡ length lane.nodes.items = search rules in
     let node : Node = record { number = c.args.region.number; waits_upto = c.len-waits_upto.result } in
     subst (λ (nodes : List Node). KeepsLane (seen ++ access ∷ []) c.args.region.thread nodes lane.waits.items) (sym c.in_ok-push.ensures.items)
-    (lane_begins seen access c.args.region.thread c.args.region.number (is ∙ same_region c.args.region c.args.region.thread c.args.region.number refl refl) rise lane.nodes.items c.args.self.now.waits.items lane.waits.items c.args.self.now.known lane.known c.args.conflicts.now by
+    (lane_begins seen access c.args.region.thread c.args.region.number (is ∙ same_region c.args.region c.args.region.thread c.args.region.number refl refl) rise lane.nodes.items c.args.self.now.waits.items lane.waits.items c.args.self.now.known lane.known (bounds_of c.args.conflicts) by
     c.in_ok-add_waits.ensures.adds knows keeps' node refl (search rules)
     (λ i last ends at. elim c.else-many-gt0.branch [
       | else-many-gt0-via-then-many-gt0+else-index-region w ↦ λ same. w.if-index-region.false (
