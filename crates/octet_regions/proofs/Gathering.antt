@@ -1,8 +1,7 @@
 -- The accesses of a replay, step by step.
-use Rattle.std.proofs.Common.{◌≡◌, ◌≢◌, ℕ, zero, suc, nat_lt, ◌<◌, ◌≤◌, ◌⊎◌, inl, inr, true, false, List, [], ◌∷◌, ◌++◌, length, take, get_or, Some, slice_get, slice_set, slice_index, refl, sym, ap, ◌∙◌, subst, arith, append-nil, append_assoc, length-set}
+use Rattle.std.proofs.Common.{◌≡◌, ℕ, zero, suc, ◌<◌, ◌≤◌, ◌⊎◌, inl, inr, true, false, List, [], ◌∷◌, ◌++◌, length, take, Some, slice_get, refl, sym, ap, ◌∙◌, subst, arith, append-nil, append_assoc}
 use Rattle.std.proofs.Math.Seq.{take-suc}
 use Rattle.std.proofs.lemmas.Bool.{cases_eq, cases_lt}
-use Rattle.std.proofs.lemmas.Option.{slice_get_read}
 use Rattle.std.proofs.lemmas.List.{length-map, set_past, take_all}
 use Rattle.octet_model.specs.declared.command.Command.{Command}
 use Rattle.octet_model.specs.declared.event.Event.{Event}
@@ -11,20 +10,14 @@ use Rattle.octet_model.specs.declared.limits.TheConstants.{MAX_FUEL, MAX_THREADS
 use Rattle.octet_model.specs.declared.log.Log.{Log}
 use Rattle.octet_model.specs.declared.log.ThreadLog.{ThreadLog}
 use Rattle.octet_model.specs.declared.script.Script.{Script}
-use Rattle.octet_model.specs.Thread.{Configuration, FitsFrom, configuration_after, demanded, settled, starting_configuration}
-use Rattle.octet_model.specs.Machine.{Journals, journal_of, PlainState, Behavior, Operation, MakeMark, MakeRead, MakeWrite, MakeUpdate, Next, Wants, Finished, NothingFits, event_made, appended, performed, next_of, step, after}
-use Rattle.octet_model.specs.Journals.{access_count, mark_count, gap_after, due_mark, next_by_log}
-use Rattle.octet_model.specs.Orders.{by_log, commands_of, lowest_order, opening_state, state_after, thread_log_of}
-use Rattle.octet_model.proofs.lemmas.Fronts.{after_on, no_journal}
+use Rattle.octet_model.specs.Thread.{Configuration, starting_configuration}
+use Rattle.octet_model.specs.Machine.{Journals, journal_of, PlainState, Behavior, Operation, Next, Wants, Finished, NothingFits, event_made, appended, performed, next_of, step, after}
+use Rattle.octet_model.specs.Orders.{by_log, commands_of, lowest_order, opening_state, state_after}
+use Rattle.octet_model.proofs.lemmas.Fronts.{after_on}
 use Rattle.octet_model.proofs.lemmas.LogsOfJournals.{as_many_after}
-use Rattle.octet_model.proofs.lemmas.LowestFronts.{IsNext, next_by}
 use Rattle.octet_model.proofs.lemmas.Steps.{at, by_step, count, Makes, what_it_makes, new_event, other_journal, same_journal}
-use Rattle.octet_interp.specs.Demands.{ThreadState, starting_thread}
-use Rattle.octet_interp.specs.Laws.{CountsRegions, IsJournalOf}
 use Rattle.octet_interp.specs.Regions.{regions_before}
-use Rattle.octet_interp.proofs.Agreement.{follows}
-use Rattle.octet_interp.proofs.Journaled.{take_marks}
-use Rattle.octet_interp.proofs.RegionsRun.{before_access, before_mark, marks_count_none}
+use Rattle.octet_interp.proofs.RegionsRun.{before_access, before_mark}
 use Rattle.octet_replay.specs.ReplayState.{HasHalted, ReplayState, IsNextStep, IsNextThread, plain_state, state_at}
 use Rattle.octet_replay.proofs.lemmas.Halting.{all_steps_made}
 use Rattle.octet_regions.specs.declared.access.Access.{Access}
@@ -33,7 +26,6 @@ use Rattle.octet_regions.specs.Accesses.{access_in, access_made, accesses_along,
 use Rattle.octet_regions.specs.Chooser.{FitLanes}
 use Rattle.octet_regions.specs.Earlier.{RegionsRise}
 use Rattle.octet_regions.specs.Gather.{Gathered, is_access}
-use Rattle.octet_regions.proofs.Lanes.{set_cases}
 use Rattle.octet_regions.proofs.Tables.{last_cases}
 
 -- an event is an access in its region, or adds nothing

@@ -3,7 +3,6 @@ use Rattle.std.proofs.Common.{◌≡◌, ℕ, ◌+◌, ◌<◌, inl, inr, List, 
 use Rattle.std.proofs.lemmas.Option.{slice_get_read}
 use Rattle.octet_model.specs.declared.event.Event.TheVariants.{Read}
 use Rattle.octet_regions.specs.declared.access.Access.{Access}
-use Rattle.octet_regions.specs.declared.bounds.Bounds.{Bounds}
 use Rattle.octet_regions.specs.declared.lane.Lane.{Lane}
 use Rattle.octet_regions.specs.declared.lane.Node.{Node}
 use Rattle.octet_regions.specs.declared.lane.Wait.{Wait}

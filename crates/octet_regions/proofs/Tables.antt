@@ -7,7 +7,7 @@ use Rattle.octet_regions.specs.declared.access.Access.{Access}
 use Rattle.octet_regions.specs.declared.bounds.Bounds.{Bounds}
 use Rattle.octet_regions.specs.declared.region.Region.{Region}
 use Rattle.octet_regions.specs.declared.last.LastRegions.{LastRegions}
-use Rattle.octet_regions.specs.Bounds.{bound_in, last_in, IsBound, IsNoted}
+use Rattle.octet_regions.specs.Bounds.{last_in, IsBound, IsNoted}
 use Rattle.octet_regions.specs.Earlier.{Touches, Conflicts, KeepsLast, BoundConflicts, region_of}
 
 -- the item at a place of a list with one more is one of the list, or the one more

@@ -7,7 +7,6 @@ use Rattle.std.proofs.lemmas.List.Sums.{sum_by-set}
 use Rattle.octet_model.specs.HappensBefore.{is_write}
 use Rattle.octet_model.proofs.lemmas.Lists.{slice_get-append, slice_get_last}
 use Rattle.octet_regions.specs.declared.access.Access.{Access}
-use Rattle.octet_regions.specs.declared.bounds.Bounds.{Bounds}
 use Rattle.octet_regions.specs.declared.chooser.Chooser.{Chooser}
 use Rattle.octet_regions.specs.declared.lane.Lane.{Lane}
 use Rattle.octet_regions.specs.declared.lane.Node.{Node}

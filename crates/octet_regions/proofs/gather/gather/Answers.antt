@@ -1,4 +1,4 @@
-use Rattle.std.proofs.Common.{refl, ap, ◌∙◌}
+use Rattle.std.proofs.Common.{ap, ◌∙◌}
 use Rattle.octet_replay.specs.ReplayState.{ReplayState}
 use Rattle.octet_regions.proofs.Gathering.{gathered_all, gathered_none}
 use Rattle.octet_regions.proofs.gather.gather.Goals as goal

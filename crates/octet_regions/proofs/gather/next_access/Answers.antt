@@ -1,4 +1,4 @@
-use Rattle.std.proofs.Common.{◌≡◌, ℕ, suc, List, [], ◌∷◌, ◌++◌, length, refl, sym, ap, ◌∙◌, arith}
+use Rattle.std.proofs.Common.{◌≡◌, suc, [], ◌∷◌, ◌++◌, refl, sym, ap, ◌∙◌, arith}
 use Rattle.octet_replay.specs.ReplayState.{ReplayState}
 use Rattle.octet_regions.specs.declared.access.Access.{Access}
 use Rattle.octet_regions.proofs.Gathering.{at_next, gathered_access, gathered_mark, made_there, made_within, steps_still}
