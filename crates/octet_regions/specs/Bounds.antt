@@ -1,4 +1,5 @@
 -- Bounds, one for each thread.
+use denote.Ref.{Bor}
 use Rattle.std.specs.Prelude.{◌≡◌, ◌≢◌, ℕ, suc, ◌<◌, ◌⊎◌, max, List, Option, Some, None, slice_get, length, get_or}
 use Rattle.octet_regions.specs.declared.bounds.Bounds.{Bounds}
 
@@ -11,9 +12,9 @@ pub record IsRaised (before : Bounds) (thread bound : ℕ) (after : Bounds) : Ty
   pub others : (other : ℕ) → other ≢ thread → bound_in after other ≡ bound_in before other
 
 -- the bounds, where there are some
-abbrev pub bounds_of : Option Bounds → ℕ → ℕ
+abbrev pub bounds_of : Option (Bor Bounds) → ℕ → ℕ
 bounds_of None thread = 0
-bounds_of (Some bounds) thread = bound_in bounds thread
+bounds_of (Some bounds) thread = bound_in bounds.now thread
 
 -- the least number above all for which something holds, 0 where it holds for none
 pub record IsBound (Holds : ℕ → Type 0) (bound : ℕ) : Type 0 where

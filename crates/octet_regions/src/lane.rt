@@ -95,14 +95,14 @@ impl Lane {
 
     // The same, where there are conflicts.
     #[inline(always)]
-    fn add_waits(&mut self, thread: u8, conflicts: Option<Bounds>) -> Result<(), OutOfMemory>
+    fn add_waits(&mut self, thread: u8, conflicts: Option<&Bounds>) -> Result<(), OutOfMemory>
         ensures nodes { OnOk result (self.new.nodes ≡ self.old.nodes) }
         ensures taken { OnOk result (self.new.taken ≡ self.old.taken) }
         ensures over { OnOk result (self.new.over ≡ self.old.over) }
-        ensures adds { OnOk result (AddsWaits thread (bounds_of conflicts) self.old.waits.items self.old.known self.new.waits.items self.new.known) }
+        ensures adds { OnOk result (AddsWaits thread (bounds_of conflicts.entry) self.old.waits.items self.old.known self.new.waits.items self.new.known) }
     {
         match conflicts {
-            Some(bounds) => self.add_each(thread, &bounds),
+            Some(bounds) => self.add_each(thread, bounds),
             None => Ok(()),
         }
     }
@@ -113,12 +113,12 @@ impl Lane {
     pub(crate) fn take_in(
         &mut self,
         region: Region,
-        conflicts: Option<Bounds>,
+        conflicts: Option<&Bounds>,
     ) -> Result<(), OutOfMemory>
         ensures taken { OnOk result (self.new.taken ≡ self.old.taken) }
         ensures over { OnOk result (self.new.over ≡ self.old.over) }
         ensures knows { OnOk result (KnowsWaits self.old.waits.items self.old.known → KnowsWaits self.new.waits.items self.new.known) }
-        ensures keeps { OnOk result ((seen : List Access) (access : Access) → access.region ≡ region → RegionsRise (seen ++ access ∷ []) → BoundConflicts seen access (bounds_of conflicts) → KnowsWaits self.old.waits.items self.old.known → KeepsLane seen region.thread self.old.nodes.items self.old.waits.items → KeepsLane (seen ++ access ∷ []) region.thread self.new.nodes.items self.new.waits.items) }
+        ensures keeps { OnOk result ((seen : List Access) (access : Access) → access.region ≡ region → RegionsRise (seen ++ access ∷ []) → BoundConflicts seen access (bounds_of conflicts.entry) → KnowsWaits self.old.waits.items self.old.known → KeepsLane seen region.thread self.old.nodes.items self.old.waits.items → KeepsLane (seen ++ access ∷ []) region.thread self.new.nodes.items self.new.waits.items) }
     {
         self.add_waits(region.thread, conflicts)?;
         let waits_upto = self.waits.len();

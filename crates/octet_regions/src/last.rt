@@ -26,14 +26,14 @@ impl Table {
 
     // The bounds of an object, where another thread than this one has any.
     #[inline(always)]
-    fn beside(&self, object: u16, thread: u8) -> Option<Bounds>
+    fn beside(&self, object: u16, thread: u8) -> Option<&Bounds>
         ensures { (other : ℕ) → other ≢ thread → bounds_of result other ≡ last_in self.now.objects.items object other }
     {
         let bounds = self.objects.get(object as usize)?;
         if bounds.is_alone(thread) {
             return None;
         }
-        Some(*bounds)
+        Some(bounds)
     }
 
     // Makes bounds for an object that has none.
@@ -80,7 +80,7 @@ impl LastRegions {
     /// Of each other thread, the last region with a noted access in conflict with this one, where
     /// there is any.
     #[inline(always)]
-    pub(crate) fn conflicts(&self, access: Access) -> Option<Bounds>
+    pub(crate) fn conflicts(&self, access: Access) -> Option<&Bounds>
         ensures { (seen : List Access) → KeepsLast seen self.now → BoundConflicts seen access (bounds_of result) }
     {
         let thread = access.region.thread;
