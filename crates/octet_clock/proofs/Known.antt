@@ -6,8 +6,8 @@ use Rattle.octet_model.specs.declared.event.Event.TheVariants.{Read}
 use Rattle.octet_model.specs.declared.event.Place.{Place}
 use Rattle.octet_model.specs.Machine.{Journals, journal_of}
 use Rattle.octet_model.specs.HappensBefore.{IsEvent}
-use Rattle.octet_model.specs.Past.{InPast}
-use Rattle.octet_model.proofs.lemmas.Pasts.{place, past_grows, past_has_own}
+use Rattle.octet_model.specs.Past.{InPast, Reaches}
+use Rattle.octet_model.proofs.lemmas.Pasts.{place, past_grows, past_has_own, past_is_closed}
 use Rattle.octet_clock.specs.declared.clock.Clock.{Clock}
 use Rattle.octet_clock.specs.Clock.{count_in, IsRaised, IsJoined}
 use Rattle.octet_clock.specs.Past.{AddsNothing, IsPastOf}
@@ -92,16 +92,13 @@ module _ (js : Journals) where
         | inr here ↦ own_event t (suc k) a here.0 here.1 (omega arith)
       ]
 
-  -- an event adds nothing where the clock after it knows no more of the other threads
-  pub nothing_new : (t k : ℕ) (c d : Clock) → IsPastOf js t k c → IsPastOf js t (suc k) d → k ≤ length (journal_of js t) → ((u : ℕ) → u ≢ t → count_in d u ≤ count_in c u) → count_in d t ≤ suc k → AddsNothing js t k
-  nothing_new t k c d before after within others own a h =
-      let known = (after a).0 h in
-      elim (cases_eq a.thread t) [
-        | inr differ ↦ inl ((before a).1 (omega (arith, known, others a.thread differ)))
-        | inl same ↦ elim (cases_lt a.event k) [
-          | inl below ↦ inl (own_event t k a same below within)
-          | inr above ↦
-              let here : a.event ≡ k = omega (arith, known, ap (count_in d) same) in
-              inr (λ i. record { thread = same i; event = here i })
-        ]
-      ]
+  -- a clock that knows as many events of a thread knows their past
+  pub past_within : (t now u n : ℕ) (c : Clock) → IsPastOf js t now c → n ≤ count_in c u → (a : Place) → InPast js u n a → InPast js t now a
+  past_within t now u n c past le a h = go h.reaches
+    where
+      near : InPast js t now (place u h.near)
+      near = (past (place u h.near)).1 (omega (arith, h.below))
+
+      go : Reaches js a (place u h.near) → InPast js t now a
+      go (inl same) = subst (λ (p : Place). InPast js t now p) (sym same) near
+      go (inr path) = past_is_closed js t now a (place u h.near) path near

@@ -15,11 +15,11 @@ use Rattle.octet_model.proofs.lemmas.Pasts.{place, path_on, along_journal, past_
 use Rattle.octet_clock.specs.declared.clock.Clock.{Clock}
 use Rattle.octet_clock.specs.declared.sources.Prefix.{Prefix}
 use Rattle.octet_clock.specs.Clock.{count_in, IsRaised, IsJoined}
-use Rattle.octet_clock.specs.Past.{IsPastOf}
+use Rattle.octet_clock.specs.Past.{AddsNothing, HasPast, IsPastOf}
 use Rattle.octet_clock.specs.Play.{made_by, draws_by, IsWholePlay, IsStep}
 use Rattle.octet_clock.specs.Sources.{IsNextStep, IsDrawn, KeepsDraws, IsSource, TakesIn, draw_of}
 use Rattle.octet_clock.proofs.Edges.{Added, Before, Itself, ByJoin, ByDraw, ByFence, added}
-use Rattle.octet_clock.proofs.Known.{own_event, raised_has, raised_own, raised_from, past_joined}
+use Rattle.octet_clock.proofs.Known.{past_joined}
 use Rattle.octet_clock.proofs.Walk.{made_grows, join_names, draw_is_next, fence_names, draws_differ, draw_is_some}
 
 -- no more is made than the journals have
@@ -195,20 +195,12 @@ module _ (js : Journals) (play : List ℕ) (i t : ℕ) where
   past_source first own other both after source within mine its joined raised =
       past_joined js t k first.thread first.count own other both after mine its joined raised within source.taken source.only
 
-  pub past_nothing : (own after : Clock) → TakesIn js play i t None → k < length (journal_of js t) → IsPastOf js t k own → IsRaised own t (suc k) after → IsPastOf js t (suc k) after
-  past_nothing own after nothing within mine raised a = (to, from)
-    where
-      to : InPast js t (suc k) a → a.event < count_in after a.thread
-      to h = elim (nothing a h) [
-        | inl was ↦ raised_has own after t (suc k) a.thread a.event raised ((mine a).0 was)
-        | inr here ↦ subst (λ (p : Place). p.event < count_in after p.thread) (sym here) (raised_own own after t (suc k) k raised (omega arith))
-      ]
-
-      from : a.event < count_in after a.thread → InPast js t (suc k) a
-      from lt = elim (raised_from own after t (suc k) a.thread a.event raised lt) [
-        | inl known ↦ past_grows js t k (suc k) a (omega arith) ((mine a).1 known)
-        | inr here ↦ own_event js t (suc k) a here.0 here.1 (omega arith)
-      ]
+  -- a mark adds nothing where the thread knew what it takes in
+  pub known_adds_nothing : (first : Prefix) → IsSource js play i t first → HasPast js t k first → AddsNothing js t k
+  known_adds_nothing first source known a h = elim (source.only a h) [
+    | inl was ↦ inl was
+    | inr new ↦ elim new [ inl its ↦ inl (known a its) | inr here ↦ inr here ]
+  ]
 
   -- the same, where a count is what the thread has made
   pub counted_source : (count next : ℕ) (first : Prefix) (own other both after : Clock) → count ≡ k → next ≡ suc count → IsSource js play i t first → k < length (journal_of js t)
@@ -217,12 +209,6 @@ module _ (js : Journals) (play : List ℕ) (i t : ℕ) where
       let mine' = subst (λ (n : ℕ). IsPastOf js t n own) is mine in
       let raised' = subst (λ (n : ℕ). IsRaised both t n after) (more ∙ ap suc is) raised in
       subst (λ (n : ℕ). IsPastOf js t (suc n) after) (sym is) (past_source first own other both after source within mine' its joined raised')
-
-  pub counted_none : (count next : ℕ) (own after : Clock) → count ≡ k → next ≡ suc count → TakesIn js play i t None → k < length (journal_of js t) → IsPastOf js t count own → IsRaised own t next after → IsPastOf js t (suc count) after
-  counted_none count next own after is more nothing within mine raised =
-      let mine' = subst (λ (n : ℕ). IsPastOf js t n own) is mine in
-      let raised' = subst (λ (n : ℕ). IsRaised own t n after) (more ∙ ap suc is) raised in
-      subst (λ (n : ℕ). IsPastOf js t (suc n) after) (sym is) (past_nothing own after nothing within mine' raised')
 
   -- a step's event is in its journal
   pub step_within : (e : Event) → IsStep js play i t e → k < length (journal_of js t)

@@ -162,20 +162,17 @@ module _ (js : Journals) (play : List ℕ) (i t : ℕ) (e : Event) (next : IsNex
       ]
 
   -- the marks
-  pub marks_stay : (marks : List Marks) → ((mark : Mark) → e ≡ Marked mark → ⊥) → KeepsAllMarks js play i marks → KeepsAllMarks js play (suc i) marks
-  marks_stay marks quiet keeps = record {
+  pub marks_stay : (marks : List Marks) → AddsNothing js t k → KeepsAllMarks js play i marks → KeepsAllMarks js play (suc i) marks
+  marks_stay marks nothing keeps = record {
     as_many = keeps.as_many;
     each = λ u one is. elim (cases_eq u t) [
       | inl same ↦
           let old = subst (λ (v : ℕ). KeepsMarks js v (made_by play i v) one.kept.items) same (keeps.each u one is) in
-          let on = keeps_on js t k one.kept.items old (λ a h. unmarked_adds js t k a (λ mark at_k. quiet mark (some_same e (Marked mark) (sym next.step.makes ∙ at_k))) h) in
+          let on = keeps_on js t k one.kept.items old nothing in
           subst (λ (v : ℕ). KeepsMarks js v (made_by play (suc i) v) one.kept.items) (sym same) (subst (λ (n : ℕ). KeepsMarks js t n one.kept.items) (sym one_more) on)
       | inr differ ↦ subst (λ (n : ℕ). KeepsMarks js u n one.kept.items) (sym (others_same u differ)) (keeps.each u one is)
     ];
   }
-    where
-      some_same : (a b : Event) → Some a ≡ Some b → a ≡ b
-      some_same a b e = cc
 
   pub marks_with : (marks marks' : List Marks) (one' : Marks) → KeepsMarks js t (suc k) one'.kept.items → marks' ≡ slice_set marks t one' → KeepsAllMarks js play i marks → KeepsAllMarks js play (suc i) marks'
   marks_with marks marks' one' more sets keeps =
@@ -229,7 +226,10 @@ module _ (js : Journals) (play : List ℕ) (i t : ℕ) (e : Event) (next : IsNex
   draws_on_access draws object of keeps = draws_stay draws (λ c is. (let none = ap object_of is in cc)) keeps
 
   pub marks_on_access : (marks : List Marks) (object : ℕ) → object_of e ≡ Some object → KeepsAllMarks js play i marks → KeepsAllMarks js play (suc i) marks
-  marks_on_access marks object of keeps = marks_stay marks (λ mark is. (let none = ap object_of is in cc)) keeps
+  marks_on_access marks object of keeps = marks_stay marks (λ a h. unmarked_adds js t k a (λ mark at_k. (let is = some_same e (Marked mark) (sym next.step.makes ∙ at_k) in let none = ap object_of is in cc)) h) keeps
+    where
+      some_same : (a b : Event) → Some a ≡ Some b → a ≡ b
+      some_same a b e = cc
 
   -- the last accesses of one kind, where the event is none of them, and where it is one
   last_all_stay : (test : ℕ → Event → Bool) (clocks : List Clock) → ((o : ℕ) → test o e ≡ false) → KeepsLast js play i test clocks → KeepsLast js play (suc i) test clocks

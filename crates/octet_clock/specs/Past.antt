@@ -5,11 +5,16 @@ use Rattle.octet_model.specs.Machine.{Journals}
 use Rattle.octet_model.specs.Past.{InPast}
 use Rattle.octet_clock.specs.declared.clock.Clock.{Clock}
 use Rattle.octet_clock.specs.declared.marks.MarkClock.{MarkClock}
+use Rattle.octet_clock.specs.declared.sources.Prefix.{Prefix}
 use Rattle.octet_clock.specs.Clock.{count_in}
 
 -- a clock is the past of a thread's first `now` events: an event lies in that past exactly where the clock knows it
 abbrev pub IsPastOf : Journals → ℕ → ℕ → Clock → Type 0
 IsPastOf journals thread now clock = (place : Place) → InPast journals thread now place ↔ (place.event < count_in clock place.thread)
+
+-- the past of a thread's first `now` events has that of another's first ones
+abbrev pub HasPast : Journals → ℕ → ℕ → Prefix → Type 0
+HasPast journals thread now first = (place : Place) → InPast journals first.thread first.count place → InPast journals thread now place
 
 -- an event takes nothing but itself into the past of its thread
 abbrev pub AddsNothing : Journals → ℕ → ℕ → Type 0

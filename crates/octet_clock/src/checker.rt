@@ -14,7 +14,7 @@ ghost use Rattle.octet_clock.specs.Verified.{IsJudged};
 use crate::accesses::Accesses;
 use crate::clock::Clock;
 use crate::marks::Marks;
-use crate::sources::{Prefix, clock_after, clock_past_mark, note_draw};
+use crate::sources::{Prefix, clock_after, keep_mark, note_draw};
 use crate::verdict::Verdict;
 use octet_model::{Event, MAX_THREADS, Mark, OutOfMemory, Place};
 use octet_replay::{Replayer, Stepped};
@@ -103,8 +103,7 @@ impl Checker {
         ensures taken { OnOk result (TakesEvent self.old thread (Marked mark) self.new) }
     {
         let count = self.made.count(thread);
-        let clock = clock_past_mark(&self.marks, &self.draws, thread, count, mark);
-        self.marks[thread].keep(thread, count, clock)?;
+        keep_mark(&mut self.marks, &self.draws, thread, count, mark)?;
         let upto = Prefix {
             thread: thread as u8,
             count: count + 1,

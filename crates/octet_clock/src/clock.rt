@@ -48,18 +48,4 @@ impl Clock {
             self.raise(thread, other.counts[thread]);
         }
     }
-
-    /// Whether it knows more than `own` events of its thread, or more of another thread than the
-    /// clock before it.
-    pub(crate) fn adds_to(&self, before: &Clock, thread: usize, own: u32) -> bool
-        ensures others { result ≡ false → (other : ℕ) → other ≢ thread → count_in self.now other ≤ count_in before.now other }
-        ensures own { result ≡ false → count_in self.now thread ≤ own }
-    {
-        for other in 0..MAX_THREADS {
-            if other != thread && self.counts[other] > before.counts[other] {
-                return true;
-            }
-        }
-        self.count(thread) > own
-    }
 }

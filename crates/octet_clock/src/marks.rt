@@ -3,9 +3,10 @@ ghost use Rattle.std.specs.Prelude.{◌≡◌, ◌<◌, ◌≤◌, ◌+◌, ◌^
 ghost use Rattle.std.specs.List.Sorted.{IsNonDecreasingBy, IsPartitionPoint};
 ghost use Rattle.octet_model.specs.declared.event.Event.{Event};
 ghost use Rattle.octet_model.specs.Machine.{journal_of};
-ghost use Rattle.octet_clock.specs.Past.{IsPastOf, KeepsMarks};
+ghost use Rattle.octet_clock.specs.Past.{HasPast, IsPastOf, KeepsMarks};
 
 use crate::clock::Clock;
+use crate::sources::Prefix;
 use octet_model::{MAX_THREADS, OutOfMemory};
 use std::alloc::Global;
 
@@ -58,22 +59,25 @@ impl Marks {
         known
     }
 
-    /// Keeps a mark with the clock after it, unless that knows no more of the other threads than
-    /// the thread did.
-    pub(crate) fn keep(
-        &mut self,
-        thread: usize,
-        event: u32,
-        clock: Clock,
-    ) -> Result<(), OutOfMemory>
-        requires thread { thread < MAX_THREADS }
-        requires room { event + 1 < 2 ^ 32 }
-        ensures { OnOk result ((journals : List (List Event)) → event ≤ length (journal_of journals thread) → IsPastOf journals thread (suc event) clock → KeepsMarks journals thread event self.old.kept.items → KeepsMarks journals thread (suc event) self.new.kept.items) }
+    /// Whether the thread's past has another's first events, or as many of its own.
+    #[inline(always)]
+    pub(crate) fn knows(&self, thread: usize, first: Prefix) -> bool
+        ensures { result ≡ true → (journals : List (List Event)) (now : ℕ) → KeepsMarks journals thread now self.now.kept.items → (first.thread ≡ thread → first.count ≤ now) → HasPast journals thread now first }
     {
-        let known = self.clock_after(thread, event);
-        if clock.adds_to(&known, thread, event + 1) {
-            self.kept.push(MarkClock { event, clock })?;
+        if first.thread as usize == thread {
+            return true;
         }
+        match self.kept.last() {
+            Some(last) => first.count <= last.clock.count(first.thread as usize),
+            None => first.count == 0,
+        }
+    }
+
+    /// Keeps a mark with the clock after it.
+    pub(crate) fn keep(&mut self, event: u32, clock: Clock) -> Result<(), OutOfMemory>
+        ensures { OnOk result ((journals : List (List Event)) (thread : ℕ) → IsPastOf journals thread (suc event) clock → KeepsMarks journals thread event self.old.kept.items → KeepsMarks journals thread (suc event) self.new.kept.items) }
+    {
+        self.kept.push(MarkClock { event, clock })?;
         Ok(())
     }
 }

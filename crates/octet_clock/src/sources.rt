@@ -4,7 +4,7 @@ ghost use Rattle.octet_model.specs.declared.event.Event.{Event};
 ghost use Rattle.octet_model.specs.declared.event.Event.TheVariants.{Marked};
 ghost use Rattle.octet_clock.specs.Past.{IsPastOf};
 ghost use Rattle.octet_clock.specs.Play.{made_by, IsWholePlay};
-ghost use Rattle.octet_clock.specs.Sources.{IsNextStep, KeepsDraws, KeepsAllMarks, TakesIn, draw_of, draws_with};
+ghost use Rattle.octet_clock.specs.Sources.{IsNextStep, IsSource, KeepsDraws, KeepsAllMarks, TakesIn, draw_of, draws_with};
 
 use crate::clock::Clock;
 use crate::marks::Marks;
@@ -57,28 +57,43 @@ pub(crate) fn clock_after(marks: &[Marks], thread: usize, count: u32) -> Clock
     }
 }
 
-/// The clock after a mark that a thread makes after `count` events.
-pub(crate) fn clock_past_mark(
-    marks: &[Marks],
-    draws: &[Prefix],
-    thread: usize,
-    count: u32,
-    mark: Mark,
-) -> Clock
+// The clock after a mark that a thread makes after `count` events, where it takes in the past of
+// another's first ones.
+fn clock_with(marks: &[Marks], thread: usize, count: u32, first: Prefix) -> Clock
     requires threads { length marks.now ≤ MAX_THREADS }
     requires thread { thread < length marks.now }
     requires room { count + 1 < 2 ^ 32 }
-    ensures { (journals : List (List Event)) (play : List ℕ) (index : ℕ) → IsNextStep journals play index thread (Marked mark) → KeepsDraws journals play index draws.now → KeepsAllMarks journals play index marks.now → count ≡ made_by play index thread → IsPastOf journals thread (suc count) result }
+    ensures { (journals : List (List Event)) (play : List ℕ) (index : ℕ) (event : Event) → IsNextStep journals play index thread event → IsSource journals play index thread first → KeepsAllMarks journals play index marks.now → count ≡ made_by play index thread → IsPastOf journals thread (suc count) result }
 {
     let mut own = clock_after(marks, thread, count);
-    let Some(first) = source_of(draws, mark) else {
-        own.raise(thread, count + 1);
-        return own;
-    };
     let taken = clock_after(marks, first.thread as usize, first.count);
     own.join(&taken);
     own.raise(thread, count + 1);
     own
+}
+
+/// Keeps the clock after a mark that a thread makes after `count` events, unless the thread knew
+/// before it all that it takes in.
+pub(crate) fn keep_mark(
+    marks: &mut [Marks],
+    draws: &[Prefix],
+    thread: usize,
+    count: u32,
+    mark: Mark,
+) -> Result<(), OutOfMemory>
+    requires threads { length marks.old ≤ MAX_THREADS }
+    requires thread { thread < length marks.old }
+    requires room { count + 1 < 2 ^ 32 }
+    ensures { OnOk result ((journals : List (List Event)) (play : List ℕ) (index : ℕ) → IsNextStep journals play index thread (Marked mark) → KeepsDraws journals play index draws.now → KeepsAllMarks journals play index marks.old → count ≡ made_by play index thread → KeepsAllMarks journals play (suc index) marks.new) }
+{
+    let Some(first) = source_of(draws, mark) else {
+        return Ok(());
+    };
+    if marks[thread].knows(thread, first) {
+        return Ok(());
+    }
+    let clock = clock_with(marks, thread, count, first);
+    marks[thread].keep(count, clock)
 }
 
 /// Notes a draw, with the events of its thread up to it.
