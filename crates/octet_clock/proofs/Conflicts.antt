@@ -65,21 +65,21 @@ module _ (js : Journals) (object t now : ℕ) where
       }
 
 -- a conflicting event of another thread conflicts with the access
-from_conflict : (e x : Event) (object o : ℕ) (writing : Bool) → object_of e ≡ Some object → is_write e ≡ writing → object_of x ≡ Some o → object_of e ≡ Some o → IsTrue (is_write x || is_write e) → conflicts_with object writing x ≡ true
+pub from_conflict : (e x : Event) (object o : ℕ) (writing : Bool) → object_of e ≡ Some object → is_write e ≡ writing → object_of x ≡ Some o → object_of e ≡ Some o → IsTrue (is_write x || is_write e) → conflicts_with object writing x ≡ true
 from_conflict e (Read other value) object o true of does of_x of_e one = let same : other ≡ object = cc in eq-eqb other object same
 from_conflict e (Read other value) object o false of does of_x of_e one = absurd cc
 from_conflict e (Write other value) object o writing of does of_x of_e one = let same : other ≡ object = cc in eq-eqb other object same
 from_conflict e (Update other before after) object o writing of does of_x of_e one = let same : other ≡ object = cc in eq-eqb other object same
 from_conflict e (Marked mark) object o writing of does of_x of_e one = absurd cc
 
-same_object : (x : Event) (object : ℕ) (writing : Bool) → conflicts_with object writing x ≡ true → object_of x ≡ Some object
+pub same_object : (x : Event) (object : ℕ) (writing : Bool) → conflicts_with object writing x ≡ true → object_of x ≡ Some object
 same_object (Read other value) object true is = ap Some (eqb-true other object is)
 same_object (Read other value) object false is = absurd cc
 same_object (Write other value) object writing is = ap Some (eqb-true other object is)
 same_object (Update other before after) object writing is = ap Some (eqb-true other object is)
 same_object (Marked mark) object writing is = absurd cc
 
-one_writes_of : (x : Event) (object : ℕ) (writing : Bool) → conflicts_with object writing x ≡ true → IsTrue (is_write x || writing)
+pub one_writes_of : (x : Event) (object : ℕ) (writing : Bool) → conflicts_with object writing x ≡ true → IsTrue (is_write x || writing)
 one_writes_of (Read other value) object true is = refl
 one_writes_of (Read other value) object false is = absurd cc
 one_writes_of (Write other value) object writing is = refl

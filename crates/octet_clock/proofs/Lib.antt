@@ -7,6 +7,8 @@ mod Forward
 mod Taken
 mod Conflicts
 mod Taking
+mod Within
+mod Noting
 mod Checking
 mod WholePlay
 mod Verifying

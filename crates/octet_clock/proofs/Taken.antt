@@ -11,10 +11,10 @@ use Rattle.octet_model.specs.declared.event.Place.{Place}
 use Rattle.octet_model.specs.Machine.{Journals, journal_of}
 use Rattle.octet_model.specs.HappensBefore.{event_at, HappensBefore}
 use Rattle.octet_model.specs.Past.{Reaches, InPast}
-use Rattle.octet_model.proofs.lemmas.Pasts.{place, path_on, along_journal, past_has_joined, past_has_draws_whole, past_grows}
+use Rattle.octet_model.proofs.lemmas.Pasts.{place, path_on, along_journal, past_has_joined, past_has_draws_whole}
 use Rattle.octet_clock.specs.declared.clock.Clock.{Clock}
 use Rattle.octet_clock.specs.declared.sources.Prefix.{Prefix}
-use Rattle.octet_clock.specs.Clock.{count_in, IsRaised, IsJoined}
+use Rattle.octet_clock.specs.Clock.{IsRaised, IsJoined}
 use Rattle.octet_clock.specs.Past.{AddsNothing, HasPast, IsPastOf}
 use Rattle.octet_clock.specs.Play.{made_by, draws_by, IsWholePlay, IsStep}
 use Rattle.octet_clock.specs.Sources.{IsNextStep, IsDrawn, KeepsDraws, IsSource, TakesIn, draw_of}

@@ -1,5 +1,5 @@
 -- What the checker holds stays true as an event is taken in.
-use Rattle.std.proofs.Common.{◌≡◌, ℕ, zero, suc, ◌<◌, ◌≤◌, ◌⊎◌, inl, inr, max, Bool, true, false, List, [], ◌∷◌, ◌++◌, length, Some, slice_get, slice_set, refl, sym, ap, ◌∙◌, subst, arith, length-append, length-set}
+use Rattle.std.proofs.Common.{◌≡◌, ◌≢◌, ℕ, zero, suc, ◌<◌, ◌≤◌, ◌⊎◌, inl, inr, max, Bool, true, false, List, [], ◌∷◌, ◌++◌, length, Some, slice_get, slice_set, refl, sym, ap, ◌∙◌, subst, arith, length-append, length-set}
 use Rattle.std.proofs.lemmas.Bool.{cases_eq, eq-eqb, ne_eqb}
 use Rattle.std.proofs.lemmas.Option.{slice_get_within}
 use Rattle.octet_model.specs.declared.event.Mark.{Mark}
@@ -15,13 +15,10 @@ use Rattle.octet_clock.specs.declared.clock.Clock.{Clock}
 use Rattle.octet_clock.specs.declared.marks.MarkClock.{MarkClock}
 use Rattle.octet_clock.specs.declared.marks.Marks.{Marks}
 use Rattle.octet_clock.specs.declared.sources.Prefix.{Prefix}
-use Rattle.octet_clock.specs.declared.accesses.Accesses.{Accesses}
-use Rattle.octet_clock.specs.declared.accesses.LastAccesses.{LastAccesses}
 use Rattle.octet_clock.specs.declared.verdict.Verdict.{Verdict}
 use Rattle.octet_clock.specs.declared.verdict.Verdict.TheVariants.{Ordered, Unordered}
-use Rattle.octet_clock.specs.Accesses.{KeepsAccesses, AreNoted}
 use Rattle.octet_clock.specs.Clock.{count_in, IsRaised}
-use Rattle.octet_clock.specs.LastAccesses.{last_in, is_read_of, is_write_of, IsLastOf, IsNoted, KeepsLast}
+use Rattle.octet_clock.specs.LastAccesses.{is_read_of, is_write_of, IsLastOf, KeepsLast}
 use Rattle.octet_clock.specs.Past.{AddsNothing, IsKept, IsPastOf, KeepsMarks}
 use Rattle.octet_clock.specs.Play.{made_by, step_place, IsStep}
 use Rattle.octet_clock.specs.Sources.{IsNextStep, IsDrawn, KeepsDraws, KeepsAllMarks, draws_with}
@@ -123,14 +120,14 @@ module _ (js : Journals) (test : Event → Bool) (t k n : ℕ) (last : IsLastOf 
   }
 
 -- which tests a read passes, and a write
-of_read : (e : Event) (object : ℕ) → object_of e ≡ Some object → is_write e ≡ false
+pub of_read : (e : Event) (object : ℕ) → object_of e ≡ Some object → is_write e ≡ false
     → (is_read_of object e ≡ true) × ((o : ℕ) → (o ≡ object → ⊥) → is_read_of o e ≡ false) × ((o : ℕ) → is_write_of o e ≡ false)
 of_read (Read other value) object of does = let same : other ≡ object = cc in (eq-eqb other object same, λ o differ. ne_eqb other o (λ is. differ (sym is ∙ same)), λ o. refl)
 of_read (Write other value) object of does = absurd cc
 of_read (Update other before after) object of does = absurd cc
 of_read (Marked mark) object of does = absurd cc
 
-of_write : (e : Event) (object : ℕ) → object_of e ≡ Some object → is_write e ≡ true
+pub of_write : (e : Event) (object : ℕ) → object_of e ≡ Some object → is_write e ≡ true
     → (is_write_of object e ≡ true) × ((o : ℕ) → (o ≡ object → ⊥) → is_write_of o e ≡ false) × ((o : ℕ) → is_read_of o e ≡ false)
 of_write (Read other value) object of does = absurd cc
 of_write (Write other value) object of does = let same : other ≡ object = cc in (eq-eqb other object same, λ o differ. ne_eqb other o (λ is. differ (sym is ∙ same)), λ o. refl)
@@ -147,7 +144,7 @@ module _ (js : Journals) (play : List ℕ) (i t : ℕ) (e : Event) (next : IsNex
   others_same : (u : ℕ) → (u ≡ t → ⊥) → made_by play (suc i) u ≡ made_by play i u
   others_same u differ = made_other play i u next.step.within (λ is. differ (sym is ∙ next.step.is_of))
 
-  no_less : (u : ℕ) → made_by play i u ≤ made_by play (suc i) u
+  pub no_less : (u : ℕ) → made_by play i u ≤ made_by play (suc i) u
   no_less u = elim (cases_eq u t) [
     | inl same ↦ let a = ap (made_by play i) same in let b = ap (made_by play (suc i)) same in omega (arith, one_more)
     | inr differ ↦ omega (arith, others_same u differ)
@@ -232,58 +229,36 @@ module _ (js : Journals) (play : List ℕ) (i t : ℕ) (e : Event) (next : IsNex
       some_same a b e = cc
 
   -- the last accesses of one kind, where the event is none of them, and where it is one
-  last_all_stay : (test : ℕ → Event → Bool) (clocks : List Clock) → ((o : ℕ) → test o e ≡ false) → KeepsLast js play i test clocks → KeepsLast js play (suc i) test clocks
-  last_all_stay test clocks fails keeps o u =
+  pub last_all_stay : (test : ℕ → Event → Bool) (last : ℕ → ℕ → ℕ) → ((o : ℕ) → test o e ≡ false) → KeepsLast js play i test last → KeepsLast js play (suc i) test last
+  last_all_stay test last fails keeps o u =
       elim (cases_eq u t) [
         | inl same ↦
-            let old = subst (λ (v : ℕ). IsLastOf js (test o) v (made_by play i v) (last_in clocks o v)) same (keeps o u) in
-            let on = last_stays js (test o) t k (last_in clocks o t) old e next.step.makes (fails o) in
-            subst (λ (v : ℕ). IsLastOf js (test o) v (made_by play (suc i) v) (last_in clocks o v)) (sym same) (subst (λ (n : ℕ). IsLastOf js (test o) t n (last_in clocks o t)) (sym one_more) on)
-        | inr differ ↦ subst (λ (n : ℕ). IsLastOf js (test o) u n (last_in clocks o u)) (sym (others_same u differ)) (keeps o u)
+            let old = subst (λ (v : ℕ). IsLastOf js (test o) v (made_by play i v) (last o v)) same (keeps o u) in
+            let on = last_stays js (test o) t k (last o t) old e next.step.makes (fails o) in
+            subst (λ (v : ℕ). IsLastOf js (test o) v (made_by play (suc i) v) (last o v)) (sym same) (subst (λ (n : ℕ). IsLastOf js (test o) t n (last o t)) (sym one_more) on)
+        | inr differ ↦ subst (λ (n : ℕ). IsLastOf js (test o) u n (last o u)) (sym (others_same u differ)) (keeps o u)
       ]
 
-  last_noted : (test : ℕ → Event → Bool) (object n : ℕ) (clocks clocks' : List Clock) → n ≡ suc k → test object e ≡ true → ((o : ℕ) → (o ≡ object → ⊥) → test o e ≡ false) → IsNoted clocks object t n clocks'
-      → KeepsLast js play i test clocks → KeepsLast js play (suc i) test clocks'
-  last_noted test object n clocks clocks' is passes fails noted keeps o u =
+  pub last_noted : (test : ℕ → Event → Bool) (object n : ℕ) (last last' : ℕ → ℕ → ℕ) → n ≡ suc k → test object e ≡ true → ((o : ℕ) → (o ≡ object → ⊥) → test o e ≡ false)
+      → last' object t ≡ max (last object t) n → ((o u : ℕ) → (o ≢ object) ⊎ (u ≢ t) → last' o u ≡ last o u)
+      → KeepsLast js play i test last → KeepsLast js play (suc i) test last'
+  last_noted test object n last last' is passes fails noted others keeps o u =
       elim (cases_eq u t) [
         | inr differ ↦
-            let same = noted.others o u (inr differ) in
-            subst (λ (m : ℕ). IsLastOf js (test o) u (made_by play (suc i) u) m) (sym same) (subst (λ (m : ℕ). IsLastOf js (test o) u m (last_in clocks o u)) (sym (others_same u differ)) (keeps o u))
+            let same = others o u (inr differ) in
+            subst (λ (m : ℕ). IsLastOf js (test o) u (made_by play (suc i) u) m) (sym same) (subst (λ (m : ℕ). IsLastOf js (test o) u m (last o u)) (sym (others_same u differ)) (keeps o u))
         | inl same ↦
-            let at_t : IsLastOf js (test o) t (suc k) (last_in clocks' o t) = at_thread o (cases_eq o object) in
-            subst (λ (v : ℕ). IsLastOf js (test o) v (made_by play (suc i) v) (last_in clocks' o v)) (sym same) (subst (λ (m : ℕ). IsLastOf js (test o) t m (last_in clocks' o t)) (sym one_more) at_t)
+            let at_t : IsLastOf js (test o) t (suc k) (last' o t) = at_thread o (cases_eq o object) in
+            subst (λ (v : ℕ). IsLastOf js (test o) v (made_by play (suc i) v) (last' o v)) (sym same) (subst (λ (m : ℕ). IsLastOf js (test o) t m (last' o t)) (sym one_more) at_t)
       ]
     where
-      at_thread : (o : ℕ) → (o ≡ object) ⊎ (o ≡ object → ⊥) → IsLastOf js (test o) t (suc k) (last_in clocks' o t)
+      at_thread : (o : ℕ) → (o ≡ object) ⊎ (o ≡ object → ⊥) → IsLastOf js (test o) t (suc k) (last' o t)
       at_thread o (inl one) =
-          let own : last_in clocks' object t ≡ max (last_in clocks object t) (suc k) = noted.own ∙ ap (max (last_in clocks object t)) is in
-          let last = last_is_next js (test object) t k (last_in clocks object t) (keeps object t) e (last_in clocks' object t) next.step.makes passes own in
-          subst (λ (x : ℕ). IsLastOf js (test x) t (suc k) (last_in clocks' x t)) (sym one) last
+          let own : last' object t ≡ max (last object t) (suc k) = noted ∙ ap (max (last object t)) is in
+          let next_last = last_is_next js (test object) t k (last object t) (keeps object t) e (last' object t) next.step.makes passes own in
+          subst (λ (x : ℕ). IsLastOf js (test x) t (suc k) (last' x t)) (sym one) next_last
       at_thread o (inr other) =
-          subst (λ (m : ℕ). IsLastOf js (test o) t (suc k) m) (sym (noted.others o t (inl other))) (last_stays js (test o) t k (last_in clocks o t) (keeps o t) e next.step.makes (fails o other))
-
-  -- the accesses, at a mark
-  pub accesses_on_mark : (mark : Mark) (accesses : Accesses) → e ≡ Marked mark → KeepsAccesses js play i accesses → KeepsAccesses js play (suc i) accesses
-  accesses_on_mark mark accesses is keeps = record {
-    reads = last_all_stay is_read_of accesses.reads.clocks.items (λ o. ap (is_read_of o) is) keeps.reads;
-    writes = last_all_stay is_write_of accesses.writes.clocks.items (λ o. ap (is_write_of o) is) keeps.writes;
-  }
-
-  -- at an access
-  pub accesses_on_access : (object n : ℕ) (writing : Bool) (before after : Accesses) → n ≡ suc k → object_of e ≡ Some object → is_write e ≡ writing → AreNoted before object writing t n after
-      → KeepsAccesses js play i before → KeepsAccesses js play (suc i) after
-  accesses_on_access object n true before after is of does noted keeps =
-      let w = of_write e object of does in
-      record {
-        reads = subst (λ (r : LastAccesses). KeepsLast js play (suc i) is_read_of r.clocks.items) (sym noted.1) (last_all_stay is_read_of before.reads.clocks.items w.2 keeps.reads);
-        writes = last_noted is_write_of object n before.writes.clocks.items after.writes.clocks.items is w.0 w.1 noted.0 keeps.writes;
-      }
-  accesses_on_access object n false before after is of does noted keeps =
-      let r = of_read e object of does in
-      record {
-        reads = last_noted is_read_of object n before.reads.clocks.items after.reads.clocks.items is r.0 r.1 noted.0 keeps.reads;
-        writes = subst (λ (w : LastAccesses). KeepsLast js play (suc i) is_write_of w.clocks.items) (sym noted.1) (last_all_stay is_write_of before.writes.clocks.items r.2 keeps.writes);
-      }
+          subst (λ (m : ℕ). IsLastOf js (test o) t (suc k) m) (sym (others o t (inl other))) (last_stays js (test o) t k (last o t) (keeps o t) e next.step.makes (fails o other))
 
   -- one more step that is joined up
   pub judged_more : (verdict : Verdict) → JudgedUpTo js play i verdict → FollowsConflicts js play i → JudgedUpTo js play (suc i) verdict

@@ -1,10 +1,15 @@
 -- What a vector clock says.
-use Rattle.std.specs.Prelude.{◌≡◌, ◌≢◌, ℕ, max, get_or}
+use Rattle.std.specs.Prelude.{◌≡◌, ◌≢◌, ℕ, max, get_or, replicate}
+use Rattle.octet_model.specs.declared.limits.TheConstants.{MAX_THREADS}
 use Rattle.octet_clock.specs.declared.clock.Clock.{Clock}
 
 -- how many of a thread's first events the clock knows
 abbrev pub count_in : Clock → ℕ → ℕ
 count_in clock thread = get_or clock.counts thread 0
+
+-- the clock that knows no event
+abbrev pub no_events : Clock
+no_events = record { counts = replicate MAX_THREADS 0 }
 
 -- the clock with at least `count` events of one thread
 pub record IsRaised (before : Clock) (thread count : ℕ) (after : Clock) : Type 0 where

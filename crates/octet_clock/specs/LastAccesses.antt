@@ -1,21 +1,50 @@
 -- Of each object, the last access by each thread.
-use Rattle.std.specs.Prelude.{◌≡◌, ℕ, suc, ◌<◌, ◌≤◌, ◌⊎◌, ◌≢◌, max, Bool, true, false, ◌==◌, List, Some, None, length, slice_get}
+use Rattle.std.specs.Prelude.{◌≡◌, ℕ, suc, ◌<◌, ◌≤◌, Bool, true, false, ◌==◌, List, Option, Some, None, length, get_or}
 use Rattle.octet_model.specs.declared.event.Event.{Event}
 use Rattle.octet_model.specs.declared.event.Event.TheVariants.{Read, Write, Update, Marked}
 use Rattle.octet_model.specs.Machine.{Journals}
 use Rattle.octet_model.specs.HappensBefore.{event_at}
-use Rattle.octet_clock.specs.declared.clock.Clock.{Clock}
-use Rattle.octet_clock.specs.Clock.{count_in}
-use Rattle.octet_clock.specs.Play.{made_by}
+use Rattle.octet_model.specs.declared.event.Place.{Place}
+use Rattle.octet_model.specs.Past.{InPast}
+use Rattle.octet_clock.specs.declared.accesses.ObjectAccesses.{ObjectAccesses}
+use Rattle.octet_clock.specs.declared.sources.Prefix.{Prefix}
+use Rattle.octet_clock.specs.Clock.{count_in, no_events, IsRaised}
+use Rattle.octet_clock.specs.Play.{made_by, IsMadeBefore}
+use Rattle.octet_clock.specs.Verdict.{FollowsConflicts}
 
--- how many of a thread's first events the object's clock knows, 0 where it has none
-abbrev pub last_in : List Clock → ℕ → ℕ → ℕ
-last_in clocks object thread = elim (slice_get clocks object) [ None ↦ 0 | Some clock ↦ count_in clock thread ]
+-- what is kept of an object that no thread has accessed
+abbrev pub untouched : ObjectAccesses
+untouched = record { reads = no_events; writes = no_events; last_write = record { thread = 0; count = 0 }; last_access = Some (record { thread = 0; count = 0 }) }
 
--- the clocks with at least `count` events of one thread in one object's clock
-pub record IsNoted (before : List Clock) (object thread count : ℕ) (after : List Clock) : Type 0 where
-  pub own : last_in after object thread ≡ max (last_in before object thread) count
-  pub others : (other by : ℕ) → (other ≢ object) ⊎ (by ≢ thread) → last_in after other by ≡ last_in before other by
+-- what is kept of an object
+abbrev pub kept_of : List ObjectAccesses → ℕ → ObjectAccesses
+kept_of objects object = get_or objects object untouched
+
+-- how many of a thread's first events there are up to its last read of an object, and up to its last write; 0 for none
+abbrev pub read_in : List ObjectAccesses → ℕ → ℕ → ℕ
+read_in objects object thread = count_in (kept_of objects object).reads thread
+
+abbrev pub written_in : List ObjectAccesses → ℕ → ℕ → ℕ
+written_in objects object thread = count_in (kept_of objects object).writes thread
+
+-- the first events of a thread in whose past lie all accesses that conflict with a write, or with a read, where such are kept
+abbrev pub conflicts_within : ObjectAccesses → Bool → Option Prefix
+conflicts_within kept true = kept.last_access
+conflicts_within kept false = Some kept.last_write
+
+-- a read was noted by a thread that made `count` events with it; it follows all other accesses, or need not
+pub record IsReadNoted (before : ObjectAccesses) (thread count : ℕ) (follows : Bool) (after : ObjectAccesses) : Type 0 where
+  pub reads : IsRaised before.reads thread count after.reads
+  pub writes : after.writes ≡ before.writes
+  pub last_write : after.last_write ≡ before.last_write
+  pub last_access : after.last_access ≡ elim follows [ true ↦ Some (record { thread = thread; count = count }) | false ↦ None ]
+
+-- a write was noted
+pub record IsWriteNoted (before : ObjectAccesses) (thread count : ℕ) (after : ObjectAccesses) : Type 0 where
+  pub reads : after.reads ≡ before.reads
+  pub writes : IsRaised before.writes thread count after.writes
+  pub last_write : after.last_write ≡ record { thread = thread; count = count }
+  pub last_access : after.last_access ≡ Some (record { thread = thread; count = count })
 
 -- the reads, the writes and updates, and the accesses in conflict with a read or a write of an object
 abbrev pub is_read_of : ℕ → Event → Bool
@@ -39,11 +68,16 @@ pub record IsLastOf (journals : Journals) (test : Event → Bool) (thread now up
   pub none_later : (event : ℕ) (there : Event) → upto ≤ event → event < now → event_at journals (record { thread = thread; event = event }) ≡ Some there → test there ≡ false
   pub passes : (event : ℕ) → upto ≡ suc event → (there : Event) × (event_at journals (record { thread = thread; event = event }) ≡ Some there) × (test there ≡ true)
 
--- each object's clock has the last of each thread's events that passes the object's test
-abbrev pub KeepsLast : Journals → List ℕ → ℕ → (ℕ → Event → Bool) → List Clock → Type 0
-KeepsLast journals play index test clocks = (object thread : ℕ) → IsLastOf journals (test object) thread (made_by play index thread) (last_in clocks object thread)
+-- of each object the last of each thread's events that pass the object's test
+abbrev pub KeepsLast : Journals → List ℕ → ℕ → (ℕ → Event → Bool) → (ℕ → ℕ → ℕ) → Type 0
+KeepsLast journals play index test last = (object thread : ℕ) → IsLastOf journals (test object) thread (made_by play index thread) (last object thread)
 
--- the object has a clock, and no clock knows more
-pub record IsCovered (before : List Clock) (object : ℕ) (after : List Clock) : Type 0 where
+-- something is kept of the object, and of no object anything else
+pub record IsCovered (before : List ObjectAccesses) (object : ℕ) (after : List ObjectAccesses) : Type 0 where
   pub there : object < length after
-  pub same : (other thread : ℕ) → last_in after other thread ≡ last_in before other thread
+  pub same : (other : ℕ) → kept_of after other ≡ kept_of before other
+
+-- the accesses of an object that conflict with a read or a write and that the steps before an index made lie in the past of a thread's first events, where these steps follow all conflicts
+pub record LieWithin (journals : Journals) (play : List ℕ) (index object : ℕ) (writing : Bool) (thread now : ℕ) : Type 0 where
+  pub lie : ((step : ℕ) → step < index → FollowsConflicts journals play step) → (place : Place) (event : Event) → IsMadeBefore play index place
+      → event_at journals place ≡ Some event → conflicts_with object writing event ≡ true → InPast journals thread now place

@@ -1,5 +1,5 @@
 //! The check of journals, event by event along their lowest play.
-ghost use Rattle.std.specs.Prelude.{◌≡◌, ◌<◌, ◌≤◌, ◌+◌, ◌^◌, [], ℕ, suc, Bool, List, length, Some, OnOk, IfOk};
+ghost use Rattle.std.specs.Prelude.{◌≡◌, ◌<◌, ◌≤◌, ◌+◌, ◌^◌, [], ℕ, suc, Bool, true, List, length, Some, OnOk, IfOk};
 ghost use Rattle.octet_model.specs.declared.event.Event.{Event};
 ghost use Rattle.octet_model.specs.declared.event.Event.TheVariants.{Marked};
 ghost use Rattle.octet_model.specs.Machine.{Journals};
@@ -7,6 +7,8 @@ ghost use Rattle.octet_model.specs.HappensBefore.{object_of, is_write};
 ghost use Rattle.octet_clock.specs.declared.verdict.Verdict.TheVariants.{Ordered};
 ghost use Rattle.octet_clock.specs.Checker.{Holds, TakesEvent};
 ghost use Rattle.octet_clock.specs.Clock.{count_in};
+ghost use Rattle.octet_clock.specs.LastAccesses.{LieWithin};
+ghost use Rattle.octet_clock.specs.Play.{made_by};
 ghost use Rattle.octet_clock.specs.Sources.{IsNextStep};
 ghost use Rattle.octet_clock.specs.Verdict.{JudgedUpTo, UnorderedConflictIs};
 ghost use Rattle.octet_clock.specs.Verified.{IsJudged};
@@ -81,6 +83,35 @@ impl Checker {
         }
     }
 
+    // Whether all accesses of the object that conflict with a read or a write are known to lie in a
+    // thread's past.
+    #[inline(always)]
+    fn knows_conflicts(&self, thread: usize, object: u16, writing: bool) -> bool
+        requires thread { thread < length self.now.marks.items }
+        ensures { result ≡ true → (journals : Journals) (play : List ℕ) (index : ℕ) → Holds journals play index self.now → LieWithin journals play index object writing thread (made_by play index thread) }
+    {
+        match self.accesses.conflicts_within(object, writing) {
+            Some(first) => self.marks[thread].knows(thread, first),
+            None => false,
+        }
+    }
+
+    // Whether a thread's access is known to follow all that it conflicts with; `knows_all` where the
+    // thread knew of all accesses of the object.
+    #[inline(always)]
+    fn follows(&self, thread: usize, object: u16, writing: bool, knows_all: bool) -> bool
+        requires thread { thread < length self.now.marks.items }
+        ensures { result ≡ true → (journals : Journals) (play : List ℕ) (index : ℕ) → Holds journals play index self.now → (knows_all ≡ true → LieWithin journals play index object true thread (made_by play index thread)) → LieWithin journals play index object writing thread (made_by play index thread) }
+    {
+        if knows_all {
+            return true;
+        }
+        if writing {
+            return false;
+        }
+        self.knows_conflicts(thread, object, false)
+    }
+
     fn take_access(&mut self, thread: usize, object: u16, writing: bool) -> Result<(), OutOfMemory>
         requires threads { length self.old.marks.items ≤ MAX_THREADS }
         requires thread { thread < length self.old.marks.items }
@@ -89,8 +120,12 @@ impl Checker {
         ensures taken { OnOk result ((event : Event) → object_of event ≡ Some object → is_write event ≡ writing → TakesEvent self.old thread event self.new) }
     {
         let count = self.made.count(thread) + 1;
-        self.verdict = self.judged(thread, object, writing);
-        self.accesses.note(object, writing, thread, count)?;
+        let knows_all = self.knows_conflicts(thread, object, true);
+        if !self.follows(thread, object, writing, knows_all) {
+            self.verdict = self.judged(thread, object, writing);
+        }
+        self.accesses
+            .note(object, writing, thread, count, knows_all)?;
         self.made.raise(thread, count);
         Ok(())
     }

@@ -1,6 +1,6 @@
 //! Vector clocks.
 ghost use Rattle.std.specs.Prelude.{◌≡◌, ◌≢◌, ◌<◌, ◌≤◌, false, ℕ};
-ghost use Rattle.octet_clock.specs.Clock.{count_in, IsRaised, IsJoined};
+ghost use Rattle.octet_clock.specs.Clock.{count_in, no_events, IsRaised, IsJoined};
 
 use octet_model::MAX_THREADS;
 
@@ -14,7 +14,8 @@ pub(crate) struct Clock {
 impl Clock {
     /// A clock that knows no event.
     pub(crate) fn new() -> Clock
-        ensures { (thread : ℕ) → count_in result thread ≡ 0 }
+        ensures knows_none { (thread : ℕ) → count_in result thread ≡ 0 }
+        ensures is { result ≡ no_events }
     {
         Clock {
             counts: [0; MAX_THREADS],

@@ -18,4 +18,4 @@ returns-else-thread-marks c = λ journals play index whole within keeps le.
     let made = made_within journals play whole index c.args.thread within in
     let none = get_or_past journals c.args.thread [] (omega (arith, keeps.as_many)) in
     let zero : c.args.count ≡ 0 = omega (arith, ap (λ (j : List Event). length j) none) in
-    subst (λ (n : ℕ). IsPastOf journals c.args.thread n c.new.result) (sym zero) (past_of_none journals c.args.thread c.new.result c.new.ensures)
+    subst (λ (n : ℕ). IsPastOf journals c.args.thread n c.new.result) (sym zero) (past_of_none journals c.args.thread c.new.result c.new.ensures.knows_none)

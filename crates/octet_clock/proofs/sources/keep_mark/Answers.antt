@@ -1,4 +1,4 @@
-use Rattle.std.proofs.Common.{◌≤◌, ℕ, suc, Option, refl, sym, subst, arith}
+use Rattle.std.proofs.Common.{◌≤◌, ℕ, suc, Option, refl, sym, subst}
 use Rattle.std.proofs.lemmas.Option.{slice_get_read}
 use Rattle.std.proofs.lemmas.Result.{on_ok_weaker}
 use Rattle.octet_model.specs.declared.event.Event.TheVariants.{Marked}

@@ -15,7 +15,7 @@ returns c = λ journals now keeps within made.
     elim c.if-earlier-eq0.branch [
       | then-earlier-eq0 w ↦
           past_before_marks journals c.args.thread now c.args.upto kept keeps within made earlier bound point c.if-earlier-eq0.known c.raise.new.self w.if-earlier-eq0.true
-          (λ u. ap (λ (k : Clock). count_in k u) w.known-is ∙ w.new-known.ensures u) c.raise.ensures
+          (λ u. ap (λ (k : Clock). count_in k u) w.known-is ∙ w.new-known.ensures.knows_none u) c.raise.ensures
       | else-earlier-eq0 w ↦
           let last : ℕ = earlier - 1 in
           let within_kept : last < length kept = omega (arith, w.if-earlier-eq0.false, bound) in
