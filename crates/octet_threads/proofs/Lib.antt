@@ -14,3 +14,5 @@ pub mod Written
 pub mod Places
 pub mod Connecting
 pub mod Leaving
+pub mod Helping
+pub mod Taking

@@ -1,4 +1,5 @@
 pub mod Step
+pub mod Turns
 pub mod Tasks
 pub mod Carrying
 pub mod Runners

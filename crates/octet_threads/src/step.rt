@@ -19,6 +19,7 @@ pub(crate) fn step(machine: &mut Machine, thread: u8, passed: Option<u32>) -> Fo
     requires { thread < length machine.old.runners }
     ensures found { result ≡ found machine.old thread passed }
     ensures state { machine.new ≡ after_found machine.old thread passed }
+    ensures threads { length machine.new.runners ≡ length machine.old.runners }
 {
     if let Some(access) = machine.wants(thread) {
         if passed != Some(access) {

@@ -1,6 +1,11 @@
 //! The workers: each takes the turns of one thread of the machine.
-ghost use Rattle.std.specs.Prelude.{◌≤◌};
+ghost use Rattle.std.specs.Prelude.{◌≡◌, ◌↔◌, ◌≤◌, ◌<◌, true, length};
 ghost use Rattle.std.specs.Thread.{IsSync};
+ghost use Rattle.octet_machine.specs.declared.turned.Turned.TheVariants.{Moved};
+ghost use Rattle.octet_threads.specs.declared.step.Found.TheVariants.{Took};
+ghost use Rattle.octet_threads.specs.declared.tuning.TheConstants.{TURNS};
+ghost use Rattle.octet_threads.specs.Step.{at_gate};
+ghost use Rattle.octet_threads.specs.Turns.{due_at_gate, waited_for, IsFree, Helps, Finds, FindsSome};
 
 use crate::patience::Patience;
 use crate::step::{Found, step};
@@ -12,31 +17,100 @@ use std::sync::{Mutex, Wait};
 use std::thread::{Threads, join};
 
 // The thread that has to go first, if there is one.
-fn first(why: Why) -> Option<u8> {
+fn first(why: Why) -> Option<u8>
+    ensures { result ≡ waited_for why }
+{
     match why {
         Why::Held { by, .. } | Why::Unanswered { by, .. } => Some(by),
         Why::Changed { .. } => None,
     }
 }
 
-// Takes a turn of the thread that has to go first, of the one for which that one waits, and so on,
-// until a thread went on. A thread that is to pass the gate takes none. Tells whether any went on.
-fn help(machine: &mut Machine, why: Why, is_open: bool) -> bool {
-    let mut why = why;
-    for _ in 0..machine.threads() {
-        let Some(by) = first(why) else {
-            return true;
-        };
-        if by >= machine.threads() || (!is_open && machine.wants(by).is_some()) {
-            return false;
-        }
-        match machine.turn(by) {
-            Turned::Moved => return true,
-            Turned::Ended => return false,
-            Turned::Waits { why: next } => why = next,
-        }
+// Whether the machine has the thread, and no gate is to be passed before its next turn.
+fn is_free(machine: &Machine, thread: u8, is_open: bool) -> bool
+    ensures { (result ≡ true) ↔ IsFree is_open machine.now thread }
+{
+    thread < machine.threads() && (is_open || machine.wants(thread).is_none())
+}
+
+// The access that the thread may make: any, where the gate is open.
+fn passed_at(machine: &Machine, thread: u8, is_open: bool, passed: Option<u32>) -> Option<u32>
+    requires { thread < length machine.now.runners }
+    ensures { at_gate machine.now thread result ≡ due_at_gate is_open machine.now thread passed }
+{
+    if is_open {
+        machine.wants(thread)
+    } else {
+        passed
     }
-    true
+}
+
+// Takes a turn of the thread that has to go first, of the one for which that one waits, and so on,
+// until a thread went on, but so many at most. A thread that is to pass the gate takes none. Tells
+// whether any went on.
+fn help(machine: &mut Machine, why: Why, is_open: bool, most: u8) -> bool
+    ensures helps { Helps is_open most why machine.old result machine.new }
+    ensures threads { length machine.new.runners ≡ length machine.old.runners }
+{
+    let Some(by) = first(why) else {
+        return true;
+    };
+    if most == 0 {
+        return true;
+    }
+    if !is_free(machine, by, is_open) {
+        return false;
+    }
+    match machine.turn(by) {
+        Turned::Moved => true,
+        Turned::Ended => false,
+        Turned::Waits { why } => help(machine, why, is_open, most - 1),
+    }
+}
+
+// Takes a turn of one thread, and where it has to wait, turns of those that have to go first. Where
+// one of those went on, so did it.
+fn take_turn(machine: &mut Machine, thread: u8, is_open: bool, passed: Option<u32>) -> Found
+    requires { thread < length machine.old.runners }
+    ensures finds { Finds is_open thread passed 1 machine.old result machine.new }
+    ensures threads { length machine.new.runners ≡ length machine.old.runners }
+{
+    let threads = machine.threads();
+    let passed = passed_at(machine, thread, is_open, passed);
+    match step(machine, thread, passed) {
+        Found::AtGate { access } => Found::AtGate { access },
+        Found::Took {
+            turned: Turned::Moved,
+        } => Found::Took {
+            turned: Turned::Moved,
+        },
+        Found::Took {
+            turned: Turned::Ended,
+        } => Found::Took {
+            turned: Turned::Ended,
+        },
+        Found::Took {
+            turned: Turned::Waits { why },
+        } => Found::Took {
+            turned: if help(machine, why, is_open, threads) {
+                Turned::Moved
+            } else {
+                Turned::Waits { why }
+            },
+        },
+    }
+}
+
+// Whether the thread went on.
+fn has_moved(found: Found) -> bool
+    ensures { (result ≡ true) ↔ (found ≡ Took Moved) }
+{
+    match found {
+        Found::Took {
+            turned: Turned::Moved,
+        } => true,
+        _ => false,
+    }
 }
 
 // Takes some turns of one thread, with those of others for which it waits, unless the gate is to be
@@ -47,24 +121,16 @@ fn take_turns(
     thread: u8,
     is_open: bool,
     passed: Option<u32>,
-) -> Option<Found> {
+) -> Option<Found>
+    ensures { FindsSome is_open thread passed TURNS machine.old result machine.new }
+{
+    if thread >= machine.threads() {
+        return None;
+    }
     for _ in 0..TURNS {
-        if thread >= machine.threads() {
-            return None;
-        }
-        let passed = if is_open {
-            machine.wants(thread)
-        } else {
-            passed
-        };
-        match step(machine, thread, passed) {
-            Found::Took {
-                turned: Turned::Moved,
-            } => {}
-            Found::Took {
-                turned: Turned::Waits { why },
-            } if help(machine, why, is_open) => {}
-            found => return Some(found),
+        let found = take_turn(machine, thread, is_open, passed);
+        if !has_moved(found) {
+            return Some(found);
         }
     }
     Some(Found::Took {

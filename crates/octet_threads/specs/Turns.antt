@@ -1,0 +1,108 @@
+-- What the turns come to that a worker takes while it has the machine: those of its own thread, and those of threads that have to go first.
+use Rattle.std.specs.Prelude.{◌≡◌, ℕ, ◌+◌, ◌≤◌, ◌<◌, ◌==◌, ◌⊎◌, Bool, true, false, List, [], ◌∷◌, length, count_by, Option, Some, None}
+use Rattle.octet_state.specs.declared.why.Why.{Why}
+use Rattle.octet_state.specs.declared.why.Why.TheVariants.{Held, Changed, Unanswered}
+use Rattle.octet_machine.specs.declared.turned.Turned.{Turned}
+use Rattle.octet_machine.specs.declared.turned.Turned.TheVariants.{Moved, Waits, Ended}
+use Rattle.octet_machine.specs.Machine.{MachineState, turned, after_turn}
+use Rattle.octet_machine.specs.Turns.{after_turns}
+use Rattle.octet_threads.specs.Step.{at_gate}
+use Rattle.octet_threads.specs.declared.step.Found.{Found}
+use Rattle.octet_threads.specs.declared.step.Found.TheVariants.{AtGate, Took}
+
+-- the thread that has to go first, if there is one
+abbrev pub waited_for : Why → Option ℕ
+waited_for (Held by word) = Some by
+waited_for (Unanswered by word) = Some by
+waited_for (Changed seen found) = None
+
+-- so by what a turn answered
+abbrev pub goes_first : Turned → Option ℕ
+goes_first (Waits why) = waited_for why
+goes_first _ = None
+
+-- the access before which the thread has to pass the gate, unless that is open. It was last passed for the access of the number `passed`
+abbrev pub due_at_gate : Bool → MachineState → ℕ → Option ℕ → Option ℕ
+due_at_gate true m thread passed = None
+due_at_gate false m thread passed = at_gate m thread passed
+
+-- a thread of the machine, which has no gate to pass before its next turn
+abbrev pub IsFree : Bool → MachineState → ℕ → Type 0
+IsFree is_open m thread = (thread < length m.runners) × (due_at_gate is_open m thread None ≡ None)
+
+-- turns of these threads one after another: each is one that may be taken of the machine that it finds, after what the turn before answered
+abbrev pub MayGo : (MachineState → Turned → ℕ → Type 0) → MachineState → Turned → List ℕ → Type 0
+MayGo May m answer [] = Unit {0}
+MayGo May m answer (thread ∷ threads) = May m answer thread × MayGo May (after_turn m thread) (turned m thread) threads
+
+-- what the last of them answers
+abbrev pub last_turned : MachineState → Turned → List ℕ → Turned
+last_turned m answer [] = answer
+last_turned m answer (thread ∷ threads) = last_turned (after_turn m thread) (turned m thread) threads
+
+-- the turn before had to wait for this thread, which is free
+abbrev pub MayHelp : Bool → MachineState → Turned → ℕ → Type 0
+MayHelp is_open m answer thread = (goes_first answer ≡ Some thread) × IsFree is_open m thread
+
+-- by this answer a thread went on, or has nobody to wait for
+abbrev pub GoesOn : Turned → Type 0
+GoesOn Moved = Unit {0}
+GoesOn (Waits why) = waited_for why ≡ None
+GoesOn Ended = ⊥
+
+-- by this answer a thread has ended, or waits for one that is not free
+abbrev pub IsStuck : Bool → MachineState → Turned → Type 0
+IsStuck is_open m Moved = ⊥
+IsStuck is_open m (Waits why) = (thread : ℕ) × (waited_for why ≡ Some thread) × (IsFree is_open m thread → ⊥)
+IsStuck is_open m Ended = Unit {0}
+
+-- it helped where a thread went on, or so many turns were taken as may be at most
+abbrev pub TellsHelp : Bool → ℕ → List ℕ → Turned → MachineState → Bool → Type 0
+TellsHelp is_open most threads answer m true = GoesOn answer ⊎ (length threads ≡ most)
+TellsHelp is_open most threads answer m false = IsStuck is_open m answer
+
+-- a turn of the thread that has to go first, then of the one for which that one waits, and so on
+pub record Helps (is_open : Bool) (most : ℕ) (why : Why) (before : MachineState) (helped : Bool) (after : MachineState) : Type 0 where
+  pub threads : List ℕ
+  pub may : MayGo (MayHelp is_open) before (Waits why) threads
+  pub comes : after ≡ after_turns before threads
+  pub few : length threads ≤ most
+  pub tells : TellsHelp is_open most threads (last_turned before (Waits why) threads) after helped
+
+-- a turn of its own thread, past the gate, or of a thread that has to go first
+abbrev pub MayTurn : Bool → ℕ → Option ℕ → MachineState → Turned → ℕ → Type 0
+MayTurn is_open own passed m answer thread =
+    ((thread ≡ own) × (own < length m.runners) × (due_at_gate is_open m own passed ≡ None))
+    ⊎ MayHelp is_open m answer thread
+
+abbrev pub own_turns : ℕ → List ℕ → ℕ
+own_turns own threads = count_by (λ thread. thread == own) threads
+
+-- such turns, at least so many of its own thread
+pub record TakesTurns (is_open : Bool) (own : ℕ) (passed : Option ℕ) (least : ℕ) (before after : MachineState) : Type 0 where
+  pub threads : List ℕ
+  pub may : (answer : Turned) → MayGo (MayTurn is_open own passed) before answer threads
+  pub comes : after ≡ after_turns before threads
+  pub enough : least ≤ own_turns own threads
+
+-- such turns, then one of its own thread that has to wait, and those of the threads that have to go first, which did not help
+pub record WaitsAfter (is_open : Bool) (own : ℕ) (passed : Option ℕ) (why : Why) (before after : MachineState) : Type 0 where
+  pub at : MachineState
+  pub turns : TakesTurns is_open own passed 0 before at
+  pub past : due_at_gate is_open at own passed ≡ None
+  pub waits : turned at own ≡ Waits why
+  pub most : ℕ
+  pub helps : Helps is_open most why (after_turn at own) false after
+
+-- what a worker finds by such turns: that they were taken, or how the last one of its own thread ended
+abbrev pub Finds : Bool → ℕ → Option ℕ → ℕ → MachineState → Found → MachineState → Type 0
+Finds is_open own passed least before (AtGate access) after =
+    TakesTurns is_open own passed 0 before after × (due_at_gate is_open after own passed ≡ Some access)
+Finds is_open own passed least before (Took Moved) after = TakesTurns is_open own passed least before after
+Finds is_open own passed least before (Took (Waits why)) after = WaitsAfter is_open own passed why before after
+Finds is_open own passed least before (Took Ended) after = TakesTurns is_open own passed 0 before after × (turned after own ≡ Ended)
+
+-- a thread that the machine does not have finds nothing, and takes no turn
+abbrev pub FindsSome : Bool → ℕ → Option ℕ → ℕ → MachineState → Option Found → MachineState → Type 0
+FindsSome is_open own passed least before (Some found) after = (own < length before.runners) × Finds is_open own passed least before found after
+FindsSome is_open own passed least before None after = (length before.runners ≤ own) × (after ≡ before)
