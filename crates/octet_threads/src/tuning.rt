@@ -1,20 +1,21 @@
 //! How long threads wait, and how much they do at a time. No answer depends on these numbers, only the
-//! time that a run takes. Unless it says otherwise, a number was measured on four processors, with two
-//! and with sixteen threads that make 48,000 accesses to two objects, on all processors and on one,
-//! with nothing else to do and beside eight busy processes.
+//! time that a run takes. All of them together were measured on four processors, with two and with
+//! sixteen threads that make 48,000 accesses to two objects. Alone, a number was measured only where
+//! its comment gives a figure; the others are reasoned guesses.
 
 /// Polls in vain, each after a longer spin, that tell that the other thread may have no processor: some
-/// 500 times `spin_loop` in all. A thread that runs answers within a microsecond. With spins and
-/// sleeps of any length alone sixteen threads took 760 ms and slept 9,859 times, and with yields in
-/// place of sleeps 8 s; with rests, too, they take 8 to 26 ms.
+/// 500 times `spin_loop` in all. A thread that runs answers within a microsecond. Where workers spun
+/// and slept but never rested, sixteen threads took 760 ms and slept 9,859 times; with rests they take
+/// 8 ms, and 26 beside eight busy processes. There the version before, which yielded in place of a
+/// sleep, was cut off at 8 s.
 pub(crate) const POLLS_BEFORE_SLEEP: u32 = 13;
 
 /// Spins before the first poll of an object that another thread has got, or is getting: so that one
 /// makes some accesses first, where each poll takes its word from it.
 pub(crate) const SPINS_IF_HELD: u32 = 4;
 
-/// The shortest and the longest sleep between two polls, in microseconds. Below 50 a sleep takes
-/// no less time; above 200 a thread that sleeps, which answers nobody, keeps the others waiting.
+/// The shortest and the longest sleep between two polls, in microseconds. A thread that sleeps answers
+/// nobody, so that a long sleep keeps the others waiting.
 pub(crate) const SHORTEST_SLEEP: u32 = 50;
 
 pub(crate) const LONGEST_SLEEP: u32 = 200;
@@ -26,23 +27,21 @@ pub(crate) const HEAT_OF_ASKING: u32 = 16;
 
 pub(crate) const HEAT_OF_SLEEP: u32 = 32;
 
-/// The heat that calls for a rest. With a rest after each sleep all threads rested at once.
+/// The heat that calls for a rest.
 pub(crate) const HEAT_OF_REST: u32 = 64;
 
 /// The shortest and the longest rest, in microseconds; each is twice as long as the one before. In a
-/// millisecond, about the time that a processor takes to come round, another thread makes thousands
-/// of accesses to an object that it has.
+/// millisecond another thread makes thousands of accesses to an object that it has.
 pub(crate) const SHORTEST_REST: u32 = 1_000;
 
 pub(crate) const LONGEST_REST: u32 = 16_000;
 
-/// Turns that a worker takes at most before it lets go of the machine. The lock costs about as much as
-/// some turns, and others wait for it meanwhile.
+/// Turns of its own thread that a worker takes at most before it lets go of the machine: enough that
+/// the lock costs little beside them, and few, since others wait for it meanwhile.
 pub(crate) const TURNS: u32 = 16;
 
-/// How long a drainer rests that took what there was, in microseconds, unless a worker ends: it
-/// wakes too seldom to be felt, and a worker mostly makes fewer marks meanwhile than its ring has
-/// room for.
+/// How long a drainer rests that took what there was, in microseconds, unless a worker ends: long
+/// enough that it wakes seldom. What a ring has no room for meanwhile waits with its worker.
 pub(crate) const DRAINER_REST: u32 = 2_000;
 
 /// Rests of a drainer before any worker has begun that tell that no thread could be made: a second.
