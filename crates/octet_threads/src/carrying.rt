@@ -20,6 +20,7 @@ use std::sync::Wait;
 use std::thread::Threads;
 
 // Polls the access that was begun until it is made, and answers its value.
+#[inline(always)]
 fn make<R: Wait>(rt: &R, heap: &Heap, worker: &mut Worker, patience: &mut Patience) -> u64
     requires own { IsWorkerOf heap.now worker.old }
     requires begun { is_some worker.old.wish ≡ true }
@@ -39,6 +40,7 @@ fn make<R: Wait>(rt: &R, heap: &Heap, worker: &mut Worker, patience: &mut Patien
 }
 
 // Makes an access, and answers the value that it read or wrote, or that an update left.
+#[inline(always)]
 fn access<R: Threads + Wait + Sync, G: HeapGate>(
     rt: &R,
     heap: &Heap,
