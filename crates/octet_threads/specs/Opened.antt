@@ -2,6 +2,7 @@
 use Rattle.std.specs.Prelude.{◌≡◌, ℕ, ◌≤◌, [], All, length, vec_capacity}
 use Rattle.octet_model.specs.declared.script.Script.{Script}
 use Rattle.octet_ring.specs.Views.{received_of}
+use Rattle.octet_threads.specs.declared.drainer.TheConstants.{PIECE}
 use Rattle.octet_threads.specs.declared.live.Opened.{Opened}
 use Rattle.octet_threads.specs.Runners.{AreOf, IsAtRest, IsHeapOf}
 use Rattle.octet_threads.specs.Work.{SendEach}
@@ -14,4 +15,4 @@ pub record IsOpened (script : Script) (opened : Opened) : Type 0 where
   pub send : SendEach opened.drain.rings opened.runners.items
   pub as_many : length opened.drain.received ≡ length opened.runners.items
   pub none : (thread : ℕ) → received_of opened.drain thread ≡ []
-  pub room : 256 ≤ vec_capacity opened.marks
+  pub room : PIECE ≤ vec_capacity opened.marks

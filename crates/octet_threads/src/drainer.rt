@@ -2,6 +2,7 @@
 ghost use Rattle.std.specs.Prelude.{◌≡◌, ◌<◌, ◌≤◌, ◌++◌, ◌∷◌, [], length, slice_set, vec_capacity, IsSome, Some, None};
 ghost use Rattle.octet_model.specs.declared.limits.TheConstants.{MAX_THREADS};
 ghost use Rattle.octet_ring.specs.Views.{received_of, known_of};
+ghost use Rattle.octet_threads.specs.declared.drainer.TheConstants.{PIECE};
 ghost use Rattle.octet_threads.specs.Live.{AddsPieces};
 ghost use Rattle.octet_threads.specs.Feeds.{DrainsOne, Drains};
 
@@ -27,7 +28,7 @@ pub(crate) fn add_piece<D: Desk>(
 ) -> Option<DeskFault>
     requires begun { IsSome (D.state desk.old).begun }
     requires thread { thread < MAX_THREADS }
-    requires marks { (1 ≤ length marks.now) × (length marks.now ≤ 256) }
+    requires marks { (1 ≤ length marks.now) × (length marks.now ≤ PIECE) }
     ensures added { AddsPieces (record { thread = thread; marks = marks.now } ∷ []) (D.state desk.old) result (D.state desk.new) }
     ensures begun { (D.state desk.new).begun ≡ (D.state desk.old).begun }
 {
@@ -40,9 +41,9 @@ pub(crate) fn add_piece<D: Desk>(
 /// Takes marks of a thread, as many as a piece may have.
 pub(crate) fn take_piece(drain: &mut Drain, thread: u8, marks: &mut Vec<Gapped>)
     requires thread { thread < length drain.old.received }
-    requires room { 256 ≤ vec_capacity marks.old }
+    requires room { PIECE ≤ vec_capacity marks.old }
     ensures room { vec_capacity marks.new ≡ vec_capacity marks.old }
-    ensures few { length marks.new.items ≤ 256 }
+    ensures few { length marks.new.items ≤ PIECE }
     ensures rings { drain.new.rings ≡ drain.old.rings }
     ensures received { drain.new.received ≡ slice_set drain.old.received thread (received_of drain.old thread ++ marks.new.items) }
     ensures some { 0 < known_of drain.old thread → 0 < length marks.new.items }
@@ -67,7 +68,7 @@ pub(crate) fn add_sent<D: Desk>(
     requires begun { IsSome (D.state desk.old).begun }
     requires thread { thread < length drain.old.received }
     requires few { length drain.old.received ≤ MAX_THREADS }
-    requires room { 256 ≤ vec_capacity marks.old }
+    requires room { PIECE ≤ vec_capacity marks.old }
     ensures room { vec_capacity marks.new ≡ vec_capacity marks.old }
     ensures drains { DrainsOne thread None drain.old (D.state desk.old) result drain.new (D.state desk.new) }
     ensures begun { (D.state desk.new).begun ≡ (D.state desk.old).begun }
@@ -95,7 +96,7 @@ fn add_round<D: Desk>(
     requires begun { IsSome (D.state desk.old).begun }
     requires threads { threads ≡ length drain.old.received }
     requires few { threads ≤ MAX_THREADS }
-    requires room { 256 ≤ vec_capacity marks.old }
+    requires room { PIECE ≤ vec_capacity marks.old }
     ensures room { vec_capacity marks.new ≡ vec_capacity marks.old }
     ensures drains { Drains threads drain.old (D.state desk.old) result drain.new (D.state desk.new) }
     ensures begun { (D.state desk.new).begun ≡ (D.state desk.old).begun }
@@ -122,7 +123,7 @@ pub(crate) fn drain_all<R: Wait, D: Desk>(
     requires begun { IsSome (D.state desk.old).begun }
     requires threads { threads ≡ length drain.old.received }
     requires few { threads ≤ MAX_THREADS }
-    requires room { 256 ≤ vec_capacity marks.old }
+    requires room { PIECE ≤ vec_capacity marks.old }
     ensures room { vec_capacity marks.new ≡ vec_capacity marks.old }
     ensures drains { Drains threads drain.old (D.state desk.old) result drain.new (D.state desk.new) }
     ensures begun { (D.state desk.new).begun ≡ (D.state desk.old).begun }

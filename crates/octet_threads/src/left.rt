@@ -5,6 +5,7 @@ ghost use Rattle.octet_model.specs.declared.limits.TheConstants.{MAX_THREADS};
 ghost use Rattle.octet_model.specs.Journals.{gapped_marks};
 ghost use Rattle.octet_heap.specs.Workers.{seat_of};
 ghost use Rattle.octet_ring.specs.Views.{IsOf};
+ghost use Rattle.octet_threads.specs.declared.drainer.TheConstants.{PIECE};
 ghost use Rattle.octet_threads.specs.Feeds.{AddsFront, AddsLeft, AddsAllLeft, DrainsOne, HasSent, SendsBy};
 ghost use Rattle.octet_threads.specs.Work.{IsSameWork, SendEach, marks_made};
 
@@ -69,7 +70,7 @@ fn add_waiting<D: Desk>(
 ) -> Option<DeskFault>
     requires begun { IsSome (D.state desk.old).begun }
     requires thread { (thread < length drain.old.received) × (length drain.old.received ≤ MAX_THREADS) }
-    requires room { 256 ≤ vec_capacity marks.old }
+    requires room { PIECE ≤ vec_capacity marks.old }
     ensures room { vec_capacity marks.new ≡ vec_capacity marks.old }
     ensures drains { DrainsOne thread kept drain.old (D.state desk.old) result drain.new (D.state desk.new) }
     ensures begun { (D.state desk.new).begun ≡ (D.state desk.old).begun }
@@ -96,7 +97,7 @@ fn add_left<D: Desk>(
     requires thread { (thread < length drain.old.received) × (length drain.old.received ≤ MAX_THREADS) }
     requires ring { (feed.old.sender.thread ≡ thread) × IsOf drain.old feed.old.sender }
     requires sent { HasSent feed.old.sender feed.old.sent own.now }
-    requires room { 256 ≤ vec_capacity marks.old }
+    requires room { PIECE ≤ vec_capacity marks.old }
     ensures room { vec_capacity marks.new ≡ vec_capacity marks.old }
     ensures sent { HasSent feed.new.sender feed.new.sent own.now }
     ensures left { AddsLeft thread own.now kept drain.old (D.state desk.old) result drain.new (D.state desk.new) }
@@ -120,7 +121,7 @@ fn add_left_of<D: Desk>(
     requires begun { IsSome (D.state desk.old).begun }
     requires thread { (thread < length drain.old.received) × (length drain.old.received ≤ MAX_THREADS) }
     requires sends { SendsBy drain.old.rings thread runner.old.feed }
-    requires room { 256 ≤ vec_capacity marks.old }
+    requires room { PIECE ≤ vec_capacity marks.old }
     ensures room { vec_capacity marks.new ≡ vec_capacity marks.old }
     ensures same { IsSameWork runner.old runner.new }
     ensures left { AddsLeft thread (gapped_marks 0 (seat_of runner.old.worker).journal) kept drain.old (D.state desk.old) result drain.new (D.state desk.new) }
@@ -146,7 +147,7 @@ pub(crate) fn add_all_left<D: Desk>(
     requires begun { IsSome (D.state desk.old).begun }
     requires threads { (length runners.old ≡ length drain.old.received) × (length runners.old ≤ MAX_THREADS) }
     requires send { SendEach drain.old.rings runners.old }
-    requires room { 256 ≤ vec_capacity marks.old }
+    requires room { PIECE ≤ vec_capacity marks.old }
     ensures same { AllZip IsSameWork runners.old runners.new }
     ensures left { AddsAllLeft (length runners.old) (marks_made runners.old) kept drain.old (D.state desk.old) result (D.state desk.new) }
     ensures begun { (D.state desk.new).begun ≡ (D.state desk.old).begun }

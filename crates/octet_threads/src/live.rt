@@ -8,6 +8,7 @@ ghost use Rattle.octet_model.specs.declared.limits.TheConstants.{MAX_THREADS};
 ghost use Rattle.octet_model.specs.Orders.{IsFaithful};
 ghost use Rattle.octet_ring.specs.declared.limits.TheConstants.{MAX_ROOM};
 ghost use Rattle.octet_ring.specs.Views.{received_of, AreFresh};
+ghost use Rattle.octet_threads.specs.declared.drainer.TheConstants.{PIECE};
 ghost use Rattle.octet_threads.specs.Runners.{AreOf, HasEnded, IsAtRest, IsHeapOf, IsSame};
 ghost use Rattle.octet_threads.specs.Feeds.{Drains, end_of};
 ghost use Rattle.octet_threads.specs.Work.{IsSameWork, SendEach, marks_made, IsOfThread, Writes};
@@ -103,7 +104,7 @@ fn run_beside<R: Threads + Wait + Sync, G: HeapGate, D: Desk>(
     requires begun { IsSome (D.state desk.old).begun }
     requires threads { (length runners.old ≡ length drain.old.received) × (length runners.old ≤ MAX_THREADS) }
     requires rest { All (IsAtRest heap.now) runners.old }
-    requires room { 256 ≤ vec_capacity marks.old }
+    requires room { PIECE ≤ vec_capacity marks.old }
     ensures ended { All (HasEnded heap.now) runners.new }
     ensures same { AllZip IsSame runners.old runners.new }
     ensures room { vec_capacity marks.new ≡ vec_capacity marks.old }
@@ -120,7 +121,7 @@ fn run_beside<R: Threads + Wait + Sync, G: HeapGate, D: Desk>(
             ensures { All (HasEnded heap.entry.now) runners.exit.now × AllZip IsSame runners.entry.now runners.exit.now }
         { run_all(rt, heap, gate, shared, runners) },
         &mut || -> Option<DeskFault>
-            requires { IsSome (D.state desk.now).begun × (threads ≡ length drain.now.received) × (threads ≤ MAX_THREADS) × (256 ≤ vec_capacity marks.now) }
+            requires { IsSome (D.state desk.now).begun × (threads ≡ length drain.now.received) × (threads ≤ MAX_THREADS) × (PIECE ≤ vec_capacity marks.now) }
             ensures { Drains threads drain.entry.now (D.state desk.entry.now) result drain.exit.now (D.state desk.exit.now) × (vec_capacity marks.exit.now ≡ vec_capacity marks.entry.now) × ((D.state desk.exit.now).begun ≡ (D.state desk.entry.now).begun) }
         { drain_all(rt, alloc, desk, drain, threads, marks, shared) },
     );
@@ -143,7 +144,7 @@ fn run_written<R: Threads + Wait + Sync, G: HeapGate, D: Desk>(
     requires none { (thread : ℕ) → received_of drain.old thread ≡ [] }
     requires send { SendEach drain.old.rings runners.old }
     requires rest { All (IsAtRest heap.now) runners.old }
-    requires room { 256 ≤ vec_capacity marks.old }
+    requires room { PIECE ≤ vec_capacity marks.old }
     ensures ended { All (HasEnded heap.now) runners.new }
     ensures same { AllZip IsOfThread runners.old runners.new }
     ensures writes { Writes (length runners.old) (marks_made runners.new) (D.state desk.old) result (D.state desk.new) }
