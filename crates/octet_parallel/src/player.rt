@@ -8,6 +8,9 @@ use crate::words::Seat;
 use octet_model::Event;
 use octet_replay::ThreadReplay;
 
+/// As many words as two lines of memory hold, which a processor may take in together.
+pub(crate) const WORDS_APART: usize = 16;
+
 /// One thread of the script as far as it is replayed, on its seat. Its journal has room for all
 /// events of its log.
 #[derive(Drop)]
@@ -17,6 +20,8 @@ pub struct Player {
     pub(crate) fate: Fate,
     pub(crate) replay: ThreadReplay,
     pub(crate) journal: Vec<Event>,
+    /// Keeps players apart, so that no two threads write to one line of memory.
+    pub(crate) apart: [u64; WORDS_APART],
 }
 
 /// Takes an event that was made into the journal.

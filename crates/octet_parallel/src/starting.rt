@@ -6,7 +6,7 @@ ghost use Rattle.octet_parallel.specs.Playing.{script_in, log_in, IsPlayerAt, Ar
 use crate::fate::Fate;
 use crate::field::Field;
 use crate::needs::draws_of;
-use crate::player::Player;
+use crate::player::{Player, WORDS_APART};
 use crate::words::{Seat, Words};
 use octet_model::{List, Log, OutOfMemory, Script};
 use octet_replay::ThreadReplay;
@@ -77,5 +77,6 @@ fn player(
         fate: Fate::Playing,
         replay: ThreadReplay::new(alloc, script, own, number)?,
         journal: Vec::with_capacity(alloc, events)?,
+        apart: [0; WORDS_APART],
     })
 }
