@@ -3,7 +3,8 @@ use crate::crew::Crew;
 use std::hint;
 use std::sync::Wait;
 
-/// How often a worker looks again before it sleeps.
+/// How often a worker looks again before it sleeps. This number and those that follow are estimates:
+/// no contract rests on them.
 const LOOKS_BEFORE_SLEEP: u32 = 40;
 
 /// How often it sleeps at most while not all workers have begun.
@@ -13,14 +14,14 @@ const MOST_SLEEPS: u32 = 100;
 /// least so many events for each wait.
 const WAITS_BEFORE_JUDGED: u32 = 32;
 
-const EVENTS_FOR_A_WAIT: u32 = 64;
+const EVENTS_FOR_A_WAIT: usize = 64;
 
 /// How long a worker has waited for its next event, and how much its last events had to.
 ///
-/// Another player that runs mostly makes what is needed within a microsecond: so at first the
-/// worker looks again and again. One that has no processor gets none sooner by looks: so then it
-/// sleeps. To be woken takes as long as some fifty events. So where nearly every event waits, all
-/// players are played on one thread, unless they have to pass a gate.
+/// A player that runs is likely to make soon what is needed: so at first the worker looks again and
+/// again. One that has no processor gets none sooner by looks: so then it sleeps. Until it is woken
+/// and runs, many events could be made on one thread: so where nearly every event waits, all players
+/// are played on one thread for some rounds, unless they have to pass a gate.
 #[derive(Drop)]
 pub(crate) struct Patience {
     is_gated: bool,
@@ -28,7 +29,7 @@ pub(crate) struct Patience {
     rung: Option<u32>,
     sleeps: u32,
     waits: u32,
-    events: u32,
+    events: usize,
 }
 
 impl Patience {
@@ -43,12 +44,13 @@ impl Patience {
         }
     }
 
-    /// The worker made an event.
-    #[inline(always)]
-    pub(crate) fn restart(&mut self) {
-        self.looks = 0;
-        self.rung = None;
-        self.events = self.events.saturating_add(1);
+    /// The worker made so many events since it waited last.
+    pub(crate) fn restart(&mut self, events: usize) {
+        if events > 0 {
+            self.looks = 0;
+            self.rung = None;
+            self.events = self.events.saturating_add(events);
+        }
     }
 
     // Whether its last events waited so much that threads are of no use.
@@ -57,7 +59,7 @@ impl Patience {
         if self.is_gated || self.waits < WAITS_BEFORE_JUDGED {
             return false;
         }
-        let is_worn = self.events < WAITS_BEFORE_JUDGED * EVENTS_FOR_A_WAIT;
+        let is_worn = self.events < WAITS_BEFORE_JUDGED as usize * EVENTS_FOR_A_WAIT;
         self.waits = 0;
         self.events = 0;
         is_worn

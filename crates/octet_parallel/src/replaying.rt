@@ -15,10 +15,12 @@ use std::alloc::Global;
 use std::sync::Wait;
 use std::thread::Threads;
 
-/// Replays a log on one thread per thread of the script, and judges it by the journals that these
+/// Replays a log by a player per thread of the script, and judges it by the journals that these
 /// make: the outcome of the lowest order, where that is lawful and has ordered journals, and None
-/// where it is not or has not. A player that has to wait for another backs off. Before each access it
-/// passes the gate. May wait: nothing says that the players come to an end.
+/// where it is not or has not. Each player has a thread of its own while threads are to be had and
+/// are of use; some rounds, or all that is left, may be played on one thread. A player that has to
+/// wait for another looks again for a while, and then sleeps. Before each access it passes the gate,
+/// unless that is open. May wait: nothing says that the players come to an end.
 pub fn parallel<R: Threads + Wait + Sync, G: Gate>(
     rt: &R,
     alloc: Global,

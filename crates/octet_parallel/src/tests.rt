@@ -8,6 +8,7 @@ ghost use Rattle.octet_parallel.specs.Playing.{IsPlayerOf};
 ghost use Rattle.octet_parallel.specs.Judging.{HasPlayed, IsSamePlayer};
 
 use super::*;
+use crate::crew::Crew;
 use crate::worker::play_round;
 use octet_base::{Gate, OpenGate};
 use octet_clock::untied;
@@ -289,7 +290,8 @@ fn whole_play<R: Threads + Wait + Sync>(
     ensures same { OnOk result (AllZip IsSamePlayer players.old players.new) }
 {
     let steps = steps_of(alloc, field, players, order)?;
-    if play_round(rt, field, &OpenGate, players) {
+    let crew = Crew::new(alloc, players.len())?;
+    if play_round(rt, field, &OpenGate, &crew, players) {
         Ok(Some(steps))
     } else {
         Ok(None)

@@ -44,6 +44,31 @@ fn take_step<R: Threads + Wait + Sync, G: Gate>(
     field.step(player)
 }
 
+// Plays until the player has to wait, has ended or has made the events of a round. Answers what its
+// last step came to.
+#[inline(always)]
+fn play_events<R: Threads + Wait + Sync, G: Gate>(
+    rt: &R,
+    field: &Field,
+    gate: &G,
+    crew: &Crew,
+    player: &mut Player,
+) -> Played
+    requires { IsPlayerOf field.now player.old }
+    ensures own { IsPlayerOf field.now player.new }
+    ensures same { IsSamePlayer player.old player.new }
+    ensures ends { EndsBy result (view_of player.new) }
+{
+    let number = player.number;
+    for _ in 0..EVENTS_OF_A_ROUND {
+        match take_step(rt, field, gate, player) {
+            Played::Made => crew.tell(number, player.journal.len() as u64),
+            played => return played,
+        }
+    }
+    Played::Made
+}
+
 // Plays on a thread of its own, to the end or until the workers are called off.
 fn work<R: Threads + Wait + Sync, G: Gate>(
     rt: &R,
@@ -60,11 +85,11 @@ fn work<R: Threads + Wait + Sync, G: Gate>(
     let number = player.number;
     let mut patience = Patience::new(!gate.is_open());
     for _ in rt.forever() {
-        match take_step(rt, field, gate, player) {
-            Played::Made => {
-                patience.restart();
-                crew.tell(number, player.journal.len() as u64);
-            }
+        let before = player.journal.len();
+        let played = play_events(rt, field, gate, crew, player);
+        patience.restart(player.journal.len().saturating_sub(before));
+        match played {
+            Played::Made => {}
             Played::Waits { whom, needs, .. } => {
                 if !patience.wait(rt, crew, whom, needs) {
                     return;
@@ -112,11 +137,12 @@ fn play_beside<R: Threads + Wait + Sync, G: Gate>(
     );
 }
 
-// Plays until the player has to wait, or has made the events of a round. Tells whether it has ended.
+// Plays a round. Tells whether the player has ended.
 fn play_on<R: Threads + Wait + Sync, G: Gate>(
     rt: &R,
     field: &Field,
     gate: &G,
+    crew: &Crew,
     player: &mut Player,
 ) -> bool
     requires { IsPlayerOf field.now player.old }
@@ -124,14 +150,10 @@ fn play_on<R: Threads + Wait + Sync, G: Gate>(
     ensures same { IsSamePlayer player.old player.new }
     ensures ended { result ≡ true → HasPlayed field.now player.new }
 {
-    for _ in 0..EVENTS_OF_A_ROUND {
-        match take_step(rt, field, gate, player) {
-            Played::Made => {}
-            Played::Waits { .. } => return false,
-            Played::Through | Played::Amiss | Played::Stopped { .. } => return true,
-        }
+    match play_events(rt, field, gate, crew, player) {
+        Played::Made | Played::Waits { .. } => false,
+        Played::Through | Played::Amiss | Played::Stopped { .. } => true,
     }
-    false
 }
 
 /// Lets one after the other play on. Tells whether all have ended.
@@ -139,6 +161,7 @@ pub(crate) fn play_round<R: Threads + Wait + Sync, G: Gate>(
     rt: &R,
     field: &Field,
     gate: &G,
+    crew: &Crew,
     players: &mut [Player],
 ) -> bool
     requires { All (IsPlayerOf field.now) players.old }
@@ -149,8 +172,8 @@ pub(crate) fn play_round<R: Threads + Wait + Sync, G: Gate>(
     let Some((first, others)) = players.split_first_mut() else {
         return true;
     };
-    let has_ended = play_on(rt, field, gate, first);
-    let have_ended = play_round(rt, field, gate, others);
+    let has_ended = play_on(rt, field, gate, crew, first);
+    let have_ended = play_round(rt, field, gate, crew, others);
     has_ended && have_ended
 }
 
@@ -159,6 +182,7 @@ fn play_rounds<R: Threads + Wait + Sync, G: Gate>(
     rt: &R,
     field: &Field,
     gate: &G,
+    crew: &Crew,
     players: &mut [Player],
     rounds: u32,
 ) -> bool
@@ -168,7 +192,7 @@ fn play_rounds<R: Threads + Wait + Sync, G: Gate>(
     ensures ended { result ≡ true → All (HasPlayed field.now) players.new }
 {
     for _ in 0..rounds {
-        if play_round(rt, field, gate, players) {
+        if play_round(rt, field, gate, crew, players) {
             return true;
         }
     }
@@ -197,7 +221,7 @@ pub(crate) fn play_all<R: Threads + Wait + Sync, G: Gate>(
         } else {
             rounds
         };
-        if play_rounds(rt, field, gate, players, most) {
+        if play_rounds(rt, field, gate, crew, players, most) {
             return;
         }
         rounds = rounds.saturating_mul(2);
