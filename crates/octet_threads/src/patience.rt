@@ -1,10 +1,10 @@
 //! How a worker waits between two polls of its access, and when it is to rest.
 ghost use Rattle.std.specs.Prelude.{◌≡◌, ◌+◌, ◌-◌, ◌*◌, ◌≤◌, ◌<◌, true, false, not, min, nat_eq, nat_le};
 ghost use Rattle.std.specs.Duration.{as_nanos};
-ghost use Rattle.octet_threads.specs.declared.tuning.TheConstants.{POLLS_BEFORE_SLEEP, SHORTEST_SLEEP, LONGEST_SLEEP, SHORTEST_REST, LONGEST_REST, HEAT_OF_ASKING, HEAT_OF_SLEEP, HEAT_OF_REST};
+ghost use Rattle.octet_threads.specs.declared.tuning.TheConstants.{POLLS_BEFORE_SLEEP, SHORTEST_SLEEP, LONGEST_SLEEP, SHORTEST_REST, LONGEST_REST, HEAT_OF_WAITING, HEAT_OF_SLEEP, HEAT_OF_REST};
 
 use crate::tuning::{
-    HEAT_OF_ASKING, HEAT_OF_REST, HEAT_OF_SLEEP, LONGEST_REST, LONGEST_SLEEP, POLLS_BEFORE_SLEEP,
+    HEAT_OF_REST, HEAT_OF_SLEEP, HEAT_OF_WAITING, LONGEST_REST, LONGEST_SLEEP, POLLS_BEFORE_SLEEP,
     SHORTEST_REST, SHORTEST_SLEEP, SPINS_IF_HELD,
 };
 use crossbeam_utils::Backoff;
@@ -100,11 +100,11 @@ impl Patience {
     #[cold]
     #[inline(never)]
     fn wait_for_answer<R: Wait>(&mut self, rt: &R, by: u8, accesses: u32)
-        ensures heat { self.new.heat ≤ self.old.heat + HEAT_OF_ASKING + HEAT_OF_SLEEP }
+        ensures heat { self.new.heat ≤ self.old.heat + HEAT_OF_WAITING + HEAT_OF_SLEEP }
         ensures rest { self.new.rest ≡ self.old.rest }
     {
         if self.begins(accesses, Some(by)) {
-            self.heat = self.heat.saturating_add(HEAT_OF_ASKING);
+            self.heat = self.heat.saturating_add(HEAT_OF_WAITING);
         } else if self.asked != Some(by) {
             self.restart(Some(by));
         }
@@ -115,10 +115,11 @@ impl Patience {
     #[cold]
     #[inline(never)]
     fn wait_for_object<R: Wait>(&mut self, rt: &R, accesses: u32)
-        ensures heat { self.new.heat ≤ self.old.heat + HEAT_OF_SLEEP }
+        ensures heat { self.new.heat ≤ self.old.heat + HEAT_OF_WAITING + HEAT_OF_SLEEP }
         ensures rest { self.new.rest ≡ self.old.rest }
     {
         if self.begins(accesses, None) {
+            self.heat = self.heat.saturating_add(HEAT_OF_WAITING);
             for _ in 0..SPINS_IF_HELD {
                 self.backoff.spin();
             }
@@ -130,7 +131,7 @@ impl Patience {
     /// Lets some time pass before the next poll. The worker has made so many accesses.
     #[inline(always)]
     pub(crate) fn wait<R: Wait>(&mut self, rt: &R, why: Why, accesses: u32)
-        ensures heat { self.new.heat ≤ self.old.heat + HEAT_OF_ASKING + HEAT_OF_SLEEP }
+        ensures heat { self.new.heat ≤ self.old.heat + HEAT_OF_WAITING + HEAT_OF_SLEEP }
         ensures rest { self.new.rest ≡ self.old.rest }
     {
         match why {

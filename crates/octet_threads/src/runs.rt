@@ -74,7 +74,9 @@ impl Runner {
         heap.unblock(&mut self.worker);
     }
 
-    // Rests, where its accesses have waited a lot and it is to make another, unless no other is at work.
+    // Rests, where its accesses have waited a lot and its next demand is another one, unless no other is
+    // at work. Before any other demand it stays as worn as it is: with `safe` after each access it would
+    // else never rest.
     #[cold]
     #[inline(never)]
     fn rest<R: Wait>(&mut self, rt: &R, heap: &Heap, patience: &mut Patience, crew: &Crew)
@@ -85,10 +87,10 @@ impl Runner {
         ensures rested { (self.new ≡ self.old) ⊎ HasRested self.old self.new }
         ensures same { IsSame self.old self.new }
     {
-        let time = patience.recover();
         if !is_access(self.config.peek()) {
             return;
         }
+        let time = patience.recover();
         if let Some(rung) = crew.stop() {
             self.stay_away(rt, heap, crew, rung, time);
         }
