@@ -33,6 +33,7 @@ impl Progress {
     }
 
     // What the thread waits for before its next event.
+    #[inline(always)]
     fn need(&self, log: &ThreadLog) -> Need
         ensures { result ≡ need_of (next_by_progress log.now self.now) }
     {
@@ -47,6 +48,7 @@ impl Progress {
     }
 
     // Makes the thread's next event, and answers whether it is a draw.
+    #[inline(always)]
     fn advance(&mut self, log: &ThreadLog) -> bool
         requires wants { WantsSome log.now self.old }
         requires accesses { log.now.accesses ≤ MAX_ACCESSES }
@@ -102,6 +104,7 @@ impl LogWalk {
     }
 
     // Makes the next event of the lowest thread that may step.
+    #[inline(always)]
     fn step(&mut self, log: &Log, thread: u8)
         requires at { WalksAt log.now.threads self.old }
         requires lowest { IsLowestReady self.old.waits thread }
