@@ -1,7 +1,14 @@
 """What a case is, and how scripts and logs are written in the tests."""
 
+import importlib.machinery
+import importlib.util
+import pathlib
 from dataclasses import dataclass, field
 from hashlib import sha256
+
+_LOADER = importlib.machinery.SourceFileLoader("log_tool", str(pathlib.Path(__file__).resolve().parent.parent / "tools" / "log"))
+log_tool = importlib.util.module_from_spec(importlib.util.spec_from_loader("log_tool", _LOADER))
+_LOADER.exec_module(log_tool)
 
 # The commands that are an access of an object.
 ACCESSES = {"read", "write", "bump"}
@@ -38,6 +45,11 @@ def log(*threads):
         for kind, gap, thread, number in marks:
             out += bytes([kind]) + gap.to_bytes(4, "big") + bytes([thread]) + number.to_bytes(8, "big")
     return out
+
+
+def told(line):
+    """The bytes in version 1 of a log that `show` would tell so, with ` / ` where a line ends: it may lie."""
+    return log_tool.encoded(log_tool.read(script(line).decode()))
 
 
 def second(content, *threads):

@@ -6,7 +6,7 @@ Expected values come from docs/FORMATS.md or are worked out by hand, never from 
 import pathlib
 from hashlib import sha256
 
-from case import Case, draw, fence, join, log, piece, script, second, short, tail, text
+from case import Case, draw, fence, join, log, piece, script, second, short, tail, text, told
 
 EXAMPLES = pathlib.Path(__file__).resolve().parent.parent / "examples"
 
@@ -249,8 +249,10 @@ PREFIXES = [
 
 HANDOVER_SAID = text("thread 0 done", "thread 1 done 7", "object x 7")
 HANDOVER_LOG = log((1,), (1, join(0, 0, 1)))
-HANDOVER_UNMARKED = log((1,), (1,))
-HANDOVER_STUCK = log((1, join(0, 1, 1)), (1, join(0, 0, 1)))
+HANDOVER_UNMARKED = told("threads 2 / thread 0 accesses 1 marks 0 / thread 1 accesses 1 marks 0")
+HANDOVER_STUCK = told(
+    "threads 2 / thread 0 accesses 1 marks 1 / gap 0 join 1 1 / thread 1 accesses 1 marks 1 / gap 0 join 0 1"
+)
 
 # Thread 1 reads first, and then thread 2 does: x becomes read-shared, and thread 1 fences.
 SHARED = script("object x 9 / thread / thread / read r0 x / read r1 x / thread / read r0 x")
@@ -266,13 +268,16 @@ CROSSED_LOG = log((1, join(0, 1, 2)), (2, join(0, 0, 0), join(1, 0, 0)))
 KNOWN_LATER = script(
     "object x 0 / object y 0 / thread / set r0 1 / write x r0 / thread / write y r0 / thread / read r0 x"
 )
-KNOWN_LATER_LOG = log((1,), (1, join(1, 0, 1)), (1, join(0, 1, 1)))
+KNOWN_LATER_LOG = told(
+    "threads 3 / thread 0 accesses 1 marks 0 / thread 1 accesses 1 marks 1 / gap 1 join 0 1"
+    " / thread 2 accesses 1 marks 1 / gap 0 join 1 1"
+)
 
 # A counter that two threads bump, the first of them twice.
 COUNTED = script("object n 5 / thread / set r0 2 / bump n r0 / bump n r0 / thread / set r0 3 / bump n r0")
 COUNTED_SAID = text("thread 0 done", "thread 1 done", "object n 12")
 COUNTED_LOG = log((2,), (1, join(0, 0, 2)))
-COUNTED_UNMARKED = log((2,), (1,))
+COUNTED_UNMARKED = told("threads 2 / thread 0 accesses 2 marks 0 / thread 1 accesses 1 marks 0")
 
 HIGHEST = 2**64 - 1
 
@@ -308,7 +313,10 @@ LOGS = (
             "verify",
             "two reads without marks, and then a write",
             script("object x 1 / thread / read r0 x / thread / read r0 x / thread / write x r0"),
-            log((1,), (1,), (1, join(0, 0, 1))),
+            told(
+                "threads 3 / thread 0 accesses 1 marks 0 / thread 1 accesses 1 marks 0 / thread 2 accesses 1 marks 1"
+                " / gap 0 join 0 1"
+            ),
             text("unordered 1:0 2:1"),
             9,
         ),

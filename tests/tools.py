@@ -1,0 +1,201 @@
+"""What stands beside the program: the answers of `bin/octet` itself, the programs in tools/, and the README's picture."""
+
+import json
+import pathlib
+import re
+import shutil
+import tempfile
+
+import judges
+from case import draw, fence, join, log, script, text
+from cases import BANK, CASES, EARLY, EARLY_UNMARKED, LOST_LOG, SHARED, SHARED_LOG
+from files import LAUNCHER, OCTET, TOP, called, differs, first, folder_with, octet
+
+LOG, DIAGRAM = TOP / "tools" / "log", TOP / "tools" / "diagram"
+COMMANDS = re.compile(r"^\| `octet ([a-z]+)", re.MULTILINE)
+STATUSES = re.compile(r"^\| ([0-9]+) \|", re.MULTILINE)
+
+
+def usage():
+    """`bin/octet` says the usage by itself, also where nothing is built and nothing can be."""
+    with tempfile.TemporaryDirectory() as folder:
+        (pathlib.Path(folder) / "bin").mkdir()
+        launcher = shutil.copy(LAUNCHER, pathlib.Path(folder) / "bin" / "octet")
+        status, said = called([launcher], folder)
+        formats = (TOP / "docs" / "FORMATS.md").read_text()
+        commands, statuses = set(COMMANDS.findall(formats)), set(STATUSES.findall(formats.split("## Statuses")[1]))
+        told = set(re.findall(r"^  octet ([a-z]+)", said.decode(), re.MULTILINE))
+        numbers = set(re.findall(r"(?:^|  )([0-9]+) [a-z]", said.decode(), re.MULTILINE))
+        return first(
+            differs("no words", status, 0),
+            differs("the commands", told, commands),
+            differs("how many commands", len(told) >= 15, True),
+            differs("the statuses", numbers, statuses | {"70"}),
+            differs("its lines", len(said.split(b"\n")) <= 40 and max(map(len, said.split(b"\n"))) <= 100, True),
+            *(differs(word, called([launcher, word], folder), (0, said)) for word in ["help", "--help", "-h"]),
+            differs("--version", called([launcher, "--version"], folder), (0, text("octet of no git checkout"))),
+            differs("--version here", called([LAUNCHER, "--version"], TOP)[0], 0),
+            *(
+                differs(f"the program, {words}", octet(words, folder), (1, text("words: not a command")))
+                for words in [[], ["help"], ["--help"], ["-h"], ["--version"]]
+            ),
+        )
+
+
+def logs_of_version_1():
+    """The logs of the cases that a reader takes."""
+    contents = {content for case in CASES for content in case.files.values() if content[:5] == b"OCTL\x01"}
+    return [content for content in contents if not isinstance(judges.read_log(content), str)]
+
+
+def text_and_back():
+    """What `show` says, turned back, is the log."""
+    logs = logs_of_version_1()
+    with tempfile.TemporaryDirectory() as folder:
+        here = pathlib.Path(folder)
+        for content in logs:
+            (here / "L").write_bytes(content)
+            (here / "T").write_bytes(octet(["show", "L"], folder)[1])
+            found = called([LOG, "T", "-"], folder)
+            if found != (0, content):
+                return f"of {content.hex()}: {found}"
+    return differs("how many logs", len(logs) >= 20, True)
+
+
+def refused_texts():
+    """What `show` never says is refused, and nothing is written."""
+    texts = {
+        "": "the text ends early: lines of threads or marks are missing",
+        "threads 1\n": "the text ends early: lines of threads or marks are missing",
+        "threads 1\nthread 0 accesses 1 marks 1\n": "the text ends early: lines of threads or marks are missing",
+        "threads 1\nthread 1 accesses 1 marks 0\n": "line 2: thread 0 is next",
+        "threads 1\nthread 0 accesses 1 marks 0\ngap 0 draw 1\n": "line 3: 'gap 0 draw 1' may not stand here",
+        "threads 1\nthread 0 accesses 01 marks 0\n": "line 2: 'thread 0 accesses 01 marks 0' may not stand here",
+        "threads 1\nthread 0 accesses 4294967296 marks 0\n": "4294967296 does not fit into 4 bytes",
+    }
+    with tempfile.TemporaryDirectory() as folder:
+        for content, line in texts.items():
+            (pathlib.Path(folder) / "T").write_text(content)
+            status, said, *errors = called([LOG, "T", "L"], folder)
+            wanted = [f"tools/log: {line}\n".encode()]
+            if (status, said, errors) != (1, b"", wanted) or (pathlib.Path(folder) / "L").exists():
+                return f"{content!r}: {status}, {said}, {errors}"
+    return None
+
+
+# A log, a mark of it (its thread and number), and the log without it.
+TAKEN_OUT = [
+    (EARLY, (0, 0), EARLY_UNMARKED),
+    # The gap goes to the next mark, and a join of later events names one less; one of earlier ones stays.
+    (
+        log((3, join(1, 1, 1), join(1, 1, 2)), (4, join(0, 0, 1), join(1, 0, 2), join(1, 0, 4))),
+        (0, 0),
+        log((3, join(2, 1, 2)), (4, join(0, 0, 1), join(1, 0, 1), join(1, 0, 3))),
+    ),
+    # Later draws and their fences fall by one.
+    (log((1, draw(0, 1)), (2, draw(0, 2), fence(1, 2))), (0, 0), log((1,), (2, draw(0, 1), fence(1, 1)))),
+    # A fence of no draw that is left goes too.
+    (
+        SHARED_LOG,
+        (2, 1),
+        log((0,), (2, join(0, 0, 0)), (1, join(0, 1, 1))),
+    ),
+]  # fmt: skip
+
+
+def marks_taken_out():
+    """`--without` takes one mark out, and leaves all that is left where it was in the run."""
+    with tempfile.TemporaryDirectory() as folder:
+        here = pathlib.Path(folder)
+        for content, (thread, number), wanted in TAKEN_OUT:
+            (here / "L").write_bytes(content)
+            (here / "T").write_bytes(octet(["show", "L"], folder)[1])
+            found = called([LOG, "--without", str(thread), str(number), "T", "-"], folder)
+            if found != (0, wanted):
+                return f"mark {number} of thread {thread} of {content.hex()}: {found}"
+        bad = called([LOG, "--without", "0", "9", "T", "-"], folder)
+        return differs("no such mark", bad, (1, b"", b"tools/log: there is no mark 9 of thread 0\n"))
+
+
+def diagram(folder, *words):
+    return called([DIAGRAM, "--octet", OCTET, *words], folder)
+
+
+def picture_of_the_readme():
+    """The picture in docs/ is what the tool makes today, by the commands of the README."""
+    with folder_with(S=BANK) as folder:
+        octet(["turns", "S", "L", "1"], folder)
+        found = diagram(folder, "S", "L", "--regions")
+        return first(
+            differs("the log", pathlib.Path(folder, "L").read_bytes(), LOST_LOG),
+            differs("docs/bank.svg", found, (0, (TOP / "docs" / "bank.svg").read_bytes())),
+            differs("the README", "(docs/bank.svg)" in (TOP / "README.md").read_text(), True),
+        )
+
+
+def pictures():
+    """How many points, arrows and frames a picture has, and what is pale, by what the program says."""
+    with folder_with(S=SHARED, L=SHARED_LOG, B=BANK, M=LOST_LOG) as folder:
+        whole = diagram(folder, "S", "L")[1].decode()
+        cycle = diagram(folder, "B", "M", "--regions")[1].decode()
+        problems = [
+            differs("accesses", whole.count('r="5.5"'), 3),
+            differs("marks", whole.count('r="3.5"'), 4),
+            differs("the draw on its line", whole.count('r="3"'), 1),
+            differs("arrows", whole.count("marker-end"), 4),
+            differs("frames", cycle.count('rx="8"'), 2),
+            differs("conflicts", cycle.count("url(#red)"), 2),
+        ]
+        for thread, count in enumerate([4, 6]):
+            for event in range(count):
+                said = octet(["slice", "B", "M", str(thread), str(event)], folder)[1].split()
+                past, total = int(said[-3]), int(said[-1])
+                sliced = diagram(folder, "B", "M", "--slice", str(thread), str(event))[1].decode()
+                points = re.findall(r'<circle [^>]* r="(?:5\.5|3\.5)" [^>]*>', sliced)
+                pale = sum("#d1d5db" in point for point in points)
+                problems.append(differs(f"what is pale, {thread}:{event}", (pale, len(points)), (total - past, total)))
+        part = diagram(folder, "B", "M", "--from", "3", "--to", "6")[1].decode()
+        problems.append(differs("a part", part.count('r="5.5"') + part.count('r="3.5"'), 4))
+        return first(*problems)
+
+
+def refused_pictures():
+    many = script("object x 0 / thread / set r0 500 / set r1 1 / while r0 / write x r0 / sub r0 r0 r1 / end")
+    with folder_with(S=many, B=BANK, M=LOST_LOG, bad=b"OCTL") as folder:
+        octet(["run", "S", "L"], folder)
+        status, said, error = diagram(folder, "S", "L")
+        return first(
+            differs("too many events", (status, said, error.split(b",")[0]), (1, b"", b"tools/diagram: 500 events")),
+            differs("a part of them", diagram(folder, "S", "L", "--from", "101", "--to", "500")[0], 0),
+            differs("a log that is none", diagram(folder, "B", "bad"), (1, b"", b"tools/diagram: log: 4 cut short at 4\n")),
+            differs("no event", diagram(folder, "B", "M", "--slice", "0", "9"), (1, b"", b"tools/diagram: no event 9 of thread 0\n")),
+        )
+
+
+def trace_events():
+    """A slice for each event, and of each join, draw and fence a flow from what it comes after."""
+    with folder_with(S=SHARED, L=SHARED_LOG) as folder:
+        status = diagram(folder, "S", "L", "--chrome", "J")[0]
+        events = json.loads(pathlib.Path(folder, "J").read_text())["traceEvents"]
+        names = [event["name"] for event in events if event["ph"] == "X"]
+        told = [line.split(" ", 1)[1] for line in octet(["trace", "S", "L"], folder)[1].decode().split("\n")[:-1]]
+        starts = {event["id"]: event for event in events if event["ph"] == "s"}
+        ends = {event["id"]: event for event in events if event["ph"] == "f"}
+        return first(
+            differs("status", status, 0),
+            differs("the events", names, told),
+            differs("the flows", (sorted(starts), sorted(ends)), ([1, 2], [1, 2])),
+            differs("forwards", all(starts[number]["ts"] < ends[number]["ts"] for number in starts), True),
+        )
+
+
+TESTS = {
+    "bin/octet: the usage and the version": usage,
+    "tools/log: the text of a log and back": text_and_back,
+    "tools/log: what is no log's text": refused_texts,
+    "tools/log: a mark is taken out": marks_taken_out,
+    "tools/diagram: the picture of the README": picture_of_the_readme,
+    "tools/diagram: points, arrows, frames and what is pale": pictures,
+    "tools/diagram: what is refused": refused_pictures,
+    "tools/diagram: trace events": trace_events,
+}
