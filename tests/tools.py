@@ -1,5 +1,6 @@
-"""What stands beside the program: the answers of `bin/octet` itself, the programs in tools/, and the README's picture."""
+"""What stands beside the program: the answers of `bin/octet` itself, the programs in tools/, and the documents' picture and code."""
 
+import itertools
 import json
 import pathlib
 import re
@@ -189,6 +190,39 @@ def trace_events():
         )
 
 
+def blocks(page, language):
+    """The code of a page in one language."""
+    return re.findall(rf"^```{language}\n(.*?)^```$", (TOP / "docs" / page).read_text(), re.MULTILINE | re.DOTALL)
+
+
+# Of which file a page prints all but the first line, in order. Other pages print parts of files.
+PAGES = {"HEAP.md": "tool_tests.rt", "REPLAY.md": "atomicity_tests.rt"}
+
+
+def code_of_the_documents():
+    """What is printed stands in the crates, to the letter, so that it is proved and, where it is a test, run."""
+    sources = [path.read_text() for path in (TOP / "crates").glob("*/src/*.rt")]
+    proofs = [path.read_text() for path in (TOP / "crates").glob("*/proofs/**/*.antt")]
+    printed = 0
+    for path in sorted((TOP / "docs").glob("*.md")):
+        code = blocks(path.name, "rust")
+        printed += len(code)
+        if path.name in PAGES:
+            wanted = (TOP / "crates" / "octet_top" / "src" / PAGES[path.name]).read_text().split("\n", 1)[1]
+            lines = itertools.zip_longest("\n".join(code).split("\n"), wanted.split("\n"))
+            for place, (told, stands) in enumerate(lines, 1):
+                if told != stands:
+                    return f"{path.name}: line {place} of its code is {told!r}, and in {PAGES[path.name]} {stands!r}"
+        for block in code:
+            for part in block.split("\n\n"):
+                if not any(part.rstrip("\n") in source for source in sources):
+                    return f"{path.name}: {part!r} stands in no crate"
+        for block in blocks(path.name, "antt"):
+            if not any(block in proof for proof in proofs):
+                return f"{path.name}: {block!r} stands in no proof"
+    return differs("how many pieces of code", printed >= 14, True)
+
+
 TESTS = {
     "bin/octet: the usage and the version": usage,
     "tools/log: the text of a log and back": text_and_back,
@@ -198,4 +232,5 @@ TESTS = {
     "tools/diagram: points, arrows, frames and what is pale": pictures,
     "tools/diagram: what is refused": refused_pictures,
     "tools/diagram: trace events": trace_events,
+    "the code of the documents": code_of_the_documents,
 }

@@ -1,6 +1,8 @@
 //! The program's commands: words, files and a desk in, an exit status out.
 #![tactic(auto)]
 
+#[cfg(test)]
+mod atomicity_tests;
 mod commands;
 mod convert;
 #[cfg(test)]
@@ -38,6 +40,8 @@ mod stop;
 mod tests;
 #[cfg(test)]
 mod thread_tests;
+#[cfg(test)]
+mod tool_tests;
 mod trace;
 
 pub use program::{serve, serve_alone};

@@ -1,0 +1,13 @@
+use Rattle.std.proofs.Common.{◌≡◌, true}
+use Rattle.std.specs.Option.{is_some}
+use Rattle.octet_model.specs.Journals.{access_count}
+use Rattle.octet_heap.specs.Workers.{seat_of, IsWorkerOf}
+use Rattle.octet_top.proofs.tool_tests.access.Given as goal
+
+abbrev pub invariant-loop : goal.invariant-loop
+invariant-loop g l = record {
+  own : IsWorkerOf l.heap l.worker;
+  begun : is_some l.worker.wish ≡ true;
+  number : (seat_of l.worker).number ≡ (seat_of l.initial.worker).number;
+  count : access_count (seat_of l.worker).journal ≡ access_count (seat_of l.initial.worker).journal;
+}

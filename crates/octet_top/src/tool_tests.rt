@@ -1,0 +1,155 @@
+//! The tool of `docs/HEAP.md`, to the letter.
+ghost use Rattle.std.specs.Prelude.{◌≡◌, ◌<◌, ◌+◌, [], length, IfOk};
+ghost use Rattle.std.specs.Thread.{IsSync};
+ghost use Rattle.octet_model.specs.Journals.{access_count};
+ghost use Rattle.octet_rule.specs.Conditions.{IsResting};
+ghost use Rattle.octet_rule.specs.Seats.{objects_of, threads_of};
+ghost use Rattle.octet_heap.specs.Seated.{IsNew, RestsAs};
+ghost use Rattle.octet_heap.specs.Workers.{seat_of, IsIdle, IsWorkerOf};
+
+use crossbeam_utils::Backoff;
+use octet_heap::{Closed, Heap, Poll, Worker};
+use octet_model::{DEFAULT_FUEL, List, Mark, Name, Object, OutOfMemory, Script, ThreadLog};
+use octet_state::Mode;
+use std::alloc::Global;
+use std::sync::Wait;
+use std::test::Fail;
+use std::thread::{Threads, join_mut};
+
+/// How often each thread adds 1 to the object.
+const ROUNDS: u32 = 100;
+
+/// Two threads and one object. It needs no text, and its threads no commands: what they do is the
+/// tool's own.
+fn two_threads(alloc: Global) -> Result<Script, OutOfMemory>
+    ensures { IfOk result (λ script. (length script.threads ≡ 2) × (length script.objects ≡ 1) × (script.fuel ≡ DEFAULT_FUEL)) }
+{
+    let mut objects = List::new(alloc);
+    objects.push(Object {
+        name: Name::new(alloc, b"x")?,
+        start: 0,
+    })?;
+    let mut threads = List::new(alloc);
+    threads.push(List::new(alloc))?;
+    threads.push(List::new(alloc))?;
+    Ok(Script {
+        fuel: DEFAULT_FUEL,
+        objects,
+        threads,
+    })
+}
+
+/// One access, polled until it is made.
+fn access<R: Wait>(rt: &R, heap: &Heap, worker: &mut Worker, mode: Mode, value: u64) -> u64
+    requires own { IsWorkerOf heap.now worker.old }
+    requires idle { IsIdle worker.old }
+    requires object { 0 < objects_of heap.now.words }
+    requires more { access_count (seat_of worker.old).journal < heap.now.fuel }
+    ensures own { IsWorkerOf heap.now worker.new }
+    ensures idle { IsIdle worker.new }
+    ensures number { (seat_of worker.new).number ≡ (seat_of worker.old).number }
+    ensures count { access_count (seat_of worker.new).journal ≡ access_count (seat_of worker.old).journal + 1 }
+{
+    heap.begin(worker, 0, mode, value);
+    let backoff = Backoff::new();
+    for _ in rt.forever() {
+        match heap.poll(worker) {
+            Poll::Ready { value } => return value,
+            Poll::Pending { .. } => backoff.snooze(),
+        }
+    }
+    unreachable!()
+}
+
+/// What a thread does, from its start to its end.
+fn work<R: Wait>(rt: &R, heap: &Heap, worker: &mut Worker)
+    requires heap { (objects_of heap.now.words ≡ 1) × (heap.now.fuel ≡ DEFAULT_FUEL) }
+    requires own { IsWorkerOf heap.now worker.old }
+    requires rests { IsResting (seat_of worker.old).thread.phase }
+    requires fresh { (seat_of worker.old).journal ≡ [] }
+    ensures own { IsWorkerOf heap.now worker.new }
+    ensures rests { IsResting (seat_of worker.new).thread.phase }
+    ensures number { (seat_of worker.new).number ≡ (seat_of worker.old).number }
+{
+    heap.unblock(worker);
+    for _ in 0..ROUNDS {
+        access(rt, heap, worker, Mode::Update, 1);
+        heap.safe_point(worker);
+    }
+    heap.block(worker);
+}
+
+/// Both threads, beside each other.
+fn run<R: Threads + Wait + Sync>(rt: &R, heap: &Heap, first: &mut Worker, second: &mut Worker)
+    requires heap { (objects_of heap.now.words ≡ 1) × (heap.now.fuel ≡ DEFAULT_FUEL) }
+    requires first { IsNew heap.now 0 first.old }
+    requires second { IsNew heap.now 1 second.old }
+    ensures first { RestsAs heap.now 0 first.new }
+    ensures second { RestsAs heap.now 1 second.new }
+{
+    join_mut(
+        rt,
+        &mut || -> ()
+            requires { IsSync R.row × (objects_of heap.now.words ≡ 1) × (heap.now.fuel ≡ DEFAULT_FUEL) × IsNew heap.now 0 first.now }
+            ensures { RestsAs heap.entry.now 0 first.exit.now }
+        { work(rt, heap, first) },
+        &mut || -> ()
+            requires { IsSync R.row × (objects_of heap.now.words ≡ 1) × (heap.now.fuel ≡ DEFAULT_FUEL) × IsNew heap.now 1 second.now }
+            ensures { RestsAs heap.entry.now 1 second.exit.now }
+        { work(rt, heap, second) },
+    );
+}
+
+/// Ends the run: the workers are handed back, in order.
+fn closed(heap: Heap, alloc: Global, first: Worker, second: Worker) -> Result<Closed, OutOfMemory>
+    requires heap { threads_of heap.words ≡ 2 }
+    requires first { RestsAs heap 0 first }
+    requires second { RestsAs heap 1 second }
+{
+    let mut workers = List::new(alloc);
+    workers.push(first)?;
+    workers.push(second)?;
+    heap.close(alloc, workers)
+}
+
+/// A run, from the script to what was recorded.
+fn recorded<R: Threads + Wait + Sync>(rt: &R, alloc: Global) -> Result<Closed, OutOfMemory> {
+    let script = two_threads(alloc)?;
+    let (heap, workers) = Heap::new(alloc, &script)?;
+    let mut workers = workers.into_vec();
+    let mut second = workers.remove(1);
+    let mut first = workers.remove(0);
+    run(rt, &heap, &mut first, &mut second);
+    closed(heap, alloc, first, second)
+}
+
+/// A line for each dependence of a thread: the access and, of the other thread, how many of its
+/// events came before.
+fn dependences(alloc: Global, thread: usize, log: &ThreadLog) -> Result<Vec<u8>, OutOfMemory> {
+    let mut text = Vec::new(alloc);
+    let mut access: u64 = 0;
+    for seen in log.marks.as_slice() {
+        access = access.saturating_add(u64::from(seen.gap));
+        if let Mark::Join { from, upto } = seen.mark {
+            let line = format!(in alloc;
+                "access {access} of thread {thread} came after {upto} events of thread {from}\n"
+            )?;
+            text.extend_from_slice(line.as_bytes())?;
+        }
+    }
+    Ok(text)
+}
+
+#[test]
+fn a_tool_tells_dependences(rt: HostRuntime) -> Result<(), Fail> {
+    let alloc = rt.alloc();
+    let closed = recorded(&rt, alloc)?;
+    assert_eq!(rt; closed.heap.as_slice(), [200u64].as_slice());
+    let mut told = 0;
+    for (thread, log) in closed.logs.as_slice().iter().enumerate() {
+        assert_eq!(rt; log.accesses, ROUNDS);
+        told = dependences(alloc, thread, log)?.len();
+    }
+    assert!(rt; told > 0);
+    Ok(())
+}
