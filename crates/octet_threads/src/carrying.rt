@@ -20,7 +20,6 @@ use std::sync::Wait;
 use std::thread::Threads;
 
 // Polls the access that was begun until it is made, and answers its value.
-#[inline(always)]
 fn make<R: Wait>(rt: &R, heap: &Heap, worker: &mut Worker, patience: &mut Patience) -> u64
     requires own { IsWorkerOf heap.now worker.old }
     requires begun { is_some worker.old.wish ≡ true }
