@@ -7,6 +7,7 @@ import re
 import shutil
 import tempfile
 
+import definitions
 import judges
 from case import draw, fence, join, log, script, text
 from cases import BANK, CASES, EARLY, EARLY_UNMARKED, LOST_LOG, SHARED, SHARED_LOG
@@ -223,6 +224,19 @@ def code_of_the_documents():
     return differs("how many pieces of code", printed >= 14, True)
 
 
+def what_the_headline_needs():
+    """CLAIMS lists the files that have to be read to believe the headline, and how many definitions they have of it."""
+    found = definitions.headline(definitions.modules())
+    claims = (TOP / "docs" / "CLAIMS.md").read_text().split("## What to read to believe the headline")[1].split("\n## ")[0]
+    listed = set()
+    for crate, files in re.findall(r"^- `(\w+)`: ((?:.+\n)(?:  .+\n)*)", claims, re.MULTILINE):
+        listed |= {TOP / "crates" / crate / name for name in re.findall(r"`([^`]+)`", files)}
+    return first(
+        differs("files", sorted(map(str, listed)), sorted(map(str, found))),
+        differs("definitions", re.findall(r"speaks of (\d+)\s+definitions", claims), [str(sum(map(len, found.values())))]),
+    )
+
+
 TESTS = {
     "bin/octet: the usage and the version": usage,
     "tools/log: the text of a log and back": text_and_back,
@@ -233,4 +247,5 @@ TESTS = {
     "tools/diagram: what is refused": refused_pictures,
     "tools/diagram: trace events": trace_events,
     "the code of the documents": code_of_the_documents,
+    "the files that the headline needs": what_the_headline_needs,
 }

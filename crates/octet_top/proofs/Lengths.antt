@@ -1,7 +1,6 @@
 -- A log in version 2 is within the limit of a log's file.
-use Rattle.std.proofs.Common.{◌≡◌, ℕ, zero, suc, ◌+◌, ◌*◌, ◌/◌, ◌%◌, ◌^◌, ◌≤◌, ◌&&◌, Bool, true, false, cond, ltb, leb, eqb, List, [], ◌∷◌, ◌++◌, length, length-append, Option, None, Some, Result, Ok, Err, IfOk, refl, ap, sym, subst, ◌∙◌, arith}
+use Rattle.std.proofs.Common.{◌≡◌, ℕ, zero, suc, ◌+◌, ◌*◌, ◌/◌, ◌%◌, ◌^◌, ◌≤◌, ◌&&◌, Bool, true, false, cond, ltb, leb, eqb, List, [], ◌∷◌, ◌++◌, length, length-append, None, Some, refl, ap, subst, ◌∙◌, arith}
 use Rattle.std.specs.List.{flat_map, sum_by, list_all}
-use Rattle.std.specs.Global.{Vec}
 use Rattle.sha2.specs.Sha256.{sha256}
 use Rattle.std.proofs.lemmas.Bool.{leb-true, ltb-false}
 use Rattle.std.proofs.lemmas.List.Sums.{sum_by-cons}
@@ -9,7 +8,6 @@ use Rattle.std.proofs.lemmas.List.Concat.{flat_map-cons, flat_map-append}
 use Rattle.octet_model.specs.declared.event.Mark.{Mark}
 use Rattle.octet_model.specs.declared.event.Mark.TheVariants.{Join, Draw, Fence}
 use Rattle.octet_model.specs.declared.log.Gapped.{Gapped}
-use Rattle.octet_model.specs.declared.list.OutOfMemory.{OutOfMemory}
 use Rattle.octet_model.specs.declared.log.Log.{Log}
 use Rattle.octet_model.specs.declared.log.ThreadLog.{ThreadLog}
 use Rattle.octet_model.specs.declared.limits.TheConstants.{MAX_ACCESSES, MAX_LOG_FILE, MAX_THREADS}
@@ -20,12 +18,12 @@ use Rattle.octet_model.proofs.lemmas.Validity.{valid_log}
 use Rattle.octet_log.specs.declared.limits.TheConstants.{MAX_MARKS}
 use Rattle.octet_log.specs.Short.{groups, short_bytes}
 use Rattle.octet_log.specs.Pieces.{Piece, short_mark_of, short_mark_bytes, piece_bytes, tail_bytes, marks_in, whole_pieces, pieced_bytes, IsSpelling}
-use Rattle.octet_log.specs.declared.loader.Digest.{Digest}
 use Rattle.octet_log.proofs.lemmas.Sizes.{few_marks}
 use Rattle.octet_top.specs.declared.request.RunTask.{RunTask}
 use Rattle.octet_top.specs.declared.request.RunTask.TheVariants as run
 use Rattle.octet_top.specs.Request.{shown_task}
-use Rattle.octet_top.specs.Commands.{IsLogFile, digest_kept, second_bytes}
+use Rattle.octet_top.specs.Headline.{digest_kept}
+use Rattle.octet_top.specs.Commands.{IsLogFile, second_bytes}
 
 -- a short number has at most ten bytes, and a small one few
 groups_few : (more number : ℕ) → length (groups more number) ≤ suc more

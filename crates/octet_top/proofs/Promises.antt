@@ -1,32 +1,29 @@
 -- From what is served to the promises of each command.
-use Rattle.std.proofs.Common.{◌≡◌, ◌≢◌, ◌⊎◌, ◌∙◌, ◌++◌, ℕ, List, Some, Ok, inl, inr, ap, sym, subst, arith, Option, None, refl, length, codes}
+use Rattle.std.proofs.Common.{◌≡◌, ◌≢◌, ◌∙◌, ℕ, List, Some, inl, inr, ap, sym, subst, arith, None, length, codes}
 use Rattle.std.specs.FinMap.{get, insert}
 use Rattle.octet_base.specs.Desk.{Files, Contents, DeskState}
 use Rattle.octet_model.specs.Texts.{log_bytes, outcome_text}
 use Rattle.octet_model.proofs.lemmas.LogLength.{faithful_log_is_short}
 use Rattle.octet_model.proofs.lemmas.Totals.{faithful_adds_up}
 use Rattle.octet_top.specs.declared.reply.Status.{Status}
-use Rattle.octet_top.specs.declared.reply.Status.TheVariants.{Done, Misfit, Read, Write, Memory, Unordered, Cycle}
+use Rattle.octet_top.specs.declared.reply.Status.TheVariants.{Done, Read, Write, Memory}
 use Rattle.octet_top.specs.Answer.{Answer, code_of, writes_file, writes_both, summary}
-use Rattle.octet_top.specs.Request.{Way, Run, request_in, OfPair, Convert, Gen}
+use Rattle.octet_top.specs.Request.{Way, ByPicks, Run, request_in, Convert, Gen}
 use Rattle.octet_log.specs.Pieces.{IsSpelling}
-use Rattle.octet_top.specs.Commands.{Answers, RequestAnswers, digest_kept, second_bytes}
+use Rattle.octet_top.specs.Headline.{digest_kept, IsFaithfulRun, RunsFaithfully}
+use Rattle.octet_top.specs.Commands.{Answers, Records, RequestAnswers, second_bytes}
 use Rattle.octet_top.specs.Serving.{IsServed}
 use Rattle.octet_top.specs.Outputs.{IsWhole}
-use Rattle.octet_top.specs.Promises.{IsFaithfulRun, RunsFaithfully, RunsWithExactTotals, IsConversion, ConvertsLogs, IsGeneratedRun, GeneratesFaithfully}
+use Rattle.octet_top.specs.Promises.{RunsAsPicked, RunsWithExactTotals, IsConversion, ConvertsLogs, IsGeneratedRun, GeneratesFaithfully}
 use Rattle.octet_top.proofs.Recorded.{recorded_faithfully}
-use Rattle.octet_top.proofs.Causes.{same_status, has_cause}
+use Rattle.octet_top.proofs.Causes.{same_status}
 use Rattle.octet_top.proofs.Effects.{leaves}
 use Rattle.octet_top.specs.Effects.{Leaves}
 use Rattle.octet_model.specs.declared.outcome.Outcome.{Outcome}
-use Rattle.octet_model.specs.Orders.{execution, lowest_order, IsFaithful, journals_after}
+use Rattle.octet_model.specs.Orders.{IsFaithful, journals_after}
 use Rattle.octet_replay.proofs.lemmas.OneAnswer.{faithful}
-use Rattle.octet_clock.specs.declared.verdict.Verdict.TheVariants as verdict
-use Rattle.octet_top.specs.declared.inputs.Pair.{Pair}
-use Rattle.octet_top.proofs.Due.{pair_single}
 use Rattle.octet_top.proofs.Rows.{not_done, script_refused, pair_refused}
 use Rattle.octet_top.proofs.Left.{get-inserted, get-other}
-use Rattle.octet_top.specs.Inputs.{IsPairRead}
 use Rattle.octet_script.specs.Spelling.{canonical_text}
 use Rattle.std.specs.List.{sum_by}
 use Rattle.std.proofs.lemmas.List.{length-map}
@@ -61,30 +58,42 @@ at_success words before after code contents contents' left done tells tells' =
     at_status Done words before after code contents contents' (λ e. omega (arith, e)) (λ e. omega (arith, e)) (λ e. omega (arith, e)) left done tells tells'
 
 -- a run
-recorded : (way : Way) (script log : List ℕ) (contents contents' : Contents) (answer : Answer) → RequestAnswers (Run way script log) (Some contents) answer → answer.status ≡ Done → IsWhole answer contents contents' → IsFaithfulRun way script log contents contents'
+recorded : (way : Way) (script log : List ℕ) (contents contents' : Contents) (answer : Answer) → RequestAnswers (Run way script log) (Some contents) answer → answer.status ≡ Done → IsWhole answer contents contents' → (run : IsFaithfulRun way script log contents contents') × Records way run.script run.log run.outcome
 recorded way script log contents contents' answer (inl refused) done given = absurd (not_done answer (script_refused script (Some contents) answer refused) done)
 recorded way script log contents contents' answer (inr (source, (text, taken, parsed), (logged, outcome, bytes, records, file, is))) done given =
-    let said : IsWhole (writes_file log bytes (outcome_text source.script outcome)) contents contents' = subst (λ (a : Answer). IsWhole a contents contents') is given in
-    record {
-      text = text;
-      script = source.script;
-      log = logged;
-      outcome = outcome;
-      bytes = bytes;
-      taken = taken.0;
-      spelled = parsed.1;
-      written = ap (λ (fs : Files). get fs log) said.files ∙ get-inserted contents.files log bytes;
-      held = subst (λ (t : List ℕ). IsSpelling bytes (digest_kept way t) logged.threads) parsed.0 file.spelled;
-      within_limit = file.within_limit;
-      contents = said.said;
-      faithful = recorded_faithfully way source.script logged outcome records;
-      recorded = records;
-    }
+    let said : IsWhole (writes_file log bytes (outcome_text source.script outcome)) contents contents' = subst (λ (a : Answer). IsWhole a contents contents') is given in (
+      record {
+        text = text;
+        script = source.script;
+        log = logged;
+        outcome = outcome;
+        bytes = bytes;
+        taken = taken.0;
+        spelled = parsed.1;
+        written = ap (λ (fs : Files). get fs log) said.files ∙ get-inserted contents.files log bytes;
+        held = subst (λ (t : List ℕ). IsSpelling bytes (digest_kept way t) logged.threads) parsed.0 file.spelled;
+        within_limit = file.within_limit;
+        contents = said.said;
+        faithful = recorded_faithfully way source.script logged outcome records;
+      },
+      records,
+    )
+
+-- where a run was asked for, all was done, and the desk tells its contents
+of_run : (words : List (List ℕ)) (before after : DeskState) (code : ℕ) → IsServed (request_in words) before after code → (way : Way) (script log : List ℕ) (contents contents' : Contents) → request_in words ≡ Some (Run way script log) → code ≡ code_of Done → before.contents ≡ Some contents → after.contents ≡ Some contents'
+    → (run : IsFaithfulRun way script log contents contents') × Records way run.script run.log run.outcome
+of_run words before after code served way script log contents contents' asked zero tells tells' =
+    let success = at_success words before after code contents contents' (leaves words before after code served) zero tells tells' in
+    recorded way script log contents contents' success.answer (subst (λ request. Answers request (Some contents) success.answer) asked success.answers) success.done success.given
 
 pub headline : (words : List (List ℕ)) (before after : DeskState) (code : ℕ) → IsServed (request_in words) before after code → RunsFaithfully words before after code
 headline words before after code served way script log contents contents' asked zero tells tells' =
-    let success = at_success words before after code contents contents' (leaves words before after code served) zero tells tells' in
-    recorded way script log contents contents' success.answer (subst (λ request. Answers request (Some contents) success.answer) asked success.answers) success.done success.given
+    (of_run words before after code served way script log contents contents' asked zero tells tells').0
+
+pub played : (words : List (List ℕ)) (before after : DeskState) (code : ℕ) → IsServed (request_in words) before after code → RunsAsPicked words before after code
+played words before after code served picks script log contents contents' asked zero tells tells' =
+    let found = of_run words before after code served (ByPicks picks) script log contents contents' asked zero tells tells' in
+    (found.0, found.1.1)
 
 pub exact_totals : (words : List (List ℕ)) (before after : DeskState) (code : ℕ) → IsServed (request_in words) before after code → RunsWithExactTotals words before after code
 exact_totals words before after code served way script log contents contents' asked zero tells tells' =

@@ -39,6 +39,7 @@ use Rattle.octet_top.specs.declared.request.PairTask.{PairTask}
 use Rattle.octet_top.specs.declared.request.PairTask.TheVariants.{Replay, Parallel, Verify, Regions, Slice, Stop, Trace, Profile}
 use Rattle.octet_top.specs.Answer.{Answer, says, writes_file, writes_both, not_a_command, wrong_script, does_not_fit, verdict_said, serial_said, summary}
 use Rattle.octet_machine.specs.Turns.{IsPlayed}
+use Rattle.octet_top.specs.Headline.{digest_kept}
 use Rattle.octet_top.specs.Request.{Way, AsTheyCome, BehindLock, ByPicks, Request, OfScript, OfLog, OfPair, Convert, Run, Gen, request_in}
 use Rattle.octet_top.specs.EventTexts.{trace_text}
 use Rattle.octet_top.specs.Profile.{profile_text}
@@ -50,12 +51,6 @@ abbrev pub Records : Way → Script → Log → Outcome → Type 0
 Records AsTheyCome script log outcome = IsFaithful script log.threads outcome
 Records BehindLock script log outcome = IsFaithful script log.threads outcome
 Records (ByPicks picks) script log outcome = IsFaithful script log.threads outcome × IsPlayed script picks (record { log = log; outcome = outcome })
-
--- the digest that is written with the log: that of the script's text, where its threads come beside each other
-abbrev pub digest_kept : Way → List ℕ → Option (List ℕ)
-digest_kept AsTheyCome text = Some (sha256 text)
-digest_kept BehindLock text = None
-digest_kept (ByPicks picks) text = None
 
 -- bytes that spell a log, with that digest or in version 1, no more of them than a log's file may have
 pub record IsLogFile (bytes : List ℕ) (digest : Option (List ℕ)) (logs : List ThreadLog) : Type 0 where

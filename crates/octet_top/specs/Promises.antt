@@ -12,7 +12,7 @@ use Rattle.octet_model.specs.HappensBefore.{IsOrdered}
 use Rattle.octet_model.specs.Orders.{execution, journals_after, lowest_order, IsLawfulOrder, IsFaithful}
 use Rattle.octet_model.specs.Totals.{AddsUp}
 use Rattle.octet_model.specs.Traces.{trace_of}
-use Rattle.octet_script.specs.Spelling.{Spells, canonical_text}
+use Rattle.octet_script.specs.Spelling.{canonical_text}
 use Rattle.octet_log.specs.Pieces.{IsSpelling}
 use Rattle.octet_replay.specs.Fit.{IsOfScript}
 use Rattle.octet_replay.specs.declared.fault.ReplayFault.{ReplayFault}
@@ -24,7 +24,9 @@ use Rattle.octet_regions.specs.Accesses.{accesses_of}
 use Rattle.octet_regions.specs.Choice.{IsSerial}
 use Rattle.octet_regions.specs.Runs.{Shows}
 use Rattle.octet_gen.specs.Generated.{IsGenerated}
-use Rattle.octet_top.specs.Request.{Way, Run, request_in, OfPair, Convert, Gen}
+use Rattle.octet_machine.specs.Turns.{IsPlayed}
+use Rattle.octet_top.specs.Headline.{IsFaithfulRun}
+use Rattle.octet_top.specs.Request.{Way, ByPicks, Run, request_in, OfPair, Convert, Gen}
 use Rattle.octet_top.specs.declared.reply.Status.TheVariants.{Done, Misfit, Cycle}
 use Rattle.std.specs.List.{sum_by}
 use Rattle.octet_top.specs.declared.inputs.Pair.{Pair}
@@ -37,29 +39,7 @@ use Rattle.octet_slice.specs.FirstMatch.{IsFound}
 use Rattle.octet_slice.specs.Slice.{IsSliceOf}
 use Rattle.octet_top.specs.Slices.{slice_text, is_match, stop_text}
 use Rattle.octet_top.specs.EventTexts.{trace_text}
-use Rattle.octet_top.specs.Commands.{Records, digest_kept, second_bytes, regions_said, told_before}
-
--- the file of the script, as it was, spells a script; that of the log, as it is, has bytes that spell a log, no more than a log's file may have: of threads that come beside each other in version 2, with the digest of the script's text; what was said grew by the text of an outcome; and the three are a faithful recording, of the run that was asked for
-pub record IsFaithfulRun (way : Way) (script_name log_name : List ℕ) (before after : Contents) : Type 0 where
-  pub text : List ℕ
-  pub script : Script
-  pub log : Log
-  pub outcome : Outcome
-  pub bytes : List ℕ
-  pub taken : get before.files script_name ≡ Some text
-  pub spelled : Spells text script
-  pub written : get after.files log_name ≡ Some bytes
-  pub held : IsSpelling bytes (digest_kept way text) log.threads
-  pub within_limit : length bytes ≤ MAX_LOG_FILE
-  pub contents : after.said ≡ before.said ++ outcome_text script outcome
-  pub faithful : IsFaithful script log.threads outcome
-  pub recorded : Records way script log outcome
-
--- where the words ask for a run of a script, all was done, and the desk tells its contents
-abbrev pub RunsFaithfully : List (List ℕ) → DeskState → DeskState → ℕ → Type 0
-RunsFaithfully words before after code =
-    (way : Way) (script_name log_name : List ℕ) (contents contents' : Contents) → request_in words ≡ Some (Run way script_name log_name) → code ≡ code_of Done → before.contents ≡ Some contents → after.contents ≡ Some contents'
-    → IsFaithfulRun way script_name log_name contents contents'
+use Rattle.octet_top.specs.Commands.{second_bytes, regions_said, told_before}
 
 -- updates add up to the final values that were said, by the journals of each lawful order
 abbrev pub HasExactTotals : {way : Way} {script_name log_name : List ℕ} {before after : Contents} → IsFaithfulRun way script_name log_name before after → Type 0
@@ -70,6 +50,12 @@ abbrev pub RunsWithExactTotals : List (List ℕ) → DeskState → DeskState →
 RunsWithExactTotals words before after code =
     (way : Way) (script_name log_name : List ℕ) (contents contents' : Contents) → request_in words ≡ Some (Run way script_name log_name) → code ≡ code_of Done → before.contents ≡ Some contents → after.contents ≡ Some contents'
     → (run : IsFaithfulRun way script_name log_name contents contents') × HasExactTotals run
+
+-- where the words ask for a run by picks, what the headline speaks of is a run of the machine by these picks
+abbrev pub RunsAsPicked : List (List ℕ) → DeskState → DeskState → ℕ → Type 0
+RunsAsPicked words before after code =
+    (picks : List ℕ) (script_name log_name : List ℕ) (contents contents' : Contents) → request_in words ≡ Some (Run (ByPicks picks) script_name log_name) → code ≡ code_of Done → before.contents ≡ Some contents → after.contents ≡ Some contents'
+    → (run : IsFaithfulRun (ByPicks picks) script_name log_name contents contents') × IsPlayed run.script picks (record { log = run.log; outcome = run.outcome })
 
 -- a script and a log of it were taken; the lowest order of the log is lawful, its journals are ordered, and all lawful orders have one outcome
 pub record IsOrderedPair (script_name log_name : List ℕ) (contents : Option Contents) : Type 0 where

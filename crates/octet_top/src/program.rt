@@ -9,7 +9,8 @@ ghost use Rattle.octet_top.specs.Causes.{IsCause, IsDue, NoneFailed};
 ghost use Rattle.octet_top.specs.Effects.{IsStatus, Leaves, CutsRun, KeepsOthers, KeepsFiles, CountsFailures, IsCompleted, IsWellMet};
 ghost use Rattle.octet_top.specs.Replies.{Replies};
 ghost use Rattle.octet_top.specs.Serving.{IsReplied, IsServed};
-ghost use Rattle.octet_top.specs.Promises.{RunsFaithfully, RunsWithExactTotals, VerifiesOrdered, ReplaysOnThreads, FindsRegions, RepeatsRecordings, SlicesPasts, StopsAtFirst, TracesOrders, TracesMisfits, ConvertsLogs, GeneratesFaithfully};
+ghost use Rattle.octet_top.specs.Headline.{RunsFaithfully};
+ghost use Rattle.octet_top.specs.Promises.{RunsAsPicked, RunsWithExactTotals, VerifiesOrdered, ReplaysOnThreads, FindsRegions, RepeatsRecordings, SlicesPasts, StopsAtFirst, TracesOrders, TracesMisfits, ConvertsLogs, GeneratesFaithfully};
 
 use crate::deliver::deliver;
 use crate::reading::read;
@@ -37,6 +38,9 @@ pub fn serve<R: Threads + Wait + Sync, D: Desk, G: HeapGate>(
 
     // What is read aloud of `run`: status 0 comes with a faithful recording.
     ensures headline { RunsFaithfully (texts words.now) (D.state desk.old) (D.state desk.new) result }
+
+    // Where the words have picks, it is that of a run by these picks.
+    ensures played { RunsAsPicked (texts words.now) (D.state desk.old) (D.state desk.new) result }
 
     // And of its updates: each adds what its thread demands, and an object that is only read and
     // updated ends with its starting value and their sum.

@@ -13,6 +13,7 @@ returns g c =
     let served = c.serve_words.ensures in
     record {
       headline = promise.headline words _ _ _ served;
+      played = promise.played words _ _ _ served;
       exact_totals = promise.exact_totals words _ _ _ served;
       ordered = of_pair.ordered words _ _ _ served;
       parallel = of_pair.replays_on_threads words _ _ _ served;

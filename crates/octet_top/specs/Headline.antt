@@ -1,0 +1,43 @@
+-- What status 0 of a run comes with: a faithful recording.
+use Rattle.std.specs.Prelude.{ℕ, ◌≡◌, ◌≤◌, ◌++◌, List, length, Some, Option, None}
+use Rattle.std.specs.FinMap.{get}
+use Rattle.sha2.specs.Sha256.{sha256}
+use Rattle.octet_base.specs.Desk.{Contents, DeskState}
+use Rattle.octet_model.specs.declared.limits.TheConstants.{MAX_LOG_FILE}
+use Rattle.octet_model.specs.declared.script.Script.{Script}
+use Rattle.octet_model.specs.declared.log.Log.{Log}
+use Rattle.octet_model.specs.declared.outcome.Outcome.{Outcome}
+use Rattle.octet_model.specs.Texts.{outcome_text}
+use Rattle.octet_model.specs.Orders.{IsFaithful}
+use Rattle.octet_script.specs.Spelling.{Spells}
+use Rattle.octet_log.specs.Pieces.{IsSpelling}
+use Rattle.octet_top.specs.declared.reply.Status.TheVariants.{Done}
+use Rattle.octet_top.specs.Answer.{code_of}
+use Rattle.octet_top.specs.Request.{Way, AsTheyCome, BehindLock, ByPicks, Run, request_in}
+
+-- the digest that is written with the log: that of the script's text, where its threads come beside each other
+abbrev pub digest_kept : Way → List ℕ → Option (List ℕ)
+digest_kept AsTheyCome text = Some (sha256 text)
+digest_kept BehindLock text = None
+digest_kept (ByPicks picks) text = None
+
+-- the file of the script, as it was, spells a script; that of the log, as it is, has bytes that spell a log, no more than a log's file may have: of threads that come beside each other in version 2, with the digest of the script's text; what was said grew by the text of an outcome; and the three are a faithful recording
+pub record IsFaithfulRun (way : Way) (script_name log_name : List ℕ) (before after : Contents) : Type 0 where
+  pub text : List ℕ
+  pub script : Script
+  pub log : Log
+  pub outcome : Outcome
+  pub bytes : List ℕ
+  pub taken : get before.files script_name ≡ Some text
+  pub spelled : Spells text script
+  pub written : get after.files log_name ≡ Some bytes
+  pub held : IsSpelling bytes (digest_kept way text) log.threads
+  pub within_limit : length bytes ≤ MAX_LOG_FILE
+  pub contents : after.said ≡ before.said ++ outcome_text script outcome
+  pub faithful : IsFaithful script log.threads outcome
+
+-- where the words ask for a run of a script, all was done, and the desk tells its contents
+abbrev pub RunsFaithfully : List (List ℕ) → DeskState → DeskState → ℕ → Type 0
+RunsFaithfully words before after code =
+    (way : Way) (script_name log_name : List ℕ) (contents contents' : Contents) → request_in words ≡ Some (Run way script_name log_name) → code ≡ code_of Done → before.contents ≡ Some contents → after.contents ≡ Some contents'
+    → IsFaithfulRun way script_name log_name contents contents'

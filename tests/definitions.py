@@ -1,0 +1,189 @@
+#!/usr/bin/env python3
+"""What the definitions and lemmas of the crates read of each other.
+
+`tests/definitions.py headline` lists the files that whoever believes the headline has to read, with the
+definitions of each: all that `RunsFaithfully` (octet_top, `specs/Headline.antt`) says, down to the
+numbers and lists of the standard library. `tests/definitions.py unread` lists the definitions, lemmas and
+imports that nothing reads, and ends with 1 where there are any. Needs Python 3 alone.
+"""
+
+import pathlib
+import re
+import sys
+
+CRATES = pathlib.Path(__file__).resolve().parent.parent / "crates"
+HEADLINE = ("octet_top.specs.Headline", "RunsFaithfully")
+# A word of the language of definitions, which may have signs in it (`prop→path_p`), or a name with its path, or
+# a sign that stands by itself.
+PART = r"[\w'][^\s(){}\[\],;.\"]*"
+WORD = re.compile(rf"{PART}(?:\.{PART})*|[^\s\w(){{}}\[\],;.'\"]+")
+USE = re.compile(r"^(?:pub )?(?:ghost )?use ([\w.]+?)(?:\.\{(.*?)\}| as (\w+))?;?$", re.M | re.S)
+# How an item begins, at the head of a line or, in a `module`, two blanks in.
+HEAD = r"(?:(?:abbrev|opaque|pub) )*(?:(?:data|record) )?(?!(?:module|mod|use|pub|infixl|infixr|infix) |unfolding|unfoldable)([\w'][\w'\-]*)(?=[ :])"
+BEGINS = {False: re.compile("^" + HEAD), True: re.compile("^  " + HEAD)}
+# What the gate reads by its place: the answers to a function's goals.
+ANSWERS = {"Answers", "Invariants", "Proof", "Measures"}
+# What the prover computes by itself: worked examples of the definitions.
+EXAMPLES = {"octet_model.proofs.Examples", "octet_model.proofs.Executions"}
+
+
+def without_comments(text):
+    return re.sub(r"--.*", "", text)
+
+
+class Module:
+    """A file of definitions or lemmas: its items by name, with their texts, and what it imports."""
+
+    def __init__(self, path, name):
+        self.path, self.name = path, name
+        text = without_comments(path.read_text())
+        self.imports, self.aliases, self.lists = {}, {}, []
+        for source, names, alias in USE.findall(text):
+            source = source.removeprefix("Rattle.")
+            for each in filter(None, (each.strip() for each in names.split(","))):
+                first, _, other = each.partition(" as ")
+                self.imports[(other or first).strip()] = (source, first.strip())
+            if alias:
+                self.aliases[alias] = source
+        self.body = USE.sub("", text)
+        self.items = self.items_of(self.body)
+
+    @staticmethod
+    def items_of(body):
+        """Each name that begins a line, or a line within a `module`, with the lines up to the next one."""
+        items, name, in_module = {}, None, False
+        for line in body.splitlines():
+            if line and not line.startswith(" "):
+                in_module = line.startswith("module ")
+                name = None
+            if found := BEGINS[in_module].match(line):
+                name = found[1]
+            if name:
+                items.setdefault(name, []).append(line)
+        return {name: "\n".join(lines) for name, lines in items.items()}
+
+
+def modules():
+    """All files of definitions and lemmas, by the path that an import names."""
+    found = {}
+    for path in sorted(CRATES.glob("*/*/**/*.antt")):
+        crate, *rest = path.relative_to(CRATES).with_suffix("").parts
+        if rest[0] not in ("specs", "proofs"):
+            continue
+        name = ".".join([crate, *(rest[:-1] if rest[-1] == "Lib" else rest)])
+        found[name] = Module(path, name)
+    return found
+
+
+def words_of(text):
+    return set(WORD.findall(text))
+
+
+def resolve(module, word, known):
+    """The module and the name of the definition that a word stands for there, or None."""
+    head, *rest = word.split(".")
+    if head in module.items:
+        return module.name, head
+    if head in module.imports:
+        source, name = module.imports[head]
+        return source, name
+    if head in module.aliases and rest:
+        return module.aliases[head], rest[0]
+    return None
+
+
+def declared(source):
+    """The file of Rust in which a type that definitions speak of is declared, or None."""
+    match = re.match(r"(octet_\w+)\.specs\.declared\.(\w+)\.", source + ".")
+    path = match and CRATES / match[1] / "src" / f"{match[2]}.rt"
+    return path if path and path.is_file() else None
+
+
+def headline(known):
+    """The definitions under the headline, by file."""
+    files, waiting, seen = {}, [HEADLINE], set()
+    while waiting:
+        source, name = waiting.pop()
+        if (source, name) in seen or not source.startswith("octet_"):
+            continue
+        seen.add((source, name))
+        if (path := declared(source)) is not None:
+            # `script.Script.{Script}` names a type, `event.Event.TheVariants.{Read}` a variant of one.
+            files.setdefault(path, set()).add(source.removesuffix(".TheVariants").split(".")[-1].replace("TheConstants", name))
+            continue
+        module = known.get(source)
+        if module is None or name not in module.items:
+            continue
+        files.setdefault(module.path, set()).add(name)
+        waiting += filter(None, (resolve(module, word, known) for word in words_of(module.items[name])))
+    return files
+
+
+def print_headline(known):
+    files = headline(known)
+    for path in sorted(files):
+        print(f"{path.relative_to(CRATES.parent)}: {', '.join(sorted(files[path]))}")
+    print(f"\n{sum(map(len, files.values()))} definitions in {len(files)} files")
+
+
+def read_in_code():
+    """The names that the code's contracts read, by module; None stands for a name that is read by its whole path."""
+    read = set()
+    for path in CRATES.glob("*/src/*.rt"):
+        text = re.sub(r"//.*", "", path.read_text())
+        crate = path.relative_to(CRATES).parts[0]
+        for source, names, alias in USE.findall(re.sub(r"^\s+", "", text, flags=re.M)):
+            source = source.removeprefix("Rattle.")
+            for each in filter(None, (each.strip() for each in names.split(","))):
+                read.add((source, each.partition(" as ")[0].strip()))
+            if alias:
+                read |= {(source, word.split(".")[1]) for word in words_of(text) if word.startswith(alias + ".")}
+        for whole in re.findall(r"(?:crate|octet_\w+)(?:::\w+[\w'\-]*)+", text):
+            *parts, name = whole.split("::")
+            read.add((".".join([crate if parts[0] == "crate" else parts[0], *parts[1:]]), name))
+    return read
+
+
+def unread(known):
+    """The items and imports that nothing reads."""
+    read = read_in_code()
+    for module in known.values():
+        for name, text in module.items.items():
+            for word in words_of(text):
+                found = resolve(module, word, known)
+                if found and found != (module.name, name):
+                    read.add(found)
+        for word in words_of(module.body):
+            found = resolve(module, word, known)
+            if found and found[0] != module.name:
+                read.add(found)
+    lines = []
+    for module in known.values():
+        if module.path.stem in ANSWERS or module.name in EXAMPLES:
+            continue
+        for name in module.items:
+            if (module.name, name) not in read:
+                lines.append(f"{module.path.relative_to(CRATES.parent)}: nothing reads {name}")
+        words = {part for word in words_of(module.body) for part in (word, word.split(".")[0])}
+        for name in [*module.imports, *module.aliases]:
+            # Of a sign, as `◌≡◌`, its parts are read.
+            parts = [part for part in name.split("◌") if part]
+            if not all(part in words or not re.match(r"\w", part) and part in module.body for part in parts):
+                lines.append(f"{module.path.relative_to(CRATES.parent)}: imports {name} and does not read it")
+    return lines
+
+
+def main():
+    known = modules()
+    if sys.argv[1:] == ["headline"]:
+        print_headline(known)
+        return
+    if sys.argv[1:] == ["unread"]:
+        lines = unread(known)
+        print("\n".join(lines) or "nothing is unread")
+        sys.exit(1 if lines else 0)
+    sys.exit(__doc__)
+
+
+if __name__ == "__main__":
+    main()
