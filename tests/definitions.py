@@ -4,7 +4,9 @@
 `tests/definitions.py headline` lists the files that whoever believes the headline has to read, with the
 definitions of each: all that `RunsFaithfully` (octet_top, `specs/Headline.antt`) says, down to the
 numbers and lists of the standard library. `tests/definitions.py unread` lists the definitions, lemmas and
-imports that nothing reads, and ends with 1 where there are any. Needs Python 3 alone.
+imports that nothing reads, `tests/definitions.py literals` the lines of definitions and code in which the
+number of a limit stands, where neither the limit's comment nor the table below names the file; these two
+end with 1 where there are any. Needs Python 3 alone.
 """
 
 import pathlib
@@ -18,13 +20,30 @@ HEADLINE = ("octet_top.specs.Headline", "RunsFaithfully")
 PART = r"[\w'][^\s(){}\[\],;.\"]*"
 WORD = re.compile(rf"{PART}(?:\.{PART})*|[^\s\w(){{}}\[\],;.'\"]+")
 USE = re.compile(r"^(?:pub )?(?:ghost )?use ([\w.]+?)(?:\.\{(.*?)\}| as (\w+))?;?$", re.M | re.S)
-# How an item begins, at the head of a line or, in a `module`, two blanks in.
+# How an item begins, at the head of a line or, in a `module`, two blanks further in than it.
 HEAD = r"(?:(?:abbrev|opaque|pub) )*(?:(?:data|record) )?(?!(?:module|mod|use|pub|infixl|infixr|infix) |unfolding|unfoldable)([\w'][\w'\-]*)(?=[ :])"
-BEGINS = {False: re.compile("^" + HEAD), True: re.compile("^  " + HEAD)}
+BEGINS = re.compile(HEAD)
+# What the modules within a file take, among its items.
+HEADS = ""
+# Numbers that a limit has too and that mean something else there. A constant has a number of its own.
+OTHERS = {
+    "octet_gen/specs/Generated.antt": {16, 32},  # Accesses, draws and objects of the generated script.
+    "octet_gen/src/generator.rt": {16, 32},
+    "octet_log/specs/v2/Decoding.antt": {32},  # Bytes of a digest.
+    "octet_log/specs/v2/Pieces.antt": {32},
+    "octet_log/specs/v2/Refusals.antt": {32},
+    "octet_log/src/loader.rt": {32},
+    "octet_log/src/v2/encoder.rt": {32},
+    "octet_script/specs/Spelling.antt": {32},  # A blank.
+    "octet_script/specs/Words.antt": {32},
+    "octet_state/specs/Words.antt": {32, 65536},  # Fields of a word.
+    "octet_state/src/status_word.rt": {65536},
+    "octet_top/specs/Delivery.antt": {65536},  # Bytes of a piece.
+}
 # What the gate reads by its place: the answers to a function's goals.
 ANSWERS = {"Answers", "Invariants", "Proof", "Measures"}
 # What the prover computes by itself: worked examples of the definitions.
-EXAMPLES = {"octet_model.proofs.Examples", "octet_model.proofs.Executions"}
+EXAMPLES = {"octet_model.proofs.Examples", "octet_model.proofs.Executions", "octet_state.proofs.Examples"}
 
 
 def without_comments(text):
@@ -45,20 +64,27 @@ class Module:
                 self.imports[(other or first).strip()] = (source, first.strip())
             if alias:
                 self.aliases[alias] = source
-        self.body = USE.sub("", text)
+        # What a `do` has in its lines is bound by `>>=`.
+        self.body = re.sub(r"\bdo$", "do >>=", USE.sub("", text), flags=re.M)
         self.items = self.items_of(self.body)
 
     @staticmethod
     def items_of(body):
         """Each name that begins a line, or a line within a `module`, with the lines up to the next one."""
-        items, name, in_module = {}, None, False
-        for line in body.splitlines():
-            if line and not line.startswith(" "):
-                in_module = line.startswith("module ")
-                name = None
-            if found := BEGINS[in_module].match(line):
-                name = found[1]
-            if name:
+        items, name, depths = {}, None, [0]
+        for line in filter(str.strip, body.splitlines()):
+            depth = len(line) - len(line.lstrip())
+            while depth < depths[-1]:
+                depths.pop()
+            if depth == depths[-1]:
+                if line.lstrip().startswith("module "):
+                    depths.append(depth + 2)
+                    name = HEADS
+                elif found := BEGINS.match(line.lstrip()):
+                    name = found[1]
+                elif re.match(r"[\w◌]", line.lstrip()):
+                    name = None
+            if name is not None:
                 items.setdefault(name, []).append(line)
         return {name: "\n".join(lines) for name, lines in items.items()}
 
@@ -129,7 +155,7 @@ def print_headline(known):
 def read_in_code():
     """The names that the code's contracts read, by module; None stands for a name that is read by its whole path."""
     read = set()
-    for path in CRATES.glob("*/src/*.rt"):
+    for path in CRATES.glob("*/src/**/*.rt"):
         text = re.sub(r"//.*", "", path.read_text())
         crate = path.relative_to(CRATES).parts[0]
         for source, names, alias in USE.findall(re.sub(r"^\s+", "", text, flags=re.M)):
@@ -162,7 +188,7 @@ def unread(known):
         if module.path.stem in ANSWERS or module.name in EXAMPLES:
             continue
         for name in module.items:
-            if (module.name, name) not in read:
+            if name != HEADS and (module.name, name) not in read:
                 lines.append(f"{module.path.relative_to(CRATES.parent)}: nothing reads {name}")
         words = {part for word in words_of(module.body) for part in (word, word.split(".")[0])}
         for name in [*module.imports, *module.aliases]:
@@ -173,14 +199,63 @@ def unread(known):
     return lines
 
 
+def limits():
+    """The files in which each limit's number may stand, by number, as its comment in `limits.rt` lists them."""
+    files = {}
+    for path in CRATES.glob("*/src/limits.rt"):
+        comment = ""
+        for line in path.read_text().splitlines():
+            if line.startswith("///"):
+                comment += line.removeprefix("///")
+            elif found := re.match(r"pub const \w+: \w+ = ([\d_]+);", line):
+                numbers = {int(found[1].replace("_", ""))}
+                if told := re.search(r"As a number, ([\d or]+):", comment):
+                    numbers |= {int(number) for number in told[1].split(" or ")}
+                for number in numbers:
+                    files.setdefault(number, set()).update(re.findall(r"`(octet_\w+/[\w/.]+)`", comment))
+                comment = ""
+    return files
+
+
+def numbers_in(path):
+    """The lines of a file without its comments, and the numbers of each; a power of two is not its exponent."""
+    for line in re.sub(r"(?:--|//).*", "", path.read_text()).splitlines():
+        if not re.match(r"\s*(?:pub(?:\(crate\))? )?const ", line):
+            bare = re.sub(r"\^ \d+|<< \d+", "", line)
+            yield line.strip(), {int(number.replace("_", "")) for number in re.findall(r"(?<![\w.])\d[\d_]*(?!\w)", bare)}
+
+
+def literals():
+    """Where the number of a limit stands unlisted, and which file of the table has none."""
+    allowed, lines, found = limits(), [], set()
+    for path in sorted([*CRATES.glob("*/specs/**/*.antt"), *CRATES.glob("*/src/**/*.rt")]):
+        name = str(path.relative_to(CRATES))
+        if name.endswith(("/src/limits.rt", "tests.rt")):
+            continue
+        for line, numbers in numbers_in(path):
+            for number in numbers & allowed.keys():
+                found.add(name)
+                if name not in allowed[number] and number not in OTHERS.get(name, set()):
+                    lines.append(f"{name}: {number} in `{line}`")
+    return lines + [f"{name}: in the table, and has no number of a limit" for name in sorted(set(OTHERS) - found)]
+
+
+def literals_problem():
+    return "; ".join(literals()) or None
+
+
+def unread_problem():
+    return "; ".join(unread(modules())) or None
+
+
 def main():
     known = modules()
     if sys.argv[1:] == ["headline"]:
         print_headline(known)
         return
-    if sys.argv[1:] == ["unread"]:
-        lines = unread(known)
-        print("\n".join(lines) or "nothing is unread")
+    if sys.argv[1:] in (["unread"], ["literals"]):
+        lines = unread(known) if sys.argv[1] == "unread" else literals()
+        print("\n".join(lines) or f"no {sys.argv[1]}")
         sys.exit(1 if lines else 0)
     sys.exit(__doc__)
 

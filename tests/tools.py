@@ -191,29 +191,41 @@ def trace_events():
         )
 
 
-def blocks(page, language):
-    """The code of a page in one language."""
-    return re.findall(rf"^```{language}\n(.*?)^```$", (TOP / "docs" / page).read_text(), re.MULTILINE | re.DOTALL)
+def blocks(page, language, heading=None):
+    """The code in one language of a page, or of what stands below one heading of it."""
+    text = (TOP / "docs" / page).read_text()
+    if heading is not None:
+        text = text.split(f"\n## {heading}\n")[1].split("\n## ")[0]
+    return re.findall(rf"^```{language}\n(.*?)^```$", text, re.MULTILINE | re.DOTALL)
 
 
-# Of which file a page prints all but the first line, in order. Other pages print parts of files.
-PAGES = {"HEAP.md": "tool_tests.rt", "REPLAY.md": "atomicity_tests.rt"}
+# Of which file a page, or what stands below one heading of it, prints all but the first line, in order. Other pages print parts
+# of files.
+PRINTED = [
+    ("HEAP.md", None, "octet_top/src/tool_tests.rt"),
+    ("REPLAY.md", None, "octet_top/src/atomicity_tests.rt"),
+    ("THREADS.md", "A loop of your own", "octet_threads/src/loop_tests.rt"),
+]
+
+
+def unprinted(page, heading, name):
+    """The first line that a page prints otherwise than its file has it."""
+    code = "\n".join(blocks(page, "rust", heading)).split("\n")
+    wanted = (TOP / "crates" / name).read_text().split("\n", 1)[1].split("\n")
+    for place, (told, stands) in enumerate(itertools.zip_longest(code, wanted), 1):
+        if told != stands:
+            return f"{page}: line {place} of its code is {told!r}, and in {name} {stands!r}"
+    return None
 
 
 def code_of_the_documents():
     """What is printed stands in the crates, to the letter, so that it is proved and, where it is a test, run."""
-    sources = [path.read_text() for path in (TOP / "crates").glob("*/src/*.rt")]
+    sources = [path.read_text() for path in (TOP / "crates").glob("*/src/**/*.rt")]
     proofs = [path.read_text() for path in (TOP / "crates").glob("*/proofs/**/*.antt")]
     printed = 0
     for path in sorted((TOP / "docs").glob("*.md")):
         code = blocks(path.name, "rust")
         printed += len(code)
-        if path.name in PAGES:
-            wanted = (TOP / "crates" / "octet_top" / "src" / PAGES[path.name]).read_text().split("\n", 1)[1]
-            lines = itertools.zip_longest("\n".join(code).split("\n"), wanted.split("\n"))
-            for place, (told, stands) in enumerate(lines, 1):
-                if told != stands:
-                    return f"{path.name}: line {place} of its code is {told!r}, and in {PAGES[path.name]} {stands!r}"
         for block in code:
             for part in block.split("\n\n"):
                 if not any(part.rstrip("\n") in source for source in sources):
@@ -221,7 +233,7 @@ def code_of_the_documents():
         for block in blocks(path.name, "antt"):
             if not any(block in proof for proof in proofs):
                 return f"{path.name}: {block!r} stands in no proof"
-    return differs("how many pieces of code", printed >= 14, True)
+    return first(*(unprinted(*page) for page in PRINTED), differs("how many pieces of code", printed >= 14, True))
 
 
 def what_the_headline_needs():

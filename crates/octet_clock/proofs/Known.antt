@@ -10,7 +10,7 @@ use Rattle.octet_model.specs.Past.{InPast, Reaches}
 use Rattle.octet_model.proofs.lemmas.Pasts.{place, past_grows, past_has_own, past_is_closed}
 use Rattle.octet_clock.specs.declared.clock.Clock.{Clock}
 use Rattle.octet_clock.specs.Clock.{count_in, IsRaised, IsJoined}
-use Rattle.octet_clock.specs.Past.{AddsNothing, IsPastOf}
+use Rattle.octet_clock.specs.Past.{AddsNothing, ArePastOf, IsPastOf}
 use Rattle.octet_clock.proofs.Edges.{nothing_added}
 
 -- what a raised clock knows
@@ -93,7 +93,7 @@ module _ (js : Journals) where
       ]
 
   -- a clock that knows as many events of a thread knows their past
-  pub past_within : (t now u n : ℕ) (c : Clock) → IsPastOf js t now c → n ≤ count_in c u → (a : Place) → InPast js u n a → InPast js t now a
+  pub past_within : (t now u n : ℕ) (c : ℕ → ℕ) → ArePastOf js t now c → n ≤ c u → (a : Place) → InPast js u n a → InPast js t now a
   past_within t now u n c past le a h = go h.reaches
     where
       near : InPast js t now (place u h.near)

@@ -16,3 +16,4 @@ mod Following
 mod LowestPlays
 mod WalksAlone
 mod JournalsAlone
+mod SharedObjects

@@ -1,5 +1,5 @@
 -- What is kept of accesses stays true as an event is taken in.
-use Rattle.std.proofs.Common.{◌≡◌, ◌≢◌, ℕ, suc, ◌≤◌, inl, inr, Bool, true, false, List, [], Some, refl, sym, ap, ◌∙◌, subst, arith}
+use Rattle.std.proofs.Common.{◌≡◌, ◌≢◌, ℕ, suc, ◌≤◌, inl, inr, Bool, true, false, List, Some, refl, sym, ap, ◌∙◌, subst, arith}
 use Rattle.std.proofs.lemmas.Bool.{cases_eq}
 use Rattle.octet_model.specs.declared.event.Mark.{Mark}
 use Rattle.octet_model.specs.declared.event.Event.{Event}
@@ -11,39 +11,16 @@ use Rattle.octet_clock.specs.declared.accesses.ObjectAccesses.{ObjectAccesses}
 use Rattle.octet_clock.specs.declared.clock.Clock.{Clock}
 use Rattle.octet_clock.specs.declared.sources.Prefix.{Prefix}
 use Rattle.octet_clock.specs.Accesses.{AreNoted, IsNoted, KeepsAccesses}
-use Rattle.octet_clock.specs.Clock.{count_in}
-use Rattle.octet_clock.specs.LastAccesses.{conflicts_with, conflicts_within, kept_of, read_in, untouched, written_in, is_read_of, is_write_of, IsLastOf, KeepsLast, LieWithin}
+use Rattle.octet_clock.specs.Clock.{count_in, IsRaised}
+use Rattle.octet_clock.specs.LastAccesses.{conflicts_with, conflicts_within, kept_of, read_in, written_in, is_read_of, is_write_of, IsLastOf, KeepsLast, LieWithin}
 use Rattle.octet_clock.specs.Play.{made_by}
 use Rattle.octet_clock.specs.Sources.{IsNextStep}
 use Rattle.octet_clock.proofs.Taking.{last_all_stay, last_noted, no_less, of_read, of_write}
 use Rattle.octet_clock.proofs.Walk.{made_one}
-use Rattle.octet_clock.proofs.Within.{lie_after_write, lie_in_own, lie_still, none_read, none_written, other_object, read_with_read}
+use Rattle.octet_clock.proofs.Within.{lie_after_write, lie_in_own, lie_still, other_object, read_with_read}
 
 some_same : (a b : Prefix) → Some a ≡ Some b → a ≡ b
 some_same a b e = cc
-
--- before the first step
-last_of_none : (js : Journals) (test : Event → Bool) (u n : ℕ) → n ≡ 0 → IsLastOf js test u 0 n
-last_of_none js test u n none = record {
-  within = omega arith;
-  none_later = λ event e le lt is. absurd (omega arith);
-  passes = λ event is. absurd (omega arith);
-}
-
-pub accesses_at_start : (js : Journals) (play : List ℕ) (accesses : Accesses) → accesses.objects.items ≡ [] → KeepsAccesses js play 0 accesses
-accesses_at_start js play accesses none = record {
-  reads = λ o u. last_of_none js (is_read_of o) u (read_in accesses.objects.items o u) (ap (λ (k : ObjectAccesses). count_in k.reads u) (untouched_at o) ∙ none_read u);
-  writes = λ o u. last_of_none js (is_write_of o) u (written_in accesses.objects.items o u) (ap (λ (k : ObjectAccesses). count_in k.writes u) (untouched_at o) ∙ none_written u);
-  made = λ o w first is. (let first_is = none_within w first (ap (λ (k : ObjectAccesses). conflicts_within k w) (sym (untouched_at o)) ∙ is) in omega (arith, ap (λ (p : Prefix). p.count) first_is));
-  within = λ o w first is. record { lie = λ ordered a x made at passes. absurd (omega (arith, made)) };
-}
-  where
-    untouched_at : (o : ℕ) → kept_of accesses.objects.items o ≡ untouched
-    untouched_at o = ap (λ (objects : List ObjectAccesses). kept_of objects o) none
-
-    none_within : (w : Bool) (first : Prefix) → conflicts_within untouched w ≡ Some first → first ≡ record { thread = 0; count = 0 }
-    none_within true first is = sym (some_same (record { thread = 0; count = 0 }) first is)
-    none_within false first is = sym (some_same (record { thread = 0; count = 0 }) first is)
 
 module _ (js : Journals) (play : List ℕ) (i t : ℕ) (e : Event) (next : IsNextStep js play i t e) where
   abbrev k : ℕ
@@ -72,31 +49,30 @@ module _ (js : Journals) (play : List ℕ) (i t : ℕ) (e : Event) (next : IsNex
       | inr differ ↦ ap f (others o differ)
     ]
 
-    reads_on : (writing : Bool) → is_write e ≡ writing → IsNoted (was object) writing t n follows (now object) → KeepsLast js play (suc i) is_read_of (read_in after.objects.items)
-    reads_on true does noted = λ o u.
-        subst (λ (m : ℕ). IsLastOf js (is_read_of o) u (made_by play (suc i) u) m) (sym (stays (λ (x : ObjectAccesses). count_in x.reads u) (ap (λ (c : Clock). count_in c u) noted.reads) o))
-        (last_all_stay js play i t e next is_read_of (read_in before.objects.items) (of_write e object of does).2 keeps.reads o u)
-    reads_on false does noted =
-        let r = of_read e object of does in
-        last_noted js play i t e next is_read_of object n (read_in before.objects.items) (read_in after.objects.items) is r.0 r.1 noted.reads.own
+    -- the last events that pass a test, where what is kept of them stays, and where it is raised
+    as_kept : (test : ℕ → Event → Bool) (f : ObjectAccesses → Clock) → ((o : ℕ) → test o e ≡ false) → f (now object) ≡ f (was object)
+        → KeepsLast js play i test (λ o u. count_in (f (was o)) u) → KeepsLast js play (suc i) test (λ o u. count_in (f (now o)) u)
+    as_kept test f fails same kept = λ o u.
+        subst (λ (m : ℕ). IsLastOf js (test o) u (made_by play (suc i) u) m) (sym (stays (λ (x : ObjectAccesses). count_in (f x) u) (ap (λ (c : Clock). count_in c u) same) o))
+        (last_all_stay js play i t e next test (λ other v. count_in (f (was other)) v) fails kept o u)
+
+    as_raised : (test : ℕ → Event → Bool) (f : ObjectAccesses → Clock) → test object e ≡ true → ((o : ℕ) → (o ≡ object → ⊥) → test o e ≡ false) → IsRaised (f (was object)) t n (f (now object))
+        → KeepsLast js play i test (λ o u. count_in (f (was o)) u) → KeepsLast js play (suc i) test (λ o u. count_in (f (now o)) u)
+    as_raised test f passes fails raised kept =
+        last_noted js play i t e next test object n (λ o u. count_in (f (was o)) u) (λ o u. count_in (f (now o)) u) is passes fails raised.own
         (λ o u differ. elim differ [
-          | inl other ↦ ap (λ (x : ObjectAccesses). count_in x.reads u) (others o other)
-          | inr other ↦ stays (λ (x : ObjectAccesses). count_in x.reads u) (noted.reads.others u other) o
+          | inl other ↦ ap (λ (x : ObjectAccesses). count_in (f x) u) (others o other)
+          | inr other ↦ stays (λ (x : ObjectAccesses). count_in (f x) u) (raised.others u other) o
         ])
-        keeps.reads
+        kept
+
+    reads_on : (writing : Bool) → is_write e ≡ writing → IsNoted (was object) writing t n follows (now object) → KeepsLast js play (suc i) is_read_of (read_in after.objects.items)
+    reads_on true does noted = as_kept is_read_of (λ x. x.reads) (of_write e object of does).2 noted.reads keeps.reads
+    reads_on false does noted = let r = of_read e object of does in as_raised is_read_of (λ x. x.reads) r.0 r.1 noted.reads keeps.reads
 
     writes_on : (writing : Bool) → is_write e ≡ writing → IsNoted (was object) writing t n follows (now object) → KeepsLast js play (suc i) is_write_of (written_in after.objects.items)
-    writes_on false does noted = λ o u.
-        subst (λ (m : ℕ). IsLastOf js (is_write_of o) u (made_by play (suc i) u) m) (sym (stays (λ (x : ObjectAccesses). count_in x.writes u) (ap (λ (c : Clock). count_in c u) noted.writes) o))
-        (last_all_stay js play i t e next is_write_of (written_in before.objects.items) (of_read e object of does).2 keeps.writes o u)
-    writes_on true does noted =
-        let w = of_write e object of does in
-        last_noted js play i t e next is_write_of object n (written_in before.objects.items) (written_in after.objects.items) is w.0 w.1 noted.writes.own
-        (λ o u differ. elim differ [
-          | inl other ↦ ap (λ (x : ObjectAccesses). count_in x.writes u) (others o other)
-          | inr other ↦ stays (λ (x : ObjectAccesses). count_in x.writes u) (noted.writes.others u other) o
-        ])
-        keeps.writes
+    writes_on false does noted = as_kept is_write_of (λ x. x.writes) (of_read e object of does).2 noted.writes keeps.writes
+    writes_on true does noted = let w = of_write e object of does in as_raised is_write_of (λ x. x.writes) w.0 w.1 noted.writes keeps.writes
 
     -- first events of a thread that have been made, and in whose past the accesses lie
     record Holds (o : ℕ) (w : Bool) (first : Prefix) : Type 0 where

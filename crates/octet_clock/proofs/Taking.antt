@@ -1,7 +1,6 @@
 -- What the checker holds stays true as an event is taken in.
-use Rattle.std.proofs.Common.{◌≡◌, ◌≢◌, ℕ, zero, suc, ◌<◌, ◌≤◌, ◌⊎◌, inl, inr, max, Bool, true, false, List, [], ◌∷◌, ◌++◌, length, Some, slice_get, slice_set, refl, sym, ap, ◌∙◌, subst, arith, length-append, length-set}
+use Rattle.std.proofs.Common.{◌≡◌, ◌≢◌, ℕ, zero, suc, ◌≤◌, ◌⊎◌, inl, inr, max, Bool, true, false, List, [], ◌∷◌, ◌++◌, length, Some, slice_get, slice_set, refl, sym, ap, ◌∙◌, subst, arith, length-append, length-set}
 use Rattle.std.proofs.lemmas.Bool.{cases_eq, eq-eqb, ne_eqb}
-use Rattle.std.proofs.lemmas.Option.{slice_get_within}
 use Rattle.octet_model.specs.declared.event.Mark.{Mark}
 use Rattle.octet_model.specs.declared.event.Mark.TheVariants.{Join, Draw, Fence}
 use Rattle.octet_model.specs.declared.event.Event.{Event}
@@ -10,28 +9,20 @@ use Rattle.octet_model.specs.declared.event.Place.{Place}
 use Rattle.octet_model.specs.Machine.{Journals}
 use Rattle.octet_model.specs.HappensBefore.{event_at, object_of, is_write}
 use Rattle.octet_model.proofs.lemmas.Pasts.{place}
-use Rattle.octet_model.proofs.lemmas.Lists.{slice_get-append, slice_get_last}
 use Rattle.octet_clock.specs.declared.clock.Clock.{Clock}
-use Rattle.octet_clock.specs.declared.marks.MarkClock.{MarkClock}
 use Rattle.octet_clock.specs.declared.marks.Marks.{Marks}
 use Rattle.octet_clock.specs.declared.sources.Prefix.{Prefix}
 use Rattle.octet_clock.specs.declared.verdict.Verdict.{Verdict}
 use Rattle.octet_clock.specs.declared.verdict.Verdict.TheVariants.{Ordered, Unordered}
 use Rattle.octet_clock.specs.Clock.{count_in, IsRaised}
 use Rattle.octet_clock.specs.LastAccesses.{is_read_of, is_write_of, IsLastOf, KeepsLast}
-use Rattle.octet_clock.specs.Past.{AddsNothing, IsKept, IsPastOf, KeepsMarks}
+use Rattle.octet_clock.specs.Past.{AddsNothing, KeepsMarks}
 use Rattle.octet_clock.specs.Play.{made_by, step_place, IsStep}
 use Rattle.octet_clock.specs.Sources.{IsNextStep, IsDrawn, KeepsDraws, KeepsAllMarks, draws_with}
 use Rattle.octet_clock.specs.Verdict.{IsEarlierConflict, FollowsConflicts, IsUnorderedConflict, IsFirstUnordered, JudgedUpTo}
 use Rattle.octet_clock.proofs.Edges.{unmarked_adds}
+use Rattle.octet_clock.proofs.KeptMarks.{keeps_on, pushed}
 use Rattle.octet_clock.proofs.Walk.{made_one, made_other, draw_counts, draw_is_next, others_count_none}
-
--- an item of a list that was pushed to
-pushed : {X : Type 0} (xs : List X) (y z : X) (j : ℕ) → slice_get (xs ++ y ∷ []) j ≡ Some z → (slice_get xs j ≡ Some z) ⊎ ((j ≡ length xs) × (y ≡ z))
-pushed [] y z zero is = inr (refl, cc)
-pushed [] y z (suc j) is = absurd cc
-pushed (x ∷ xs) y z zero is = inl is
-pushed (x ∷ xs) y z (suc j) is = elim (pushed xs y z j is) [ inl old ↦ inl old | inr new ↦ inr (ap suc new.0, new.1) ]
 
 -- an item of a list with one item set
 in_set : {X : Type 0} (xs : List X) (i : ℕ) (y : X) (j : ℕ) (z : X) → slice_get (slice_set xs i y) j ≡ Some z → ((j ≡ i) × (y ≡ z)) ⊎ ((j ≡ i → ⊥) × (slice_get xs j ≡ Some z))
@@ -40,56 +31,6 @@ in_set (x ∷ xs) zero y zero z is = inl (refl, cc)
 in_set (x ∷ xs) zero y (suc j) z is = inr (λ e. omega arith, is)
 in_set (x ∷ xs) (suc i) y zero z is = inr (λ e. omega arith, is)
 in_set (x ∷ xs) (suc i) y (suc j) z is = elim (in_set xs i y j z is) [ inl new ↦ inl (ap suc new.0, new.1) | inr old ↦ inr (λ e. old.0 (omega arith), old.1) ]
-
-module _ (js : Journals) (t k : ℕ) (kept : List MarkClock) (keeps : KeepsMarks js t k kept) where
-  -- an event that adds nothing need not be kept
-  pub keeps_on : AddsNothing js t k → KeepsMarks js t (suc k) kept
-  keeps_on nothing = record {
-    rising = keeps.rising;
-    made = λ i one is. omega (arith, keeps.made i one is);
-    all = λ event lt. elim (cases_eq event k) [
-      | inl same ↦ inr (subst (λ (n : ℕ). AddsNothing js t n) (sym same) nothing)
-      | inr differ ↦ keeps.all event (omega arith)
-    ];
-    pasts = keeps.pasts;
-  }
-
-  -- a mark is kept with its clock
-  pub keeps_mark : (clock : Clock) → IsPastOf js t (suc k) clock → KeepsMarks js t (suc k) (kept ++ record { event = k; clock = clock } ∷ [])
-  keeps_mark clock past = record { rising = rising; made = made; all = all; pasts = pasts }
-    where
-      new : MarkClock
-      new = record { event = k; clock = clock }
-
-      rising : (i j : ℕ) (sooner later : MarkClock) → i < j → slice_get (kept ++ new ∷ []) i ≡ Some sooner → slice_get (kept ++ new ∷ []) j ≡ Some later → sooner.event < later.event
-      rising i j sooner later lt at_i at_j = elim (pushed kept new sooner i at_i) [
-        | inl old_i ↦ elim (pushed kept new later j at_j) [
-          | inl old_j ↦ keeps.rising i j sooner later lt old_i old_j
-          | inr new_j ↦ let e = ap (λ (o : MarkClock). o.event) new_j.1 in omega (arith, keeps.made i sooner old_i)
-        ]
-        | inr new_i ↦ absurd (omega (arith, new_i.0, slice_get_within (kept ++ new ∷ []) j later at_j, length-append kept (new ∷ [])))
-      ]
-
-      made : (i : ℕ) (one : MarkClock) → slice_get (kept ++ new ∷ []) i ≡ Some one → one.event < suc k
-      made i one is = elim (pushed kept new one i is) [
-        | inl old ↦ omega (arith, keeps.made i one old)
-        | inr new_i ↦ let e = ap (λ (o : MarkClock). o.event) new_i.1 in omega arith
-      ]
-
-      all : (event : ℕ) → event < suc k → IsKept (kept ++ new ∷ []) event ⊎ AddsNothing js t event
-      all event lt = elim (cases_eq event k) [
-        | inl same ↦ inl (length kept, new, slice_get_last kept new, sym same)
-        | inr differ ↦ elim (keeps.all event (omega arith)) [
-          | inl there ↦ inl (there.0, there.1, slice_get-append kept (new ∷ []) there.0 there.1 there.2, there.3)
-          | inr nothing ↦ inr nothing
-        ]
-      ]
-
-      pasts : (i : ℕ) (one : MarkClock) → slice_get (kept ++ new ∷ []) i ≡ Some one → IsPastOf js t (suc one.event) one.clock
-      pasts i one is = elim (pushed kept new one i is) [
-        | inl old ↦ keeps.pasts i one old
-        | inr new_i ↦ subst (λ (o : MarkClock). IsPastOf js t (suc o.event) o.clock) new_i.1 past
-      ]
 
 module _ (js : Journals) (test : Event → Bool) (t k n : ℕ) (last : IsLastOf js test t k n) where
   -- the last one stays, where the next event does not pass
@@ -164,25 +105,25 @@ module _ (js : Journals) (play : List ℕ) (i t : ℕ) (e : Event) (next : IsNex
     as_many = keeps.as_many;
     each = λ u one is. elim (cases_eq u t) [
       | inl same ↦
-          let old = subst (λ (v : ℕ). KeepsMarks js v (made_by play i v) one.kept.items) same (keeps.each u one is) in
-          let on = keeps_on js t k one.kept.items old nothing in
-          subst (λ (v : ℕ). KeepsMarks js v (made_by play (suc i) v) one.kept.items) (sym same) (subst (λ (n : ℕ). KeepsMarks js t n one.kept.items) (sym one_more) on)
-      | inr differ ↦ subst (λ (n : ℕ). KeepsMarks js u n one.kept.items) (sym (others_same u differ)) (keeps.each u one is)
+          let old = subst (λ (v : ℕ). KeepsMarks js v (made_by play i v) one) same (keeps.each u one is) in
+          let on = keeps_on js t k one old nothing in
+          subst (λ (v : ℕ). KeepsMarks js v (made_by play (suc i) v) one) (sym same) (subst (λ (n : ℕ). KeepsMarks js t n one) (sym one_more) on)
+      | inr differ ↦ subst (λ (n : ℕ). KeepsMarks js u n one) (sym (others_same u differ)) (keeps.each u one is)
     ];
   }
 
-  pub marks_with : (marks marks' : List Marks) (one' : Marks) → KeepsMarks js t (suc k) one'.kept.items → marks' ≡ slice_set marks t one' → KeepsAllMarks js play i marks → KeepsAllMarks js play (suc i) marks'
+  pub marks_with : (marks marks' : List Marks) (one' : Marks) → KeepsMarks js t (suc k) one' → marks' ≡ slice_set marks t one' → KeepsAllMarks js play i marks → KeepsAllMarks js play (suc i) marks'
   marks_with marks marks' one' more sets keeps =
       subst (λ (m : List Marks). KeepsAllMarks js play (suc i) m) (sym sets) (record {
         as_many = length-set marks t one' ∙ keeps.as_many;
         each = λ u other at_u. elim (in_set marks t one' u other at_u) [
-          | inl new ↦ subst (λ (m : Marks). KeepsMarks js u (made_by play (suc i) u) m.kept.items) new.1 (subst (λ (v : ℕ). KeepsMarks js v (made_by play (suc i) v) one'.kept.items) (sym new.0) at_thread)
-          | inr old ↦ subst (λ (m : ℕ). KeepsMarks js u m other.kept.items) (sym (others_same u old.0)) (keeps.each u other old.1)
+          | inl new ↦ subst (λ (m : Marks). KeepsMarks js u (made_by play (suc i) u) m) new.1 (subst (λ (v : ℕ). KeepsMarks js v (made_by play (suc i) v) one') (sym new.0) at_thread)
+          | inr old ↦ subst (λ (m : ℕ). KeepsMarks js u m other) (sym (others_same u old.0)) (keeps.each u other old.1)
         ];
       })
     where
-      at_thread : KeepsMarks js t (made_by play (suc i) t) one'.kept.items
-      at_thread = subst (λ (m : ℕ). KeepsMarks js t m one'.kept.items) (sym one_more) more
+      at_thread : KeepsMarks js t (made_by play (suc i) t) one'
+      at_thread = subst (λ (m : ℕ). KeepsMarks js t m one') (sym one_more) more
 
   -- the draws
   drawn_stays : (number : ℕ) (first : Prefix) → IsDrawn js play i number first → IsDrawn js play (suc i) number first

@@ -14,7 +14,7 @@ use Rattle.octet_model.proofs.lemmas.Fronts.{one_end, front_leads_on}
 use Rattle.octet_model.proofs.lemmas.LogsOfJournals.{as_many_after}
 use Rattle.octet_replay.specs.Places.{FitInPlaces}
 use Rattle.octet_replay.specs.ReplayState as replayed
-use Rattle.octet_replay.specs.ReplayState.{ReplayState, HasHalted, plain_state, state_at}
+use Rattle.octet_replay.specs.ReplayState.{ReplayState, HasHalted, plain_state}
 use Rattle.octet_replay.proofs.lemmas.Halting.{all_steps_made}
 use Rattle.octet_replay.proofs.lemmas.Places.{lowest_order_fits_in_places}
 use Rattle.octet_clock.specs.declared.checker.Checker.{Checker}

@@ -9,7 +9,7 @@ use Rattle.octet_model.specs.declared.event.Event.TheVariants.{Marked}
 use Rattle.octet_model.specs.declared.event.Mark.{Mark}
 use Rattle.octet_model.specs.declared.event.Mark.TheVariants.{Join, Draw, Fence}
 use Rattle.octet_model.specs.declared.log.ThreadLog.{ThreadLog}
-use Rattle.octet_model.specs.Machine.{Journals, journal_of, PlainState, Operation, MakeMark, MakeRead, MakeWrite, MakeUpdate, Wants, Finished, Behavior, is_enabled, event_made, draws_after, next_of, step, after, IsFront, AllFinished, IsOrder}
+use Rattle.octet_model.specs.Machine.{Journals, journal_of, PlainState, Operation, MakeMark, MakeRead, MakeWrite, MakeUpdate, Wants, Behavior, is_enabled, event_made, draws_after, next_of, step, after, IsFront, AllFinished, IsOrder}
 use Rattle.octet_model.specs.Journals.{due_mark, mark_first}
 use Rattle.octet_model.specs.Log.{is_log}
 use Rattle.octet_model.specs.Orders.{thread_log_of, IsLowestFront}
@@ -107,10 +107,6 @@ module _ (log : ThreadLog) (p : Progress) where
 
   pub by_progress : (j : List Event) → HasProgress j p → next_by_log_alone log j ≡ next_by_progress log p
   by_progress j has = λ i. mark_first (due_mark (slice_get log.marks (sym has.counts_marks i)) (sym has.counts_gap i)) (any_access (nat_lt (sym has.counts_accesses i) log.accesses) (nat_lt (sym has.counts_marks i) (length log.marks)))
-
--- everything is made where the counts are those of the log
-pub made_all : (more more_marks : Bool) → more ≡ false → more_marks ≡ false → any_access more more_marks ≡ Finished
-made_all more more_marks none no_mark = λ i. any_access (none i) (no_mark i)
 
 -- ---- what a thread waits for names a thread of the log
 need_names : (threads : ℕ) (next : Option Mark) (more more_marks : Bool) → ((from upto : ℕ) → next ≡ Some (Join from upto) → from < threads) → NamesThread threads (need_of (mark_first next (any_access more more_marks)))

@@ -1,11 +1,9 @@
 -- In whose past the accesses in conflict with an access lie.
-use Rattle.std.proofs.Common.{◌≡◌, ◌≢◌, ℕ, suc, ◌<◌, ◌⊎◌, inl, inr, Bool, true, false, ◌||◌, List, Some, IsTrue, refl, sym, ap, ◌∙◌, subst, arith, replicate}
-use Rattle.std.proofs.lemmas.Bool.{cases_eq, cases_lt, ne_eqb}
-use Rattle.std.proofs.lemmas.List.{get_or_past, get_or-replicate, length-replicate}
+use Rattle.std.proofs.Common.{◌≡◌, ◌≢◌, ℕ, suc, ◌<◌, ◌⊎◌, inl, inr, Bool, true, false, ◌||◌, List, Some, IsTrue, refl, sym, ap, ◌∙◌, subst, arith}
+use Rattle.std.proofs.lemmas.Bool.{cases_eq, ne_eqb}
 use Rattle.octet_model.specs.declared.event.Event.{Event}
 use Rattle.octet_model.specs.declared.event.Event.TheVariants.{Read, Write, Update, Marked}
 use Rattle.octet_model.specs.declared.event.Place.{Place}
-use Rattle.octet_model.specs.declared.limits.TheConstants.{MAX_THREADS}
 use Rattle.octet_model.specs.Machine.{Journals}
 use Rattle.octet_model.specs.HappensBefore.{event_at, HappensBefore, object_of, is_write, Conflict}
 use Rattle.octet_model.specs.Past.{InPast}
@@ -13,8 +11,7 @@ use Rattle.octet_model.proofs.lemmas.Pasts.{place, past_grows, past_happens_befo
 use Rattle.octet_clock.specs.declared.sources.Prefix.{Prefix}
 use Rattle.octet_clock.specs.declared.verdict.Verdict.{Verdict}
 use Rattle.octet_clock.specs.declared.verdict.Verdict.TheVariants.{Ordered, Unordered}
-use Rattle.octet_clock.specs.Clock.{count_in, no_events}
-use Rattle.octet_clock.specs.LastAccesses.{conflicts_with, untouched, LieWithin}
+use Rattle.octet_clock.specs.LastAccesses.{conflicts_with, LieWithin}
 use Rattle.octet_clock.specs.Past.{HasPast}
 use Rattle.octet_clock.specs.Play.{made_by, step_place, IsMadeBefore}
 use Rattle.octet_clock.specs.Sources.{IsNextStep}
@@ -24,16 +21,6 @@ use Rattle.octet_clock.proofs.Known.{own_event}
 use Rattle.octet_clock.proofs.Taken.{step_within}
 use Rattle.octet_clock.proofs.Taking.{judged_more}
 use Rattle.octet_clock.proofs.Walk.{made_one, made_other}
-
--- of an object that no thread has accessed no event is noted
-none_touched : (t : ℕ) → count_in no_events t ≡ 0
-none_touched t = elim (cases_lt t MAX_THREADS) [ inl lt ↦ get_or-replicate MAX_THREADS t 0 0 lt | inr past ↦ get_or_past (replicate MAX_THREADS 0) t 0 (omega (arith, past, length-replicate {A = ℕ} MAX_THREADS 0)) ]
-
-pub none_read : (t : ℕ) → count_in untouched.reads t ≡ 0
-none_read t = none_touched t
-
-pub none_written : (t : ℕ) → count_in untouched.writes t ≡ 0
-none_written t = none_touched t
 
 -- a write conflicts with all that conflicts with a read
 conflicts_more : (object : ℕ) (writing : Bool) (x : Event) → conflicts_with object writing x ≡ true → conflicts_with object true x ≡ true

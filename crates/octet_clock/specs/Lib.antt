@@ -4,6 +4,7 @@ pub mod Clock
 pub mod LastAccesses
 pub mod Past
 pub mod Play
+pub mod Sharing
 pub mod Sources
 pub mod Verdict
 pub mod Verified

@@ -1,16 +1,21 @@
 -- When a clock is the past of a thread's first events, and when a thread's marks are kept with their clocks.
-use Rattle.std.specs.Prelude.{◌≡◌, ℕ, suc, ◌<◌, ◌↔◌, ◌⊎◌, List, Some, slice_get}
+use Rattle.std.specs.Prelude.{◌≡◌, ℕ, suc, ◌+◌, ◌*◌, ◌<◌, ◌≤◌, ◌↔◌, ◌⊎◌, nat_lt, if◌then◌else◌, List, Some, length, get_or, slice_get}
 use Rattle.octet_model.specs.declared.event.Place.{Place}
+use Rattle.octet_model.specs.declared.limits.TheConstants.{MAX_THREADS}
 use Rattle.octet_model.specs.Machine.{Journals}
 use Rattle.octet_model.specs.Past.{InPast}
 use Rattle.octet_clock.specs.declared.clock.Clock.{Clock}
-use Rattle.octet_clock.specs.declared.marks.MarkClock.{MarkClock}
+use Rattle.octet_clock.specs.declared.marks.Marks.{Marks}
 use Rattle.octet_clock.specs.declared.sources.Prefix.{Prefix}
 use Rattle.octet_clock.specs.Clock.{count_in}
 
--- a clock is the past of a thread's first `now` events: an event lies in that past exactly where the clock knows it
+-- counts are the past of a thread's first `now` events: an event lies in that past exactly where its thread's count has it
+abbrev pub ArePastOf : Journals → ℕ → ℕ → (ℕ → ℕ) → Type 0
+ArePastOf journals thread now known = (place : Place) → InPast journals thread now place ↔ (place.event < known place.thread)
+
+-- and so a clock is, by what it knows
 abbrev pub IsPastOf : Journals → ℕ → ℕ → Clock → Type 0
-IsPastOf journals thread now clock = (place : Place) → InPast journals thread now place ↔ (place.event < count_in clock place.thread)
+IsPastOf journals thread now clock = ArePastOf journals thread now (count_in clock)
 
 -- the past of a thread's first `now` events has that of another's first ones
 abbrev pub HasPast : Journals → ℕ → ℕ → Prefix → Type 0
@@ -21,12 +26,19 @@ abbrev pub AddsNothing : Journals → ℕ → ℕ → Type 0
 AddsNothing journals thread event = (place : Place) → InPast journals thread (suc event) place → InPast journals thread event place ⊎ (place ≡ record { thread = thread; event = event })
 
 -- a mark is kept that is at this place of its journal
-abbrev pub IsKept : List MarkClock → ℕ → Type 0
-IsKept kept event = (i : ℕ) × (one : MarkClock) × (slice_get kept i ≡ Some one) × (one.event ≡ event)
+abbrev pub IsKept : List ℕ → ℕ → Type 0
+IsKept events event = (i : ℕ) × (slice_get events i ≡ Some event)
+
+-- how many of a thread's first events are known after a kept mark
+abbrev pub count_after : Marks → ℕ → ℕ → ℕ
+count_after marks place thread = if nat_lt thread marks.threads then get_or marks.counts.items (place * marks.threads + thread) 0 else 0
 
 -- marks among a thread's first `now` events, in order, each with the past after it; the events that are not kept add nothing
-pub record KeepsMarks (journals : Journals) (thread now : ℕ) (kept : List MarkClock) : Type 0 where
-  pub rising : (i j : ℕ) (sooner later : MarkClock) → i < j → slice_get kept i ≡ Some sooner → slice_get kept j ≡ Some later → sooner.event < later.event
-  pub made : (i : ℕ) (one : MarkClock) → slice_get kept i ≡ Some one → one.event < now
-  pub all : (event : ℕ) → event < now → IsKept kept event ⊎ AddsNothing journals thread event
-  pub pasts : (i : ℕ) (one : MarkClock) → slice_get kept i ≡ Some one → IsPastOf journals thread (suc one.event) one.clock
+pub record KeepsMarks (journals : Journals) (thread now : ℕ) (marks : Marks) : Type 0 where
+  pub threads : marks.threads ≡ length journals
+  pub few : marks.threads ≤ MAX_THREADS
+  pub rows : length marks.counts.items ≡ length marks.events.items * marks.threads
+  pub rising : (i j sooner later : ℕ) → i < j → slice_get marks.events.items i ≡ Some sooner → slice_get marks.events.items j ≡ Some later → sooner < later
+  pub made : (i event : ℕ) → slice_get marks.events.items i ≡ Some event → event < now
+  pub all : (event : ℕ) → event < now → IsKept marks.events.items event ⊎ AddsNothing journals thread event
+  pub pasts : (i event : ℕ) → slice_get marks.events.items i ≡ Some event → ArePastOf journals thread (suc event) (count_after marks i)

@@ -35,7 +35,7 @@ pub record KeepsDraws (journals : Journals) (play : List ℕ) (index : ℕ) (dra
 -- the marks of all threads
 pub record KeepsAllMarks (journals : Journals) (play : List ℕ) (index : ℕ) (marks : List Marks) : Type 0 where
   pub as_many : length marks ≡ length journals
-  pub each : (thread : ℕ) (one : Marks) → slice_get marks thread ≡ Some one → KeepsMarks journals thread (made_by play index thread) one.kept.items
+  pub each : (thread : ℕ) (one : Marks) → slice_get marks thread ≡ Some one → KeepsMarks journals thread (made_by play index thread) one
 
 -- a thread's event takes in the past of these first events, and nothing else
 pub record IsSource (journals : Journals) (play : List ℕ) (index thread : ℕ) (first : Prefix) : Type 0 where

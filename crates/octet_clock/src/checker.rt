@@ -34,13 +34,14 @@ pub(crate) struct Checker {
 
 impl Checker {
     pub(crate) fn new(alloc: Global, threads: usize) -> Result<Checker, OutOfMemory>
+        requires { threads ≤ MAX_THREADS }
         ensures many { IfOk result (λ checker. length checker.marks.items ≡ threads) }
         ensures holds { IfOk result (λ checker. (journals : Journals) (play : List ℕ) → length journals ≡ threads → Holds journals play 0 checker) }
         ensures ordered { IfOk result (λ checker. checker.verdict ≡ Ordered) }
     {
         let mut marks = Vec::new(alloc);
         for _ in 0..threads {
-            marks.push(Marks::new(alloc))?;
+            marks.push(Marks::new(alloc, threads))?;
         }
         Ok(Checker {
             made: Clock::new(),

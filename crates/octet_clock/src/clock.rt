@@ -1,5 +1,6 @@
 //! Vector clocks.
-ghost use Rattle.std.specs.Prelude.{◌≡◌, ◌≢◌, ◌<◌, ◌≤◌, false, ℕ};
+ghost use Rattle.std.specs.Prelude.{◌≡◌, ◌≢◌, ◌<◌, ◌≤◌, false, length, min, slice_index, ℕ};
+ghost use Rattle.octet_model.specs.declared.limits.TheConstants.{MAX_THREADS};
 ghost use Rattle.octet_clock.specs.Clock.{count_in, no_events, IsRaised, IsJoined};
 
 use octet_model::MAX_THREADS;
@@ -30,6 +31,14 @@ impl Clock {
         } else {
             0
         }
+    }
+
+    /// The counts of the first threads.
+    pub(crate) fn first(&self, threads: usize) -> &[u32]
+        ensures many { length result.now ≡ min threads MAX_THREADS }
+        ensures each { (thread : ℕ) → thread < min threads MAX_THREADS → slice_index result.now thread ≡ count_in self.now thread }
+    {
+        &self.counts[..threads.min(MAX_THREADS)]
     }
 
     /// Takes in a thread's first `count` events.

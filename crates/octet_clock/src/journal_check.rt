@@ -9,6 +9,7 @@ ghost use Rattle.octet_clock.specs.Following.{counted};
 ghost use Rattle.octet_clock.specs.Ordered.{AreNeedsAtStart, AreOfLawfulOrder, ChecksAt};
 
 use crate::checker::Checker;
+use crate::sharing::nothing_conflicts;
 use crate::verdict::Verdict;
 use octet_model::{Event, List, OutOfMemory};
 use octet_replay::{Need, Waits, is_draw};
@@ -90,6 +91,9 @@ pub fn ordered(alloc: Global, journals: &List<List<Event>>) -> Result<bool, OutO
     ensures { IfOk result (λ ordered. IsTrue ordered ↔ IsOrdered journals.now) }
 {
     let journals = journals.as_slice();
+    if nothing_conflicts(alloc, journals)? {
+        return Ok(true);
+    }
     let mut check = JournalCheck::new(alloc, journals)?;
     while let Some(thread) = check.waits.lowest() {
         check.step(journals, thread)?;

@@ -9,6 +9,7 @@ mod journal_check;
 pub mod laws;
 mod log_walk;
 mod marks;
+mod sharing;
 mod sources;
 #[cfg(test)]
 mod tests;

@@ -93,7 +93,7 @@ pub(crate) fn keep_mark(
         return Ok(());
     }
     let clock = clock_with(marks, thread, count, first);
-    marks[thread].keep(count, clock)
+    marks[thread].keep(count, &clock)
 }
 
 /// Notes a draw, with the events of its thread up to it.

@@ -284,6 +284,10 @@ fn journals_are_judged_alone(rt: HostRuntime) -> Result<(), Fail> {
     assert_eq!(rt; joined, true);
     let unmarked = ordered_alone(alloc, &[WRITE_X], 1, NO_MARKS, &[READ_X], 1, NO_MARKS)?;
     assert_eq!(rt; unmarked, false);
+    let own = ordered_alone(alloc, &[WRITE_X], 1, NO_MARKS, &[WRITE_Y], 1, NO_MARKS)?;
+    assert_eq!(rt; own, true);
+    let only_read = ordered_alone(alloc, &[READ_X], 1, NO_MARKS, &[READ_X], 1, NO_MARKS)?;
+    assert_eq!(rt; only_read, true);
     let both = [READ_X, WRITE_X];
     let read_before = ordered_alone(alloc, &both, 2, NO_MARKS, &[WRITE_X], 1, NO_MARKS)?;
     assert_eq!(rt; read_before, false);

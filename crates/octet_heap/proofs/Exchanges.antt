@@ -8,14 +8,12 @@ use Rattle.octet_state.specs.declared.act.Act.TheVariants.{Raise, Share, Take}
 use Rattle.octet_state.specs.declared.act.Whom.{Whom}
 use Rattle.octet_state.specs.declared.phase.Phase.{Phase}
 use Rattle.octet_state.specs.declared.phase.Phase.TheVariants.{Want}
-use Rattle.octet_state.specs.declared.phase.Due.TheVariants.{Nothing, Glance}
 use Rattle.octet_state.specs.declared.state_word.StateWord.{StateWord}
 use Rattle.octet_state.specs.declared.why.Why.{Why}
 use Rattle.octet_state.specs.declared.why.Why.TheVariants.{Changed}
 use Rattle.octet_state.specs.Words.{packed_state}
 use Rattle.octet_state.specs.Table.{decided}
-use Rattle.octet_state.specs.State.{Thread}
-use Rattle.octet_state.specs.Steps.{ToClaim, ToRaise, ToShare, moved, wins, lost}
+use Rattle.octet_state.specs.Steps.{ToClaim, ToRaise, ToShare, wins}
 use Rattle.octet_state.specs.NextStep.{changed, word_seen, exchange_of}
 use Rattle.octet_rule.specs.Views.{SeatView}
 use Rattle.octet_rule.specs.Rule.{Steps}
@@ -39,23 +37,6 @@ no_change object mode state seen p is word = ap (λ (b : Bool). if b then None e
 is_changed : (object : ℕ) (mode : Mode) (state : StateWord) (seen found : ℕ) (p : Phase) → p ≡ Want object mode (Some state) → packed_state state ≡ seen → found ≢ seen → changed p found ≡ Some (Changed seen found)
 is_changed object mode state seen found p is word other = ap (λ (b : Bool). if b then None else Some (Changed (word_seen p) found)) (not_won object mode state seen found p is word other)
     ∙ ap (λ (n : ℕ). Some (Changed n found)) (ap word_seen is ∙ word)
-
--- the thread after one that goes through, and one that does not
-abbrev exchanged : (Phase → Phase) → ℕ → Thread → Thread
-exchanged to told x = if wins told x.phase then moved (to x.phase) Nothing x else moved (lost x.phase) Glance x
-
-goes_through : (to : Phase → Phase) (object : ℕ) (mode : Mode) (state : StateWord) (seen : ℕ) (x y : Thread) → y ≡ exchanged to seen x → x.phase ≡ Want object mode (Some state) → packed_state state ≡ seen
-    → y ≡ moved (to (Want object mode (Some state))) Nothing x
-goes_through to object mode state seen x y moves is word = moves
-    ∙ (ap (λ (b : Bool). if b then moved (to x.phase) Nothing x else moved (lost x.phase) Glance x) (won object mode state seen x.phase is word) ∙ ap (λ (p : Phase). moved (to p) Nothing x) is)
-
-fails : (to : Phase → Phase) (object : ℕ) (mode : Mode) (state : StateWord) (seen found : ℕ) (x y : Thread) → y ≡ exchanged to found x → x.phase ≡ Want object mode (Some state) → packed_state state ≡ seen → found ≢ seen
-    → y ≡ moved (Want object mode None) Glance x
-fails to object mode state seen found x y moves is word other = moves
-    ∙ (ap (λ (b : Bool). if b then moved (to x.phase) Nothing x else moved (lost x.phase) Glance x) (not_won object mode state seen found x.phase is word other) ∙ ap (λ (p : Phase). moved (lost p) Glance x) is)
-
-stands_so : (p : Phase) (x : Thread) (u : SeatView) → u.thread ≡ moved p Nothing x → StandsIn p u
-stands_so p x u is = (ap (λ (y : Thread). y.due) is, ap (λ (y : Thread). y.phase) is)
 
 -- what a thread does that wants this access of an object in this state
 abbrev Says : Wish → StateWord → SeatView → Act → Type 0

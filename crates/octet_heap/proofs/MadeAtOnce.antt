@@ -14,7 +14,7 @@ use Rattle.octet_state.specs.declared.phase.Phase.TheVariants.{Pass}
 use Rattle.octet_state.specs.declared.phase.Due.TheVariants.{Nothing}
 use Rattle.octet_state.specs.Words.{unpacked_state}
 use Rattle.octet_state.specs.State.{Thread}
-use Rattle.octet_state.specs.Steps.{Kind, ToLoad, ToRead, ToWrite, ToBump, target, moved, loaded, state_in, made}
+use Rattle.octet_state.specs.Steps.{Kind, ToLoad, ToRead, ToWrite, ToBump, target, moved, state_in, made}
 use Rattle.octet_state.specs.NextStep.{access_of, held_by}
 use Rattle.octet_rule.specs.Views.{SeatView}
 use Rattle.octet_rule.specs.Rule.{Steps}
@@ -40,15 +40,15 @@ module _ (object : ℕ) (mode : Mode) (value : ℕ) (v : SeatView) (told : ℕ) 
 
   pub follows_read : mode ≡ Read → ((o : ℕ) → IsLogOf log (v.journal ++ event.Read o told ∷ [])) → IsLogOf log w.journal
   follows_read is logs = let o : ℕ = target at_once.between.thread.phase in
-      follows_both ToRead (event.Read o told) (subst (λ (m : Mode). Steps (access_of m value) at_once.between told w) is at_once.accesses.step) refl (logs o)
+      follows_both ToRead (event.Read o told) (subst (λ (m : Mode). Steps (access_of m value) at_once.between told w) is at_once.accesses) refl (logs o)
 
   pub follows_write : mode ≡ Write → ((e : Event) → IsTrue (is_write e) → IsLogOf log (v.journal ++ e ∷ [])) → IsLogOf log w.journal
   follows_write is logs = let e : Event = event.Write (target at_once.between.thread.phase) value in
-      follows_both (ToWrite value) e (subst (λ (m : Mode). Steps (access_of m value) at_once.between told w) is at_once.accesses.step) refl (logs e refl)
+      follows_both (ToWrite value) e (subst (λ (m : Mode). Steps (access_of m value) at_once.between told w) is at_once.accesses) refl (logs e refl)
 
   pub follows_update : mode ≡ Update → ((e : Event) → IsTrue (is_write e) → IsLogOf log (v.journal ++ e ∷ [])) → IsLogOf log w.journal
   follows_update is logs = let e : Event = event.Update (target at_once.between.thread.phase) told (added value told) in
-      follows_both (ToBump value) e (subst (λ (m : Mode). Steps (access_of m value) at_once.between told w) is at_once.accesses.step) refl (logs e refl)
+      follows_both (ToBump value) e (subst (λ (m : Mode). Steps (access_of m value) at_once.between told w) is at_once.accesses) refl (logs e refl)
 
   pub follows_other : (mode ≡ Write) ⊎ (mode ≡ Update) → ((e : Event) → IsTrue (is_write e) → IsLogOf log (v.journal ++ e ∷ [])) → IsLogOf log w.journal
   follows_other (inl is) logs = follows_write is logs
@@ -62,10 +62,10 @@ module _ (wish : Wish) (v : SeatView) (told : ℕ) (w : SeatView) (at_once : IsM
   made_comes due loads =
       let goes = load_goes wish v at_once.between at_once.word (state_in (unpacked_state at_once.word)) Pass at_once.loads refl (sym at_once.says) due loads Pass refl refl in
       comes_after wish v at_once.between w 2 1 19 (Ready (value_by wish.mode wish.value told)) goes
-      (access_comes wish at_once.between w wish.mode told (ap (λ (x : Thread). x.due) passes_on, ap (λ (x : Thread). x.phase) passes_on) refl at_once.accesses.step) (omega arith)
+      (access_comes wish at_once.between w wish.mode told (ap (λ (x : Thread). x.due) passes_on, ap (λ (x : Thread). x.phase) passes_on) refl at_once.accesses) (omega arith)
 
   pub made_leaves : Leaves wish (Ready (value_by wish.mode wish.value told)) w
-  made_leaves = let is = made_thread wish.mode wish.value at_once.between told w at_once.accesses.step in (ap (λ (x : Thread). x.due) is, ap (λ (x : Thread). x.phase) is)
+  made_leaves = let is = made_thread wish.mode wish.value at_once.between told w at_once.accesses in (ap (λ (x : Thread). x.due) is, ap (λ (x : Thread). x.phase) is)
 
 -- the load alone
 module _ (wish : Wish) (v w : SeatView) (word : ℕ) (state : StateWord) (act : Act) (alone : IsLoaded wish.object wish.mode v word state act w) where
@@ -77,6 +77,3 @@ module _ (wish : Wish) (v w : SeatView) (word : ℕ) (state : StateWord) (act : 
 
   pub loaded_held : v.thread.due ≡ Nothing → IsToLoad wish v.thread.phase → (by : ℕ) → act ≡ Held by → Comes wish v (Pending (why.Held by word)) 3 w × Leaves wish (Pending (why.Held by word)) w
   loaded_held due loads = load_held wish v w word state act alone.loads holds alone.says due loads
-
-  pub loaded_moves : w.thread ≡ loaded act wish.object wish.mode state v.thread
-  loaded_moves = load_moves wish.object wish.mode v word w state act alone.loads holds alone.says

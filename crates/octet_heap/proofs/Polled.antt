@@ -16,7 +16,7 @@ use Rattle.octet_heap.specs.Polls.{next_step, after_steps, PaysBy, Comes}
 use Rattle.octet_heap.specs.Workers.{IsPoll}
 use Rattle.octet_heap.proofs.Going.{next_by}
 
-trail_after : (steps : List Taken) (v : SeatView) → (after_steps steps v).trail ≡ v.trail ++ steps
+pub trail_after : (steps : List Taken) (v : SeatView) → (after_steps steps v).trail ≡ v.trail ++ steps
 trail_after [] v = sym (append-nil v.trail)
 trail_after (taken ∷ more) v = trail_after more (stepped_by taken.kind taken.word v) ∙ append_assoc v.trail (taken ∷ []) more
 

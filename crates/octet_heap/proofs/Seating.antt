@@ -20,12 +20,12 @@ use Rattle.octet_heap.specs.Workers.{seat_of, IsWorkerOf}
 use Rattle.octet_heap.specs.Seated.{seats_in, journals_of, ArePlain, EachNew, EachRests}
 use Rattle.octet_heap.specs.Closings.{IsClosed}
 
-plain_more : (fuel : ℕ) (workers : List Worker) (worker : Worker) → ArePlain fuel workers → worker.recorder.fuel ≡ fuel → worker.wish ≡ None → ArePlain fuel (workers ++ worker ∷ [])
-plain_more fuel [] worker plain is none = ((is, none), tt)
-plain_more fuel (w ∷ workers) worker plain is none = (plain.0, plain_more fuel workers worker plain.1 is none)
+plain_more : (fuel : ℕ) (workers : List Worker) (worker : Worker) → ArePlain fuel workers → worker.recorder.fuel ≡ fuel → worker.wish ≡ None → worker.slow ≡ 0 → ArePlain fuel (workers ++ worker ∷ [])
+plain_more fuel [] worker plain is none none_slow = ((is, none, none_slow), tt)
+plain_more fuel (w ∷ workers) worker plain is none none_slow = (plain.0, plain_more fuel workers worker plain.1 is none none_slow)
 
 plain_at : (fuel : ℕ) (workers : List Worker) (thread : ℕ) (none : Worker) → ArePlain fuel workers → thread < length workers
-    → ((slice_index_or workers thread none).recorder.fuel ≡ fuel) × ((slice_index_or workers thread none).wish ≡ None)
+    → ((slice_index_or workers thread none).recorder.fuel ≡ fuel) × ((slice_index_or workers thread none).wish ≡ None) × ((slice_index_or workers thread none).slow ≡ 0)
 plain_at fuel [] thread none plain there = absurd (omega (arith, there))
 plain_at fuel (w ∷ workers) zero none plain there = plain.0
 plain_at fuel (w ∷ workers) (suc thread) none plain there = plain_at fuel workers thread none plain.1 (omega (arith, there))
@@ -39,10 +39,10 @@ map_length f [] = refl
 map_length f (x ∷ xs) = ap suc (map_length f xs)
 
 pub seated_more : (fuel : ℕ) (seats : List Seat) (workers : List Worker) (worker : Worker) (seat : Seat) → seats_in workers ≡ seats → ArePlain fuel workers
-    → worker.recorder.seat ≡ seat → worker.recorder.fuel ≡ fuel → worker.wish ≡ None → (seats_in (workers ++ worker ∷ []) ≡ seats ++ seat ∷ []) × ArePlain fuel (workers ++ worker ∷ [])
-seated_more fuel seats workers worker seat are plain is same none = (
+    → worker.recorder.seat ≡ seat → worker.recorder.fuel ≡ fuel → worker.wish ≡ None → worker.slow ≡ 0 → (seats_in (workers ++ worker ∷ []) ≡ seats ++ seat ∷ []) × ArePlain fuel (workers ++ worker ∷ [])
+seated_more fuel seats workers worker seat are plain is same none none_slow = (
   map_more (λ (w : Worker). w.recorder.seat) workers worker ∙ (λ i. are i ++ is i ∷ []),
-  plain_more fuel workers worker plain same none,
+  plain_more fuel workers worker plain same none none_slow,
 )
 
 seat_at : (workers : List Worker) (thread : ℕ) (none : Worker) → slice_index_or (seats_in workers) thread none.recorder.seat ≡ (slice_index_or workers thread none).recorder.seat
@@ -74,6 +74,7 @@ each_new heap seats workers are plain fresh thread none there =
       own.1.2,
       own.1.3,
       p.1,
+      p.2,
     )
 
 pub resting_seats : (heap : Heap) (seats : List Seat) (workers : List Worker) → seats ≡ seats_in workers → length workers ≡ threads_of heap.words → EachRests heap workers → (length seats ≡ threads_of heap.words) × rule.EachRests heap.words seats

@@ -1,9 +1,9 @@
 -- The openers that are still open, as the commands are taken in one after another.
-use Rattle.std.proofs.Common.{◌≡◌, ℕ, zero, suc, ◌-◌, ◌<◌, inl, inr, Bool, true, false, ◌&&◌, ◌==◌, List, [], ◌∷◌, ◌++◌, length, drop, Option, Some, None, slice_get, get_or, set, replicate, refl, sym, ap, ◌∙◌, subst, subst₂, arith}
+use Rattle.std.proofs.Common.{◌≡◌, ℕ, zero, suc, ◌-◌, ◌<◌, inl, inr, Bool, true, false, ◌&&◌, ◌==◌, List, [], ◌∷◌, ◌++◌, length, drop, Option, Some, None, slice_get, get_or, set, refl, sym, ap, ◌∙◌, subst, subst₂, arith}
 use Rattle.std.proofs.lemmas.Bool.{and_parts, cases_eq, cases_lt, eqb-true, eq-eqb}
 use Rattle.std.specs.Cmp.Derive.{both_true}
 use Rattle.std.proofs.lemmas.Bool.Decides.{eqb_tells}
-use Rattle.std.proofs.lemmas.List.{get_or_append_left, get_or_push, get_or_past, get_or-replicate, get_or-set_same, get_or-set_other, length_push, length-set, length-replicate, drop_all}
+use Rattle.std.proofs.lemmas.List.{get_or_append_left, get_or_push, get_or-set_same, get_or-set_other, length_push, length-set}
 use Rattle.std.proofs.lemmas.Option.{get_or_from_slice_get}
 use Rattle.std.proofs.Math.Seq.{drop-cons}
 use Rattle.octet_model.specs.declared.command.Command.{Command}
@@ -11,7 +11,7 @@ use Rattle.octet_model.specs.declared.command.Command.TheVariants.{Loop, Branch,
 use Rattle.octet_model.specs.Script.{is_nested}
 use Rattle.octet_model.specs.Thread.{is_opener, end_from, matching_end, is_opened_at, matching_opener, place_past_end, place_after_close}
 use Rattle.octet_model.specs.Validity.{is_closer}
-use Rattle.octet_interp.specs.Leads.{lead_of, IsLeadTable, HasItsLead, IsMatched}
+use Rattle.octet_interp.specs.Leads.{lead_of, HasItsLead, IsMatched}
 
 end_opener : (depth place : ℕ) (command : Command) (rest : List Command) → is_opener command ≡ true → end_from depth place (command ∷ rest) ≡ end_from (suc depth) (suc place) rest
 end_opener depth place (Loop test) rest is = refl
@@ -43,20 +43,12 @@ nested_closer : (depth : ℕ) (command : Command) (rest : List Command) → is_c
 nested_closer depth Close rest is nested = nested
 nested_closer depth _ rest is nested = absurd cc
 
-nested_alone : (command : Command) (rest : List Command) → is_closer command ≡ true → is_nested zero (command ∷ rest) ≡ false
-nested_alone Close rest is = refl
-nested_alone _ rest is = absurd cc
-
 nested_other : (depth : ℕ) (command : Command) (rest : List Command) → is_opener command ≡ false → is_closer command ≡ false → is_nested depth (command ∷ rest) ≡ true → is_nested depth rest ≡ true
 nested_other depth (Loop test) rest opener closer nested = absurd cc
 nested_other depth (Branch test) rest opener closer nested = absurd cc
 nested_other depth Close rest opener closer nested = absurd cc
 nested_other zero _ rest opener closer nested = nested
 nested_other (suc depth) _ rest opener closer nested = nested
-
-nested_end : (depth : ℕ) → is_nested depth [] ≡ true → depth ≡ zero
-nested_end zero nested = refl
-nested_end (suc depth) nested = absurd cc
 
 and_false : (b c : Bool) → c ≡ false → (b && c) ≡ false
 and_false true c is = is
@@ -249,28 +241,4 @@ takes_other commands here command opened leads m at within opener closer =
         }))
         | inr apart ↦ elim (m.others place (omega arith)) [ inl w ↦ inl w | inr t ↦ inr (later commands leads here place t) ]
       ];
-    }
-
--- nothing but zeros before the first command
-pub none_taken : (commands : List Command) (leads : List ℕ) → is_nested 0 commands ≡ true → ◌≡◌ {A = List ℕ} leads (replicate (length commands) 0) → IsMatched commands 0 [] leads
-none_taken commands leads nested is = record {
-  len = ap (λ (l : List ℕ). length l) is ∙ length-replicate (length commands) 0;
-  nested = nested;
-  below = λ j lt. absurd (omega arith);
-  rising = λ i j lt jn. absurd (omega arith);
-  open_here = λ j jn. absurd (omega arith);
-  empty = λ place le. ap (λ (l : List ℕ). get_or l place 0) is ∙ zeros (length commands) place;
-  others = λ place lt. absurd (omega arith);
-}
-  where
-    zeros : (n i : ℕ) → ◌≡◌ {A = ℕ} (get_or (replicate n 0) i 0) 0
-    zeros n i = elim (cases_lt i n) [ inl l ↦ get_or-replicate n i 0 0 l | inr g ↦ get_or_past (replicate n 0) i 0 (omega (arith, length-replicate {A = ℕ} n 0)) ]
-
--- after the last command all are through
-pub all_taken : (commands : List Command) (opened leads : List ℕ) → IsMatched commands (length commands) opened leads → IsLeadTable commands leads
-all_taken commands opened leads m =
-    let none : length opened ≡ 0 = nested_end (length opened) (ap (is_nested (length opened)) (sym (drop_all (length commands) commands (omega arith))) ∙ m.nested) in
-    record {
-      len = m.len;
-      right = λ place lt. elim (m.others place lt) [ inl w ↦ absurd (omega (arith, w.1)) | inr t ↦ t.right ];
     }

@@ -8,7 +8,6 @@ use Rattle.octet_model.specs.declared.event.Event.TheVariants.{Read as ReadEvent
 use Rattle.octet_model.specs.Thread.{Configuration, run_to, stepped, is_access, past_demanded, configuration_after, added}
 use Rattle.octet_interp.specs.declared.demand.Demand.{Demand}
 use Rattle.octet_interp.specs.declared.demand.Demand.TheVariants.{Read as ReadDemand, Write as WriteDemand, Bump as BumpDemand, Safe as SafeDemand, Pause as PauseDemand, Ended}
-use Rattle.octet_interp.specs.Context.{is_calculation, leads_away}
 use Rattle.octet_interp.specs.Regions.{region_count, regions_to, regions_ahead, regions_before}
 use Rattle.octet_interp.specs.Demands.{ThreadState, is_demand, at_demand, next_demand}
 use Rattle.octet_interp.specs.Laws.{Agrees, IsJournalOf, CountsRegions, CountsPast, RegionsAreCounted, MarksCountNoRegion}
@@ -18,14 +17,6 @@ use Rattle.octet_interp.proofs.Agreement.{IsToldBy, Tells, NoCommand, NoFuel, By
 pub most_one : (command : Command) → region_count command ≤ 1
 most_one Region = omega arith
 most_one _ = omega arith
-
-pub calculation_counts_none : (command : Command) → is_calculation command ≡ true → region_count command ≡ 0
-calculation_counts_none Region is = absurd cc
-calculation_counts_none _ is = refl
-
-pub lead_counts_none : (command : Command) (registers : List ℕ) → leads_away command registers ≡ true → region_count command ≡ 0
-lead_counts_none Region registers is = absurd cc
-lead_counts_none _ registers is = refl
 
 module _ (stops : Command → Bool) (commands : List Command) where
   abbrev at_kind : ℕ → Configuration → Command → Bool → ℕ

@@ -106,9 +106,6 @@ arrives_at_told commands c command demand at is = stays_at is_demand commands c.
 pub arrives_past : (commands : List Command) (c : Configuration) → length commands ≤ c.place → at_demand commands c ≡ c
 arrives_past commands c past = stays_past is_demand commands c.fuel c (slice_get_past commands c.place past)
 
-pub arrives_empty : (commands : List Command) (c : Configuration) → c.fuel ≡ 0 → at_demand commands c ≡ c
-arrives_empty commands c none = stays_empty is_demand commands c.fuel c none
-
 pub arrives_on : (commands : List Command) (c : Configuration) (command : Command) → slice_get commands c.place ≡ Some command → demand_of_command command c.registers ≡ None → 0 < c.fuel → at_demand commands (stepped commands c command) ≡ at_demand commands c
 arrives_on commands c command at is fuelled = goes_on is_demand commands c command at (not_told_if command c.registers is) fuelled
 
@@ -119,9 +116,6 @@ pub tells : (command : Command) (c : Configuration) (demand : Demand) → 0 < c.
 tells command c demand fuelled is =
     let n : c.fuel ≡ suc (pred c.fuel) = omega arith in
     ap (told_with command c.registers) n ∙ ap (λ (o : Option Demand). unwrap_or o (Ended Spent)) is
-
-pub tells_end : (command : Command) (c : Configuration) → c.fuel ≡ 0 → demand_from (Some command) c ≡ Ended Spent
-tells_end command c none = ap (told_with command c.registers) none
 
 pub can_pass : (demand : Demand) (place fuel len : ℕ) → 0 < fuel → place < len → CanPass demand place fuel len
 can_pass (Ended end) place fuel len fuelled within = tt

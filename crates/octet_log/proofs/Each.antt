@@ -1,10 +1,10 @@
 -- Things read one after the other are what was written, and what was written is read again.
-use Rattle.std.proofs.Common.{◌≡◌, ℕ, zero, suc, List, [], ◌∷◌, ◌++◌, length, Result, Ok, refl, ap, subst, ◌∙◌, append_assoc}
+use Rattle.std.proofs.Common.{◌≡◌, ℕ, zero, suc, List, [], ◌∷◌, ◌++◌, length, Result, Ok, refl, ap, subst, ◌∙◌, append_assoc, ◌+◌, ◌-◌, ◌<◌, Err, arith}
 use Rattle.std.specs.List.{flat_map}
 use Rattle.std.proofs.lemmas.List.Concat.{flat_map-cons}
 use Rattle.octet_log.specs.declared.cause.LogCause.{LogCause}
-use Rattle.octet_log.specs.Decoding.{◌>>=◌, each_at}
-use Rattle.octet_log.specs.Laws.{IsInput}
+use Rattle.octet_log.specs.Judging.{◌>>=◌, each_at}
+use Rattle.octet_log.specs.Inputs.{IsInput}
 use Rattle.octet_log.proofs.Fields.{bind_ok, ok_is, Takes, Takes-then}
 
 -- each is good at the state that those before it lead to
@@ -34,3 +34,18 @@ module _ {A S : Type 0} (read : S → List ℕ → Result (A × List ℕ) LogCau
   each_again one state (x ∷ xs) rest all =
       let regrouped : flat_map spell (x ∷ xs) ++ rest ≡ spell x ++ (flat_map spell xs ++ rest) = ap (λ (y : List ℕ). y ++ rest) (flat_map-cons spell x xs) ∙ append_assoc (spell x) (flat_map spell xs) rest in
       ap (each_at (suc (length xs)) read next state) regrouped ∙ rw (one state x (flat_map spell xs ++ rest) all.0, each_again one (next state x) xs rest all.1) refl
+
+-- the state after all
+abbrev pub last : {A S : Type 0} → (S → A → S) → S → List A → S
+last next state [] = state
+last next state (x ∷ xs) = last next (next state x) xs
+
+module _ {A S : Type 0} (read : S → List ℕ → Result (A × List ℕ) LogCause) (next : S → A → S) (spell : A → List ℕ) (good : S → A → Type 0) where
+  pub each_fails : (one : (state : S) (x : A) (rest : List ℕ) → good state x → read state (spell x ++ rest) ≡ Ok (x, rest))
+      (count : ℕ) (state : S) (xs : List A) (rest : List ℕ) (cause : LogCause) → length xs < count → AllGood good next state xs → read (last next state xs) rest ≡ Err cause → each_at count read next state (flat_map spell xs ++ rest) ≡ Err cause
+  unfolding each_at
+  each_fails one zero state xs rest cause more all fails = absurd (omega arith)
+  each_fails one (suc count) state [] rest cause more all fails = rw fails refl
+  each_fails one (suc count) state (x ∷ xs) rest cause more all fails =
+      let regrouped : flat_map spell (x ∷ xs) ++ rest ≡ spell x ++ (flat_map spell xs ++ rest) = ap (λ (y : List ℕ). y ++ rest) (flat_map-cons spell x xs) ∙ append_assoc (spell x) (flat_map spell xs) rest in
+      ap (each_at (suc count) read next state) regrouped ∙ rw (one state x (flat_map spell xs ++ rest) all.0, each_fails one count (next state x) xs rest cause (omega arith) all.1 fails) refl

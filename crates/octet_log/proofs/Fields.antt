@@ -6,8 +6,9 @@ use Rattle.std.proofs.lemmas.List.{take_at, drop_at, take-append-drop, length-ap
 use Rattle.std.proofs.lemmas.Nat.{be_bytes_4, be_bytes_8, from_be_bytes-to_be_bytes_4, from_be_bytes-to_be_bytes_8}
 use Rattle.octet_log.specs.declared.cause.LogCause.{LogCause}
 use Rattle.octet_log.specs.declared.cause.LogCause.TheVariants.{CutShort}
-use Rattle.octet_log.specs.Decoding.{◌>>=◌, wanted, byte_at, number_at}
-use Rattle.octet_log.specs.Laws.{AreBytes, IsInput}
+use Rattle.octet_log.specs.Judging.{◌>>=◌, wanted, byte_at}
+use Rattle.octet_log.specs.v1.Decoding.{number_at}
+use Rattle.octet_log.specs.Inputs.{AreBytes, IsInput}
 
 pub AreBytes-drop : (n : ℕ) (bytes : List ℕ) → AreBytes bytes → AreBytes (drop n bytes)
 AreBytes-drop n bytes h i = rw get_or-drop (h (n + i))

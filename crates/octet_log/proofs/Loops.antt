@@ -1,36 +1,16 @@
 -- Reading one thing after the other, as a loop does.
-use Rattle.std.proofs.Common.{◌≡◌, ℕ, suc, ◌-◌, ◌+◌, ◌≤◌, ◌<◌, List, [], ◌∷◌, ◌++◌, Result, Ok, Err, refl, sym, ap, ◌∙◌, append_assoc, arith, add-one}
+use Rattle.std.proofs.Common.{◌≡◌, ℕ, suc, ◌-◌, ◌+◌, ◌≤◌, ◌<◌, List, [], ◌∷◌, ◌++◌, Result, Ok, Err, refl, sym, ap, ◌∙◌, append_assoc, arith}
 use Rattle.std.proofs.lemmas.List.{append-nil}
-use Rattle.octet_model.specs.declared.log.ThreadLog.{ThreadLog}
 use Rattle.octet_log.specs.declared.cause.LogCause.{LogCause}
 use Rattle.octet_log.specs.declared.cause.LogFault.{LogFault}
 use Rattle.octet_log.specs.declared.cause.LogFault.TheVariants as faults
-use Rattle.octet_log.specs.Decoding.{◌>>=◌, Fails, each_at, thread_at}
-use Rattle.octet_log.specs.Loading.{with_front}
-
--- the log of the thread whose number stands in front of the accesses before it
-abbrev pub read_next : ℕ → ℕ → ℕ × ℕ → List ℕ → Result (ThreadLog × List ℕ) LogCause
-read_next total threads (thread, before) bytes = thread_at total threads thread before bytes
-
-abbrev pub next_thread : ℕ × ℕ → ThreadLog → ℕ × ℕ
-next_thread (thread, before) log = (suc thread, before + log.accesses)
-
--- the logs of count threads from a number on, after that many accesses
-abbrev pub threads_from : ℕ → ℕ → ℕ → ℕ → ℕ → List ℕ → Result (List ThreadLog × List ℕ) LogCause
-threads_from total threads count thread before bytes = each_at count (read_next total threads) next_thread (thread, before) bytes
+use Rattle.octet_log.specs.Judging.{◌>>=◌, Fails, each_at, with_front}
 
 pub regroup : {A : Type 0} (front : List A) (n : A) (read : Result (List A × List ℕ) LogCause) → with_front front (read >>= λ x. Ok (n ∷ x.0, x.1)) ≡ with_front (front ++ n ∷ []) read
 regroup front n (Ok x) = ap (λ ns. Ok (ns, x.1)) (simp append_assoc)
 regroup front n (Err f) = refl
 
-empty_front : {A : Type 0} (read : Result (List A × List ℕ) LogCause) → with_front [] read ≡ read
-empty_front (Ok x) = refl
-empty_front (Err f) = refl
-
 module _ {A S : Type 0} (read : S → List ℕ → Result (A × List ℕ) LogCause) (next : S → A → S) where
-  pub begins : (count : ℕ) (state : S) (bytes : List ℕ) → with_front [] (each_at (count - 0) read next state bytes) ≡ each_at count read next state bytes
-  begins count state bytes = let e : count - 0 ≡ count = omega arith in rw e (empty_front (each_at count read next state bytes))
-
   pub goes_on : (front : List A) (count i : ℕ) (state : S) (bytes : List ℕ) (n : A) (after : List ℕ) (all : Result (List A × List ℕ) LogCause) → i < count → read state bytes ≡ Ok (n, after)
       → with_front front (each_at (count - i) read next state bytes) ≡ all → with_front (front ++ n ∷ []) (each_at (count - (i + 1)) read next (next state n) after) ≡ all
   unfolding each_at
@@ -54,7 +34,3 @@ module _ {A S : Type 0} (read : S → List ℕ → Result (A × List ℕ) LogCau
       let k : count - i ≡ 0 = omega arith in
       let one : with_front front (each_at (count - i) read next state bytes) ≡ Ok (front, bytes) = rw k (ap (λ ns. Ok (ns, bytes)) (append-nil front)) in
       sym so_far ∙ one
-
--- the number of the next thread, as the code counts it
-pub counted_on : (total threads count thread before : ℕ) (bytes : List ℕ) (front : List ThreadLog) (all : Result (List ThreadLog × List ℕ) LogCause) → with_front front (threads_from total threads count (suc thread) before bytes) ≡ all → with_front front (threads_from total threads count (thread + 1) before bytes) ≡ all
-counted_on total threads count thread before bytes front all h = rw (add-one thread) h

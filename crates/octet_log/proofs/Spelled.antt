@@ -9,13 +9,16 @@ use Rattle.octet_model.specs.Texts.{log_bytes}
 use Rattle.octet_log.specs.declared.cause.LogCause.{LogCause}
 use Rattle.octet_log.specs.declared.cause.LogCause.TheVariants.{Trailing}
 use Rattle.octet_log.specs.declared.cause.LogFault.{LogFault}
-use Rattle.octet_log.specs.Decoding.{◌>>=◌, wanted, decoded, Gives}
-use Rattle.octet_log.specs.Laws.{IsInput}
-use Rattle.octet_log.specs.Pieces.{pieced_bytes, SpellsPieces, IsSpelling}
-use Rattle.octet_log.specs.Loading.{second_at, second_word, Reading, loaded, LoadsSpelling}
+use Rattle.octet_log.specs.Judging.{◌>>=◌, wanted, Gives}
+use Rattle.octet_log.specs.v1.Decoding.{decoded}
+use Rattle.octet_log.specs.Inputs.{IsInput}
+use Rattle.octet_log.specs.v2.Pieces.{pieced_bytes, SpellsPieces}
+use Rattle.octet_log.specs.Spellings.{IsSpelling}
+use Rattle.octet_log.specs.v2.Decoding.{second_at}
+use Rattle.octet_log.specs.Loading.{second_word, Reading, loaded, LoadsSpelling}
 use Rattle.octet_log.proofs.Fields.{bind_ok, ok_is, IsInput-drop}
-use Rattle.octet_log.proofs.Whole.{decoded_takes, decoded_again}
-use Rattle.octet_log.proofs.Second.{IsSecond, second_takes, is_pieced, second_again}
+use Rattle.octet_log.proofs.version1.Whole.{decoded_takes, decoded_again}
+use Rattle.octet_log.proofs.version2.Whole.{IsSecond, second_takes, is_pieced, second_again}
 
 -- what was read is spelled so, and valid
 pub record IsLoaded (bytes : List ℕ) (reading : Reading) : Type 0 where

@@ -1,6 +1,6 @@
 -- What the type of a log says of its threads.
-use Rattle.std.proofs.Common.{◌≡◌, ◌<◌, ◌^◌, ◌+◌, ◌&&◌, Bool, true, false, ℕ, zero, suc, List, [], ◌∷◌, length, get_or, arith, refl, add-zero, zero-add, ap, sym, ◌∙◌}
-use Rattle.std.proofs.lemmas.Bool.{false≢true, ltb-true}
+use Rattle.std.proofs.Common.{◌≡◌, ◌<◌, ◌^◌, ◌+◌, ◌&&◌, Bool, true, false, ℕ, zero, suc, List, [], ◌∷◌, length, get_or, arith, refl, add-zero, zero-add, ap, sym, ◌∙◌, ◌≢◌, ◌⊎◌, ◌-◌, ◌≤◌, leb, inl, inr}
+use Rattle.std.proofs.lemmas.Bool.{false≢true, ltb-true, le-leb, lt-leb}
 use Rattle.octet_model.specs.declared.log.ThreadLog.{ThreadLog}
 use Rattle.octet_model.specs.declared.log.Log.{Log}
 use Rattle.octet_model.specs.Log.{is_thread_log, are_thread_logs}
@@ -33,3 +33,11 @@ marks_at log i thread within is =
     few_marks (length log.threads) i thread
     (ap (is_thread_log (length log.threads) i) is ∙ ap (λ t. is_thread_log (length log.threads) t (get_or log.threads i thread)) (sym (zero-add i))
     ∙ each_valid (length log.threads) 0 log.threads i thread within (and_second _ _ log.valid))
+
+pub not_allowed : (threads : ℕ) → (threads ≡ 0) ⊎ (16 < threads) → (leb 1 threads && leb threads 16) ≡ false
+not_allowed threads (inl none) = rw none refl
+not_allowed zero (inr many) = refl
+not_allowed (suc threads) (inr many) = rw (lt-leb (suc threads) 16 many) (elim (leb 1 (suc threads)) as (λ b. (b && false) ≡ false) [ true ↦ refl | false ↦ refl ])
+
+pub allowed : (threads : ℕ) → 1 ≤ threads → threads ≤ 16 → (leb 1 threads && leb threads 16) ≡ true
+allowed threads low high = rw (le-leb 1 threads low, le-leb threads 16 high) refl

@@ -1,3 +1,2 @@
-pub mod Spellings
 pub mod Readings
 pub mod Sizes

@@ -1,51 +1,19 @@
--- The laws of the format: a number has one spelling in a field, bytes spell one log, and no log goes on where another ends.
-use Rattle.std.specs.Prelude.{◌≡◌, ℕ, ◌<◌, ◌≤◌, ◌↔◌, List, [], ◌∷◌, ◌++◌, length, slice_index, Ok, Err, IsTrue, nat_lt, if◌then◌else◌}
-use Rattle.std.specs.Int.{Width, byte_len, from_be_bytes, to_be_bytes}
+-- The laws of both versions: bytes spell one log, and no log goes on where another ends.
+use Rattle.std.specs.Prelude.{◌≡◌, ℕ, ◌↔◌, List, [], ◌++◌, Option, Ok, IsTrue}
 use Rattle.octet_model.specs.declared.log.ThreadLog.{ThreadLog}
-use Rattle.octet_model.specs.declared.limits.TheConstants.{MAX_LOG_FILE}
 use Rattle.octet_model.specs.Log.{is_log}
-use Rattle.octet_model.specs.Texts.{log_bytes}
-use Rattle.octet_log.specs.declared.cause.LogCause.{LogCause}
-use Rattle.octet_log.specs.declared.cause.LogCause.TheVariants.{NoMagic, CutShort, Trailing}
-use Rattle.octet_log.specs.Decoding.{decoded}
+use Rattle.octet_log.specs.Inputs.{IsInput}
+use Rattle.octet_log.specs.Spellings.{IsSpelling}
+use Rattle.octet_log.specs.Loading.{loaded}
 
--- each item is a byte
-abbrev pub AreBytes : List ℕ → Type 0
-AreBytes bytes = (i : ℕ) → slice_index bytes i < 256
+-- what is judged to be a log is spelled so and valid, and each valid log is judged so by each of its spellings
+abbrev pub LoadsLogs : Type 0
+LoadsLogs = (bytes : List ℕ) (logs : List ThreadLog) (digest : Option (List ℕ)) → IsInput bytes → (loaded bytes ≡ Ok (record { logs = logs; digest = digest })) ↔ (IsSpelling bytes digest logs × IsTrue (is_log logs))
 
--- bytes as they may be handed to a decoder
-pub record IsInput (bytes : List ℕ) : Type 0 where
-  pub fits : AreBytes bytes
-  pub short : length bytes ≤ MAX_LOG_FILE
-
--- a number below the limit is read again from its field
-abbrev pub NumberIsReadAgain : Width → ℕ → Type 0
-NumberIsReadAgain w limit = (number : ℕ) → number < limit → from_be_bytes w (to_be_bytes w number) ≡ number
-
--- the bytes of a field are the only spelling of their number
-abbrev pub NumberHasOneSpelling : Width → Type 0
-NumberHasOneSpelling w = (bytes : List ℕ) (number : ℕ) → length bytes ≡ byte_len w → AreBytes bytes → from_be_bytes w bytes ≡ number → bytes ≡ to_be_bytes w number
-
--- what is judged to be a log is spelled so and valid, and each valid log is judged so by its spelling
-abbrev pub DecodesLogs : Type 0
-DecodesLogs = (bytes : List ℕ) (logs : List ThreadLog) → IsInput bytes → (decoded bytes ≡ Ok logs) ↔ (bytes ≡ log_bytes logs × IsTrue (is_log logs))
-
--- logs of one spelling are equal
-abbrev pub BytesSpellOneLog : Type 0
-BytesSpellOneLog = (one other : List ThreadLog) → IsTrue (is_log one) → IsTrue (is_log other) → log_bytes one ≡ log_bytes other → one ≡ other
+-- no bytes spell two logs, nor two digests
+abbrev pub SpellingsSpellOneLog : Type 0
+SpellingsSpellOneLog = (bytes : List ℕ) (one other : List ThreadLog) (digest second : Option (List ℕ)) → IsTrue (is_log one) → IsTrue (is_log other) → IsSpelling bytes digest one → IsSpelling bytes second other → (one ≡ other) × (digest ≡ second)
 
 -- a log's spelling goes on in no other log's
-abbrev pub NoLogIsAPrefix : Type 0
-NoLogIsAPrefix = (one other : List ThreadLog) (rest : List ℕ) → IsTrue (is_log one) → IsTrue (is_log other) → log_bytes other ≡ log_bytes one ++ rest → rest ≡ []
-
--- within its first four bytes a spelling lacks its word, and after them a field or a mark
-abbrev pub cut_cause : List ℕ → LogCause
-cut_cause front = if nat_lt (length front) 4 then NoMagic else CutShort (length front)
-
--- a log's spelling without some of its last bytes is cut where it ends
-abbrev pub FrontIsCut : Type 0
-FrontIsCut = (logs : List ThreadLog) (front : List ℕ) (next : ℕ) (rest : List ℕ) → IsTrue (is_log logs) → log_bytes logs ≡ front ++ next ∷ rest → decoded front ≡ Err (cut_cause front)
-
--- a byte after a log's spelling is trailing, at its place
-abbrev pub ByteAfterIsTrailing : Type 0
-ByteAfterIsTrailing = (logs : List ThreadLog) (next : ℕ) (rest : List ℕ) → IsTrue (is_log logs) → decoded (log_bytes logs ++ next ∷ rest) ≡ Err (Trailing (length (log_bytes logs)))
+abbrev pub NoSpellingIsAPrefix : Type 0
+NoSpellingIsAPrefix = (front rest : List ℕ) (one other : List ThreadLog) (digest second : Option (List ℕ)) → IsTrue (is_log one) → IsTrue (is_log other) → IsSpelling front digest one → IsSpelling (front ++ rest) second other → rest ≡ []

@@ -1,7 +1,8 @@
 //! The fields of a log: bytes, and numbers with their highest byte first.
 ghost use Rattle.std.specs.Prelude.{◌≡◌, ◌≤◌, ◌++◌, length, IfOk, OnOk};
 ghost use Rattle.std.specs.Int.{w32, w64, to_be_bytes};
-ghost use Rattle.octet_log.specs.Decoding.{Gives, byte_at, number_at};
+ghost use Rattle.octet_log.specs.Judging.{Gives, byte_at};
+ghost use Rattle.octet_log.specs.v1.Decoding.{number_at};
 
 use crate::{LogCause, LogFault};
 use byteorder::{BigEndian, ByteOrder};

@@ -3,35 +3,33 @@
 #![tactic(auto)]
 
 mod cause;
-mod decoder;
-mod encoder;
 mod field;
 mod hashing;
 mod laws;
 mod limits;
 mod loader;
-mod reader;
-mod short;
 mod text;
-mod writer;
+mod v1;
+mod v2;
 
 pub use cause::{LogCause, LogFault};
-pub use decoder::decode_v1;
-pub use encoder::encode_v1;
 pub use hashing::digest;
 pub use laws::{
-    bad_beginning_is_refused, bad_head_is_refused, bad_mark_is_refused,
-    bad_mark_of_a_piece_is_refused, bad_piece_is_refused, bad_short_number_is_refused,
-    bad_tail_is_refused, byte_after_log_is_trailing, byte_after_spelling_is_trailing,
-    bytes_spell_one_log, cut_input_is_refused, decoding_accepts_spellings_alone,
-    field_has_one_spelling, front_of_log_is_cut, loading_accepts_spellings_alone,
-    no_log_is_a_prefix, no_spelling_is_a_prefix, short_number_has_one_spelling,
-    spellings_spell_one_log, too_many_accesses_are_refused,
+    bad_beginning_is_refused, byte_after_spelling_is_trailing, front_of_spelling_is_cut,
+    loading_accepts_spellings_alone, no_spelling_is_a_prefix, spellings_spell_one_log,
 };
 pub use limits::MAX_MARKS;
 pub use loader::{Digest, Loaded, decode};
 pub use text::{refusal_line, show};
-pub use writer::{encode_v2, head, piece, tail};
+pub use v1::{
+    bad_head_is_refused, bad_mark_is_refused, byte_after_log_is_trailing, bytes_spell_one_log,
+    cut_input_is_refused, decoding_accepts_spellings_alone, encode_v1, field_has_one_spelling,
+    front_of_log_is_cut, no_log_is_a_prefix, too_many_accesses_are_refused,
+};
+pub use v2::{
+    bad_mark_of_a_piece_is_refused, bad_piece_is_refused, bad_short_number_is_refused,
+    bad_tail_is_refused, encode_v2, head, piece, short_number_has_one_spelling, tail,
+};
 
 #[cfg(test)]
 mod tests;

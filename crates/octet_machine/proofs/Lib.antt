@@ -1,14 +1,5 @@
-pub mod Held
-pub mod Stepping
-pub mod Journals
-pub mod Phases
-pub mod Going
-pub mod Keeping
-pub mod Taking
-pub mod Ending
-pub mod Beginning
-pub mod Recorded
-pub mod Equal
-pub mod Wanting
-pub mod Counting
-pub mod Playing
+mod memory_steps
+mod next_steps
+pub mod recording
+mod running
+mod SameCommands

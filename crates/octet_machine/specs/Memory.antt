@@ -1,13 +1,10 @@
 -- The state of the protocol that the memory holds.
-use Rattle.std.specs.Prelude.{◌≡◌, ℕ, ◌<◌, ◌≤◌, ◌==◌, Bool, if◌then◌else◌, List, [], length, map, get_or, slice_set, vec_capacity, Option}
+use Rattle.std.specs.Prelude.{◌≡◌, ℕ, ◌<◌, ◌≤◌, List, [], length, map, get_or, slice_set, vec_capacity, Option}
 use Rattle.octet_model.specs.declared.event.Event.{Event}
 use Rattle.octet_model.specs.Machine.{appended}
 use Rattle.octet_state.specs.declared.act.Mode.{Mode}
 use Rattle.octet_state.specs.declared.phase.Phase.{Phase}
-use Rattle.octet_state.specs.declared.phase.Phase.TheVariants.{Off, Claimed, Blocked}
-use Rattle.octet_state.specs.declared.phase.Due.{Due}
-use Rattle.octet_state.specs.declared.phase.Due.TheVariants.{Nothing, Answer}
-use Rattle.octet_state.specs.declared.status_word.StatusWord.{StatusWord}
+use Rattle.octet_state.specs.declared.phase.Phase.TheVariants.{Claimed}
 use Rattle.octet_state.specs.declared.why.Why.{Why}
 use Rattle.octet_state.specs.State.{Thread, ProtocolState, thread_of, now}
 use Rattle.octet_state.specs.Steps.{Kind, step, told}
@@ -70,14 +67,6 @@ with_event s me event = record s { journals = appended s.journals me event }
 -- the thread's journal has room for one more event
 abbrev pub HasRoom : Memory → ℕ → Type 0
 HasRoom m me = now (held [] m) me < get_or (shape m).rooms me 0
-
--- what is due after a glance that finds this status
-abbrev pub due_by : StatusWord → Due
-due_by status = if status.asked == 0 then Nothing else Answer
-
--- the phase of a thread that is marked blocked, at its end or for a while
-abbrev pub blocked_in : Bool → Phase
-blocked_in ends = if ends then Off else Blocked
 
 -- a claim of this object for such an access
 abbrev pub IsClaimOf : ℕ → Mode → Phase → Type 0

@@ -1,102 +1,21 @@
 //! The steps of the protocol on plain memory. Each reads or changes one word, and moves the
 //! thread that takes it. Where the thread has to wait, the step answers why.
-ghost use Rattle.std.specs.Prelude.{◌≡◌, ◌<◌, ◌^◌, ◌==◌, ℕ, List, [], IsFalse, Some, None};
+ghost use Rattle.std.specs.Prelude.{◌≡◌, ◌<◌, ◌==◌, ℕ, List, [], IsFalse, Some, None};
 ghost use Rattle.octet_model.specs.declared.event.Mark.TheVariants.{Join};
 ghost use Rattle.octet_model.specs.declared.event.Event.TheVariants.{Marked};
 ghost use Rattle.octet_state.specs.declared.phase.Phase.TheVariants.{Want, Pass, FenceDue, Sharing};
 ghost use Rattle.octet_state.specs.declared.phase.Due.TheVariants.{Glance};
 ghost use Rattle.octet_state.specs.declared.state_word.StateWord.TheVariants.{RdEx};
 ghost use Rattle.octet_state.specs.declared.why.Why.TheVariants.{Changed};
-ghost use Rattle.octet_state.specs.State.{Thread, thread_of, status_of, state_of, now};
+ghost use Rattle.octet_state.specs.State.{thread_of, status_of, state_of, now};
 ghost use Rattle.octet_state.specs.Table.{is_changed_by};
 ghost use Rattle.octet_state.specs.Words.{packed_state, FitsStateWord, FitsStatusWord};
-ghost use Rattle.octet_state.specs.Steps.{ToGlance, ToAnswer, ToBlock, ToUnblock, ToAsk, ToLook, ToLoad, ToRead, ToWrite, ToBump, ToClaim, ToSettle, ToDraw, ToFence, ToRaise, ToShare, claiming, owning, loaded, moved, done_of, shown, with_status, told};
-ghost use Rattle.octet_state.specs.NextStep.{held_by};
-ghost use Rattle.octet_machine.specs.Memory.{blocked_in, due_by, held, shape, thread_here, waits_here, with_thread, with_event, IsClaimOf, IsThread, IsObject, HasRoom, TakesStep};
+ghost use Rattle.octet_state.specs.Steps.{ToGlance, ToAnswer, ToBlock, ToUnblock, ToAsk, ToLook, ToLoad, ToRead, ToWrite, ToBump, ToClaim, ToSettle, ToDraw, ToFence, ToRaise, ToShare, moved, done_of, shown, with_status, told};
+ghost use Rattle.octet_machine.specs.Memory.{held, shape, thread_here, waits_here, with_thread, with_event, IsClaimOf, IsThread, IsObject, HasRoom, TakesStep};
 
 use crate::memory::{Memory, ProtocolThread};
 use octet_model::{Event, Mark};
-use octet_state::{Act, Due, Mode, Phase, StateWord, StatusWord, Why, decide};
-
-// The bit by which a thread asks.
-fn bit_of(me: u8) -> u16
-    requires { me < 16 }
-    ensures { result ≡ 2 ^ me }
-{
-    1u16 << me
-}
-
-// What is due after a glance that finds this status.
-fn due_by(status: StatusWord) -> Due
-    ensures { result ≡ due_by status }
-{
-    if status.asked == 0 {
-        Due::Nothing
-    } else {
-        Due::Answer
-    }
-}
-
-// The phase of a thread that is marked blocked, at its end or for a while.
-fn blocked_in(ends: bool) -> Phase
-    ensures { result ≡ blocked_in ends }
-{
-    if ends { Phase::Off } else { Phase::Blocked }
-}
-
-// The state while a thread takes an object.
-fn claiming(me: u8, mode: Mode) -> StateWord
-    ensures { result ≡ claiming me mode }
-{
-    match mode {
-        Mode::Read => StateWord::RdInt { by: me },
-        Mode::Write | Mode::Update => StateWord::WrInt { by: me },
-    }
-}
-
-// The state of an object that a thread has taken after its first `events` events.
-fn owning(me: u8, events: u64, mode: Mode) -> StateWord
-    ensures { result ≡ owning me events mode }
-{
-    match mode {
-        Mode::Read => StateWord::RdEx {
-            owner: me,
-            upto: events,
-        },
-        Mode::Write | Mode::Update => StateWord::WrEx { owner: me },
-    }
-}
-
-// Where a thread stands after it has loaded a state, by what it does about it.
-fn loaded(act: Act, object: u16, mode: Mode, state: StateWord) -> (Phase, Due)
-    ensures { (x : Thread) → moved result.0 result.1 x ≡ loaded act object mode state x }
-{
-    match act {
-        Act::Pass => (Phase::Pass { object, mode }, Due::Nothing),
-        Act::Fence => {
-            let number = state.number();
-            (Phase::FenceDue { object, number }, Due::Nothing)
-        }
-        Act::Held { .. } => {
-            let seen = None;
-            (Phase::Want { object, mode, seen }, Due::Glance)
-        }
-        _ => {
-            let seen = Some(state);
-            (Phase::Want { object, mode, seen }, Due::Nothing)
-        }
-    }
-}
-
-// Another thread is changing the state that was loaded.
-fn held_by(act: Act, word: u64) -> Option<Why>
-    ensures { result ≡ held_by act word }
-{
-    match act {
-        Act::Held { by } => Some(Why::Held { by, word }),
-        _ => None,
-    }
-}
+use octet_state::{Due, Mode, Phase, StateWord, StatusWord, Why, decide};
 
 impl Memory {
     // Swaps the thread's own status.
@@ -106,15 +25,7 @@ impl Memory {
         ensures shape { shape self.new ≡ shape self.old }
     {
         let upto = self.now(me);
-        let asked = 0;
-        self.set_status(
-            me,
-            StatusWord {
-                blocked,
-                upto,
-                asked,
-            },
-        );
+        self.set_status(me, StatusWord::shown(blocked, upto));
     }
 
     /// A safe point: the thread looks whether it was asked.
@@ -124,9 +35,9 @@ impl Memory {
         ensures step { TakesStep ToGlance me self.old self.new }
         ensures shape { shape self.new ≡ shape self.old }
     {
-        let due = due_by(self.status(me));
+        let status = self.status(me);
         let phase = self.thread(me).phase;
-        self.move_to(me, phase, due);
+        self.move_to(me, phase, status.due());
     }
 
     /// Answers all that have asked.
@@ -147,7 +58,7 @@ impl Memory {
         ensures shape { shape self.new ≡ shape self.old }
     {
         self.show(me, true);
-        self.move_to(me, blocked_in(ends), Due::Nothing);
+        self.move_to(me, Phase::blocked_in(ends), Due::Nothing);
     }
 
     /// Marks the thread running.
@@ -184,10 +95,7 @@ impl Memory {
     {
         let status = self.status(whom);
         let phase = self.thread(me).phase;
-        let asked = StatusWord {
-            asked: status.asked | bit_of(me),
-            ..status
-        };
+        let asked = status.asked_by(me);
         if status.blocked {
             self.join(me, whom, status.upto);
             self.set_status(whom, asked);
@@ -241,9 +149,9 @@ impl Memory {
         let word = state.pack();
         let count = self.thread(me).count;
         let act = decide(&state, me, &mode, count);
-        let (phase, due) = loaded(act, object, mode, state);
+        let (phase, due) = act.after_load(&state, object, mode);
         self.move_to(me, phase, due);
-        held_by(act, word)
+        act.held_by(word)
     }
 
     /// Reads the cell that the thread may read.
@@ -338,7 +246,7 @@ impl Memory {
         if !is_same {
             return self.lose(me, object, mode, seen, found);
         }
-        self.set_state(object, claiming(me, mode));
+        self.set_state(object, StateWord::claiming(me, mode));
         let phase = Phase::Claimed {
             object,
             mode,
@@ -411,7 +319,7 @@ impl Memory {
         ensures shape { shape self.new ≡ shape self.old }
     {
         let events = self.now(me);
-        self.set_state(object, owning(me, events, mode));
+        self.set_state(object, StateWord::owning(me, events, mode));
         self.move_to(me, Phase::Pass { object, mode }, Due::Nothing);
     }
 

@@ -1,6 +1,6 @@
 -- Each step of a player keeps the rule, by the law of its kind, and acts by the operation of its kind.
-use Rattle.std.proofs.Common.{◌≡◌, ◌≢◌, ℕ, ◌+◌, ◌*◌, ◌/◌, ◌%◌, ◌^◌, ◌<◌, ◌≤◌, Bool, true, false, List, [], ◌∷◌, ◌++◌, length, Option, Some, None, if◌then◌else◌, sym, refl, ap, ◌∙◌, subst, arith, length-append}
-use Rattle.atomic_table.specs.Table.{State, Me, Step as TableStep, Allows}
+use Rattle.std.proofs.Common.{◌≡◌, ◌≢◌, ℕ, ◌+◌, ◌*◌, ◌/◌, ◌%◌, ◌^◌, ◌<◌, ◌≤◌, Bool, true, false, [], ◌∷◌, length, None, if◌then◌else◌, sym, refl, ap, ◌∙◌, subst, arith, length-append}
+use Rattle.atomic_table.specs.Table.{State, Me, Allows}
 use Rattle.octet_model.specs.declared.event.Event.{Event}
 use Rattle.octet_model.specs.declared.event.Event.TheVariants.{Marked}
 use Rattle.octet_model.specs.declared.event.Mark.{Mark}
@@ -12,8 +12,8 @@ use Rattle.octet_parallel.specs.declared.fate.Fate.{Fate}
 use Rattle.octet_parallel.specs.declared.fate.Fate.TheVariants.{Playing, Amiss, Stopped}
 use Rattle.octet_parallel.specs.Needs.{Needs}
 use Rattle.octet_parallel.specs.State.{PlayerState, FieldState, player_of, found_of, made_by, stop_number, progress_place, cell_place, next_of_player}
-use Rattle.octet_parallel.specs.Steps.{Kind, ToLook, ToRead, ToWrite, ToBump, ToAdvance, ToStop, target, stored, told, word_found, with_event, made, event_next, StopsAs, IsFree, IsAmiss}
-use Rattle.octet_parallel.specs.Laws.{IsLawful, AreFound}
+use Rattle.octet_parallel.specs.Steps.{Kind, ToLook, ToRead, ToWrite, ToBump, ToAdvance, ToStop, target, stored, told, with_event, event_next, StopsAs, IsFree, IsAmissBy}
+use Rattle.octet_parallel.specs.Laws.{AreFound}
 use Rattle.octet_parallel.specs.Views.{PlayerView, next_in}
 use Rattle.octet_parallel.specs.Rule.{IsSeenBy, IsRuled, Acts, operation_on, place_by}
 use Rattle.octet_parallel.specs.Conditions.{IsFreeIn, HasFound, MayMark, StopsIn}
@@ -34,11 +34,11 @@ free_in v s seen free = subst IsFree (sym seen.stands) free
 players_in : (v : PlayerView) (s : FieldState) → IsSeenBy v s → length s.players ≡ length v.log.threads
 players_in v s seen = seen.sound.as_many ∙ ap (λ (l : Log). length l.threads) seen.log
 
-amiss_in : (v : PlayerView) (s : FieldState) → IsSeenBy v s → IsAmiss v.script v.log.threads v.number v.player.journal → IsAmiss s.script s.log.threads v.number (player_of s v.number).journal
+amiss_in : (v : PlayerView) (s : FieldState) → IsSeenBy v s → IsAmissBy v.script v.log.threads v.number v.player.journal → IsAmissBy s.script s.log.threads v.number (player_of s v.number).journal
 amiss_in v s seen is =
-    subst (λ (z : Script). IsAmiss z s.log.threads v.number (player_of s v.number).journal) (sym seen.script)
-    (subst (λ (z : Log). IsAmiss v.script z.threads v.number (player_of s v.number).journal) (sym seen.log)
-    (subst (λ (z : PlayerState). IsAmiss v.script v.log.threads v.number z.journal) (sym seen.stands) is))
+    subst (λ (z : Script). IsAmissBy z s.log.threads v.number (player_of s v.number).journal) (sym seen.script)
+    (subst (λ (z : Log). IsAmissBy v.script z.threads v.number (player_of s v.number).journal) (sym seen.log)
+    (subst (λ (z : PlayerState). IsAmissBy v.script v.log.threads v.number z.journal) (sym seen.stands) is))
 
 stops_in : (v : PlayerView) (s : FieldState) (fate : Fate) → IsSeenBy v s → StopsIn v fate → StopsAs s v.number fate
 stops_in v s Playing seen why = absurd why

@@ -1,9 +1,8 @@
 -- The players of a field at first.
-use Rattle.std.proofs.Common.{◌≡◌, ℕ, zero, suc, ◌+◌, ◌^◌, ◌<◌, ◌≤◌, List, [], ◌∷◌, ◌++◌, length, get_or, refl, sym, ap, ◌∙◌, subst, subst₂, arith, add-zero}
+use Rattle.std.proofs.Common.{◌≡◌, ℕ, zero, suc, ◌+◌, ◌<◌, List, [], ◌∷◌, ◌++◌, length, get_or, refl, sym, ap, ◌∙◌, subst, arith, add-zero}
 use Rattle.octet_model.specs.declared.log.Log.{Log}
 use Rattle.octet_model.specs.declared.log.ThreadLog.{ThreadLog}
 use Rattle.octet_model.specs.declared.script.Script.{Script}
-use Rattle.octet_model.specs.declared.limits.TheConstants.{MAX_ACCESSES}
 use Rattle.octet_model.specs.declared.event.Event.{Event}
 use Rattle.octet_model.specs.Orders.{commands_of, thread_log_of}
 use Rattle.octet_model.specs.Thread.{starting_configuration}
@@ -12,11 +11,10 @@ use Rattle.octet_replay.proofs.lemmas.Valid.{few_accesses, few_marks}
 use Rattle.octet_parallel.specs.declared.field.Field.{Field}
 use Rattle.octet_parallel.specs.declared.player.Player.{Player}
 use Rattle.octet_parallel.specs.declared.words.Seat.{Seat}
-use Rattle.octet_parallel.specs.declared.words.Words.{Words}
-use Rattle.octet_parallel.specs.State.{PlayerState, unbegun}
+use Rattle.octet_parallel.specs.State.{PlayerState}
 use Rattle.octet_parallel.specs.Tracks.{IsOnTrack}
-use Rattle.octet_parallel.specs.Players.{view, IsSeatOf, IsFresh, EachFresh}
-use Rattle.octet_parallel.specs.Playing.{view_of, script_in, log_in, IsPlayerAt, ArePlayersAt, IsPlayerOf, IsUnbegun, EachUnbegun}
+use Rattle.octet_parallel.specs.Seats.{IsSeatOf, IsFresh, EachFresh}
+use Rattle.octet_parallel.specs.Calls.{script_in, log_in, IsPlayerAt, ArePlayersAt, IsPlayerOf, IsUnbegun, EachUnbegun}
 use Rattle.octet_parallel.proofs.Tracks.{none_on_track}
 
 -- one player more

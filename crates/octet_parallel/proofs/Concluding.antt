@@ -1,29 +1,25 @@
 -- What a closed field gives.
-use Rattle.std.proofs.Common.{◌≡◌, ◌≢◌, ℕ, zero, suc, ◌+◌, ◌<◌, ◌≤◌, All, List, [], ◌∷◌, ◌++◌, map, length, get_or, refl, sym, ap, ◌∙◌, subst, arith}
+use Rattle.std.proofs.Common.{◌≡◌, ◌≢◌, ℕ, zero, suc, ◌<◌, All, List, [], ◌∷◌, map, length, get_or, refl, sym, ap, ◌∙◌, subst, arith}
 use Rattle.std.proofs.lemmas.List.{length-map}
 use Rattle.octet_model.specs.declared.command.Command.{Command}
 use Rattle.octet_model.specs.declared.event.Event.{Event}
-use Rattle.octet_model.specs.declared.log.Log.{Log}
-use Rattle.octet_model.specs.declared.log.ThreadLog.{ThreadLog}
-use Rattle.octet_model.specs.declared.script.Script.{Script}
 use Rattle.octet_model.specs.declared.outcome.End.{End}
 use Rattle.octet_model.specs.declared.outcome.Outcome.{Outcome}
 use Rattle.octet_model.specs.Thread.{AccessOrEnd, demanded, configuration_after, starting_configuration}
-use Rattle.octet_model.specs.Machine.{Journals, journal_of, PlainState, next_of, Next, Finished}
-use Rattle.octet_model.specs.Orders.{by_log, commands_of, thread_log_of, end_of, ends_of, values_read, outcome_of, journals_after, IsLawfulFront}
+use Rattle.octet_model.specs.Machine.{Journals, journal_of, next_of, Finished}
+use Rattle.octet_model.specs.Orders.{by_log, commands_of, end_of, ends_of, values_read, IsLawfulFront}
 use Rattle.octet_replay.specs.NextDemand.{demand_of}
 use Rattle.octet_parallel.specs.declared.fate.Fate.{Fate}
 use Rattle.octet_parallel.specs.declared.fate.Fate.TheVariants.{Playing, Amiss, Stopped}
-use Rattle.octet_parallel.specs.declared.played.Finished as finished
+use Rattle.octet_parallel.specs.declared.finished.Finished as finished
 use Rattle.octet_parallel.specs.declared.field.Field.{Field}
 use Rattle.octet_parallel.specs.declared.player.Player.{Player}
 use Rattle.octet_parallel.specs.declared.words.Seat.{Seat}
 use Rattle.octet_parallel.specs.State.{PlayerState, FieldState, SomeAmiss, player_of, unbegun, plain, next_of_player}
-use Rattle.octet_parallel.specs.Steps.{IsAmiss}
-use Rattle.octet_parallel.specs.Soundness.{IsSoundField}
-use Rattle.octet_parallel.specs.Views.{PlayerView, next_in}
-use Rattle.octet_parallel.specs.Players.{view, IsSeatOf, EachOf, Closes}
-use Rattle.octet_parallel.specs.Playing.{view_of, script_in, log_in, IsPlayerOf, HasEnded, EachEnded, fate_at, fate_in, journals_in, SomeStopped, NoneStopped, SomeFrontIsAmiss, IsFinishedReplay}
+use Rattle.octet_parallel.specs.Steps.{IsAmissBy}
+use Rattle.octet_parallel.specs.Views.{next_in}
+use Rattle.octet_parallel.specs.Seats.{view, IsSeatOf, EachOf, Closes}
+use Rattle.octet_parallel.specs.Calls.{view_of, script_in, log_in, EachEnded, fate_at, fate_in, journals_in, SomeStopped, NoneStopped, SomeFrontIsAmiss, IsFinishedReplay}
 use Rattle.octet_parallel.proofs.Keeping.{journal_is, next_is, many_journals}
 
 -- the fate of the player at a place, as it is read
@@ -116,7 +112,7 @@ module _ (field : Field) (players : List Player) (all : length players ≡ field
         lawful = (closes.sound.agree, closes.sound.lawful);
         thread = one.whom;
         within = let a = one.within in let e = closes.sound.as_many in omega arith;
-        amiss = subst (λ (j : List Event). IsAmiss s.script s.log.threads one.whom j) (sym (journal_is s closes.sound one.whom)) ((closes.sound.each one.whom one.within).amiss one.is_amiss);
+        amiss = subst (λ (j : List Event). IsAmissBy s.script s.log.threads one.whom j) (sym (journal_is s closes.sound one.whom)) ((closes.sound.each one.whom one.within).amiss one.is_amiss);
       }),
     )
       where

@@ -1,24 +1,19 @@
 -- What the last state has, and lists of seats.
-use Rattle.std.proofs.Common.{◌≡◌, ◌≢◌, ℕ, zero, suc, pred, ◌+◌, ◌*◌, ◌<◌, ◌≤◌, Bool, true, List, [], ◌∷◌, ◌++◌, map, length, get_or, take, drop, sym, refl, ap, ◌∙◌, subst, arith, one-add, add-zero}
+use Rattle.std.proofs.Common.{◌≡◌, ℕ, zero, suc, ◌+◌, ◌*◌, ◌<◌, ◌≤◌, Bool, true, List, [], ◌∷◌, ◌++◌, map, length, get_or, take, drop, sym, refl, ap, ◌∙◌, subst, arith, one-add, add-zero}
 use Rattle.std.specs.Prelude.{Result, Ok, Err, IfOk}
 use mathlib.Core.Option.{some, some-injective, some-ne-none}
-use mathlib.Core.Logic.{dite}
-use native.Mathlib.Decide.{ℕ_discrete}
 use lib.ListN.{get_elem?}
 use Rattle.std.proofs.lemmas.List.{length-map}
 use Rattle.atomic_table.specs.Table.{Final, Seen}
 use Rattle.octet_model.specs.declared.script.Script.{Script}
 use Rattle.octet_model.specs.declared.log.Log.{Log}
-use Rattle.octet_model.specs.declared.object.Object.{Object}
-use Rattle.octet_model.specs.Orders.{starting_heap}
 use Rattle.octet_parallel.specs.State.{PlayerState, FieldState, player_of, unbegun, words}
-use Rattle.octet_parallel.specs.Soundness.{IsSoundField}
 use Rattle.octet_parallel.specs.declared.words.Seat.{Seat}
 use Rattle.octet_parallel.specs.declared.words.Words.{Words}
 use Rattle.octet_parallel.specs.Views.{PlayerView}
 use Rattle.octet_parallel.specs.Rule.{AreJoined, IsRuled}
 use Rattle.octet_parallel.specs.Cells.{cells_in}
-use Rattle.octet_parallel.specs.Players.{view, BelongsTo, IsSeatOf, IsFresh, AreFresh, EachFresh, EachOf, AreInRow, state_left, Closes}
+use Rattle.octet_parallel.specs.Seats.{view, BelongsTo, IsFresh, AreFresh, EachFresh, EachOf, AreInRow, state_left, Closes}
 use Rattle.octet_parallel.proofs.Spread.{get_cell}
 use Rattle.octet_parallel.proofs.Keeping.{many_cells}
 use Rattle.octet_parallel.proofs.LaidOut.{take_more, take_whole}

@@ -1,13 +1,10 @@
 -- What a step changes keeps a state sound.
-use Rattle.std.proofs.Common.{◌≡◌, ◌≢◌, ℕ, zero, suc, pred, ◌+◌, ◌<◌, ◌≤◌, ⊎_elim, inl, inr, Bool, true, false, cond, All, List, [], ◌∷◌, ◌++◌, map, length, get_or, set, slice_set, IsTrue, refl, sym, ap, ◌∙◌, subst, arith, length-append, length-set}
-use Rattle.std.proofs.lemmas.Bool.{cases_eq, cases_lt, eq-eqb, ne_eqb}
+use Rattle.std.proofs.Common.{◌≡◌, ◌≢◌, ℕ, zero, suc, ◌+◌, ◌<◌, ◌≤◌, inl, inr, Bool, cond, All, List, [], ◌∷◌, ◌++◌, map, length, get_or, set, slice_set, IsTrue, refl, sym, ap, ◌∙◌, subst, arith, length-append, length-set}
+use Rattle.std.proofs.lemmas.Bool.{cases_eq, eq-eqb, ne_eqb}
 use Rattle.std.proofs.lemmas.List.{length-map, get_or-set_same, get_or-set_other}
-use Rattle.octet_model.specs.declared.command.Command.{Command}
 use Rattle.octet_model.specs.declared.event.Event.{Event}
-use Rattle.octet_model.specs.declared.event.Mark.{Mark}
-use Rattle.octet_model.specs.declared.log.ThreadLog.{ThreadLog}
-use Rattle.octet_model.specs.Journals.{access_count, mark_count, gapped_marks}
-use Rattle.octet_model.specs.Machine.{Journals, journal_of, PlainState, Operation, Next, Wants, Behavior, is_enabled, event_made, heap_after, performed, next_of, after, IsFront}
+use Rattle.octet_model.specs.Journals.{gapped_marks}
+use Rattle.octet_model.specs.Machine.{Journals, journal_of, PlainState, Operation, Wants, Behavior, is_enabled, event_made, heap_after, performed, next_of, IsFront}
 use Rattle.octet_model.specs.Orders.{by_log, thread_log_of, opening_state, state_after}
 use Rattle.octet_model.proofs.lemmas.Steps.{Makes, makes_from, by_front}
 use Rattle.octet_model.specs.declared.object.Object.{Object}
@@ -15,9 +12,8 @@ use Rattle.octet_replay.proofs.lemmas.EventsMade.{same_length}
 use Rattle.octet_model.proofs.lemmas.Fronts.{no_journal, front_on, after_on}
 use Rattle.octet_model.proofs.lemmas.Splits.{length_parts, length-gapped_marks}
 use Rattle.octet_replay.proofs.lemmas.Valid.{few_accesses, few_marks}
-use Rattle.octet_parallel.specs.declared.fate.Fate.{Fate}
-use Rattle.octet_parallel.specs.declared.fate.Fate.TheVariants.{Playing, Amiss, Stopped}
-use Rattle.octet_parallel.specs.State.{PlayerState, FieldState, SomeAmiss, player_of, unbegun, found_of, found_last, made_by, stop_number, progress, next_of_player, plain}
+use Rattle.octet_parallel.specs.declared.fate.Fate.TheVariants.{Amiss}
+use Rattle.octet_parallel.specs.State.{PlayerState, FieldState, SomeAmiss, player_of, unbegun, found_of, found_last, made_by, stop_number, next_of_player, plain}
 use Rattle.octet_clock.specs.Fronts.{demand_after}
 use Rattle.octet_parallel.specs.Soundness.{IsSoundLook, IsSoundPlayer, IsSoundField}
 use Rattle.octet_parallel.specs.Tracks.{IsOnTrack}

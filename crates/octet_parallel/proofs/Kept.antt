@@ -1,16 +1,15 @@
 -- A step that is lawful in each state that the view of its player allows keeps the rule.
-use Rattle.std.proofs.Common.{◌≡◌, ◌≢◌, ℕ, ⊎_elim, Bool, true, List, [], ◌∷◌, length, get_or, set, sym, refl, ap, ◌∙◌, subst, arith}
+use Rattle.std.proofs.Common.{◌≡◌, ◌≢◌, ℕ, ⊎_elim, Bool, true, List, [], ◌∷◌, get_or, set, sym, refl, ap, ◌∙◌, subst, arith}
 use mathlib.Core.Option.{some}
 use lib.ListN.{get_elem?}
-use Rattle.atomic_table.specs.Table.{State, Me, keeps, Allows}
+use Rattle.atomic_table.specs.Table.{Me, keeps, Allows}
 use Rattle.atomic_table.proofs.Lists.{at_set}
 use Rattle.octet_model.specs.declared.script.Script.{Script}
 use Rattle.octet_model.specs.declared.log.Log.{Log}
-use Rattle.octet_model.specs.Machine.{Next}
 use Rattle.octet_model.specs.Orders.{by_log}
-use Rattle.octet_parallel.specs.State.{PlayerState, FieldState, player_of, unbegun, words, next_of_player}
+use Rattle.octet_parallel.specs.State.{PlayerState, FieldState, player_of, words, next_of_player}
 use Rattle.octet_parallel.specs.Steps.{Kind, word_found, told, after, step}
-use Rattle.octet_parallel.specs.Laws.{IsLawful}
+use Rattle.octet_parallel.specs.Laws.{IsLawfulStep}
 use Rattle.octet_parallel.specs.Views.{PlayerView, next_in, stepped_by}
 use Rattle.octet_parallel.specs.Rule.{IsSeenBy, AreJoined, IsSeated, IsRuled, Steps}
 
@@ -24,7 +23,7 @@ joined_same s next has_joined same (x ∷ xs) those = (those.0, same x.0 those.0
 pub next_seen : (v : PlayerView) (s : FieldState) → IsSeenBy v s → next_of_player s v.number ≡ next_in v
 next_seen v s seen = λ i. by_log (seen.script i) ((seen.log i).threads) v.number ((seen.stands i).journal)
 
-module _ (k : Kind) (t place : ℕ) (operation : ℕ → ℕ) (s : FieldState) (law : IsLawful k t place operation s) where
+module _ (k : Kind) (t place : ℕ) (operation : ℕ → ℕ) (s : FieldState) (law : IsLawfulStep k t place operation s) where
   -- the player that steps is as its view then has it
   seen_by_stepper : (v : PlayerView) (word : ℕ) → v.number ≡ t → word ≡ told k t s → IsSeenBy v s → IsSeenBy (stepped_by k word v) (step k t s)
   seen_by_stepper v word same is seen = record {
@@ -51,11 +50,11 @@ Plays k me told next = (next.1 ≡ me.1) × Steps k me.0 told next.0
 
 -- a step that tells what `tell` makes of the word found
 pub tells : (script : Script) (log : Log) (slots id : ℕ) (me : Me (Unit {0}) PlayerView) (place : ℕ) (operation tell : ℕ → ℕ) (k : Kind) → me.0.is_live ≡ true
-    → ((s : FieldState) → IsSeenBy me.0 s → IsLawful k me.0.number place operation s × (tell (word_found k me.0.number s) ≡ told k me.0.number s))
+    → ((s : FieldState) → IsSeenBy me.0 s → IsLawfulStep k me.0.number place operation s × (tell (word_found k me.0.number s) ≡ told k me.0.number s))
     → Allows (IsRuled script log) slots id me place operation (λ word. Plays k me (tell word))
 tells script log slots id me place operation tell k live lawful table r _ at _ =
     let v : PlayerView = me.0 in let t : ℕ = v.number in let s : FieldState = r.state in let mine = r.seats id v at live in
-    let both = lawful s mine.seen in let law : IsLawful k t place operation s = both.0 in let next : FieldState = step k t s in
+    let both = lawful s mine.seen in let law : IsLawfulStep k t place operation s = both.0 in let next : FieldState = step k t s in
     let at_place : ℕ = get_or table.words place 0 in
     let word : at_place ≡ word_found k t s = ap (λ (z : List ℕ). get_or z place 0) r.lie ∙ law.does.finds in
     let is_told : tell at_place ≡ told k t s = ap tell word ∙ both.1 in

@@ -8,7 +8,7 @@ use Rattle.octet_model.specs.declared.script.Script.{Script}
 use Rattle.octet_model.specs.declared.log.Log.{Log}
 use Rattle.octet_model.specs.Orders.{starting_heap}
 use Rattle.octet_clock.specs.Untied.{IsUntied}
-use Rattle.octet_parallel.specs.State.{PlayerState, unbegun, progress, spread, words, opening}
+use Rattle.octet_parallel.specs.State.{unbegun, progress, spread, words, opening}
 use Rattle.octet_parallel.specs.Views.{PlayerView}
 use Rattle.octet_parallel.specs.Rule.{IsSeated, IsRuled, first_view}
 use Rattle.octet_parallel.proofs.Spread.{length_spread}

@@ -1,27 +1,22 @@
 -- Each kind of step keeps a state sound, and does to the words and the players what it says.
-use Rattle.std.proofs.Common.{◌≡◌, ◌≢◌, ℕ, zero, suc, pred, ◌+◌, ◌%◌, ◌^◌, ◌<◌, ◌≤◌, ◌↔◌, ⊎_elim, inl, inr, Bool, true, false, ◌==◌, cond, All, List, [], ◌∷◌, ◌++◌, map, length, replicate, get_or, set, Option, Some, None, IsTrue, slice_get, refl, sym, ap, ◌∙◌, subst, arith, length-append, length-set}
-use Rattle.std.proofs.lemmas.Bool.{cases_eq, cases_lt, eq-eqb, ne_eqb}
-use Rattle.std.proofs.lemmas.List.{length-map, length-replicate, set-get_or}
-use Rattle.octet_model.specs.declared.command.Command.{Command}
+use Rattle.std.proofs.Common.{◌≡◌, ◌≢◌, ℕ, zero, suc, pred, ◌+◌, ◌<◌, ◌≤◌, inl, inr, Bool, true, false, cond, All, List, [], ◌∷◌, ◌++◌, map, length, replicate, get_or, set, Some, None, IsTrue, slice_get, refl, sym, ap, ◌∙◌, subst, arith, length-append}
+use Rattle.std.proofs.lemmas.Bool.{cases_eq}
+use Rattle.std.proofs.lemmas.List.{length-replicate, set-get_or}
 use Rattle.octet_model.specs.declared.event.Event.{Event}
 use Rattle.octet_model.specs.declared.event.Event.TheVariants.{Read, Write, Update, Marked}
 use Rattle.octet_model.specs.declared.event.Mark.{Mark}
-use Rattle.octet_model.specs.declared.log.Log.{Log}
-use Rattle.octet_model.specs.declared.log.ThreadLog.{ThreadLog}
-use Rattle.octet_model.specs.declared.script.Script.{Script}
 use Rattle.octet_model.specs.Thread.{added}
-use Rattle.octet_model.specs.Journals.{mark_count, gap_after, due_mark, next_access, mark_first}
-use Rattle.octet_model.specs.Machine.{Journals, journal_of, PlainState, no_events, Operation, MakeMark, MakeRead, MakeWrite, MakeUpdate, Next, Wants, is_enabled, event_made, heap_after}
-use Rattle.octet_model.specs.Orders.{commands_of, thread_log_of, opening_state, starting_heap}
+use Rattle.octet_model.specs.Journals.{mark_count, gap_after, due_mark}
+use Rattle.octet_model.specs.Machine.{Journals, journal_of, no_events, Operation, MakeMark, MakeRead, MakeWrite, MakeUpdate, Next, Wants, is_enabled, event_made, heap_after}
+use Rattle.octet_model.specs.Orders.{thread_log_of}
 use Rattle.octet_model.proofs.lemmas.LowestFronts.{is_next}
 use Rattle.octet_parallel.specs.declared.fate.Fate.{Fate}
 use Rattle.octet_parallel.specs.declared.fate.Fate.TheVariants.{Playing, Amiss, Stopped}
-use Rattle.octet_clock.specs.Untied.{IsUntied}
 use Rattle.octet_parallel.specs.Needs.{Needs}
-use Rattle.octet_parallel.specs.State.{PlayerState, FieldState, SomeAmiss, player_of, unbegun, found_of, found_last, made_by, stop_number, shown, progress, words, spread, progress_place, cell_place, next_of_player, plain, opening}
-use Rattle.octet_parallel.specs.Steps.{Kind, May, step, after, word_found, told, made, with_event, event_next, front_after, cells_after, target, stored, ToLook, ToRead, ToWrite, ToBump, ToAdvance, ToStop, StopsAs, IsFree, IsRead, IsWrite, IsBump, IsAmiss}
+use Rattle.octet_parallel.specs.State.{PlayerState, FieldState, SomeAmiss, player_of, unbegun, made_by, stop_number, shown, progress, words, spread, progress_place, cell_place, next_of_player, plain, opening}
+use Rattle.octet_parallel.specs.Steps.{step, after, told, with_event, event_next, front_after, cells_after, target, stored, ToLook, ToRead, ToWrite, ToBump, ToAdvance, ToStop, StopsAs, IsFree, IsRead, IsWrite, IsAmissBy}
 use Rattle.octet_parallel.specs.Soundness.{IsSoundLook, IsSoundPlayer, IsSoundField}
-use Rattle.octet_parallel.specs.Laws.{Does, IsLawful, AreFound, LookIsLawful, ReadIsLawful, WriteIsLawful, BumpIsLawful, CountIsLawful, MarkIsLawful, StopIsLawful, OpeningIsSound, WordTellsStop}
+use Rattle.octet_parallel.specs.Laws.{LookIsLawful, ReadIsLawful, WriteIsLawful, BumpIsLawful, CountIsLawful, MarkIsLawful, StopIsLawful, OpeningIsSound, WordTellsStop}
 use Rattle.octet_parallel.proofs.Spread.{get_progress, set_progress, get_cell, set_cell, same_progress}
 use Rattle.octet_parallel.proofs.MayMark.{may_mark}
 use Rattle.octet_parallel.proofs.Keeping.{journals_same, journal_is, tracks, draws, short, longer_front, heap_after_it, journals_after_it, mine, others, as_many, some_kept, looks_kept, found_sound, keeps_sound}
@@ -188,7 +183,7 @@ stop_is_lawful s t place fate sound within free why at = record {
     kept : SomeAmiss s → SomeAmiss (step (ToStop fate) t s)
     kept = some_kept s sound t within q s.front s.cells (omega arith) keeps
 
-    amiss_by : (f : Fate) → f ≡ Amiss → StopsAs s t f → IsAmiss s.script s.log.threads t p.journal
+    amiss_by : (f : Fate) → f ≡ Amiss → StopsAs s t f → IsAmissBy s.script s.log.threads t p.journal
     amiss_by Playing is why = absurd why
     amiss_by Amiss is why = why
     amiss_by (Stopped whom) is why = absurd cc

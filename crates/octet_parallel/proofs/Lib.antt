@@ -13,7 +13,6 @@ mod Turns
 mod Needing
 mod Beginning
 mod Concluding
-mod Ends
 mod Zips
 mod Verdicts
 mod Ending

@@ -1,5 +1,5 @@
 -- Where the events that a mark needs were made, the plain machine may make the mark.
-use Rattle.std.proofs.Common.{nat_lt, ◌≡◌, ◌≢◌, ℕ, zero, suc, pred, ◌+◌, ◌<◌, ◌≤◌, inl, inr, Bool, true, false, List, [], ◌∷◌, ◌++◌, length, Option, Some, None, IsTrue, slice_get, get_or, refl, sym, ap, ◌∙◌, subst, arith, append-nil, length-append, zero-add}
+use Rattle.std.proofs.Common.{nat_lt, ◌≡◌, ◌≢◌, ℕ, zero, suc, pred, ◌+◌, ◌<◌, ◌≤◌, inl, inr, List, [], ◌∷◌, ◌++◌, length, Option, Some, None, IsTrue, slice_get, refl, sym, ap, ◌∙◌, subst, arith, append-nil, length-append, zero-add}
 use Rattle.std.proofs.lemmas.Bool.{cases_eq, cases_lt, le-leb, eq-eqb, lt-ltb}
 use Rattle.std.proofs.lemmas.List.{length-map, get_or_past}
 use Rattle.std.proofs.lemmas.Option.{slice_get_within, get_or_from_slice_get}
@@ -12,9 +12,8 @@ use Rattle.octet_model.specs.declared.log.Gapped.{Gapped}
 use Rattle.octet_model.specs.declared.log.ThreadLog.{ThreadLog}
 use Rattle.octet_model.specs.Log.{is_log}
 use Rattle.octet_model.specs.Validity.{IsMark}
-use Rattle.octet_model.specs.Thread.{AccessOrEnd}
-use Rattle.octet_model.specs.Journals.{access_count, mark_count, gap_after, gapped_marks, due_mark, next_access, mark_first}
-use Rattle.octet_model.specs.Machine.{Journals, journal_of, PlainState, starting_state, MakeMark, Finished, is_enabled, next_of, after}
+use Rattle.octet_model.specs.Journals.{access_count, mark_count, gap_after, gapped_marks, due_mark}
+use Rattle.octet_model.specs.Machine.{Journals, journal_of, PlainState, MakeMark, is_enabled, after}
 use Rattle.octet_model.specs.HappensBefore.{event_at}
 use Rattle.octet_model.specs.Orders.{thread_log_of}
 use Rattle.octet_model.proofs.lemmas.Steps.{count}

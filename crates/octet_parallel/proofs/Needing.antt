@@ -1,58 +1,56 @@
 -- What a mark needs, and what a look finds of it.
-use Rattle.std.proofs.Common.{◌≡◌, ◌≢◌, ℕ, zero, suc, pred, ◌+◌, ◌-◌, get_or, ◌<◌, ◌≤◌, ⊎_elim, inl, inr, Bool, true, false, ◌==◌, if◌then◌else◌, List, [], ◌∷◌, ◌++◌, length, Option, Some, None, slice_get, refl, sym, ap, ◌∙◌, subst, arith}
+use Rattle.std.proofs.Common.{◌≡◌, ◌≢◌, ℕ, suc, pred, ◌-◌, get_or, ◌<◌, ◌≤◌, inl, inr, Bool, if◌then◌else◌, List, [], length, Some, None, slice_get, sym, ap, ◌∙◌, subst, arith}
 use Rattle.std.proofs.lemmas.Bool.{cases_lt, eq-eqb}
 use Rattle.std.proofs.lemmas.List.{get_or_past}
 use Rattle.std.proofs.lemmas.Option.{slice_get_past, slice_get-get_or}
-use Rattle.octet_model.specs.declared.event.Event.{Event}
-use Rattle.octet_model.specs.declared.event.Event.TheVariants.{Marked}
 use Rattle.octet_model.specs.declared.event.Mark.{Mark}
 use Rattle.octet_model.specs.declared.event.Mark.TheVariants.{Join, Draw, Fence}
 use Rattle.octet_model.specs.declared.log.Log.{Log}
 use Rattle.octet_model.specs.declared.log.ThreadLog.{ThreadLog}
 use Rattle.octet_model.specs.Journals.{mark_count, gap_after, due_mark}
-use Rattle.octet_model.specs.Machine.{Next, Wants, MakeMark}
+use Rattle.octet_model.specs.Machine.{Wants, MakeMark}
 use Rattle.octet_model.specs.Orders.{thread_log_of}
 use Rattle.octet_model.specs.Validity.{IsMark}
 use Rattle.octet_model.proofs.lemmas.LowestFronts.{is_next}
 use Rattle.octet_parallel.specs.Needs.{mark_at, HasMarkAt, Needs}
-use Rattle.octet_parallel.specs.Drawn.{AreDraws, IsDrawOf, IsDrawn, IsNeedOf}
-use Rattle.octet_parallel.specs.declared.needs.Needed.{Needed}
+use Rattle.octet_parallel.specs.Draws.{AreDraws, IsDrawOf, IsWhereDrawn}
+use Rattle.octet_parallel.specs.declared.draws.PlayerEvents.{PlayerEvents}
 use Rattle.octet_parallel.specs.declared.field.Field.{Field}
 use Rattle.octet_parallel.specs.declared.player.Player.{Player}
 use Rattle.octet_parallel.specs.State.{found_of, found_last, stop_number}
-use Rattle.octet_parallel.specs.Steps.{ToLook, ToAdvance, ToStop, event_next}
+use Rattle.octet_parallel.specs.Steps.{ToLook}
 use Rattle.octet_parallel.specs.Views.{PlayerView, next_in}
 use Rattle.octet_parallel.specs.Rule.{Steps}
 use Rattle.octet_parallel.specs.Conditions.{HasFound}
-use Rattle.octet_parallel.specs.Playing.{view_of, log_in, IsPlayerOf, MarkMade, MakesNext}
+use Rattle.octet_parallel.specs.Calls.{view_of, log_in, IsPlayerOf}
 use Rattle.octet_parallel.proofs.MayMark.{due_is_valid}
 
 -- ---- where a draw stands, by the table
-module _ (log : List ThreadLog) (draws : List Needed) (are : AreDraws log draws) (number : ℕ) (some : 0 < number) where
+module _ (log : List ThreadLog) (draws : List PlayerEvents) (are : AreDraws log draws) (number : ℕ) (some : 0 < number) where
   at_number : (whom place : ℕ) → HasMarkAt log whom place (Draw number) → slice_get draws (pred number) ≡ Some (record { whom = whom; events = suc place })
   at_number whom place has = are.0 whom place (pred number) (subst (λ (n : ℕ). HasMarkAt log whom place (Draw n)) (let e : number ≡ suc (pred number) = omega arith in e) has)
 
-  pub none_drawn : slice_get draws (pred number) ≡ None → IsDrawn log number None
+  pub none_drawn : slice_get draws (pred number) ≡ None → IsWhereDrawn log number None
   none_drawn none whom place has = let there = at_number whom place has in cc
 
-  pub not_drawn : (d : Needed) → slice_get draws (pred number) ≡ Some d → d.events ≡ 0 → IsDrawn log number None
+  pub not_drawn : (d : PlayerEvents) → slice_get draws (pred number) ≡ Some d → d.events ≡ 0 → IsWhereDrawn log number None
   not_drawn d at zeroed whom place has =
       let e : record { whom = whom; events = suc place } ≡ d = let there = at_number whom place has in cc in
-      let f : suc place ≡ d.events = ap (λ (x : Needed). x.events) e in omega arith
+      let f : suc place ≡ d.events = ap (λ (x : PlayerEvents). x.events) e in omega arith
 
-  pub is_drawn : (d : Needed) → slice_get draws (pred number) ≡ Some d → d.events ≢ 0 → IsDrawn log number (Some d)
+  pub is_drawn : (d : PlayerEvents) → slice_get draws (pred number) ≡ Some d → d.events ≢ 0 → IsWhereDrawn log number (Some d)
   is_drawn d at some_events = (
     subst (λ (n : ℕ). IsDrawOf log n d) (let e : suc (pred number) ≡ number = omega arith in e) (are.1 (pred number) d at (omega arith)),
     λ whom place has.
         let e : record { whom = whom; events = suc place } ≡ d = let there = at_number whom place has in cc in
-        (ap (λ (x : Needed). x.whom) e, ap (λ (x : Needed). x.events) e),
+        (ap (λ (x : PlayerEvents). x.whom) e, ap (λ (x : PlayerEvents). x.events) e),
   )
 
 -- what is read of the table
-pub past_table : (draws : List Needed) (number place : ℕ) → place ≡ number - 1 → length draws ≤ place → slice_get draws (pred number) ≡ None
+pub past_table : (draws : List PlayerEvents) (number place : ℕ) → place ≡ number - 1 → length draws ≤ place → slice_get draws (pred number) ≡ None
 past_table draws number place is past = slice_get_past draws (pred number) (omega arith)
 
-pub read_table : (draws : List Needed) (number place : ℕ) (d : Needed) → place ≡ number - 1 → place < length draws → d ≡ get_or draws place d → slice_get draws (pred number) ≡ Some d
+pub read_table : (draws : List PlayerEvents) (number place : ℕ) (d : PlayerEvents) → place ≡ number - 1 → place < length draws → d ≡ get_or draws place d → slice_get draws (pred number) ≡ Some d
 read_table draws number place d is inside at = ap (slice_get draws) (let e : pred number ≡ place = omega arith in e) ∙ slice_get-get_or draws place d inside ∙ ap Some (sym at)
 
 -- the thread that has a mark is one of the log's
@@ -84,7 +82,7 @@ pub found_now : (v : PlayerView) (whom found : ℕ) (w : PlayerView) → Steps (
 found_now v whom found w took u same =
     ap (λ (x : PlayerView). found_of x.player u) took.moves ∙ ap (λ (b : Bool). if b then found else found_last v.player.found u) (eq-eqb u whom same)
 
-pub has_found : (v : PlayerView) (mark : Mark) (needed : Needed) (found : ℕ) (w : PlayerView) → Steps (ToLook needed.whom) v found w
+pub has_found : (v : PlayerView) (mark : Mark) (needed : PlayerEvents) (found : ℕ) (w : PlayerView) → Steps (ToLook needed.whom) v found w
     → ((whom events : ℕ) → Needs v.log.threads mark whom events → (whom ≡ needed.whom) × (events ≡ needed.events)) → needed.events ≤ found → found ≢ stop_number → HasFound w mark
 has_found v mark needed found w took only enough no_stop whom events needs differs =
     let same = only whom events (subst (λ (l : Log). Needs l.threads mark whom events) (ap (λ (x : PlayerView). x.log) took.moves) needs) in

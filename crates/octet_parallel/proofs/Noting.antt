@@ -1,8 +1,8 @@
 -- The table of an untied log's draws has each of them.
-use Rattle.std.proofs.Common.{◌≡◌, ◌≢◌, ◌⊎◌, inl, inr, ℕ, zero, suc, pred, ◌+◌, ◌<◌, ◌≤◌, max, List, [], ◌∷◌, ◌++◌, length, replicate, take, drop, get_or, Option, Some, None, slice_get, slice_set, set, refl, sym, ap, ◌∙◌, subst, subst₂, arith, length-set}
-use Rattle.std.proofs.lemmas.Bool.{cases_eq, cases_lt}
-use Rattle.std.proofs.lemmas.List.{length-replicate, get_or_past}
-use Rattle.std.proofs.lemmas.Option.{slice_get_within, slice_get_cases}
+use Rattle.std.proofs.Common.{◌≡◌, ◌≢◌, inl, inr, ℕ, zero, suc, pred, ◌+◌, ◌<◌, ◌≤◌, max, List, [], ◌∷◌, ◌++◌, length, replicate, take, drop, get_or, Option, Some, None, slice_get, set, refl, sym, ap, ◌∙◌, subst, subst₂, arith, length-set}
+use Rattle.std.proofs.lemmas.Bool.{cases_eq}
+use Rattle.std.proofs.lemmas.List.{length-replicate}
+use Rattle.std.proofs.lemmas.Option.{slice_get_cases}
 use Rattle.octet_model.specs.declared.event.Mark.{Mark}
 use Rattle.octet_model.specs.declared.event.Mark.TheVariants.{Join, Draw, Fence}
 use Rattle.octet_model.specs.declared.event.Place.{Place}
@@ -12,11 +12,11 @@ use Rattle.octet_model.specs.declared.log.ThreadLog.{ThreadLog}
 use Rattle.octet_model.proofs.lemmas.Validity.{valid_log}
 use Rattle.octet_model.specs.Orders.{thread_log_of}
 use Rattle.octet_clock.specs.Untied.{IsUntied}
-use Rattle.octet_parallel.specs.Needs.{mark_at, HasMarkAt, Needs}
-use Rattle.octet_parallel.specs.Drawn.{unknown, drawn_number, highest_of, highest_in, noted, noted_all, noted_of, IsDrawOf, AreDraws}
-use Rattle.octet_parallel.specs.declared.needs.Needed.{Needed}
+use Rattle.octet_parallel.specs.Needs.{mark_at, HasMarkAt}
+use Rattle.octet_parallel.specs.Draws.{unknown, drawn_number, highest_of, highest_in, noted, noted_all, noted_of, IsDrawOf, AreDraws}
+use Rattle.octet_parallel.specs.declared.draws.PlayerEvents.{PlayerEvents}
 use Rattle.octet_parallel.proofs.Tracks.{mark_here, mark_later, mark_parts}
-use Rattle.octet_parallel.proofs.MayMark.{Unties, unties}
+use Rattle.octet_parallel.proofs.MayMark.{unties}
 
 get_set_same : {A : Type 0} (xs : List A) (k : ℕ) (x y : A) → slice_get (set xs k x) k ≡ Some y → x ≡ y
 get_set_same [] k x y is = absurd cc
@@ -34,15 +34,15 @@ one_back : (place : ℕ) → place ≡ pred (place + 1)
 one_back place = omega arith
 
 -- the entry under a number, if there is one, is such
-abbrev HoldsAt : (Needed → Type 0) → List Needed → ℕ → Type 0
-HoldsAt Q draws n = (d : Needed) → slice_get draws n ≡ Some d → Q d
+abbrev HoldsAt : (PlayerEvents → Type 0) → List PlayerEvents → ℕ → Type 0
+HoldsAt Q draws n = (d : PlayerEvents) → slice_get draws n ≡ Some d → Q d
 
 module _ (log : List ThreadLog) (n : ℕ) where
-  abbrev Strong : Needed → Type 0
+  abbrev Strong : PlayerEvents → Type 0
   Strong d = IsDrawOf log (suc n) d
 
-  module _ (Q : Needed → Type 0) (weaker : (d : Needed) → Strong d → Q d) where
-    note_keeps : (draws : List Needed) (thread place : ℕ) (mark : Mark) → HasMarkAt log thread place mark → HoldsAt Q draws n → HoldsAt Q (noted draws thread place mark) n
+  module _ (Q : PlayerEvents → Type 0) (weaker : (d : PlayerEvents) → Strong d → Q d) where
+    note_keeps : (draws : List PlayerEvents) (thread place : ℕ) (mark : Mark) → HasMarkAt log thread place mark → HoldsAt Q draws n → HoldsAt Q (noted draws thread place mark) n
     note_keeps draws thread place (Join from upto) has holds d is = holds d is
     note_keeps draws thread place (Fence number) has holds d is = holds d is
     note_keeps draws thread place (Draw zero) has holds d is = holds d is
@@ -54,7 +54,7 @@ module _ (log : List ThreadLog) (n : ℕ) where
           | inr ne ↦ holds d (sym (get_set_other draws number n (record { whom = thread; events = place + 1 }) ne) ∙ is)
         ]
 
-    all_keep : (marks : List Gapped) (draws : List Needed) (thread place : ℕ) → ((j : ℕ) (mark : Mark) → mark_at marks j ≡ Some mark → HasMarkAt log thread (place + j) mark)
+    all_keep : (marks : List Gapped) (draws : List PlayerEvents) (thread place : ℕ) → ((j : ℕ) (mark : Mark) → mark_at marks j ≡ Some mark → HasMarkAt log thread (place + j) mark)
         → HoldsAt Q draws n → HoldsAt Q (noted_all draws thread place marks) n
     all_keep [] draws thread place has holds = holds
     all_keep (next ∷ marks) draws thread place has holds =
@@ -62,7 +62,7 @@ module _ (log : List ThreadLog) (n : ℕ) where
         (λ j mark is. ap (mark_at (thread_log_of log thread).marks) (let e : place + next.gap + 1 + j ≡ place + suc (next.gap + j) = omega arith in e) ∙ has (suc (next.gap + j)) mark (mark_later next marks j ∙ is))
         (note_keeps draws thread (place + next.gap) next.mark (has next.gap next.mark (mark_here next marks)) holds)
 
-    logs_keep : (logs : List ThreadLog) (draws : List Needed) (thread : ℕ) → ((i j : ℕ) (mark : Mark) → mark_at (thread_log_of logs i).marks j ≡ Some mark → HasMarkAt log (thread + i) j mark)
+    logs_keep : (logs : List ThreadLog) (draws : List PlayerEvents) (thread : ℕ) → ((i j : ℕ) (mark : Mark) → mark_at (thread_log_of logs i).marks j ≡ Some mark → HasMarkAt log (thread + i) j mark)
         → HoldsAt Q draws n → HoldsAt Q (noted_of draws thread logs) n
     logs_keep [] draws thread has holds = holds
     logs_keep (own ∷ logs) draws thread has holds =
@@ -71,7 +71,7 @@ module _ (log : List ThreadLog) (n : ℕ) where
         (all_keep own.marks draws thread 0
         (λ j mark is. ap (mark_at (thread_log_of log thread).marks) (let e : 0 + j ≡ j = omega arith in e) ∙ ap (λ (t : ℕ). mark_at (thread_log_of log t).marks j) (let e : thread ≡ thread + 0 = omega arith in e) ∙ has 0 j mark is) holds)
 
-  note_sets : (draws : List Needed) (thread place : ℕ) (mark : Mark) → mark ≡ Draw (suc n) → HasMarkAt log thread place mark → HoldsAt Strong (noted draws thread place mark) n
+  note_sets : (draws : List PlayerEvents) (thread place : ℕ) (mark : Mark) → mark ≡ Draw (suc n) → HasMarkAt log thread place mark → HoldsAt Strong (noted draws thread place mark) n
   note_sets draws thread place mark is has = subst (λ (m : Mark). HoldsAt Strong (noted draws thread place m) n) (sym is) go
     where
       go : HoldsAt Strong (set draws n (record { whom = thread; events = place + 1 })) n
@@ -79,7 +79,7 @@ module _ (log : List ThreadLog) (n : ℕ) where
           let e : record { whom = thread; events = place + 1 } ≡ d = get_set_same draws n (record { whom = thread; events = place + 1 }) d at in
           subst Strong e (omega arith, subst (λ (k : ℕ). HasMarkAt log thread k (Draw (suc n))) (one_back place) (has ∙ ap Some is))
 
-  all_set : (marks : List Gapped) (draws : List Needed) (thread place : ℕ) → ((j : ℕ) (mark : Mark) → mark_at marks j ≡ Some mark → HasMarkAt log thread (place + j) mark)
+  all_set : (marks : List Gapped) (draws : List PlayerEvents) (thread place : ℕ) → ((j : ℕ) (mark : Mark) → mark_at marks j ≡ Some mark → HasMarkAt log thread (place + j) mark)
       → (j : ℕ) → mark_at marks j ≡ Some (Draw (suc n)) → HoldsAt Strong (noted_all draws thread place marks) n
   all_set [] draws thread place has j is = absurd cc
   all_set (next ∷ marks) draws thread place has j is =
@@ -92,7 +92,7 @@ module _ (log : List ThreadLog) (n : ℕ) where
         | inr later ↦ all_set marks (noted draws thread (place + next.gap) next.mark) thread (place + next.gap + 1) more later.0 later.1
       ]
 
-  logs_set : (logs : List ThreadLog) (draws : List Needed) (thread : ℕ) → ((i j : ℕ) (mark : Mark) → mark_at (thread_log_of logs i).marks j ≡ Some mark → HasMarkAt log (thread + i) j mark)
+  logs_set : (logs : List ThreadLog) (draws : List PlayerEvents) (thread : ℕ) → ((i j : ℕ) (mark : Mark) → mark_at (thread_log_of logs i).marks j ≡ Some mark → HasMarkAt log (thread + i) j mark)
       → (i j : ℕ) → mark_at (thread_log_of logs i).marks j ≡ Some (Draw (suc n)) → HoldsAt Strong (noted_of draws thread logs) n
   logs_set [] draws thread has i j is = absurd cc
   logs_set (own ∷ logs) draws thread has zero j is =
@@ -105,17 +105,17 @@ module _ (log : List ThreadLog) (n : ℕ) where
       (λ k l mark at. ap (λ (t : ℕ). mark_at (thread_log_of log t).marks l) (let e : suc thread + k ≡ thread + suc k = omega arith in e) ∙ has (suc k) l mark at) i j is
 
 -- the table has an entry for each number
-same_length : (draws : List Needed) (thread place : ℕ) (mark : Mark) → length (noted draws thread place mark) ≡ length draws
+same_length : (draws : List PlayerEvents) (thread place : ℕ) (mark : Mark) → length (noted draws thread place mark) ≡ length draws
 same_length draws thread place (Join from upto) = refl
 same_length draws thread place (Fence number) = refl
 same_length draws thread place (Draw zero) = refl
 same_length draws thread place (Draw (suc number)) = length-set draws number (record { whom = thread; events = place + 1 })
 
-all_length : (marks : List Gapped) (draws : List Needed) (thread place : ℕ) → length (noted_all draws thread place marks) ≡ length draws
+all_length : (marks : List Gapped) (draws : List PlayerEvents) (thread place : ℕ) → length (noted_all draws thread place marks) ≡ length draws
 all_length [] draws thread place = refl
 all_length (next ∷ marks) draws thread place = all_length marks (noted draws thread (place + next.gap) next.mark) thread (place + next.gap + 1) ∙ same_length draws thread (place + next.gap) next.mark
 
-logs_length : (logs : List ThreadLog) (draws : List Needed) (thread : ℕ) → length (noted_of draws thread logs) ≡ length draws
+logs_length : (logs : List ThreadLog) (draws : List PlayerEvents) (thread : ℕ) → length (noted_of draws thread logs) ≡ length draws
 logs_length [] draws thread = refl
 logs_length (own ∷ logs) draws thread = logs_length logs (noted_all draws thread 0 own.marks) (suc thread) ∙ all_length own.marks draws thread 0
 
@@ -140,7 +140,7 @@ highest_logs [] before i j number is = absurd cc
 highest_logs (own ∷ logs) before zero j number is = let a = highest_all own.marks before j number is in let b = higher_logs logs (highest_of own.marks before) in omega arith
 highest_logs (own ∷ logs) before (suc i) j number is = highest_logs logs (highest_of own.marks before) i j number is
 
-none_known : (most n : ℕ) (d : Needed) → slice_get (replicate most unknown) n ≡ Some d → d ≡ unknown
+none_known : (most n : ℕ) (d : PlayerEvents) → slice_get (replicate most unknown) n ≡ Some d → d ≡ unknown
 none_known zero n d is = absurd cc
 none_known (suc most) zero d is = cc
 none_known (suc most) (suc n) d is = none_known most n d is
@@ -152,16 +152,16 @@ are_draws log untied = (
       let inside : number < length table = let a = logs_length log (replicate (highest_in log 0) unknown) 0 in let b = length-replicate (highest_in log 0) unknown in omega arith in
       found whom place number has inside (slice_get table number) refl),
   (λ number d is. logs_keep log number (λ e. 0 < e.events → IsDrawOf log (suc number) e) (λ e strong some. strong) log (replicate (highest_in log 0) unknown) 0 whole
-      (λ e at some. absurd (let none = ap (λ (z : Needed). z.events) (none_known (highest_in log 0) number e at) in omega arith)) d is),
+      (λ e at some. absurd (let none = ap (λ (z : PlayerEvents). z.events) (none_known (highest_in log 0) number e at) in omega arith)) d is),
 )
   where
-    table : List Needed
+    table : List PlayerEvents
     table = noted_of (replicate (highest_in log 0) unknown) 0 log
 
     whole : (i j : ℕ) (mark : Mark) → mark_at (thread_log_of log i).marks j ≡ Some mark → HasMarkAt log (0 + i) j mark
     whole i j mark is = ap (λ (t : ℕ). mark_at (thread_log_of log t).marks j) (let e : 0 + i ≡ i = omega arith in e) ∙ is
 
-    found : (whom place number : ℕ) → HasMarkAt log whom place (Draw (suc number)) → number < length table → (o : Option Needed) → slice_get table number ≡ o → slice_get table number ≡ Some (record { whom = whom; events = suc place })
+    found : (whom place number : ℕ) → HasMarkAt log whom place (Draw (suc number)) → number < length table → (o : Option PlayerEvents) → slice_get table number ≡ o → slice_get table number ≡ Some (record { whom = whom; events = suc place })
     found whom place number has inside None at =
         elim (slice_get_cases table number).1 [
           | inl there ↦ absurd (let some = there.2 in cc)
@@ -181,7 +181,7 @@ next_dropped [] i none h = absurd (omega arith)
 next_dropped (x ∷ marks) zero none h = refl
 next_dropped (x ∷ marks) (suc i) none h = next_dropped marks i none (omega arith)
 
-pub one_noted : (draws new : List Needed) (thread place after i : ℕ) (marks : List Gapped) (none : Gapped) (whole : List Needed)
+pub one_noted : (draws new : List PlayerEvents) (thread place after i : ℕ) (marks : List Gapped) (none : Gapped) (whole : List PlayerEvents)
     → new ≡ noted draws thread (place + (get_or marks i none).gap) (get_or marks i none).mark → after ≡ place + (get_or marks i none).gap + 1 → i < length marks
     → noted_all draws thread place (drop i marks) ≡ whole → noted_all new thread after (drop (i + 1) marks) ≡ whole
 one_noted draws new thread place after i marks none whole new_is after_is h rest =
@@ -196,9 +196,6 @@ take_all [] ys zero e = refl
 take_all [] ys (suc n) e = absurd (omega arith)
 take_all (x ∷ xs) ys zero e = absurd (omega arith)
 take_all (x ∷ xs) ys (suc n) e = ap (λ l. x ∷ l) (take_all xs ys n (omega arith))
-
-pub noted_length : (logs : List ThreadLog) (draws : List Needed) (thread : ℕ) → length (noted_of draws thread logs) ≡ length draws
-noted_length = logs_length
 
 -- a thread of a valid log has few marks
 pub few_marks_each : (log : Log) (logs : List ThreadLog) → logs ≡ log.threads → (k : ℕ) (d : ThreadLog) → k < length logs → length (get_or logs k d).marks < 2147483648

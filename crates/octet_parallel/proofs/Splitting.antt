@@ -8,9 +8,9 @@ use Rattle.atomic_table.specs.Table.{Splits, Joins}
 use Rattle.atomic_table.proofs.Lists.{at_set}
 use Rattle.octet_model.specs.declared.script.Script.{Script}
 use Rattle.octet_model.specs.declared.log.Log.{Log}
-use Rattle.octet_parallel.specs.State.{PlayerState, FieldState, player_of, unbegun}
+use Rattle.octet_parallel.specs.State.{PlayerState, FieldState, player_of}
 use Rattle.octet_parallel.specs.Views.{PlayerView, after_split, split_off, after_join}
-use Rattle.octet_parallel.specs.Rule.{IsSeenBy, AreJoined, IsApart, AreApart, IsSeated, IsRuled, spent}
+use Rattle.octet_parallel.specs.Rule.{AreJoined, IsApart, AreApart, IsSeated, IsRuled, spent}
 
 at_end : {A : Type 0} (l : List A) (a b : A) (j : ℕ) → get_elem? (l ++ a ∷ []) j ≡ some b → (get_elem? l j ≡ some b) ⊎ ((j ≡ length l) × (a ≡ b))
 at_end [] a b zero e = inr (refl, some-injective a b e)

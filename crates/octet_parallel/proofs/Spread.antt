@@ -1,5 +1,5 @@
 -- Where the words of a state lie among all.
-use Rattle.std.proofs.Common.{◌≡◌, ℕ, zero, suc, ◌+◌, ◌*◌, ◌<◌, List, [], ◌∷◌, ◌++◌, map, length, get_or, set, sym, refl, ap, ◌∙◌, arith, zero-add}
+use Rattle.std.proofs.Common.{◌≡◌, ℕ, zero, suc, ◌+◌, ◌*◌, ◌<◌, List, [], ◌∷◌, ◌++◌, map, length, get_or, set, refl, ap, ◌∙◌, arith, zero-add}
 use Rattle.octet_parallel.specs.State.{PlayerState, FieldState, player_of, unbegun, progress, spread, words, progress_place, cell_place}
 
 -- eight words further on

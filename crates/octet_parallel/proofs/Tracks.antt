@@ -1,18 +1,17 @@
 -- What a front of a log tells of its marks: they stand where the log has them, and each draw stands once.
-use Rattle.std.proofs.Common.{◌⊎◌, ◌≡◌, ℕ, zero, suc, pred, ◌+◌, ◌-◌, ◌<◌, ◌≤◌, inl, inr, Bool, true, false, nat_lt, ◌==◌, cond, List, [], ◌∷◌, ◌++◌, length, Option, Some, None, IsTrue, slice_get, refl, sym, ap, ◌∙◌, subst, arith, append-nil, append_assoc, length-append, zero-add}
+use Rattle.std.proofs.Common.{◌⊎◌, ◌≡◌, ℕ, zero, suc, ◌+◌, ◌-◌, ◌<◌, ◌≤◌, inl, inr, Bool, true, false, nat_lt, ◌==◌, cond, List, [], ◌∷◌, ◌++◌, length, Option, Some, None, IsTrue, slice_get, refl, sym, ap, ◌∙◌, subst, arith, append-nil, append_assoc, zero-add}
 use Rattle.std.proofs.lemmas.Bool.{cases_eq, cases_lt, ltb-true, lt-ltb, le-ltb, eqb-true, eq-eqb, ne_eqb}
-use Rattle.std.proofs.lemmas.Option.{slice_get_within}
 use Rattle.octet_model.specs.declared.event.Event.{Event}
 use Rattle.octet_model.specs.declared.event.Event.TheVariants.{Read, Write, Update, Marked}
 use Rattle.octet_model.specs.declared.event.Mark.{Mark}
 use Rattle.octet_model.specs.declared.log.Gapped.{Gapped}
 use Rattle.octet_model.specs.declared.log.ThreadLog.{ThreadLog}
 use Rattle.octet_model.specs.declared.outcome.End.TheVariants.{Done}
-use Rattle.octet_model.specs.Thread.{AccessOrEnd, ToRead, ToWrite, ToBump, ToEnd}
+use Rattle.octet_model.specs.Thread.{AccessOrEnd, ToRead, ToEnd}
 use Rattle.octet_model.specs.Journals.{access_count, mark_count, gap_after, gapped_marks, due_mark, next_access, mark_first}
-use Rattle.octet_model.specs.Machine.{Journals, journal_of, PlainState, Operation, MakeMark, MakeRead, MakeWrite, MakeUpdate, Next, Wants, Behavior, event_made, next_of, may_step, step, after, IsFront}
+use Rattle.octet_model.specs.Machine.{Journals, journal_of, PlainState, Operation, MakeMark, MakeRead, MakeWrite, MakeUpdate, Next, Wants, Behavior, event_made, may_step, step, after, IsFront}
 use Rattle.octet_model.specs.Orders.{thread_log_of}
-use Rattle.octet_model.proofs.lemmas.Splits.{accesses_split, marks_split, gap_split, gapped_marks_split, length-gapped_marks}
+use Rattle.octet_model.proofs.lemmas.Splits.{accesses_split, gap_split, gapped_marks_split, length-gapped_marks}
 use Rattle.octet_model.proofs.lemmas.Lists.{slice_get_split}
 use Rattle.octet_model.proofs.lemmas.LowestFronts.{IsNext, is_next, each_journal}
 use Rattle.octet_clock.specs.Untied.{any_access, by_log_alone}

@@ -1,43 +1,37 @@
 -- What a player knows between two of its calls, and what a step makes of it.
-use Rattle.std.proofs.Common.{◌≡◌, ◌≢◌, ◌⊎◌, inl, inr, ℕ, zero, suc, pred, ◌+◌, ◌<◌, ◌≤◌, Bool, true, false, nat_lt, if◌then◌else◌, ◌==◌, cond, List, [], ◌∷◌, ◌++◌, length, take, get_or, Option, Some, None, slice_get, refl, sym, ap, ◌∙◌, subst, subst₂, arith, append-nil, length-append}
-use Rattle.std.proofs.lemmas.Bool.{cases_eq, cases_lt, eq-eqb, ne_eqb, lt-ltb, le-ltb, ltb-true}
-use Rattle.std.proofs.lemmas.List.{get_or_past}
+use Rattle.std.proofs.Common.{◌≡◌, inr, ℕ, suc, ◌+◌, ◌<◌, ◌≤◌, Bool, true, false, nat_lt, if◌then◌else◌, cond, List, [], ◌∷◌, ◌++◌, length, get_or, Option, Some, None, slice_get, refl, sym, ap, ◌∙◌, subst, subst₂, arith, length-append}
+use Rattle.std.proofs.lemmas.Bool.{eq-eqb, le-ltb}
 use Rattle.std.proofs.lemmas.List.Sums.{sum_by-cons, sum_by-append}
-use Rattle.std.proofs.lemmas.Option.{slice_get_within}
 use Rattle.std.specs.List.{sum_by}
 use Rattle.std.specs.Vec.{vec_len, vec_capacity}
-use Rattle.octet_model.specs.declared.limits.TheConstants.{MAX_ACCESSES}
 use Rattle.octet_model.specs.declared.event.Event.{Event}
 use Rattle.octet_model.specs.declared.event.Event.TheVariants.{Read, Write, Update, Marked}
 use Rattle.octet_model.specs.declared.event.Mark.{Mark}
 use Rattle.octet_model.specs.declared.log.Gapped.{Gapped}
 use Rattle.octet_model.specs.declared.log.Log.{Log}
 use Rattle.octet_model.specs.declared.log.ThreadLog.{ThreadLog}
-use Rattle.octet_model.specs.declared.script.Script.{Script}
 use Rattle.octet_model.specs.Thread.{AccessOrEnd, ToRead, ToWrite, ToBump, ToEnd, starting_configuration, added}
 use Rattle.octet_model.specs.Journals.{access_count, mark_count, gap_after, gapped_marks, due_mark, next_access, mark_first}
-use Rattle.octet_model.specs.Machine.{Next, Wants, Finished, NothingFits, MakeMark, MakeRead, MakeWrite, MakeUpdate, event_made}
+use Rattle.octet_model.specs.Machine.{Next, Wants, Finished, MakeMark, MakeRead, MakeWrite, MakeUpdate}
 use Rattle.octet_model.specs.Orders.{by_log, commands_of, thread_log_of}
 use Rattle.octet_model.proofs.lemmas.Splits.{length_parts, length-gapped_marks}
 use Rattle.octet_model.proofs.lemmas.Validity.{valid_log}
 use Rattle.octet_replay.specs.Threads.{IsReplayOf, next_by_counts, next_event, Grown, HasRoomFor, StandsFor}
-use Rattle.octet_replay.specs.NextDemand.{demand_of, NamesObject}
+use Rattle.octet_replay.specs.NextDemand.{demand_of}
 use Rattle.octet_replay.specs.declared.thread.NextDemand.{NextDemand}
 use Rattle.octet_replay.specs.declared.thread.ThreadReplay.{ThreadReplay}
 use Rattle.octet_replay.proofs.lemmas.Growing.{by_counts, grows, stands_for, has_room}
 use Rattle.octet_replay.proofs.lemmas.Valid.{few_accesses, few_marks}
-use Rattle.octet_parallel.specs.declared.fate.Fate.{Fate}
-use Rattle.octet_parallel.specs.declared.fate.Fate.TheVariants.{Playing, Amiss, Stopped}
 use Rattle.octet_parallel.specs.declared.field.Field.{Field}
 use Rattle.octet_parallel.specs.declared.player.Player.{Player}
 use Rattle.octet_parallel.specs.State.{PlayerState, FieldState, player_of}
-use Rattle.octet_parallel.specs.Steps.{Kind, ToLook, ToRead, ToWrite, ToBump, ToAdvance, ToStop, step, told, target, made, event_next, with_event, IsAmiss}
-use Rattle.octet_replay.specs.Judged.{DemandsEnd, DemandsAccess}
+use Rattle.octet_parallel.specs.Steps.{Kind, ToRead, ToWrite, ToBump, ToAdvance, step, target, event_next, with_event, IsAmissBy}
+use Rattle.octet_replay.specs.Judged.{DemandsAccess}
 use Rattle.octet_parallel.specs.Tracks.{Ahead, IsOnTrack}
-use Rattle.octet_parallel.specs.Views.{PlayerView, next_in, stepped_by}
-use Rattle.octet_parallel.specs.Rule.{IsSeenBy, Steps}
-use Rattle.octet_parallel.specs.Players.{IsSeatOf}
-use Rattle.octet_parallel.specs.Playing.{view_of, script_in, log_in, IsPlayerOf, HasRoom}
+use Rattle.octet_parallel.specs.Views.{PlayerView, next_in}
+use Rattle.octet_parallel.specs.Rule.{Steps}
+use Rattle.octet_parallel.specs.Seats.{IsSeatOf}
+use Rattle.octet_parallel.specs.Calls.{view_of, script_in, log_in, IsPlayerOf}
 use Rattle.octet_parallel.proofs.Keeping.{own_track}
 use Rattle.octet_parallel.proofs.Kept.{next_seen}
 use Rattle.octet_parallel.proofs.Tracks.{next_left}
@@ -219,8 +213,8 @@ module _ (field : Field) (p : Player) (own : IsPlayerOf field p) where
   abbrev own_log : ThreadLog
   own_log = thread_log_of (log_in field).threads p.number
 
-  to_view : IsAmiss (script_in field) (log_in field).threads p.number p.journal.items → IsAmiss (view_of p).script (view_of p).log.threads (view_of p).number (view_of p).player.journal
-  to_view is = subst (λ z. z) (λ i. IsAmiss (sym own.own.0.1 i) ((sym own.own.0.2 i).threads) (sym own.number i) (sym own.journal i)) is
+  to_view : IsAmissBy (script_in field) (log_in field).threads p.number p.journal.items → IsAmissBy (view_of p).script (view_of p).log.threads (view_of p).number (view_of p).player.journal
+  to_view is = subst (λ z. z) (λ i. IsAmissBy (sym own.own.0.1 i) ((sym own.own.0.2 i).threads) (sym own.number i) (sym own.journal i)) is
 
   gaps_fit : sum_by (λ (g : Gapped). g.gap) own_log.marks ≤ own_log.accesses
   gaps_fit =
@@ -238,17 +232,10 @@ module _ (field : Field) (p : Player) (own : IsPlayerOf field p) where
     no_mark_left past = nothing_left own_log p.journal.items own.track gaps_fit (all_made past) none_due
 
     -- it goes on where nothing is left
-    pub goes_on : own_log.accesses ≤ p.replay.accesses → IsDemand p.replay.up_next → IsAmiss (view_of p).script (view_of p).log.threads (view_of p).number (view_of p).player.journal
+    pub goes_on : own_log.accesses ≤ p.replay.accesses → IsDemand p.replay.up_next → IsAmissBy (view_of p).script (view_of p).log.threads (view_of p).number (view_of p).player.journal
     goes_on past demands = to_view (record {
       no_mark = none_due;
       why = inr (all_made past, no_mark_left past, subst DemandsAccess (sym own.replay.comes.demands) demands);
-    })
-
-    -- it ends where an access is left
-    pub ends_early : p.replay.accesses < own_log.accesses → DemandsEnd (demand_of p.replay.up_next) → IsAmiss (view_of p).script (view_of p).log.threads (view_of p).number (view_of p).player.journal
-    ends_early left demands = to_view (record {
-      no_mark = none_due;
-      why = inl (omega (arith, left, own.replay.counts.counts_accesses), subst DemandsEnd (sym own.replay.comes.demands) demands);
     })
 
     -- and is through where nothing is left

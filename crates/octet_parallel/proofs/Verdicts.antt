@@ -1,29 +1,25 @@
 -- What the journals that the players made tell of the lowest order.
-use Rattle.std.proofs.Common.{◌≡◌, ◌⊎◌, inl, inr, ℕ, ◌<◌, ◌≤◌, ◌↔◌, ⊎_elim, All, IsTrue, true, false, Bool, List, length, get_or, Option, Some, None, refl, sym, ap, ◌∙◌, subst, arith}
-use Rattle.octet_model.specs.declared.event.Event.{Event}
+use Rattle.std.proofs.Common.{◌⊎◌, inl, inr, ℕ, ◌<◌, ⊎_elim, All, List, length, Some, None, sym, ◌∙◌, subst, arith}
 use Rattle.octet_model.specs.declared.log.Log.{Log}
 use Rattle.octet_model.specs.declared.log.ThreadLog.{ThreadLog}
-use Rattle.octet_model.specs.declared.outcome.Outcome.{Outcome}
 use Rattle.octet_model.specs.declared.script.Script.{Script}
-use Rattle.octet_model.specs.Journals.{access_count, mark_count}
 use Rattle.octet_model.specs.Machine.{Journals, journal_of}
 use Rattle.octet_model.specs.HappensBefore.{IsOrdered}
-use Rattle.octet_model.specs.Orders.{thread_log_of, journals_after}
-use Rattle.octet_replay.specs.Judged.{DemandsEnd, DemandsAccess}
-use Rattle.octet_clock.specs.Fronts.{OrdersConflicts, IsAmissAfter, demand_after}
+use Rattle.octet_model.specs.Orders.{journals_after}
+use Rattle.octet_clock.specs.Fronts.{IsAmissAfter}
 use Rattle.octet_clock.specs.Ordered.{AreOfLawfulOrder}
 use Rattle.octet_clock.proofs.lemmas.FrontLaws.{no_front_is_amiss, one_order_tells, one_order_gives}
-use Rattle.octet_parallel.specs.declared.played.Finished as finished
+use Rattle.octet_parallel.specs.declared.finished.Finished as finished
 use Rattle.std.specs.List.{AllZip}
 use Rattle.std.proofs.lemmas.List.Elements.{AllZip-get_or, length_all_zip}
 use Rattle.octet_parallel.specs.declared.field.Field.{Field}
 use Rattle.octet_parallel.specs.declared.player.Player.{Player}
-use Rattle.octet_parallel.specs.Steps.{IsAmiss}
-use Rattle.octet_parallel.specs.Playing.{EachUnbegun, EachEnded, SomeFrontIsAmiss, IsFinishedReplay}
+use Rattle.octet_parallel.specs.Steps.{IsAmissBy}
+use Rattle.octet_parallel.specs.Calls.{EachUnbegun, EachEnded, SomeFrontIsAmiss, IsFinishedReplay}
 use Rattle.octet_parallel.specs.Judging.{HasPlayed, IsSamePlayer, IsJudged}
 
 module _ (script : Script) (log : List ThreadLog) where
-  amiss_alike : (front : List ℕ) (thread : ℕ) → IsAmiss script log thread (journal_of (journals_after script log front) thread) → IsAmissAfter script log front thread
+  amiss_alike : (front : List ℕ) (thread : ℕ) → IsAmissBy script log thread (journal_of (journals_after script log front) thread) → IsAmissAfter script log front thread
   amiss_alike front thread is =
       ⊎_elim (λ early. inl (record { ends = early.1; fewer = early.0 }, is.no_mark))
       (λ on. inr (record { demands = on.2; made = on.0; no_mark_left = omega (arith, on.1) })) is.why

@@ -1,13 +1,12 @@
 -- What lets a player take a step, by its view.
-use Rattle.std.specs.Prelude.{◌≡◌, ◌≢◌, ℕ, ◌≤◌, ◌⊎◌, Option, Some, None}
+use Rattle.std.specs.Prelude.{◌≡◌, ◌≢◌, ℕ, ◌≤◌}
 use Rattle.octet_model.specs.declared.event.Mark.{Mark}
-use Rattle.octet_model.specs.Thread.{added}
-use Rattle.octet_model.specs.Machine.{Wants, MakeMark, MakeRead, MakeWrite, MakeUpdate}
+use Rattle.octet_model.specs.Machine.{Wants, MakeMark}
 use Rattle.octet_parallel.specs.declared.fate.Fate.{Fate}
 use Rattle.octet_parallel.specs.declared.fate.Fate.TheVariants.{Playing, Amiss, Stopped}
 use Rattle.octet_parallel.specs.Needs.{Needs}
 use Rattle.octet_parallel.specs.State.{found_of, stop_number}
-use Rattle.octet_parallel.specs.Steps.{IsAmiss, IsFree}
+use Rattle.octet_parallel.specs.Steps.{IsAmissBy, IsFree}
 use Rattle.octet_parallel.specs.Views.{PlayerView, next_in}
 
 -- the player plays, and owes nothing
@@ -25,5 +24,5 @@ MayMark v mark = IsFreeIn v × (next_in v ≡ Wants (MakeMark mark)) × HasFound
 -- why it stops
 abbrev pub StopsIn : PlayerView → Fate → Type 0
 StopsIn v Playing = ⊥
-StopsIn v Amiss = IsAmiss v.script v.log.threads v.number v.player.journal
+StopsIn v Amiss = IsAmissBy v.script v.log.threads v.number v.player.journal
 StopsIn v (Stopped whom) = found_of v.player whom ≡ stop_number

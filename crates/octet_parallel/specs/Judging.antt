@@ -7,7 +7,7 @@ use Rattle.octet_model.specs.Orders.{execution, lowest_order}
 use Rattle.octet_clock.specs.Fronts.{OrdersConflicts}
 use Rattle.octet_parallel.specs.declared.player.Player.{Player}
 use Rattle.octet_parallel.specs.declared.field.Field.{Field}
-use Rattle.octet_parallel.specs.Playing.{view_of, IsPlayerOf, HasEnded}
+use Rattle.octet_parallel.specs.Calls.{view_of, IsPlayerOf, HasEnded}
 
 -- the player has played to its end
 pub record HasPlayed (field : Field) (player : Player) : Type 0 where

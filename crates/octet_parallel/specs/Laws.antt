@@ -1,5 +1,5 @@
 -- Each step of a player keeps what is sound, and does to the words and the players what it says.
-use Rattle.std.specs.Prelude.{◌≡◌, ◌≢◌, ℕ, ◌+◌, ◌%◌, ◌^◌, ◌<◌, ◌≤◌, ◌↔◌, true, List, length, slice_index, slice_set}
+use Rattle.std.specs.Prelude.{◌≡◌, ◌≢◌, ℕ, ◌+◌, ◌%◌, ◌^◌, ◌<◌, ◌≤◌, ◌↔◌, true, length, slice_index, slice_set}
 use Rattle.octet_model.specs.declared.event.Mark.{Mark}
 use Rattle.octet_model.specs.declared.script.Script.{Script}
 use Rattle.octet_model.specs.declared.log.Log.{Log}
@@ -9,7 +9,7 @@ use Rattle.octet_parallel.specs.declared.fate.Fate.{Fate}
 use Rattle.octet_parallel.specs.declared.fate.Fate.TheVariants.{Playing}
 use Rattle.octet_clock.specs.Untied.{IsUntied}
 use Rattle.octet_parallel.specs.Needs.{Needs}
-use Rattle.octet_parallel.specs.State.{PlayerState, FieldState, player_of, found_of, made_by, stop_number, progress, words, progress_place, cell_place, next_of_player, opening}
+use Rattle.octet_parallel.specs.State.{FieldState, player_of, found_of, made_by, stop_number, progress, words, progress_place, cell_place, next_of_player, opening}
 use Rattle.octet_parallel.specs.Steps.{Kind, May, step, after, word_found, told, ToLook, ToRead, ToWrite, ToBump, ToAdvance, ToStop, StopsAs, IsFree}
 use Rattle.octet_parallel.specs.Soundness.{IsSoundField}
 
@@ -22,7 +22,7 @@ pub record Does (k : Kind) (t place : ℕ) (operation : ℕ → ℕ) (s : FieldS
   pub many : length (step k t s).players ≡ length s.players
 
 -- the player may take the step, which keeps the state sound and does to this place what it says
-pub record IsLawful (k : Kind) (t place : ℕ) (operation : ℕ → ℕ) (s : FieldState) : Type 0 where
+pub record IsLawfulStep (k : Kind) (t place : ℕ) (operation : ℕ → ℕ) (s : FieldState) : Type 0 where
   pub may : May k t s
   pub sound : IsSoundField (step k t s)
   pub does : Does k t place operation s
@@ -35,41 +35,41 @@ AreFound s t mark = (whom events : ℕ) → Needs s.log.threads mark whom events
 abbrev pub LookIsLawful : Type 0
 LookIsLawful = (s : FieldState) (t place whom : ℕ) → IsSoundField s → t < length s.players
     → IsFree (player_of s t) → whom < length s.players
-    → place ≡ progress_place whom → IsLawful (ToLook whom) t place (λ word. word) s
+    → place ≡ progress_place whom → IsLawfulStep (ToLook whom) t place (λ word. word) s
 
 -- it may read, write or update where that is next for it
 abbrev pub ReadIsLawful : Type 0
 ReadIsLawful = (s : FieldState) (t place object : ℕ) → IsSoundField s → t < length s.players
     → IsFree (player_of s t) → next_of_player s t ≡ Wants (MakeRead object)
-    → place ≡ cell_place (length s.players) object → IsLawful ToRead t place (λ word. word) s
+    → place ≡ cell_place (length s.players) object → IsLawfulStep ToRead t place (λ word. word) s
 
 abbrev pub WriteIsLawful : Type 0
 WriteIsLawful = (s : FieldState) (t place object value : ℕ) → IsSoundField s → t < length s.players
     → IsFree (player_of s t) → next_of_player s t ≡ Wants (MakeWrite object value)
-    → place ≡ cell_place (length s.players) object → IsLawful ToWrite t place (λ word. value) s
+    → place ≡ cell_place (length s.players) object → IsLawfulStep ToWrite t place (λ word. value) s
 
 abbrev pub BumpIsLawful : Type 0
 BumpIsLawful = (s : FieldState) (t place object amount : ℕ) → IsSoundField s → t < length s.players
     → IsFree (player_of s t) → next_of_player s t ≡ Wants (MakeUpdate object (added amount))
-    → place ≡ cell_place (length s.players) object → IsLawful ToBump t place (λ word. (word + amount) % 2 ^ 64) s
+    → place ≡ cell_place (length s.players) object → IsLawfulStep ToBump t place (λ word. (word + amount) % 2 ^ 64) s
 
 -- it counts the access that it owes
 abbrev pub CountIsLawful : Type 0
 CountIsLawful = (s : FieldState) (t place new : ℕ) → IsSoundField s → t < length s.players
     → (player_of s t).owes ≡ true
-    → place ≡ progress_place t → new ≡ made_by s t → IsLawful ToAdvance t place (λ word. new) s
+    → place ≡ progress_place t → new ≡ made_by s t → IsLawfulStep ToAdvance t place (λ word. new) s
 
 -- it makes the mark that is next for it, where it has found what the mark needs of others
 abbrev pub MarkIsLawful : Type 0
 MarkIsLawful = (s : FieldState) (t place new : ℕ) (mark : Mark) → IsSoundField s → t < length s.players
     → IsFree (player_of s t) → next_of_player s t ≡ Wants (MakeMark mark) → AreFound s t mark
-    → place ≡ progress_place t → new ≡ made_by s t + 1 → IsLawful ToAdvance t place (λ word. new) s
+    → place ≡ progress_place t → new ≡ made_by s t + 1 → IsLawfulStep ToAdvance t place (λ word. new) s
 
 -- it stops where it is amiss, or where it has found the stop number
 abbrev pub StopIsLawful : Type 0
 StopIsLawful = (s : FieldState) (t place : ℕ) (fate : Fate) → IsSoundField s → t < length s.players
     → IsFree (player_of s t) → StopsAs s t fate
-    → place ≡ progress_place t → IsLawful (ToStop fate) t place (λ word. stop_number) s
+    → place ≡ progress_place t → IsLawfulStep (ToStop fate) t place (λ word. stop_number) s
 
 -- before the first step the state is sound, for a script and an untied log of equally many threads
 abbrev pub OpeningIsSound : Type 0

@@ -6,9 +6,9 @@ pub mod Views
 pub mod Rule
 pub mod Laws
 pub mod Conditions
-pub mod Players
+pub mod Seats
 pub mod Cells
-pub mod Drawn
+pub mod Draws
 pub mod Tracks
-pub mod Playing
+pub mod Calls
 pub mod Judging

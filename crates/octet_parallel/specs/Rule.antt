@@ -5,9 +5,9 @@ use lib.ListN.{get_elem?}
 use Rattle.atomic_table.specs.Table.{State, Me, Step as TableStep, step as table_step}
 use Rattle.octet_model.specs.declared.script.Script.{Script}
 use Rattle.octet_model.specs.declared.log.Log.{Log}
-use Rattle.octet_parallel.specs.State.{PlayerState, FieldState, player_of, unbegun, words, progress_place, cell_place, stop_number}
+use Rattle.octet_parallel.specs.State.{PlayerState, FieldState, player_of, unbegun, words, progress_place, cell_place}
 use Rattle.octet_parallel.specs.Steps as steps
-use Rattle.octet_parallel.specs.Steps.{Kind, May, step, ToLook, ToRead, ToWrite, ToBump, ToAdvance, ToStop, target, stored}
+use Rattle.octet_parallel.specs.Steps.{Kind, May, step, ToLook, ToRead, ToWrite, ToBump, target}
 use Rattle.octet_parallel.specs.Soundness.{IsSoundField}
 use Rattle.octet_parallel.specs.Views.{PlayerView, new_view, next_in, stepped_by}
 

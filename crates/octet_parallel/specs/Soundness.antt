@@ -1,11 +1,11 @@
 -- A sound state of a parallel replay: between any two steps, what was made so far is a front of the script and the log.
-use Rattle.std.specs.Prelude.{◌≡◌, ◌≢◌, ℕ, ◌<◌, ◌≤◌, Bool, true, All, map, length}
+use Rattle.std.specs.Prelude.{◌≡◌, ◌≢◌, ℕ, ◌<◌, ◌≤◌, true, All, map, length}
 use Rattle.octet_model.specs.Machine.{IsFront}
 use Rattle.octet_model.specs.Orders.{by_log, opening_state}
 use Rattle.octet_parallel.specs.declared.fate.Fate.TheVariants.{Playing, Amiss, Stopped}
 use Rattle.octet_clock.specs.Untied.{IsUntied}
 use Rattle.octet_parallel.specs.State.{PlayerState, FieldState, SomeAmiss, player_of, made_by, stop_number, plain}
-use Rattle.octet_parallel.specs.Steps.{IsAmiss}
+use Rattle.octet_parallel.specs.Steps.{IsAmissBy}
 
 -- what holds of a look: where it found the stop number, some player is amiss. Any other number is at most the length of that player's journal
 pub record IsSoundLook (s : FieldState) (look : ℕ × ℕ) : Type 0 where
@@ -17,7 +17,7 @@ pub record IsSoundPlayer (s : FieldState) (t : ℕ) (p : PlayerState) : Type 0 w
   -- it owes the count of an access that it has made
   pub owes : p.owes ≡ true → (p.fate ≡ Playing) × (0 < length p.journal)
   -- it is amiss only where its journal, the script and the log say so
-  pub amiss : p.fate ≡ Amiss → IsAmiss s.script s.log.threads t p.journal
+  pub amiss : p.fate ≡ Amiss → IsAmissBy s.script s.log.threads t p.journal
   -- where it is stopped, some player is amiss
   pub stopped : (whom : ℕ) → p.fate ≡ Stopped whom → SomeAmiss s
   -- each of its looks is sound

@@ -1,5 +1,5 @@
 -- The state of a parallel replay: the words that players share, and how far each player is.
-use Rattle.std.specs.Prelude.{◌≡◌, ◌≢◌, ℕ, pred, ◌+◌, ◌*◌, ◌<◌, ◌==◌, if◌then◌else◌, Bool, true, false, List, [], ◌∷◌, ◌++◌, map, length, replicate, get_or}
+use Rattle.std.specs.Prelude.{◌≡◌, ℕ, pred, ◌+◌, ◌*◌, ◌<◌, ◌==◌, if◌then◌else◌, Bool, true, false, List, [], ◌∷◌, ◌++◌, map, length, replicate, get_or}
 use Rattle.octet_model.specs.declared.event.Event.{Event}
 use Rattle.octet_model.specs.declared.script.Script.{Script}
 use Rattle.octet_model.specs.declared.log.Log.{Log}
@@ -7,6 +7,7 @@ use Rattle.octet_model.specs.Machine.{PlainState, Next}
 use Rattle.octet_model.specs.Orders.{by_log, state_after, starting_heap}
 use Rattle.octet_parallel.specs.declared.fate.Fate.{Fate}
 use Rattle.octet_parallel.specs.declared.fate.Fate.TheVariants.{Playing, Amiss, Stopped}
+use Rattle.octet_parallel.specs.declared.words.TheConstants.{STOP_NUMBER}
 
 -- a player's journal, whether its last event is an access that its progress word doesn't count yet, whether it is amiss or stopped, and what it found in the progress words of others, the last first: of whom, and the number
 pub record PlayerState : Type 0 where
@@ -44,7 +45,7 @@ found_of p whom = found_last p.found whom
 
 -- the number that says that a player is amiss or stopped
 abbrev pub stop_number : ℕ
-stop_number = 18446744073709551615
+stop_number = STOP_NUMBER
 
 -- how many of its events a player shows
 abbrev pub shown : PlayerState → ℕ

@@ -1,5 +1,5 @@
 -- The steps of players: each reads or changes one word, and changes the player that takes it.
-use Rattle.std.specs.Prelude.{◌≡◌, ◌≢◌, ℕ, ◌<◌, ◌⊎◌, Bool, true, false, if◌then◌else◌, nat_lt, IsTrue, List, [], ◌∷◌, ◌++◌, length, Option, Some, None, slice_get, slice_set, slice_index}
+use Rattle.std.specs.Prelude.{◌≡◌, ℕ, ◌<◌, ◌⊎◌, Bool, true, false, if◌then◌else◌, IsTrue, List, [], ◌∷◌, ◌++◌, length, Option, Some, None, slice_get, slice_set, slice_index}
 use Rattle.octet_model.specs.declared.event.Mark.{Mark}
 use Rattle.octet_model.specs.declared.event.Event.{Event}
 use Rattle.octet_model.specs.declared.event.Event.TheVariants.{Read, Write, Update, Marked}
@@ -126,7 +126,7 @@ step k t s = record {
 }
 
 -- no mark is due, and the log has an access left while the thread demands its end, or has nothing left while the thread demands an access
-pub record IsAmiss (script : Script) (log : List ThreadLog) (thread : ℕ) (journal : List Event) : Type 0 where
+pub record IsAmissBy (script : Script) (log : List ThreadLog) (thread : ℕ) (journal : List Event) : Type 0 where
   pub no_mark : due_mark (slice_get (thread_log_of log thread).marks (mark_count journal)) (gap_after 0 journal) ≡ None
   pub why :
       ((access_count journal < (thread_log_of log thread).accesses) × DemandsEnd (demand_after script thread journal))
@@ -135,7 +135,7 @@ pub record IsAmiss (script : Script) (log : List ThreadLog) (thread : ℕ) (jour
 -- why a player stops: it is amiss, or it has found the stop number
 abbrev pub StopsAs : FieldState → ℕ → Fate → Type 0
 StopsAs s t Playing = ⊥
-StopsAs s t Amiss = IsAmiss s.script s.log.threads t (player_of s t).journal
+StopsAs s t Amiss = IsAmissBy s.script s.log.threads t (player_of s t).journal
 StopsAs s t (Stopped whom) = found_of (player_of s t) whom ≡ stop_number
 
 abbrev pub IsRead : Next → Type 0

@@ -1,9 +1,13 @@
 //! The field of a replay on threads.
 ghost use Rattle.std.specs.Prelude.{◌≡◌};
-ghost use Rattle.octet_parallel.specs.Drawn.{AreDraws};
-ghost use Rattle.octet_parallel.specs.Players.{log_of};
+ghost use Rattle.octet_parallel.specs.Draws.{AreDraws};
+ghost use Rattle.octet_parallel.specs.Seats.{log_of};
 
-use crate::needs::Needed;
+mod close;
+mod new;
+mod step;
+
+use crate::draws::PlayerEvents;
 use crate::words::Words;
 use octet_model::Log;
 
@@ -12,7 +16,7 @@ use octet_model::Log;
 pub struct Field {
     pub(crate) words: Words,
     pub(crate) log: Log,
-    pub(crate) draws: Vec<Needed>,
+    pub(crate) draws: Vec<PlayerEvents>,
     ghost of: { log_of words ≡ log },
     ghost known: { AreDraws (log_of words).threads draws.items },
 }

@@ -2,30 +2,24 @@
 //! beside the others, on words that all share. An event that needs others waits for them.
 #![tactic(auto)]
 
-mod closing;
 mod crew;
+mod draws;
 mod fate;
 mod field;
-mod finishing;
+mod finished;
 pub mod laws;
-mod needs;
-mod opening;
 mod patience;
 mod played;
 mod player;
-mod playing;
-mod plays;
-mod replaying;
-mod starting;
-mod stepping;
+mod replay;
 #[cfg(test)]
 mod tests;
 mod view;
 mod words;
 mod worker;
 
-pub use fate::Fate;
 pub use field::Field;
-pub use played::{Finished, Played};
+pub use finished::Finished;
+pub use played::Played;
 pub use player::Player;
-pub use replaying::parallel;
+pub use replay::parallel;

@@ -1,5 +1,4 @@
-//! What a step of a player comes to, and what a finished replay gives.
-use octet_model::{Event, List, Outcome};
+//! What a step of a player comes to.
 
 /// What a step of a player comes to.
 #[derive(Clone, Copy, Debug, PartialEq, Eq)]
@@ -15,11 +14,4 @@ pub enum Played {
     Amiss,
     /// The other player is amiss or stopped.
     Stopped { whom: u8 },
-}
-
-/// What a replay comes to whose players are all through: the outcome, and each thread's journal.
-#[derive(Debug, Drop)]
-pub struct Finished {
-    pub outcome: Outcome,
-    pub journals: List<List<Event>>,
 }

@@ -1,10 +1,11 @@
 //! Logs that are replayed on threads, made by hand.
 ghost use Rattle.std.specs.Prelude.{◌≡◌, ◌∷◌, ◌*◌, ◌&&◌, [], All, length, nat_le, IfOk, OnOk, IsSome, IsTrue};
 ghost use Rattle.std.specs.List.{AllZip, list_all};
+ghost use Rattle.octet_model.specs.declared.event.Mark.TheVariants.{Join, Draw, Fence};
 ghost use Rattle.octet_model.specs.declared.limits.TheConstants.{DEFAULT_FUEL, MAX_FUEL, MAX_THREADS};
 ghost use Rattle.octet_model.specs.Log.{is_log};
 ghost use Rattle.octet_model.specs.Script.{is_thread};
-ghost use Rattle.octet_parallel.specs.Playing.{IsPlayerOf};
+ghost use Rattle.octet_parallel.specs.Calls.{IsPlayerOf};
 ghost use Rattle.octet_parallel.specs.Judging.{HasPlayed, IsSamePlayer};
 
 use super::*;
@@ -89,6 +90,15 @@ fn script_of_readers(alloc: Global) -> Result<Script, OutOfMemory> {
     script_of(alloc, 9, threads)
 }
 
+// Thread 0 adds 2, and threads 1 and 2 read.
+fn script_of_three(alloc: Global) -> Result<Script, OutOfMemory> {
+    let mut threads = List::new(alloc);
+    threads.push(commands_of(alloc, BUMP_BY_2)?)?;
+    threads.push(commands_of(alloc, &[READ])?)?;
+    threads.push(commands_of(alloc, &[READ])?)?;
+    script_of(alloc, 5, threads)
+}
+
 fn thread_log(alloc: Global, accesses: u32, marks: &[Gapped]) -> Result<ThreadLog, OutOfMemory>
     ensures { IfOk result (λ log. log ≡ record { accesses = accesses; marks = marks.now }) }
 {
@@ -156,6 +166,32 @@ fn log_of_readers(alloc: Global) -> Result<Log, OutOfMemory> {
         mark: Mark::Draw { number: 1 },
     };
     threads.push(thread_log(alloc, 1, &[AFTER_THE_OTHER, draw])?)?;
+    Ok(Log { threads })
+}
+
+const DRAW_AFTER_ACCESS: Gapped = Gapped {
+    gap: 1,
+    mark: Mark::Draw { number: 1 },
+};
+
+const FENCE: Gapped = Gapped {
+    gap: 0,
+    mark: Mark::Fence { number: 1 },
+};
+
+// Thread 0 draws after its first access. Thread 1 has a fence for that, and thread 2 comes after so
+// many events of thread 0.
+fn log_of_three(alloc: Global, accesses: u32, upto: u64) -> Result<Log, OutOfMemory>
+    requires { IsTrue (is_log (record { accesses = accesses; marks = record { gap = 1; mark = Draw 1 } ∷ [] } ∷ record { accesses = 1; marks = record { gap = 0; mark = Fence 1 } ∷ [] } ∷ record { accesses = 1; marks = record { gap = 0; mark = Join 0 upto } ∷ [] } ∷ [])) }
+{
+    let after = Gapped {
+        gap: 0,
+        mark: Mark::Join { from: 0, upto },
+    };
+    let mut threads = List::new(alloc);
+    threads.push(thread_log(alloc, accesses, &[DRAW_AFTER_ACCESS])?)?;
+    threads.push(thread_log(alloc, 1, &[FENCE])?)?;
+    threads.push(thread_log(alloc, 1, &[after])?)?;
     Ok(Log { threads })
 }
 
@@ -354,12 +390,8 @@ const AMISS: (Option<u32>, Played) = (None, Played::Amiss);
 
 const STOPPED: (Option<u32>, Played) = (None, Played::Stopped { whom: 0 });
 
-const fn waits(whom: u8, needs: u64) -> (Option<u32>, Played) {
-    let waits = Played::Waits {
-        whom,
-        needs,
-        found: 0,
-    };
+const fn waits(whom: u8, needs: u64, found: u64) -> (Option<u32>, Played) {
+    let waits = Played::Waits { whom, needs, found };
     (None, waits)
 }
 
@@ -377,7 +409,7 @@ fn players_step_as_the_log_lets_them(rt: HostRuntime) -> Result<(), Fail> {
     let script = script_of_two(alloc, WRITE_7, &[READ])?;
     let log = log_of_two(alloc, 1, NO_MARKS, &[AFTER_ONE])?;
     let steps = [
-        waits(0, 1),
+        waits(0, 1, 0),
         FIRST_ACCESS,
         THROUGH,
         MADE,
@@ -410,7 +442,7 @@ fn draws_are_waited_for(rt: HostRuntime) -> Result<(), Fail> {
     let steps = [
         MADE,
         FIRST_ACCESS,
-        waits(2, 2),
+        waits(2, 2, 0),
         MADE,
         MADE,
         MADE,
@@ -476,9 +508,86 @@ fn players_stop_where_one_is_amiss(rt: HostRuntime) -> Result<(), Fail> {
     );
     let script = script_of_two(alloc, BUMP_BY_2, &[READ])?;
     let log = log_of_two(alloc, 2, NO_MARKS, &[AFTER_TWO])?;
-    let steps = [waits(0, 2), FIRST_ACCESS, AMISS, STOPPED, STOPPED, AMISS];
+    let steps = [waits(0, 2, 0), FIRST_ACCESS, AMISS, STOPPED, STOPPED, AMISS];
     let steps = Vec::from_slice(alloc, &steps)?;
     let order = [1, 0, 0, 1, 1, 0];
+    assert_eq!(rt;
+        played(&rt, alloc, &script, &log, &order)?,
+        Some((steps, None))
+    );
+    Ok(())
+}
+
+fn three_steps() -> [(Option<u32>, Played); 12] {
+    [
+        waits(0, 2, 0),
+        FIRST_ACCESS,
+        waits(0, 2, 1),
+        waits(0, 2, 1),
+        MADE,
+        MADE,
+        MADE,
+        FIRST_ACCESS,
+        THROUGH,
+        FIRST_ACCESS,
+        THROUGH,
+        THROUGH,
+    ]
+}
+
+#[test]
+fn three_players_wait_for_each_other(rt: HostRuntime) -> Result<(), Fail> {
+    let alloc = rt.alloc();
+    let script = script_of_three(alloc)?;
+    let log = log_of_three(alloc, 1, 2)?;
+    let update = Event::Update {
+        object: 0,
+        before: 5,
+        after: 7,
+    };
+    let events = [
+        (0, update),
+        (0, mark(DRAW_AFTER_ACCESS.mark)),
+        (1, mark(FENCE.mark)),
+        (1, read(7)),
+        (2, mark(AFTER_TWO.mark)),
+        (2, read(7)),
+    ];
+    let text = b"thread 0 done\nthread 1 done 7\nthread 2 done 7\nobject x 7\n";
+    let said = Said {
+        text: Vec::from_slice(alloc, text)?,
+        events: Vec::from_slice(alloc, &events)?,
+    };
+    let steps = Vec::from_slice(alloc, &three_steps())?;
+    let order = [1, 0, 1, 2, 0, 1, 2, 2, 2, 1, 1, 0];
+    assert_eq!(rt;
+        played(&rt, alloc, &script, &log, &order)?,
+        Some((steps, Some(said)))
+    );
+    Ok(())
+}
+
+#[test]
+fn a_third_player_stops_and_the_second_is_through(rt: HostRuntime) -> Result<(), Fail> {
+    let alloc = rt.alloc();
+    let script = script_of_three(alloc)?;
+    let log = log_of_three(alloc, 2, 3)?;
+    let steps = [
+        waits(0, 2, 0),
+        FIRST_ACCESS,
+        waits(0, 2, 1),
+        MADE,
+        MADE,
+        FIRST_ACCESS,
+        THROUGH,
+        waits(0, 3, 2),
+        AMISS,
+        STOPPED,
+        STOPPED,
+        AMISS,
+    ];
+    let steps = Vec::from_slice(alloc, &steps)?;
+    let order = [1, 0, 1, 0, 1, 1, 1, 2, 0, 2, 2, 0];
     assert_eq!(rt;
         played(&rt, alloc, &script, &log, &order)?,
         Some((steps, None))

@@ -2,12 +2,17 @@
 ghost use Rattle.std.specs.Prelude.{◌≡◌, ◌+◌, ◌*◌, ◌<◌, ◌≤◌, true, [], length};
 ghost use Rattle.octet_model.specs.declared.limits.TheConstants.{MAX_THREADS};
 
+mod close;
+mod kinds;
+mod new;
+mod steps;
+
 use crate::view::{Key, Sound, View};
 use atomic_table::Table;
 use std::alloc::Global;
 
 /// What a progress word says of a player that is amiss or stopped.
-pub const STOP_NUMBER: u64 = u64::MAX;
+pub(crate) const STOP_NUMBER: u64 = u64::MAX;
 
 /// The words that players share, under the rule.
 #[derive(Drop)]

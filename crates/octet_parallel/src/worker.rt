@@ -3,7 +3,7 @@
 ghost use Rattle.std.specs.Prelude.{◌≡◌, true, All};
 ghost use Rattle.std.specs.List.{AllZip};
 ghost use Rattle.std.specs.Thread.{IsSync};
-ghost use Rattle.octet_parallel.specs.Playing.{view_of, IsPlayerOf, EndsBy};
+ghost use Rattle.octet_parallel.specs.Calls.{view_of, IsPlayerOf, EndsBy};
 ghost use Rattle.octet_parallel.specs.Judging.{HasPlayed, IsSamePlayer};
 
 use crate::crew::Crew;

@@ -419,11 +419,6 @@ behind_at lanes thread lane behind was =
     let same : behind.lane ≡ lane = (let a = behind.is_there in cc) in
     subst (λ (l : Lane). l.taken < length l.nodes.items) same behind.behind
 
--- as many are left after waits were gone past
-pub as_many_left : (lanes : List Lane) (thread : ℕ) (old new : Lane) → thread < length lanes → old ≡ get_or lanes thread old → length new.nodes.items ≡ length old.nodes.items → new.taken ≡ old.taken → left_of (slice_set lanes thread new) ≡ left_of lanes
-as_many_left lanes thread old new within was nodes same =
-    omega (arith, sum_by-set (λ (l : Lane). length l.nodes.items - l.taken) lanes thread new old within, ap (λ (l : Lane). length l.nodes.items - l.taken) was, nodes, same)
-
 -- the waits of all regions are there
 pub are_within : (accesses : List Access) (chooser : Chooser) → KeepsChoice accesses chooser → AreWithin chooser.lanes.items
 are_within accesses chooser keeps thread i lane node is at = (keeps.lanes thread lane is).within i node at

@@ -168,10 +168,6 @@ module _ (script : Script) (log : List ThreadLog) where
 
 -- accesses that run, and are those of journals, are a play of these
 module _ (journals : Journals) where
-  record Plays (s end : PlainState) (play : List ℕ) (accesses : List Access) : Type 0 where
-    front : IsFront (by_journals journals) s play
-    ends : after (by_journals journals) s play ≡ end
-
   enabled_access : (s : PlainState) (e : Event) → is_access e ≡ true → IsTrue (is_enabled s (operation_of e))
   enabled_access s (Read object value) is = refl
   enabled_access s (Write object value) is = refl

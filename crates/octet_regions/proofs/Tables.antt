@@ -17,10 +17,6 @@ last_cases [] y (suc i) x is = absurd cc
 last_cases (z ∷ xs) y zero x is = inl is
 last_cases (z ∷ xs) y (suc i) x is = elim (last_cases xs y i x is) [ inl old ↦ inl old | inr new ↦ inr (ap suc new.0, new.1) ]
 
--- nothing is below no bound
-pub none_bounded : (H : ℕ → Type 0) → ((number : ℕ) → ¬ H number) → IsBound H 0
-none_bounded H none = record { below = λ number holds. absurd (none number holds); reached = λ number is. absurd (omega arith) }
-
 -- the higher of two bounds bounds what either bounds
 pub both_bounded : (H K L : ℕ → Type 0) (b c : ℕ) → ((number : ℕ) → L number → H number ⊎ K number) → ((number : ℕ) → H number → L number) → ((number : ℕ) → K number → L number)
     → IsBound H b → IsBound K c → IsBound L (max b c)
@@ -101,16 +97,6 @@ module _ (seen : List Access) (access : Access) (any : Bool) (before after : Lis
           (λ number same. record { place = length seen; access = access; is_there = slice_get_last seen access; in_region = ap (λ (n : ℕ). region_of t' n) (sym same); of_object = is; writes = writes })
           (keeps object t') (one_bounded access.region.number))
 
--- nothing is noted of no access
-no_touch : (any : Bool) (object : ℕ) (region : Region) → ¬ Touches [] any object region
-no_touch any object region t = cc (t.is_there)
-
-pub keeps_none : (last : LastRegions) → ((object thread : ℕ) → last_in last.all.objects.items object thread ≡ 0) → ((object thread : ℕ) → last_in last.writing.objects.items object thread ≡ 0) → KeepsLast [] last
-keeps_none last all writing = record {
-  all = λ object thread. subst (IsBound (λ number. Touches [] true object (region_of thread number))) (sym (all object thread)) (none_bounded _ (λ number. no_touch true object (region_of thread number)));
-  writing = λ object thread. subst (IsBound (λ number. Touches [] false object (region_of thread number))) (sym (writing object thread)) (none_bounded _ (λ number. no_touch false object (region_of thread number)));
-}
-
 any_will_do : (b : Bool) → IsTrue (b || true)
 any_will_do true = refl
 any_will_do false = refl
@@ -156,11 +142,6 @@ module _ (seen : List Access) (access : Access) (bound : ℕ → ℕ) where
   conflicts_by object w table of writes keeps is thread differ =
       same_bounded (λ number. Touches seen w object (region_of thread number)) (λ number. Conflicts seen (region_of thread number) access) _ _
       (λ number t. conflict_from object w of writes thread differ number t) (λ number c. touch_from object w of writes thread number c) (sym (is thread differ)) (keeps object thread)
-
-  pub no_conflicts : object_of access.event ≡ None → ((thread : ℕ) → bound thread ≡ 0) → BoundConflicts seen access bound
-  no_conflicts of is thread differ =
-      subst (IsBound (λ number. Conflicts seen (region_of thread number) access)) (sym (is thread))
-      (none_bounded _ (λ number c. (let none : None ≡ Some c.conflict.object = sym of ∙ c.conflict.of_same in cc)))
 
 -- all tables with one more access
 pub keeps_both : (seen : List Access) (access : Access) (before after : LastRegions) (object bound : ℕ) → object_of access.event ≡ Some object → is_write access.event ≡ true → bound ≡ suc access.region.number

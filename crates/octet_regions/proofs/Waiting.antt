@@ -18,15 +18,6 @@ pub record AddsBelow (limit thread : ℕ) (conflicts : ℕ → ℕ) (before : Li
   pub covers : (other number : ℕ) → other < limit → other ≢ thread → number < conflicts other → number < bound_in known_then other
   pub knows : KnowsWaits before known → KnowsWaits after known_then
 
-pub adds_none : (thread : ℕ) (conflicts : ℕ → ℕ) (before : List Wait) (known : Bounds) → AddsBelow 0 thread conflicts before known before known
-adds_none thread conflicts before known = record {
-  longer = omega arith;
-  same = λ k wait is. is;
-  added = λ k wait ge is. absurd (omega (arith, ge, slice_get_within before k wait is));
-  covers = λ other number lt. absurd (omega (arith, lt));
-  knows = λ knows. knows;
-}
-
 -- nothing is added where there are no conflicts
 pub adds_nothing : (thread : ℕ) (before : List Wait) (known : Bounds) → AddsWaits thread (λ other. 0) before known before known
 adds_nothing thread before known = record {
@@ -155,9 +146,6 @@ module _ (lane : Lane) (taken : Bounds) where
       none_below : (o : Option ℕ) → is_lower wait.of o ≡ true → LowestUnmet lane taken upto o → (lower : ℕ) → lower < wait.of → ¬ IsUnmet lane taken upto lower
       none_below None yes_ none lower lt u = none lower u
       none_below (Some low) yes_ some_ lower lt u = some_.1 lower (omega (arith, lt, ltb-true wait.of low yes_)) u
-
-  pub unmet_none : (upto : ℕ) → upto ≤ lane.over → LowestUnmet lane taken upto None
-  unmet_none upto le = λ other u. omega (arith, le, u.from_here, u.sooner)
 
   -- up to where the waits end
   unmet_same : (place upto other : ℕ) → (upto ≤ place) → ((place ≤ upto) ⊎ (place ≡ lane.over)) → IsUnmet lane taken place other → IsUnmet lane taken upto other

@@ -1,9 +1,8 @@
 -- The walk through regions that are left.
-use Rattle.std.proofs.Common.{◌≡◌, ◌≢◌, ℕ, zero, suc, ◌-◌, ◌<◌, ◌≤◌, ◌⊎◌, inl, inr, Bool, true, false, ◌||◌, ◌&&◌, ◌==◌, IsTrue, List, [], ◌∷◌, ◌++◌, length, Option, Some, None, slice_get, slice_set, get_or, take, drop, replicate, refl, sym, ap, ◌∙◌, subst, arith, length-append}
+use Rattle.std.proofs.Common.{◌≡◌, ◌≢◌, ℕ, zero, suc, ◌-◌, ◌<◌, ◌≤◌, ◌⊎◌, inl, inr, Bool, true, false, ◌||◌, ◌&&◌, ◌==◌, IsTrue, List, [], ◌∷◌, ◌++◌, length, Option, Some, None, slice_get, slice_set, get_or, take, drop, refl, sym, ap, ◌∙◌, subst, arith, length-append}
 use Rattle.std.proofs.lemmas.Bool.{cases_eq, cases_lt, and_parts, and_from, eqb-true, eq-eqb}
 use Rattle.std.proofs.lemmas.Option.{slice_get_within, slice_get-get_or}
 use Rattle.std.proofs.lemmas.List.{take-append-drop}
-use Rattle.std.proofs.lemmas.List.Sums.{sum_by-set}
 use Rattle.octet_model.specs.HappensBefore.{is_write}
 use Rattle.octet_model.proofs.lemmas.Lists.{slice_get-append, slice_get_last}
 use Rattle.octet_regions.specs.declared.access.Access.{Access}
@@ -18,7 +17,7 @@ use Rattle.octet_regions.specs.Bounds.{bound_in}
 use Rattle.octet_regions.specs.Choice.{IsCycle, IsHop, IsLowestLeft, IsWalk, TakesAll, walk_end}
 use Rattle.octet_regions.specs.Chooser.{IsBehind, IsStuck, KeepsChoice, LowestBehind}
 use Rattle.octet_regions.specs.Earlier.{BoundConflicts, Conflicts, KeepsLast, LowestUnmet, RegionsRise, region_of}
-use Rattle.octet_regions.specs.Walk.{EarliestFrom, EarliestIs, HasInto, IsFrom, NotesFrom, WalksTo, fresh_of}
+use Rattle.octet_regions.specs.Walk.{EarliestFrom, EarliestIs, HasInto, IsFrom, NotesFrom, WalksTo}
 use Rattle.octet_regions.proofs.Tables.{last_cases}
 use Rattle.octet_regions.proofs.Lanes.{same_region, set_elsewhere, set_there}
 use Rattle.octet_regions.proofs.Choosing.{before_left, free_is, got, none_left, left_above, left_from, left_is_above, next_is}
@@ -257,24 +256,6 @@ walks_more accesses taken start at came hops after hop within fresh walks into i
     | inr differ ↦ (let had = walks.walked thread (sym (set_elsewhere came at thread true differ) ∙ yes_) in record { place = had.place; hop = had.hop; is_there = slice_get-append hops (hop ∷ []) had.place had.hop had.is_there; into = had.into })
   ];
 })
-
-pub walks_none : (accesses : List Access) (taken : List Region) (start many : ℕ) (came : List Bool) (hops : List Hop) → came ≡ replicate many false → hops ≡ [] → WalksTo accesses taken start start came hops
-walks_none accesses taken start many came hops clear none = subst (λ (hs : List Hop). WalksTo accesses taken start start came hs) (sym none) (record {
-  walks = tt;
-  ends = refl;
-  once = λ i j one other lt is_one is_other. absurd cc;
-  marked = λ i hop is. absurd cc;
-  walked = λ thread yes_. absurd (none_marked many thread (ap (λ (l : List Bool). slice_get l thread) (sym clear) ∙ yes_));
-})
-  where
-    none_marked : (n thread : ℕ) → slice_get (replicate n false) thread ≡ Some true → ⊥
-    none_marked zero thread is = cc
-    none_marked (suc n) zero is = cc
-    none_marked (suc n) (suc thread) is = none_marked n thread is
-
--- fewer threads are fresh
-pub fewer_fresh : (came : List Bool) (at : ℕ) → at < length came → get_or came at false ≡ false → fresh_of (slice_set came at true) < fresh_of came
-fewer_fresh came at within fresh = omega (arith, sum_by-set (λ (b : Bool). elim b [ true ↦ 0 | false ↦ 1 ]) came at true false within, ap (λ (b : Bool). elim b as (λ _. ℕ) [ true ↦ 0 | false ↦ 1 ]) fresh)
 
 -- the lowest thread that is behind is the lowest with a region left
 pub lowest_left_is : (accesses : List Access) (chooser : Chooser) → KeepsChoice accesses chooser → (start : ℕ) → LowestBehind chooser.lanes.items (Some start) → IsLowestLeft accesses chooser.order.items start

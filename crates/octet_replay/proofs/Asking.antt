@@ -14,7 +14,7 @@ use Rattle.octet_replay.specs.declared.thread.NextDemand.{NextDemand}
 use Rattle.octet_replay.specs.declared.thread.NextDemand.TheVariants.{Read as ReadNext, Write as WriteNext, Bump as BumpNext, Ended as EndNext}
 use Rattle.octet_replay.specs.NextDemand.{demand_of, IsBeforeDemand, IsDemandedNext}
 
--- the thread settles as the configuration does, and was next_demand this
+-- the thread settles as the configuration does, and has told this demand
 pub record Asked (commands : List Command) (c : Configuration) (s : ThreadState) (demand : Demand) (after : ThreadState) : Type 0 where
   pub runs : s.commands ≡ commands
   pub settles : settled commands s.at ≡ settled commands c

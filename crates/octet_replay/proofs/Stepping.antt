@@ -32,10 +32,10 @@ use Rattle.octet_replay.specs.declared.state.Replay.{Replay}
 use Rattle.octet_replay.specs.NextDemand.{demand_of, NamesObject}
 use Rattle.octet_replay.specs.Needs.{NeedsAndCounts, after_step, no_counts, is_ready, IsLowestReady, NamesThread}
 use Rattle.octet_replay.specs.ReplayState.{ReplayState, state_at, plain_state, regions_of, HasHalted, IsNextStep, IsNextThread}
-use Rattle.octet_replay.specs.Replayed.{state_of, is_draw, AllNameObjects, AreNeedsOf, AreReplaysOf, CanMake, IsAt, MakesEvent, StandsAt}
+use Rattle.octet_replay.specs.Replayed.{state_of, is_draw, AreNeedsOf, AreReplaysOf, CanMake, IsAt, MakesEvent, StandsAt}
 use Rattle.octet_replay.specs.Threads.{need_of, next_by_counts, next_event, Grown, HasRoomFor, IsReplayOf, StandsFor, WritesWithin}
 use Rattle.octet_replay.proofs.lemmas.Awaiting as awaiting
-use Rattle.octet_replay.proofs.lemmas.Awaiting.{OneMore, one_more, draws_counted, awaits_after, one_counted, awaits_at_start}
+use Rattle.octet_replay.proofs.lemmas.Awaiting.{OneMore, one_more, draws_counted, awaits_after, awaits_at_start}
 use Rattle.octet_replay.proofs.lemmas.EventsMade.{DoAlike, do_alike, same_length}
 use Rattle.octet_replay.proofs.lemmas.Growing.{by_counts, came_here, grows, stands_for, writes_within, has_room}
 use Rattle.octet_replay.proofs.lemmas.Valid.{few_accesses, few_marks, due_is_valid}
@@ -66,7 +66,7 @@ module _ (script : Script) (log : List ThreadLog) (s : PlainState) (threads : Li
   pub next_here : (t : ℕ) (x : ThreadReplay) → slice_get threads t ≡ Some x → next_of (by_log script log) s t ≡ next_by_counts (thread_log_of log t) x
   next_here t x at = by_counts (commands_of script t) (starting_configuration script.fuel) (length script.objects) (thread_log_of log t) (journal_of s.journals t) x (stands.each t x at)
 
-  pub names_objects : AllNameObjects threads (length heap)
+  pub names_objects : (t : ℕ) (x : ThreadReplay) → slice_get threads t ≡ Some x → NamesObject (length heap) x.up_next
   names_objects t x at = subst (λ (n : ℕ). NamesObject n x.up_next) (sym stands.heap_has) (stands.each t x at).names
 
   pub some_event : (t : ℕ) (x : ThreadReplay) → slice_get threads t ≡ Some x → is_ready w t ≡ true → next_event (next_by_counts (thread_log_of log t) x) heap ≡ None → ⊥

@@ -18,7 +18,7 @@ use Rattle.octet_model.proofs.lemmas.Validity.{valid_log}
 use Rattle.octet_model.proofs.lemmas.Steps.{at, count, counts_new, new_event, other_journal}
 use Rattle.octet_replay.specs.ReplayState.{ReplayState, plain_state, state_at, HasHalted, IsNextStep}
 use Rattle.octet_replay.specs.TracerState.{TracerState, HasToldAll, IsTracedTo}
-use Rattle.octet_replay.proofs.Collecting.{thread_there}
+use Rattle.octet_replay.proofs.lemmas.Collecting.{thread_there}
 use Rattle.octet_replay.proofs.lemmas.Halting.{all_steps_made}
 use Rattle.octet_replay.proofs.lemmas.Places.{lowest_order_fits_in_places}
 use Rattle.octet_replay.proofs.lemmas.Traces.{is_told, trace_has_all}

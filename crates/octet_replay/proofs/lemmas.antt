@@ -1,6 +1,7 @@
 pub mod EventsMade
 pub mod Halting
 pub mod Places
+pub mod Collecting
 pub mod WholeOutcomes
 pub mod OneAnswer
 pub mod Growing

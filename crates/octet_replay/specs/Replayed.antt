@@ -15,7 +15,7 @@ use Rattle.octet_replay.specs.declared.fault.ReplayFault.TheVariants.{Misfit}
 use Rattle.octet_replay.specs.declared.need.Need.{Need}
 use Rattle.octet_replay.specs.declared.thread.ThreadReplay.{ThreadReplay}
 use Rattle.octet_replay.specs.declared.state.Replay.{Replay}
-use Rattle.octet_replay.specs.NextDemand.{demand_of, NamesObject}
+use Rattle.octet_replay.specs.NextDemand.{demand_of}
 use Rattle.octet_replay.specs.Needs.{NeedsAndCounts, after_step, is_ready, NamesThread}
 use Rattle.octet_replay.specs.ReplayState.{ReplayState, plain_state}
 use Rattle.octet_replay.specs.Threads.{need_of, next_by_counts, Grown, HasCounts, HasRoomFor, IsReplayOf, StandsFor, WritesWithin}
@@ -55,10 +55,6 @@ pub record StandsAt (script : Script) (log : List ThreadLog) (s : PlainState) (t
 pub record IsAt (r : Replay) : Type 0 where
   pub agree : length r.script.value.threads ≡ length r.log.value.threads
   pub stands : StandsAt r.script.value r.log.value.threads (plain_state (state_of r)) r.threads.items r.heap.items r.waits
-
--- what it demands next names objects of the heap
-abbrev pub AllNameObjects : List ThreadReplay → ℕ → Type 0
-AllNameObjects threads objects = (thread : ℕ) (t : ThreadReplay) → slice_get threads thread ≡ Some t → NamesObject objects t.up_next
 
 abbrev pub is_draw : Event → Bool
 is_draw (Marked (Draw number)) = true

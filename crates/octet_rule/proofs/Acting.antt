@@ -15,8 +15,9 @@ use Rattle.octet_state.specs.State.{status_place}
 use Rattle.octet_state.specs.NextStep.{word_seen}
 use Rattle.octet_state.specs.Steps.{Kind, ToGlance, ToAnswer, ToBlock, ToUnblock, ToAsk, ToLook, ToLoad, ToRead, ToWrite, ToBump, ToClaim, ToSettle, ToDraw, ToFence, ToRaise, ToShare, shown, target, mode_of, claiming, settling, is_safe_point}
 use Rattle.octet_rule.specs.Views.{SeatView}
-use Rattle.octet_rule.specs.Rule.{IsRuled, Plays, Acts, IsOperationOf, operation_on, state_place, cell_place}
+use Rattle.octet_rule.specs.Rule.{IsRuled, Acts, IsOperationOf, operation_on, state_place, cell_place}
 use Rattle.octet_rule.specs.Conditions.{IsResting, AsksNext, HasAsked, MayLoad, MayPass, HoldsWord, decision, is_take, is_share, MaySettle, MayDraw, MayFence}
+use Rattle.octet_rule.proofs.Kept.{Plays}
 use Rattle.octet_rule.proofs.Allowed as allowed
 use Rattle.octet_rule.proofs.Allowed.{holding, may_pass, may_settle}
 

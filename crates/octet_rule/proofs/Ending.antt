@@ -18,7 +18,7 @@ use Rattle.octet_rule.specs.Views.{SeatView}
 use Rattle.octet_rule.specs.Conditions.{IsResting}
 use Rattle.octet_rule.specs.Rule.{AreJoined, IsRuled}
 use Rattle.octet_rule.specs.Cells.{cells_in}
-use Rattle.octet_rule.specs.Seats.{view, threads_of, BelongsTo, IsFresh, RestsAs, AreFresh, AreResting, EachFresh, EachRests, journal_left, Closes}
+use Rattle.octet_rule.specs.Seats.{view, threads_of, BelongsTo, IsFresh, RestsAs, AreResting, EachFresh, EachRests, journal_left, Closes}
 use Rattle.octet_rule.proofs.Splitting.{rejoins}
 
 -- the cells are read one by one
@@ -144,6 +144,11 @@ parted w xs seats seat is each all = from (subst (EachRests w) is each) (ap (λ 
       others = resting_from w 1 seats (λ k none h. let b = each (suc k) none (omega arith) in let n : suc k ≡ 1 + k = omega arith in ((b.0.0, b.0.1), subst (λ (z : ℕ). RestsAs z (get_or seats k none)) n b.1));
       all = one-add (length seats) ∙ all;
     }
+
+-- while seats are made: those of the threads from this one on, in order
+abbrev pub AreFresh : Words → ℕ → List Seat → Type 0
+AreFresh words thread [] = Unit {0}
+AreFresh words thread (seat ∷ seats) = BelongsTo words seat × IsFresh thread seat × AreFresh words (thread + 1) seats
 
 pub fresh_more : (w : Words) (t k : ℕ) (seats : List Seat) (seat : Seat) → AreFresh w t seats → t + length seats ≡ k → BelongsTo w seat → IsFresh k seat → AreFresh w t (seats ++ seat ∷ [])
 fresh_more w t k [] seat fresh is own new = let n : t ≡ k = omega arith in (own, subst (λ (z : ℕ). IsFresh z seat) (sym n) new, tt)

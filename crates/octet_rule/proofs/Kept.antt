@@ -1,5 +1,5 @@
 -- A step that is lawful in each state that the seat's view allows keeps the rule.
-use Rattle.std.proofs.Common.{◌≡◌, ◌≢◌, ℕ, ⊎_elim, Bool, true, List, [], ◌∷◌, length, get_or, set, sym, refl, ap, ◌∙◌, subst, arith}
+use Rattle.std.proofs.Common.{◌≡◌, ◌≢◌, ℕ, ◌≤◌, ⊎_elim, Bool, true, List, [], ◌∷◌, length, get_or, set, sym, refl, ap, ◌∙◌, subst, arith}
 use mathlib.Core.Option.{some}
 use lib.ListN.{get_elem?}
 use Rattle.atomic_table.specs.Table.{State, Me, keeps, Allows}
@@ -10,7 +10,7 @@ use Rattle.octet_state.specs.State.{Thread, ProtocolState, thread_of, words}
 use Rattle.octet_state.specs.Steps.{Kind, found, told, after, made, ended_by, step}
 use Rattle.octet_state.specs.Laws.{IsLawful}
 use Rattle.octet_rule.specs.Views.{SeatView, stepped_by}
-use Rattle.octet_rule.specs.Rule.{IsSeenBy, AreJoined, IsSeated, IsRuled, Plays}
+use Rattle.octet_rule.specs.Rule.{IsSeenBy, AreJoined, IsSeated, IsRuled, IsRuledStep, KeepsRule, Steps}
 
 -- threads that joined back, while these stay as they are
 pub joined_same : (s next : ProtocolState) (has_joined : ℕ → Bool) → ((u : ℕ) → has_joined u ≡ true → (thread_of next u ≡ thread_of s u) × (journal_of next.journals u ≡ journal_of s.journals u))
@@ -47,6 +47,31 @@ module _ (k : Kind) (t place : ℕ) (operation : ℕ → ℕ) (s : ProtocolState
 pub as_many_cells : (threads : ℕ) (starts : List ℕ) (table : State (Unit {0}) SeatView) (r : IsRuled threads starts table) → length r.state.cells ≡ length starts
 as_many_cells threads starts table r = sym r.sound.form.starts ∙ ap (λ (l : List ℕ). length l) r.began
 
+-- one step of the protocol, in which no slot is taken or given back
+abbrev pub Plays : Kind → Me (Unit {0}) SeatView → ℕ → Me (Unit {0}) SeatView → Type 0
+Plays k me told next = (next.1 ≡ me.1) × Steps k me.0 told next.0
+
+-- the rule for as many threads and the starting values that a seat of the table knows of
+abbrev as_known : (threads : ℕ) (starts : List ℕ) (table : State (Unit {0}) SeatView) (r : IsRuled threads starts table) (v : SeatView) → IsSeenBy v r.state → IsRuled v.threads v.starts table
+as_known threads starts table r v seen = record {
+  state = r.state;
+  seat_of = r.seat_of;
+  seats_made = r.seats_made;
+  has_joined = r.has_joined;
+  lie = r.lie;
+  sound = r.sound;
+  as_many = seen.as_many;
+  began = seen.began;
+  few = let a = r.few in let b = r.as_many in let c = seen.as_many in omega arith;
+  not_joined = r.not_joined;
+  not_made = r.not_made;
+  seats = r.seats;
+}
+
+keeps_rule : (s next : ProtocolState) (v w : SeatView) → IsRuledStep s next v w → KeepsRule s next v w
+unfolding KeepsRule
+keeps_rule s next v w is = is
+
 -- a step that tells what `tell` makes of the word found
 pub tells : (threads : ℕ) (starts : List ℕ) (slots id : ℕ) (me : Me (Unit {0}) SeatView) (place : ℕ) (operation tell : ℕ → ℕ) (k : Kind) → me.0.is_live ≡ true
     → ((s : ProtocolState) → IsSeenBy me.0 s → length s.threads ≡ threads → length s.cells ≡ length starts
@@ -63,44 +88,67 @@ tells threads starts slots id me place operation tell k live lawful table r _ at
     let not_me : (u : ℕ) → r.has_joined u ≡ true → u ≢ t = λ u has_joined e. let a = mine.here in let b : r.has_joined t ≡ true = subst (λ (z : ℕ). r.has_joined z ≡ true) e has_joined in cc in
     let kept : (u : ℕ) → r.has_joined u ≡ true → (thread_of next u ≡ thread_of s u) × (journal_of next.journals u ≡ journal_of s.journals u) =
     λ u has_joined. (law.does.others u (not_me u has_joined), law.does.their_journals u (not_me u has_joined)) in
-    let within = mine.within in (
+    let within = mine.within in
+    let rule_after : (n : ℕ) (l ws : List ℕ) → r.seats_made ≤ n → length next.threads ≡ n → next.starts ≡ l → ws ≡ words next
+    → IsRuled n l record { words = ws; homes = table.homes; views = set table.views id w } = λ n l ws few as_many began lie. record {
+      state = next;
+      seat_of = r.seat_of;
+      seats_made = r.seats_made;
+      has_joined = r.has_joined;
+      lie = lie;
+      sound = law.sound;
+      as_many = as_many;
+      began = began;
+      few = few;
+      not_joined = r.not_joined;
+      not_made = λ u h. let ne : u ≢ t = λ e. omega arith in (law.does.others u ne ∙ (r.not_made u h).0, law.does.their_journals u ne ∙ (r.not_made u h).1);
+      seats = λ j y e live'. ⊎_elim
+          (λ (p : (j ≡ id) × (w ≡ y)). subst (λ (z : ℕ × SeatView). IsSeated next r.seat_of r.seats_made r.has_joined z.0 z.1) (λ i. (sym p.0 i, p.1 i)) record {
+            within = mine.within;
+            own = mine.own;
+            here = mine.here;
+            seen = seen_after;
+            counted = mine.counted;
+            are_joined = λ z. joined_same s next r.has_joined kept v.joined (mine.are_joined z);
+            apart = mine.apart;
+          })
+          (λ (p : (j ≢ id) × (get_elem? table.views j ≡ some y)). let its = r.seats j y p.1 live' in record {
+            within = its.within;
+            own = its.own;
+            here = its.here;
+            seen = seen_by_other k t place operation s law y (λ e. p.0 (sym its.own ∙ (ap r.seat_of e ∙ mine.own))) its.seen;
+            counted = its.counted;
+            are_joined = λ z. joined_same s next r.has_joined kept y.joined (its.are_joined z);
+            apart = its.apart;
+          })
+          (at_set table.views id j w y e);
+    } in
+    let known = as_known threads starts table r v mine.seen in (
       w,
       keeps,
       tt,
-      record {
-        state = next;
-        seat_of = r.seat_of;
-        seats_made = r.seats_made;
-        has_joined = r.has_joined;
-        lie = ap (λ (z : List ℕ). set z place (operation at_place)) r.lie ∙ (ap (λ (z : ℕ). set (words s) place (operation z)) word ∙ law.does.leaves);
-        sound = law.sound;
-        as_many = law.does.threads ∙ r.as_many;
-        began = law.does.starts ∙ r.began;
-        few = r.few;
-        not_joined = r.not_joined;
-        not_made = λ u h. let ne : u ≢ t = λ e. omega arith in (law.does.others u ne ∙ (r.not_made u h).0, law.does.their_journals u ne ∙ (r.not_made u h).1);
-        seats = λ j y e live'. ⊎_elim
-            (λ (p : (j ≡ id) × (w ≡ y)). subst (λ (z : ℕ × SeatView). IsSeated next r.seat_of r.seats_made r.has_joined z.0 z.1) (λ i. (sym p.0 i, p.1 i)) record {
-              within = mine.within;
-              own = mine.own;
-              here = mine.here;
-              seen = seen_after;
-              counted = mine.counted;
-              are_joined = λ z. joined_same s next r.has_joined kept v.joined (mine.are_joined z);
-              apart = mine.apart;
-            })
-            (λ (p : (j ≢ id) × (get_elem? table.views j ≡ some y)). let its = r.seats j y p.1 live' in record {
-              within = its.within;
-              own = its.own;
-              here = its.here;
-              seen = seen_by_other k t place operation s law y (λ e. p.0 (sym its.own ∙ (ap r.seat_of e ∙ mine.own))) its.seen;
-              counted = its.counted;
-              are_joined = λ z. joined_same s next r.has_joined kept y.joined (its.are_joined z);
-              apart = its.apart;
-            })
-            (at_set table.views id j w y e);
-      },
-      (refl, record { before = s; seen = mine.seen; may = law.may; word = is_told; moves = refl; seen_after = seen_after }),
+      rule_after threads starts (set table.words place (operation at_place)) r.few (law.does.threads ∙ r.as_many) (law.does.starts ∙ r.began)
+          (ap (λ (z : List ℕ). set z place (operation at_place)) r.lie ∙ (ap (λ (z : ℕ). set (words s) place (operation z)) word ∙ law.does.leaves)),
+      (
+        refl,
+        record {
+          before = s;
+          seen = mine.seen;
+          may = law.may;
+          word = is_told;
+          moves = refl;
+          seen_after = seen_after;
+          ruled = keeps_rule s next v w record {
+            table = table;
+            seat = id;
+            has = at;
+            rule = known;
+            is_before = refl;
+            rule_after = rule_after v.threads v.starts (words next) known.few (law.does.threads ∙ mine.seen.as_many) (law.does.starts ∙ mine.seen.began) refl;
+            is_after = refl;
+          };
+        },
+      ),
     )
 
 -- the same for a step that tells the word that it finds

@@ -19,7 +19,7 @@ use Rattle.octet_state.specs.Table.{is_changed_by, decided}
 use Rattle.octet_state.specs.Asking.{answers}
 use Rattle.octet_state.specs.State.{ProtocolState, state_of}
 use Rattle.octet_state.specs.Intermediate.{change_of, change_by}
-use Rattle.octet_state.specs.Steps.{Kind, made, ended_by, ToAsk, ToLook, ToLoad, ToClaim, ToDraw, ToShare, state_in, settling, moved, loaded, mode_of, wins, claimed, lost, joined_by_share, one_done, one_asked, step}
+use Rattle.octet_state.specs.Steps.{Kind, made, ended_by, ToAsk, ToLook, ToLoad, ToClaim, ToDraw, ToShare, state_in, settling, moved, loaded, mode_of, wins, claimed, lost, joined_by_share, one_done, one_asked, drawn_of, step}
 use Rattle.std.proofs.lemmas.Nat.{pow_below}
 use Rattle.std.proofs.lemmas.Bool.{ne_eqb}
 use Rattle.octet_state.proofs.lemmas.Packing.{state_back}
@@ -29,7 +29,6 @@ use Rattle.octet_rule.specs.Views.{SeatView}
 use Rattle.octet_rule.specs.Rule.{IsSeenBy, Steps}
 use Rattle.octet_rule.specs.Conditions.{HoldsWord, state_seen, decision, is_share}
 use Rattle.octet_rule.proofs.Allowed.{holding}
-use Rattle.octet_rule.specs.Phases.{drawn_of}
 
 -- a journal has at most so many events
 pub few_seen : (v : SeatView) (s : ProtocolState) → IsSeenBy v s → length v.journal ≤ 4194319
@@ -88,7 +87,7 @@ grows k v told w event took makes = ap (λ (x : SeatView). length x.journal) too
 pub stays : (k : Kind) (v : SeatView) (told : ℕ) (w : SeatView) → Steps k v told w → made k v.number told v.thread ≡ None → w.journal ≡ v.journal
 stays k v told w took makes = ap (λ (x : SeatView). x.journal) took.moves ∙ ap (ended_by v.journal) makes
 
--- an ask of a blocked thread, and one of a running thread
+-- an ask of a blocked thread
 pub asked_done : (whom : ℕ) (v : SeatView) (told : ℕ) (w : SeatView) → Steps (ToAsk whom) v told w → (unpacked_status told).blocked ≡ true
     → (w.thread ≡ moved (one_done v.thread.phase) Nothing v.thread) × (length w.journal ≡ length v.journal + 1)
 asked_done whom v told w took is = (
@@ -96,26 +95,12 @@ asked_done whom v told w took is = (
   grows (ToAsk whom) v told w (Marked (Join whom (unpacked_status told).upto)) took (ap (λ (b : Bool). if b then Some (Marked (Join whom (unpacked_status told).upto)) else None) is),
 )
 
-pub asked_waits : (whom : ℕ) (v : SeatView) (told : ℕ) (w : SeatView) → Steps (ToAsk whom) v told w → (unpacked_status told).blocked ≡ false
-    → (w.thread ≡ moved (one_asked v.thread.phase) Glance v.thread) × (w.journal ≡ v.journal)
-asked_waits whom v told w took is = (
-  ap (λ (x : SeatView). x.thread) took.moves ∙ ap (λ (b : Bool). if b then moved (one_done v.thread.phase) Nothing v.thread else moved (one_asked v.thread.phase) Glance v.thread) is,
-  stays (ToAsk whom) v told w took (ap (λ (b : Bool). if b then Some (Marked (Join whom (unpacked_status told).upto)) else None) is),
-)
-
--- a look at a thread that has answered, and one at a thread that has not
+-- a look at a thread that has answered
 pub looked_done : (whom : ℕ) (v : SeatView) (told : ℕ) (w : SeatView) → Steps (ToLook whom) v told w → answers (unpacked_status told) v.number ≡ true
     → (w.thread ≡ moved (one_done v.thread.phase) Nothing v.thread) × (length w.journal ≡ length v.journal + 1)
 looked_done whom v told w took is = (
   ap (λ (x : SeatView). x.thread) took.moves ∙ ap (λ (b : Bool). if b then moved (one_done v.thread.phase) Nothing v.thread else moved v.thread.phase Glance v.thread) is,
   grows (ToLook whom) v told w (Marked (Join whom (unpacked_status told).upto)) took (ap (λ (b : Bool). if b then Some (Marked (Join whom (unpacked_status told).upto)) else None) is),
-)
-
-pub looked_waits : (whom : ℕ) (v : SeatView) (told : ℕ) (w : SeatView) → Steps (ToLook whom) v told w → answers (unpacked_status told) v.number ≡ false
-    → (w.thread ≡ moved v.thread.phase Glance v.thread) × (w.journal ≡ v.journal)
-looked_waits whom v told w took is = (
-  ap (λ (x : SeatView). x.thread) took.moves ∙ ap (λ (b : Bool). if b then moved (one_done v.thread.phase) Nothing v.thread else moved v.thread.phase Glance v.thread) is,
-  stays (ToLook whom) v told w took (ap (λ (b : Bool). if b then Some (Marked (Join whom (unpacked_status told).upto)) else None) is),
 )
 
 -- a claim that finds another word than the thread has loaded

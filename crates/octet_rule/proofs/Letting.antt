@@ -8,9 +8,7 @@ use Rattle.octet_state.specs.State.{Thread, ProtocolState, thread_of}
 use Rattle.octet_state.specs.Passing.{passes}
 use Rattle.octet_rule.specs.Views.{SeatView}
 use Rattle.octet_rule.specs.Rule.{IsSeenBy}
-use Rattle.octet_state.specs.Steps.{ToRead, ToWrite, ToBump}
-use Rattle.octet_rule.specs.Rule.{Steps}
-use Rattle.octet_rule.specs.Laws.{IsLetPass, IsAllowedAccess, ReadIsLetPass, WriteIsLetPass, BumpIsLetPass}
+use Rattle.octet_rule.specs.Laws.{IsLetPass, ReadIsLetPass, WriteIsLetPass, BumpIsLetPass}
 
 let_pass : (s : ProtocolState) (v : SeatView) (object : ℕ) (mode : Mode) → IsSeenBy v s → (thread_of s v.number).phase ≡ Pass object mode → IsLetPass mode v s
 let_pass s v object mode seen is = record {
@@ -27,12 +25,3 @@ write_is_let_pass value v told w took = let_pass took.before v took.may.1.0 Writ
 
 pub bump_is_let_pass : BumpIsLetPass
 bump_is_let_pass amount v told w took = let_pass took.before v took.may.1.0 Update took.seen took.may.1.1
-
-pub read_is_allowed : (v : SeatView) (told : ℕ) (w : SeatView) → Steps ToRead v told w → IsAllowedAccess Read ToRead v told w
-read_is_allowed v told w took = record { step = took; allowed = read_is_let_pass v told w took }
-
-pub write_is_allowed : (value : ℕ) (v : SeatView) (told : ℕ) (w : SeatView) → Steps (ToWrite value) v told w → IsAllowedAccess Write (ToWrite value) v told w
-write_is_allowed value v told w took = record { step = took; allowed = write_is_let_pass value v told w took }
-
-pub bump_is_allowed : (amount : ℕ) (v : SeatView) (told : ℕ) (w : SeatView) → Steps (ToBump amount) v told w → IsAllowedAccess Update (ToBump amount) v told w
-bump_is_allowed amount v told w took = record { step = took; allowed = bump_is_let_pass amount v told w took }

@@ -1,5 +1,5 @@
 -- An access that is made at once.
-use Rattle.std.proofs.Common.{◌≡◌, ◌≢◌, ℕ, ◌+◌, ◌∙◌, List, length, Some, refl, sym, ap, subst}
+use Rattle.std.proofs.Common.{◌≡◌, ◌≢◌, ℕ, ◌+◌, ◌∙◌, List, length, Some, refl, sym, ap}
 use Rattle.octet_model.specs.declared.event.Event.{Event}
 use Rattle.octet_state.specs.declared.act.Mode.{Mode}
 use Rattle.octet_state.specs.declared.act.Mode.TheVariants.{Read, Write, Update}
@@ -15,11 +15,8 @@ use Rattle.octet_state.specs.Steps.{Kind, ToLoad, ToRead, ToWrite, ToBump, moved
 use Rattle.octet_state.specs.NextStep.{access_of}
 use Rattle.octet_rule.specs.Views.{SeatView, stepped_by}
 use Rattle.octet_rule.specs.Rule.{Steps}
-use Rattle.octet_rule.specs.Conditions.{MayPass}
 use Rattle.octet_rule.specs.Entering.{IsMadeAtOnce, IsLoaded}
-use Rattle.octet_rule.specs.Laws.{IsAllowedAccess}
 use Rattle.octet_rule.proofs.Known.{grows, stays, is_packed, load_moves}
-use Rattle.octet_rule.proofs.Letting.{read_is_allowed, write_is_allowed, bump_is_allowed}
 
 -- after the access its thread is idle, with an event more
 pub made_thread : (mode : Mode) (value : ℕ) (v : SeatView) (told : ℕ) (w : SeatView) → Steps (access_of mode value) v told w → w.thread ≡ moved Idle Nothing v.thread
@@ -32,18 +29,10 @@ made_grows Read value v told w took = grows ToRead v told w _ took refl
 made_grows Write value v told w took = grows (ToWrite value) v told w _ took refl
 made_grows Update value v told w took = grows (ToBump value) v told w _ took refl
 
-pub made_allowed : (mode : Mode) (value : ℕ) (v : SeatView) (told : ℕ) (w : SeatView) → Steps (access_of mode value) v told w → IsAllowedAccess mode (access_of mode value) v told w
-made_allowed Read value v told w took = read_is_allowed v told w took
-made_allowed Write value v told w took = write_is_allowed value v told w took
-made_allowed Update value v told w took = bump_is_allowed value v told w took
-
 -- after a load that lets it pass
 pub passes_on : (object : ℕ) (mode : Mode) (v : SeatView) (told : ℕ) (w : SeatView) (state : StateWord) (act : Act) → Steps (ToLoad object mode) v told w
     → state ≡ state_in (unpacked_state told) → act ≡ decided state v.number mode v.thread.count → act ≡ Pass → w.thread ≡ moved (Pass object mode) Nothing v.thread
 passes_on object mode v told w state act took holds says is = load_moves object mode v told w state act took holds says ∙ ap (λ (a : Act). loaded a object mode state v.thread) is
-
-pub may_go_on : (object : ℕ) (mode : Mode) (x y : Thread) → y ≡ moved (Pass object mode) Nothing x → (y.due ≡ Nothing) × MayPass object mode y.phase
-may_go_on object mode x y is = (ap (λ (z : Thread). z.due) is, subst (λ (z : Thread). MayPass object mode z.phase) (sym is) (refl, refl))
 
 module _ (object : ℕ) (mode : Mode) (value : ℕ) (v : SeatView) (word : ℕ) (u : SeatView) (state : StateWord) (act : Act) (took : Steps (ToLoad object mode) v word u)
     (holds : state ≡ state_in (unpacked_state word)) (says : act ≡ decided state v.number mode v.thread.count) where
@@ -51,7 +40,7 @@ module _ (object : ℕ) (mode : Mode) (value : ℕ) (v : SeatView) (word : ℕ) 
   decides = ap (λ (s : StateWord). decided s v.number mode v.thread.count) (sym holds) ∙ sym says
 
   pub at_once : (told : ℕ) (w : SeatView) → act ≡ Pass → Steps (access_of mode value) u told w → IsMadeAtOnce object mode value v told w
-  at_once told w is access = record { word = word; between = u; loads = took; says = decides ∙ is; accesses = made_allowed mode value u told w access }
+  at_once told w is access = record { word = word; between = u; loads = took; says = decides ∙ is; accesses = access }
 
   pub waits_on : packed_state state ≡ word → act ≢ Pass → IsLoaded object mode v word state act u
   waits_on back waits = record { loads = took; holds = is_packed object mode v word u took ∙ ap (λ (s : StateWord). Some s) (sym holds); packed = back; says = says; waits = waits }

@@ -10,17 +10,16 @@ use Rattle.octet_state.specs.Steps.{ToLoad, state_in}
 use Rattle.octet_state.specs.NextStep.{access_of}
 use Rattle.octet_rule.specs.Views.{SeatView}
 use Rattle.octet_rule.specs.Rule.{Steps}
-use Rattle.octet_rule.specs.Laws.{IsAllowedAccess}
 use Rattle.octet_rule.specs.declared.entered.Entered.{Entered}
 use Rattle.octet_rule.specs.declared.entered.Entered.TheVariants.{Made, Loaded}
 
--- two steps: a load of a state that lets the thread pass, and the access that was wanted, taken where the object's state lets it
+-- two steps: a load of a state that lets the thread pass, and the access that was wanted
 pub record IsMadeAtOnce (object : ℕ) (mode : Mode) (value : ℕ) (v : SeatView) (told : ℕ) (w : SeatView) : Type 0 where
   pub word : ℕ
   pub between : SeatView
   pub loads : Steps (ToLoad object mode) v word between
   pub says : decided (state_in (unpacked_state word)) v.number mode v.thread.count ≡ Pass
-  pub accesses : IsAllowedAccess mode (access_of mode value) between told w
+  pub accesses : Steps (access_of mode value) between told w
 
 -- the load alone: the word is that of the state, of which the table says another thing than to pass
 pub record IsLoaded (object : ℕ) (mode : Mode) (v : SeatView) (word : ℕ) (state : StateWord) (act : Act) (w : SeatView) : Type 0 where

@@ -27,11 +27,6 @@ WriteIsLetPass = (value : ℕ) (v : SeatView) (told : ℕ) (w : SeatView) (took 
 abbrev pub BumpIsLetPass : Type 0
 BumpIsLetPass = (amount : ℕ) (v : SeatView) (told : ℕ) (w : SeatView) (took : Steps (ToBump amount) v told w) → IsLetPass Update v took.before
 
--- a step on the cell, taken where the object's state lets the thread make such an access
-pub record IsAllowedAccess (mode : Mode) (k : Kind) (v : SeatView) (told : ℕ) (w : SeatView) : Type 0 where
-  pub step : Steps k v told w
-  pub allowed : IsLetPass mode v step.before
-
 -- after any step a journal has at most 16 events for each access that it may have, and 15 more
 abbrev pub JournalIsShort : Type 0
 JournalIsShort = (k : Kind) (v : SeatView) (told : ℕ) (w : SeatView) → Steps k v told w → length w.journal ≤ 16 * most_accesses + 15

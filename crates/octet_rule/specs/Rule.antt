@@ -1,5 +1,5 @@
 -- The rule: between any two steps the words and the views of all seats are one sound state of the protocol.
-use Rattle.std.specs.Prelude.{◌≡◌, ◌≢◌, ℕ, ◌+◌, ◌*◌, ◌^◌, ◌<◌, ◌≤◌, List, [], ◌∷◌, Bool, true, false, length}
+use Rattle.std.specs.Prelude.{◌≡◌, ◌≢◌, ℕ, ◌+◌, ◌*◌, ◌^◌, ◌<◌, ◌≤◌, List, [], ◌∷◌, Bool, true, false, length, slice_set}
 use mathlib.Core.Option.{some, none}
 use lib.ListN.{get_elem?}
 use Rattle.atomic_table.specs.Table.{State, Me, Step as TableStep, step as table_step}
@@ -67,7 +67,21 @@ pub record IsRuled (threads : ℕ) (starts : List ℕ) (table : State (Unit {0})
 abbrev pub first_view : ℕ → List ℕ → SeatView
 first_view threads starts = new_view 0 threads starts 1
 
--- one step of the protocol by the seat's thread, from one sound state to another, which is told this word
+-- a table steps from one state to another under the rule: before and after it the words and the views of all seats are those of the state. This seat's view becomes another, and the others stay
+pub record IsRuledStep (s next : ProtocolState) (v w : SeatView) : Type 0 where
+  pub table : State (Unit {0}) SeatView
+  pub seat : ℕ
+  pub has : get_elem? table.views seat ≡ some v
+  pub rule : IsRuled v.threads v.starts table
+  pub is_before : rule.state ≡ s
+  pub rule_after : IsRuled v.threads v.starts record { words = words next; homes = table.homes; views = slice_set table.views seat w }
+  pub is_after : rule_after.state ≡ next
+
+-- the same, closed to the search for proofs, which seldom need it
+unfoldable pub KeepsRule : ProtocolState → ProtocolState → SeatView → SeatView → Type 0
+KeepsRule s next v w = IsRuledStep s next v w
+
+-- one step of the protocol by the seat's thread, from one sound state to another, which is told this word. Both states are those of a table under the rule
 pub record Steps (k : Kind) (v : SeatView) (told : ℕ) (w : SeatView) : Type 0 where
   pub before : ProtocolState
   pub seen : IsSeenBy v before
@@ -75,9 +89,7 @@ pub record Steps (k : Kind) (v : SeatView) (told : ℕ) (w : SeatView) : Type 0 
   pub word : told ≡ steps.told k v.number before
   pub moves : w ≡ stepped_by k told v
   pub seen_after : IsSeenBy w (step k v.number before)
-
-abbrev pub Plays : Kind → Me (Unit {0}) SeatView → ℕ → Me (Unit {0}) SeatView → Type 0
-Plays k me told next = (next.1 ≡ me.1) × Steps k me.0 told next.0
+  pub ruled : KeepsRule before (step k v.number before) v w
 
 -- where the state of an object lies, and its cell beside it
 abbrev pub state_place : SeatView → ℕ → ℕ

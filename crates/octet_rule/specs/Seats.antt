@@ -46,12 +46,7 @@ EachFresh words seats = (thread : ℕ) (none : Seat) → thread < length seats �
 abbrev pub EachRests : Words → List Seat → Type 0
 EachRests words seats = (thread : ℕ) (none : Seat) → thread < length seats → IsSeatOf words (slice_index_or seats thread none) × RestsAs thread (slice_index_or seats thread none)
 
--- while seats are made: those of the threads from this one on, in order
-abbrev pub AreFresh : Words → ℕ → List Seat → Type 0
-AreFresh words thread [] = Unit {0}
-AreFresh words thread (seat ∷ seats) = BelongsTo words seat × IsFresh thread seat × AreFresh words (thread + 1) seats
-
--- while seats join: likewise
+-- while seats join: those of the threads from this one on, in order
 abbrev pub AreResting : Words → ℕ → List Seat → Type 0
 AreResting words thread [] = Unit {0}
 AreResting words thread (seat ∷ seats) = BelongsTo words seat × RestsAs thread seat × AreResting words (thread + 1) seats

@@ -11,7 +11,7 @@ ghost use Rattle.octet_rule.specs.Seats.{view, IsSeatOf, objects_of};
 use crate::entered::Entered;
 use crate::view::View;
 use crate::words::{Seat, Words};
-use crate::{phases, plays};
+use crate::{plays, states};
 use octet_state::{Act, Mode, Phase, decide};
 
 impl Words {
@@ -29,7 +29,7 @@ impl Words {
     {
         let place = self.state_place(object);
         let word = self.load_by_mode(&mut seat.inner, place, mode);
-        let state = phases::state_in(word, seat.thread);
+        let state = states::state_in(word, seat.thread);
         let act = decide(&state, seat.thread, mode, seat.count);
         if let Act::Pass = act {
             let told = self.pass_by_mode(&mut seat.inner, object, mode, value);
@@ -37,7 +37,7 @@ impl Words {
             seat.events += 1;
             return Entered::Made { told };
         }
-        let (phase, due) = phases::after_load(&act, &state, object, *mode);
+        let (phase, due) = act.after_load(&state, object, *mode);
         seat.phase = phase;
         seat.due = due;
         Entered::Loaded { word, state, act }

@@ -8,10 +8,10 @@ mod entering;
 pub mod laws;
 mod objects;
 mod opening;
-mod phases;
 mod plays;
 mod seat;
 mod sharing;
+mod states;
 mod statuses;
 #[cfg(test)]
 mod tests;

@@ -7,14 +7,13 @@ ghost use Rattle.octet_state.specs.Words.{packed_state, unpacked_state};
 ghost use Rattle.octet_state.specs.Steps.{ToLoad, ToRead, ToWrite, ToBump, ToClaim, ToSettle, state_in, settling};
 ghost use Rattle.atomic_table.specs.Table.{Allows};
 ghost use Rattle.octet_rule.specs.Rule.{IsRuled, Acts, operation_on, Steps};
-ghost use Rattle.octet_rule.specs.Laws.{IsAllowedAccess};
 ghost use Rattle.octet_rule.specs.Conditions.{MayLoad, MayPass, HoldsWord, MaySettle, decision, is_take, found_by, IsLost};
 ghost use Rattle.octet_rule.specs.Seats.{view, IsSeatOf, objects_of};
 
 use crate::tried::Tried;
 use crate::view::View;
 use crate::words::{Seat, Words};
-use crate::{phases, plays};
+use crate::{plays, states};
 use octet_state::{Due, Mode, Phase, StateWord, decide};
 
 impl Words {
@@ -32,9 +31,9 @@ impl Words {
     {
         let place = self.state_place(object);
         let word = self.load_by_mode(&mut seat.inner, place, mode);
-        let state = phases::state_of(word);
+        let state = states::state_of(word);
         let act = decide(&state, seat.thread, mode, seat.count);
-        let (phase, due) = phases::after_load(&act, &state, object, *mode);
+        let (phase, due) = act.after_load(&state, object, *mode);
         seat.phase = phase;
         seat.due = due;
         word
@@ -48,7 +47,6 @@ impl Words {
         requires phase { MayPass object ForRead (view seat.old).thread.phase }
         ensures own { IsSeatOf self.now seat.new }
         ensures step { Steps ToRead (view seat.old) result (view seat.new) }
-        ensures allowed { IsAllowedAccess ForRead ToRead (view seat.old) result (view seat.new) }
     {
         let place = self.cell_place(object);
         let value = self
@@ -68,7 +66,6 @@ impl Words {
         requires phase { MayPass object ForWrite (view seat.old).thread.phase }
         ensures own { IsSeatOf self.now seat.new }
         ensures step { Steps (ToWrite value) (view seat.old) value (view seat.new) }
-        ensures allowed { IsAllowedAccess ForWrite (ToWrite value) (view seat.old) value (view seat.new) }
     {
         let place = self.cell_place(object);
         self.table
@@ -86,7 +83,6 @@ impl Words {
         requires phase { MayPass object ForUpdate (view seat.old).thread.phase }
         ensures own { IsSeatOf self.now seat.new }
         ensures step { Steps (ToBump amount) (view seat.old) result (view seat.new) }
-        ensures allowed { IsAllowedAccess ForUpdate (ToBump amount) (view seat.old) result (view seat.new) }
     {
         let place = self.cell_place(object);
         let before = self
@@ -110,19 +106,16 @@ impl Words {
         ensures lost { IsLost seen result }
     {
         let place = self.state_place(object);
-        let claiming = match *mode {
-            Mode::Read => StateWord::RdInt { by: seat.thread },
-            Mode::Write | Mode::Update => StateWord::WrInt { by: seat.thread },
-        };
+        let claiming = StateWord::claiming(seat.thread, *mode);
         let found = self
             .table
             .shared
             .compare_exchange::<plays::Claim>(&mut seat.inner, place, seen, claiming.pack());
         if found == seen {
-            seat.phase = phases::claimed(seat.phase);
+            seat.phase = seat.phase.claimed();
             Tried::Won
         } else {
-            seat.phase = phases::lost(seat.phase);
+            seat.phase = seat.phase.lost();
             seat.due = Due::Glance;
             Tried::Lost { found }
         }
@@ -138,11 +131,11 @@ impl Words {
         ensures step { Steps ToSettle (view seat.old) (packed_state (settling (view seat.old).number (length (view seat.old).journal) (view seat.old).thread.phase)) (view seat.new) }
     {
         let place = self.state_place(object);
-        let settled = phases::settled(seat.thread, seat.events, seat.phase);
+        let settled = seat.phase.settled(seat.thread, seat.events);
         self.table
             .shared
             .store::<plays::Settle>(&mut seat.inner, place, settled.pack());
-        seat.phase = phases::passing(seat.phase);
+        seat.phase = seat.phase.passing();
     }
 
     // A play knows its mode by its type.

@@ -8,9 +8,9 @@ ghost use Rattle.octet_rule.specs.Rule.{Steps};
 ghost use Rattle.octet_rule.specs.Conditions.{MayDraw, MayFence, HoldsWord, decision, is_share, found_by, IsLost};
 ghost use Rattle.octet_rule.specs.Seats.{view, IsSeatOf, objects_of};
 
+use crate::plays;
 use crate::tried::Tried;
 use crate::words::{Seat, Words};
-use crate::{phases, plays};
 use octet_state::{Due, Phase, StateWord};
 
 impl Words {
@@ -29,7 +29,7 @@ impl Words {
             .fetch_add::<plays::Draw>(&mut seat.inner, 0, 1);
         let number = last + 1;
         seat.phase = Phase::Sharing {
-            object: phases::target(seat.phase),
+            object: seat.phase.target(),
             drawn: Some(number),
         };
         seat.count = number;
@@ -47,7 +47,7 @@ impl Words {
         ensures step { Steps ToFence (view seat.old) result (view seat.new) }
     {
         let last = self.table.shared.load::<plays::Fence>(&mut seat.inner, 0);
-        seat.phase = phases::passing(seat.phase);
+        seat.phase = seat.phase.passing();
         seat.count = last;
         seat.events += 1;
         last
@@ -72,10 +72,10 @@ impl Words {
             .shared
             .compare_exchange::<plays::Raise>(&mut seat.inner, place, seen, raised.pack());
         if found == seen {
-            seat.phase = phases::passing(seat.phase);
+            seat.phase = seat.phase.passing();
             Tried::Won
         } else {
-            seat.phase = phases::lost(seat.phase);
+            seat.phase = seat.phase.lost();
             seat.due = Due::Glance;
             Tried::Lost { found }
         }
@@ -101,13 +101,13 @@ impl Words {
             .compare_exchange::<plays::Share>(&mut seat.inner, place, seen, sharing.pack());
         if found == seen {
             seat.phase = Phase::Sharing {
-                object: phases::target(seat.phase),
+                object: seat.phase.target(),
                 drawn: None,
             };
             seat.events += 1;
             Tried::Won
         } else {
-            seat.phase = phases::lost(seat.phase);
+            seat.phase = seat.phase.lost();
             seat.due = Due::Glance;
             Tried::Lost { found }
         }

@@ -1,6 +1,5 @@
 -- Lines and words, cut where the code cuts them.
 use Rattle.std.proofs.Common.{◌≡◌, ℕ, zero, suc, ◌+◌, ◌-◌, ◌<◌, ◌≤◌, Bool, true, false, not, cond, List, [], ◌∷◌, map, length, get_or, take, drop, Some, None, refl, ap, sym, ◌∙◌, arith, length-drop, drop-cons}
-use Rattle.std.specs.Prelude.{slice_index_or}
 use Rattle.std.specs.List.{slice_split, onto_first, position, position_or_len, filter, prefix_len}
 use Rattle.std.proofs.lemmas.List.{length-map, drop_all, get_or-drop}
 use Rattle.std.proofs.lemmas.List.Splits.{slice_split_first}
@@ -121,17 +120,3 @@ word_shorter text rest after start end is rest_is found after_is =
     let blank : is_blank (get_or rest end 0) ≡ true = ap (λ k. is_blank (get_or rest k 0)) (sym here.0) ∙ passes in
     let behind = end_behind rest end (ap (λ r. not (is_blank (get_or r 0 0))) rest_is ∙ first.2) blank in
     omega (arith, ap length after_is, length-drop end rest, ap length rest_is, length-drop start text, here.1, behind)
-
--- past the first word
-pub word_past : (word : List ℕ) (ws more : List (List ℕ)) (place at : ℕ) → at < place → ws ≡ word ∷ more → slice_index_or ws (place - at) [] ≡ slice_index_or more (place - (at + 1)) []
-word_past word ws more place at h e =
-    let next : place - at ≡ suc (place - (at + 1)) = omega arith in
-    rw (e, next) refl
-
-pub no_words : (ws : List (List ℕ)) (place : ℕ) → ws ≡ [] → slice_index_or ws place [] ≡ []
-no_words ws place e = rw e refl
-
-pub first_of : (word : List ℕ) (ws more : List (List ℕ)) (place at : ℕ) → place ≤ at → ws ≡ word ∷ more → slice_index_or ws (place - at) [] ≡ word
-first_of word ws more place at h e =
-    let none : place - at ≡ 0 = omega arith in
-    rw (e, none) refl

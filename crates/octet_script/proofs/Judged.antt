@@ -1,5 +1,5 @@
 -- How lines are judged on, and where that stops.
-use Rattle.std.proofs.Common.{◌≡◌, ℕ, suc, ◌+◌, ◌<◌, true, false, List, [], ◌∷◌, length, take, drop, Some, None, Result, Ok, Err, refl, ap, sym, ◌∙◌, arith, length-drop}
+use Rattle.std.proofs.Common.{◌≡◌, ℕ, ◌+◌, ◌<◌, true, false, List, [], ◌∷◌, length, take, drop, Some, None, Ok, Err, refl, ap, ◌∙◌, arith, length-drop}
 use Rattle.std.specs.Prelude.{nat_lt}
 use Rattle.std.specs.List.{position}
 use Rattle.std.specs.Str.{IsUtf8}
@@ -12,10 +12,9 @@ use Rattle.std.specs.Option.{is_some}
 use Rattle.octet_model.specs.Name.{is_name}
 use Rattle.octet_script.specs.Spelling.{object_named}
 use Rattle.octet_script.specs.declared.cause.ScriptCause.TheVariants.{NameTwice}
-use Rattle.octet_script.specs.declared.cause.ScriptFault.{ScriptFault}
-use Rattle.octet_script.specs.declared.cause.ScriptFault.TheVariants.{Refused, OutOfMemory}
-use Rattle.octet_script.specs.Words.{lines, is_line_end, words_of_line}
-use Rattle.octet_script.specs.Parsing.{Draft, judged_line, judged_lines, judged_bytes, judged_name, Fails}
+use Rattle.octet_script.specs.declared.cause.ScriptFault.TheVariants.{Refused}
+use Rattle.octet_script.specs.Words.{lines, is_line_end}
+use Rattle.octet_script.specs.Parsing.{judged_bytes, judged_name}
 use Rattle.octet_script.proofs.Cut.{position_some, position_none, split_none}
 
 pub valid_bytes : (text : List ℕ) → IsUtf8 text → judged_bytes text ≡ Ok tt
@@ -37,12 +36,3 @@ line_last text none = split_none is_line_end text (position_none is_line_end tex
 
 pub name_twice : (names : List (List ℕ)) (line : ℕ) (word : List ℕ) → is_name word ≡ true → is_some (object_named names word) ≡ true → judged_name names line word ≡ Err (Refused line NameTwice)
 name_twice names line word good twice = rw (good, twice) refl
-
--- where a line is refused, all is
-pub refused_here : (e : ScriptFault) (line : List ℕ) (more : List (List ℕ)) (p : Draft) (number : ℕ) (total : Result Draft ScriptFault) → judged_lines (line ∷ more) p number ≡ total → Fails e (judged_line p number (words_of_line line)) → Fails e total
-refused_here OutOfMemory line more p number total is refused = tt
-refused_here (Refused at cause) line more p number total is refused = sym is ∙ rw refused refl
-
--- where it isn't, the next is judged
-pub judged_on : (line : List ℕ) (more : List (List ℕ)) (p q : Draft) (number : ℕ) (total : Result Draft ScriptFault) → judged_lines (line ∷ more) p number ≡ total → judged_line p number (words_of_line line) ≡ Ok q → judged_lines more q (suc number) ≡ total
-judged_on line more p q number total is good = rw good at is

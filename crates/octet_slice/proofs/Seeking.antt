@@ -60,9 +60,6 @@ pub record KeepsEvent (script : Script) (log : List ThreadLog) (place : Place) (
   pub is_event : (event : Event) → found ≡ Some event → event_at (journals_after script log (lowest_order script log)) place ≡ Some event
   pub not_told : found ≡ None → All (λ (item : Place × Event). item.0 ≢ place) (take told (trace_of script log))
 
-pub keeps_nothing : (script : Script) (log : List ThreadLog) (place : Place) → KeepsEvent script log place 0 None
-keeps_nothing script log place = record { is_event = λ event is. absurd cc; not_told = λ is. All-nil (λ (item : Place × Event). item.0 ≢ place) }
-
 module _ (t after : TracerState) (place at : Place) (event : Event) (tells : TellsNext t (Some (at, event)) after) where
   pub keeps_it : at ≡ place → KeepsEvent after.script after.log.threads place after.told (Some event)
   keeps_it is = subst (λ (x : TracerState). KeepsEvent x.script x.log.threads place x.told (Some event)) (sym tells.1) (record {

@@ -33,9 +33,6 @@ begins_in_past journals logs t now n none start n_is none_is start_is lt are le 
 
 -- ---- marks passed one after the other
 
-pub advances_none : (logs : List ThreadLog) (g : Gathered) → Advances logs g false g
-advances_none logs g = record { kept = λ journals thread now are part. part; many = refl; still = λ is. refl; fewer = λ is. absurd cc }
-
 no_more_left : (logs : List ThreadLog) (a b : Gathered) (moved : Bool) → Advances logs a moved b → left logs b.threads ≤ left logs a.threads
 no_more_left logs a b true advances = omega (arith, advances.fewer refl)
 no_more_left logs a b false advances = omega (arith, ap (λ (g : Gathered). left logs g.threads) (advances.still refl))

@@ -6,19 +6,20 @@ use Rattle.octet_state.specs.declared.state_word.StateWord.TheVariants.{WrEx, Rd
 use Rattle.octet_state.specs.Steps.{Kind, ToGlance, ToAnswer, ToBlock, ToUnblock, ToAsk, ToLook, ToLoad, ToRead, ToWrite, ToBump, ToClaim, ToSettle, ToDraw, ToFence, ToRaise, ToShare, May, step, shown, claiming, owning}
 use Rattle.octet_state.specs.Soundness.{IsSound}
 use Rattle.octet_state.specs.Laws.{RunIsSound}
-use Rattle.octet_state.proofs.Glancing.{glance_is_lawful}
-use Rattle.octet_state.proofs.Swapping.{answer_is_lawful, block_is_lawful, unblock_is_lawful}
-use Rattle.octet_state.proofs.Asking.{ask_is_lawful}
-use Rattle.octet_state.proofs.Looking.{look_is_lawful}
-use Rattle.octet_state.proofs.Loading.{load_is_lawful}
-use Rattle.octet_state.proofs.ReadsAndWrites.{read_is_lawful, write_is_lawful, bump_is_lawful}
-use Rattle.octet_state.proofs.Claiming.{claim_is_lawful}
-use Rattle.octet_state.proofs.Settling.{settle_of_claim_is_lawful}
-use Rattle.octet_state.proofs.SharesSettled.{settle_of_share_is_lawful}
-use Rattle.octet_state.proofs.Drawing.{draw_is_lawful}
-use Rattle.octet_state.proofs.Fencing.{fence_is_lawful}
-use Rattle.octet_state.proofs.Raising.{raise_is_lawful}
-use Rattle.octet_state.proofs.Sharing.{share_is_lawful}
+use Rattle.octet_state.proofs.steps.Glance.{glance_is_lawful}
+use Rattle.octet_state.proofs.steps.Answer.{answer_is_lawful}
+use Rattle.octet_state.proofs.steps.Rest.{block_is_lawful, unblock_is_lawful}
+use Rattle.octet_state.proofs.steps.Ask.{ask_is_lawful}
+use Rattle.octet_state.proofs.steps.Look.{look_is_lawful}
+use Rattle.octet_state.proofs.steps.Load.{load_is_lawful}
+use Rattle.octet_state.proofs.steps.ReadWriteUpdate.{read_is_lawful, write_is_lawful, bump_is_lawful}
+use Rattle.octet_state.proofs.steps.Claim.{claim_is_lawful}
+use Rattle.octet_state.proofs.steps.SettleOfClaim.{settle_of_claim_is_lawful}
+use Rattle.octet_state.proofs.steps.SettleOfShare.{settle_of_share_is_lawful}
+use Rattle.octet_state.proofs.steps.Draw.{draw_is_lawful}
+use Rattle.octet_state.proofs.steps.Fence.{fence_is_lawful}
+use Rattle.octet_state.proofs.steps.Raise.{raise_is_lawful}
+use Rattle.octet_state.proofs.steps.Share.{share_is_lawful}
 
 pub step_is_sound : (k : Kind) (t : ℕ) (s : ProtocolState) → IsSound s → t < length s.threads → May k t s → IsSound (step k t s)
 step_is_sound ToGlance t s sound inside may = (glance_is_lawful s t (status_place t) sound inside may.0 may.1 refl).sound

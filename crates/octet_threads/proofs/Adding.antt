@@ -5,7 +5,7 @@ use Rattle.octet_base.specs.Desk.{DeskState, Rose}
 use Rattle.octet_base.specs.declared.fault.DeskFault.{DeskFault}
 use Rattle.octet_base.specs.declared.fault.DeskFault.TheVariants.{Failed, TooLong, Absent}
 use Rattle.octet_model.specs.declared.log.Gapped.{Gapped}
-use Rattle.octet_log.specs.Pieces.{Piece, ArePieces, marks_of}
+use Rattle.octet_log.specs.v2.Pieces.{Piece, ArePieces, marks_of}
 use Rattle.octet_threads.specs.Live.{AddsPieces}
 use Rattle.octet_threads.specs.Feeds.{AreOf, GoesOn}
 
@@ -44,13 +44,6 @@ none_before ps (Some fault) kept' before after (empty, is, same) none = absurd (
 pub goes_nowhere : (kept : Option DeskFault) (state : DeskState) → GoesOn kept [] state kept state
 goes_nowhere None state = (refl, refl)
 goes_nowhere (Some fault) state = (refl, refl, refl)
-
--- what adding leaves
-pub adds_begun : (ps : List Piece) (before after : DeskState) (kept : Option DeskFault) → AddsPieces ps before kept after → after.begun ≡ before.begun
-adds_begun [] before after kept (none, same) = ap (λ (s : DeskState). s.begun) same
-adds_begun (p ∷ ps) before after kept (inl (inl (is, same))) = ap (λ (s : DeskState). s.begun) same
-adds_begun (p ∷ ps) before after kept (inl (inr (fault, is, few, adds))) = adds.begun
-adds_begun (p ∷ ps) before after kept (inr (next, few, adds, rest)) = adds_begun ps next after kept rest ∙ adds.begun
 
 -- a failure is one that the desk has counted
 pub failed_rose : (ps : List Piece) (before after : DeskState) (kept : Option DeskFault) → AddsPieces ps before kept after → kept ≡ Some Failed → Rose before.write_faults after.write_faults

@@ -1,18 +1,14 @@
 -- A worker does a task step by step.
-use Rattle.std.proofs.Common.{◌≡◌, ◌∙◌, ℕ, Bool, true, false, List, [], ◌∷◌, ◌++◌, sym, refl, ap, subst, append_assoc, append-nil}
-use Rattle.std.specs.Prelude.{◌==◌, not, if◌then◌else◌}
-use Rattle.octet_model.specs.declared.outcome.End.{End}
+use Rattle.std.proofs.Common.{◌≡◌, ◌∙◌, ℕ, true, false, List, [], ◌∷◌, ◌++◌, sym, refl, ap, subst, append_assoc}
 use Rattle.octet_interp.specs.declared.demand.Demand.TheVariants as demand
 use Rattle.octet_state.specs.declared.phase.Phase.{Phase}
 use Rattle.octet_state.specs.declared.phase.Phase.TheVariants.{Idle, Blocked}
 use Rattle.octet_state.specs.declared.phase.Due.{Due}
-use Rattle.octet_state.specs.declared.phase.Due.TheVariants.{Nothing, Answer}
-use Rattle.octet_state.specs.Words.{unpacked_status}
-use Rattle.octet_state.specs.Steps.{Kind, ToGlance, ToAnswer, ToBlock, ToUnblock}
+use Rattle.octet_state.specs.declared.phase.Due.TheVariants.{Nothing}
+use Rattle.octet_state.specs.Steps.{Kind, ToBlock, ToUnblock}
 use Rattle.octet_state.specs.NextStep.{kind_by_due, kind_in_phase}
 use Rattle.octet_rule.specs.Views.{SeatView, Taken, stepped_by}
 use Rattle.octet_rule.specs.Rule.{Steps}
-use Rattle.octet_safe.specs.Replies.{AnswersOr, PassesSafePoint}
 use Rattle.octet_heap.specs.Polls.{after_steps}
 use Rattle.octet_threads.specs.Tasks.{Task, task_of, next_step, IsNext, GoesBy, Does}
 
@@ -30,10 +26,6 @@ after_more (taken ∷ going) more v = after_more going more (stepped_by taken.ki
 pub goes_more : (task : Task) (v : SeatView) (going more : List Taken) → GoesBy task v going → GoesBy task (after_steps going v) more → GoesBy task v (going ++ more)
 goes_more task v [] more g h = h
 goes_more task v (taken ∷ going) more g h = (g.0, g.1, goes_more task (stepped_by taken.kind taken.word v) going more g.2 h)
-
--- no step yet
-pub gone_nowhere : (task : Task) (v : SeatView) → HasGone task v v
-gone_nowhere task v = record { going = []; goes = tt; after = refl; trail = sym (append-nil v.trail) }
 
 pub gone_on : (task : Task) (u v w : SeatView) → HasGone task u v → HasGone task v w → HasGone task u w
 gone_on task u v w g h = record {
@@ -87,30 +79,6 @@ done_by task v w k told took next is = record {
 pub next_in : (task : Task) (v : SeatView) (due : Due) (p : Phase) → v.thread.due ≡ due → v.thread.phase ≡ p → kind_by_due due (kind_in_phase v.threads v.number v.thread.count task.first task.value p) ≡ next_step task v
 next_in task v due p owes stands = λ i. kind_by_due (sym owes i) (kind_in_phase v.threads v.number v.thread.count task.first task.value (sym stands i))
 
--- a safe point
-pub passes : (v w : SeatView) (answered : Bool) → v.thread.due ≡ Nothing → v.thread.phase ≡ Idle → PassesSafePoint v answered w → Does (task_of demand.Safe) v w
-passes v w answered due phase p = go answered p.by_bits p.answers
-  where
-    first : ToGlance ≡ next_step (task_of demand.Safe) v
-    first = next_in (task_of demand.Safe) v Nothing Idle due phase
-
-    go : (b : Bool) → b ≡ not ((unpacked_status p.found).asked == 0) → AnswersOr b p.between w → Does (task_of demand.Safe) v w
-    go false none same = done_by (task_of demand.Safe) v w ToGlance p.found (subst (Steps ToGlance v p.found) (sym same) p.glances) first (clear ((unpacked_status p.found).asked == 0) none)
-      where
-        clear : (b : Bool) → false ≡ not b → b ≡ true
-        clear true e = refl
-        clear false e = absurd cc
-    go true some answers =
-        let met : ((unpacked_status p.found).asked == 0) ≡ false = set ((unpacked_status p.found).asked == 0) some in
-        let owes : p.between.thread.due ≡ Answer = ap (λ (x : SeatView). x.thread.due) p.glances.moves ∙ ap (λ (b : Bool). if b then Nothing else Answer) met in
-        let second : ToAnswer ≡ next_step (task_of demand.Safe) p.between = next_in (task_of demand.Safe) p.between Answer p.between.thread.phase owes refl in
-        gone_and_done (task_of demand.Safe) v p.between w (gone_one (task_of demand.Safe) v p.between ToGlance p.found p.glances first met)
-        (done_by (task_of demand.Safe) p.between w ToAnswer answers.0 answers.1 second refl)
-      where
-        set : (b : Bool) → true ≡ not b → b ≡ false
-        set false e = refl
-        set true e = absurd cc
-
 -- a block and an unblock
 pub pauses : (u v w : SeatView) (found there : ℕ) → u.thread.due ≡ Nothing → u.thread.phase ≡ Idle → Steps (ToBlock false) u found v → Steps ToUnblock v there w → Does (task_of demand.Pause) u w
 pauses u v w found there due phase blocks unblocks =
@@ -119,7 +87,3 @@ pauses u v w found there due phase blocks unblocks =
     let stands : v.thread.phase ≡ Blocked = ap (λ (x : SeatView). x.thread.phase) blocks.moves in
     gone_and_done task u v w (gone_one task u v (ToBlock false) found blocks (next_in task u Nothing Idle due phase) refl)
     (done_by task v w ToUnblock there unblocks (next_in task v Nothing Blocked owes stands) refl)
-
--- a block
-pub blocks_for_good : (v w : SeatView) (end : End) (found : ℕ) → v.thread.due ≡ Nothing → v.thread.phase ≡ Idle → Steps (ToBlock false) v found w → Does (task_of (demand.Ended end)) v w
-blocks_for_good v w end found due phase blocks = done_by (task_of (demand.Ended end)) v w (ToBlock false) found blocks (next_in (task_of (demand.Ended end)) v Nothing Idle due phase) refl

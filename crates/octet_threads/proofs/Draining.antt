@@ -6,7 +6,7 @@ use Rattle.std.proofs.Math.Seq.{drop-append_seam, take-length}
 use Rattle.octet_base.specs.Desk.{DeskState}
 use Rattle.octet_base.specs.declared.fault.DeskFault.{DeskFault}
 use Rattle.octet_model.specs.declared.log.Gapped.{Gapped}
-use Rattle.octet_log.specs.Pieces.{Piece, ArePieces, marks_of}
+use Rattle.octet_log.specs.v2.Pieces.{Piece, ArePieces, marks_of}
 use Rattle.octet_ring.specs.Views.{SenderView, DrainView, AreLeft, received_of}
 use Rattle.octet_threads.specs.Live.{AddsPieces}
 use Rattle.octet_threads.specs.Feeds.{GoesOn, HasSent, DrainsOne, Drains, AddsFront, AddsLeft, HasFront, AddsAllLeft}
@@ -104,10 +104,6 @@ drains_on threads drain mid next before between after kept first more = record {
   rings = more.rings ∙ first.rings;
 }
 
--- no marks are left
-pub front_none : (thread : ℕ) (marks : List Gapped) (state : DeskState) → marks ≡ [] → AddsFront thread marks None state None state
-front_none thread marks state none = record { pieces = []; own = tt; goes = (refl, refl); rest = []; front = none; whole = λ e. refl }
-
 -- some are added as a piece, and then others
 pub front_more : (thread : ℕ) (first rest marks : List Gapped) (before mid after : DeskState) (kept : Option DeskFault) → first ++ rest ≡ marks → 1 ≤ length first → AddsPieces (piece_of thread first ∷ []) before None mid → AddsFront thread rest None mid kept after
     → AddsFront thread marks None before kept after
@@ -132,10 +128,6 @@ front_refused thread first rest marks before after fault both some adds = record
   front = sym both ∙ ap (λ (l : List Gapped). l ++ rest) (sym (one_marks thread first));
   whole = λ never. absurd cc;
 }
-
--- nothing is added after a piece was refused
-pub front_nowhere : (thread : ℕ) (marks : List Gapped) (state : DeskState) (fault : DeskFault) → AddsFront thread marks (Some fault) state (Some fault) state
-front_nowhere thread marks state fault = record { pieces = []; own = tt; goes = (refl, refl, refl); rest = marks; front = refl; whole = λ never. absurd cc }
 
 -- all that stands behind a place
 pub all_behind : (place : ℕ) (marks : List Gapped) → take (length marks - place) (drop place marks) ≡ drop place marks
@@ -235,9 +227,6 @@ left_of_next i threads own kept kept' kept'' drain mid next before between after
       as_many = one.as_many ∙ below.as_many;
       rings = one.rings ∙ below.rings;
     }
-
-pub left_of_all : (i threads : ℕ) (own : ℕ → List Gapped) (kept kept' : Option DeskFault) (drain drain' : DrainView) (before after : DeskState) → threads ≤ i → LeftBelow i threads own kept drain before kept' drain' after → AddsAllLeft threads own kept drain before kept' after
-left_of_all i threads own kept kept' drain drain' before after all below = record { pieces = below.pieces; are = below.are; goes = below.goes; each = λ thread less. below.each thread (omega (arith, less, all)) }
 
 -- what was received meanwhile, and then what was left
 pub all_written : (threads : ℕ) (own : ℕ → List Gapped) (kept kept' : Option DeskFault) (drain mid : DrainView) (before between after : DeskState) → ((thread : ℕ) → received_of drain thread ≡ [])

@@ -13,7 +13,7 @@ use Rattle.octet_model.specs.Log.{is_log}
 use Rattle.octet_model.specs.Thread.{Configuration, demanded, configuration_after, starting_configuration, FitsToEnd}
 use Rattle.octet_model.specs.Machine.{Journals, journal_of}
 use Rattle.octet_model.specs.Journals.{access_count, log_of}
-use Rattle.octet_model.specs.Orders.{commands_of, end_of, ends_of, values_read, FitsScript, IsFaithful}
+use Rattle.octet_model.specs.Orders.{commands_of, end_of, ends_of, FitsScript, IsFaithful}
 use Rattle.octet_interp.specs.declared.demand.Demand.{Demand}
 use Rattle.octet_interp.specs.declared.demand.Demand.TheVariants as demand
 use Rattle.octet_interp.specs.Demands.{ThreadState, next_demand, after_demand}
@@ -172,12 +172,3 @@ module _ (script : Script) (heap : Heap) (runners : List Runner) (is : IsHeapOf 
     pub faithful : IsFaithful script closed.logs (record { ends = ends_in runners; reads = closed.reads; heap = closed.heap })
     faithful = subst (λ (ends : List End). IsFaithful script closed.logs (record { ends = ends; reads = closed.reads; heap = closed.heap })) (sym same_ends)
         (closes.faithful script (sym is.threads) (sym is.starts) fits_script)
-
-    pub many_ends : length (ends_in runners) ≡ length script.threads
-    many_ends = length-map runners (λ (x : Runner). end_told (next_demand x.config)) ∙ of.as_many
-
-    pub many_reads : length closed.reads ≡ length script.threads
-    many_reads = ap (λ (l : List (List ℕ)). length l) closes.reads ∙ (length-map js values_read ∙ (many_journals ∙ of.as_many))
-
-    pub many_cells : length closed.heap ≡ length script.objects
-    many_cells = ap (λ (l : List ℕ). length l) (sym closes.cells.cells) ∙ (sym closes.cells.sound.form.starts ∙ (ap (λ (l : List ℕ). length l) (closes.cells.began ∙ is.starts) ∙ length-map script.objects (λ o. o.start)))

@@ -1,8 +1,8 @@
 -- Turns of a worker's thread, and of those that have to go first.
-use Rattle.std.proofs.Common.{◌≡◌, ◌∙◌, ℕ, suc, ◌+◌, ◌≤◌, ◌<◌, ◌==◌, inl, inr, Bool, true, false, List, [], ◌∷◌, ◌++◌, length, Option, Some, None, refl, sym, ap, subst, arith}
+use Rattle.std.proofs.Common.{◌≡◌, ℕ, suc, ◌≤◌, inl, inr, Bool, true, false, List, [], ◌∷◌, Some, sym, ap, subst, arith}
 use Rattle.octet_state.specs.declared.why.Why.{Why}
 use Rattle.octet_machine.specs.declared.turned.Turned.{Turned}
-use Rattle.octet_machine.specs.declared.turned.Turned.TheVariants.{Moved, Waits, Ended}
+use Rattle.octet_machine.specs.declared.turned.Turned.TheVariants.{Waits}
 use Rattle.octet_machine.specs.Machine.{MachineState, turned, after_turn}
 use Rattle.octet_threads.specs.Turns.{waited_for, IsFree, MayGo, MayHelp, TellsHelp, last_turned, Helps}
 

@@ -13,7 +13,7 @@ use Rattle.octet_heap.specs.declared.wish.Wish.{Wish}
 use Rattle.octet_heap.specs.declared.poll.Poll.{Poll}
 use Rattle.octet_heap.specs.declared.poll.Poll.TheVariants.{Ready, Pending}
 use Rattle.octet_heap.specs.Polls as heap
-use Rattle.octet_heap.specs.Polls.{answer_by, answer_to, after_steps, PaysBy}
+use Rattle.octet_heap.specs.Polls.{answer_by, after_steps, PaysBy}
 use Rattle.octet_heap.specs.Workers.{IsPoll}
 use Rattle.octet_heap.specs.Growth.{access_made, AddsAccess}
 use Rattle.octet_threads.specs.Tasks.{access_task, is_on_cell, IsNext, GoesBy, Does}

@@ -1,5 +1,5 @@
 -- Turns of a worker's thread, with those of threads that have to go first.
-use Rattle.std.proofs.Common.{◌≡◌, ◌≢◌, ◌∙◌, ℕ, suc, ◌+◌, ◌≤◌, ◌<◌, ◌==◌, cond, inl, inr, Bool, true, false, List, [], ◌∷◌, ◌++◌, length, Option, Some, None, refl, sym, ap, subst, arith}
+use Rattle.std.proofs.Common.{◌≡◌, ◌≢◌, ◌∙◌, ℕ, ◌+◌, ◌≤◌, ◌<◌, ◌==◌, cond, inl, inr, Bool, true, false, List, [], ◌∷◌, ◌++◌, length, Option, Some, None, refl, sym, ap, subst, arith}
 use Rattle.std.proofs.lemmas.Bool.{eq-eqb}
 use Rattle.std.proofs.lemmas.List.Sums.{sum_by-append}
 use Rattle.octet_model.specs.declared.outcome.End.{End}
@@ -11,7 +11,7 @@ use Rattle.octet_machine.specs.Turns.{after_turns}
 use Rattle.octet_threads.specs.Step.{at_gate, found_by, after_by, found, after_found}
 use Rattle.octet_threads.specs.declared.step.Found.{Found}
 use Rattle.octet_threads.specs.declared.step.Found.TheVariants.{AtGate, Took}
-use Rattle.octet_threads.specs.Turns.{due_at_gate, MayGo, MayHelp, MayTurn, own_turns, Helps, TakesTurns, WaitsAfter, Finds}
+use Rattle.octet_threads.specs.Turns.{due_at_gate, MayGo, MayHelp, MayTurn, own_turns, Helps, TakesTurns, Finds}
 
 goes_then : (May : MachineState → Turned → ℕ → Type 0) (m : MachineState) (answer : Turned) (threads more : List ℕ)
     → MayGo May m answer threads → ((answer : Turned) → MayGo May (after_turns m threads) answer more) → MayGo May m answer (threads ++ more)
@@ -64,9 +64,6 @@ own_turn is_open own passed m after threads there past helps comes = record {
   comes = comes;
   enough = counts_own own threads;
 }
-
-fewer_turns : (is_open : Bool) (own : ℕ) (passed : Option ℕ) (m after : MachineState) → TakesTurns is_open own passed 1 m after → TakesTurns is_open own passed 0 m after
-fewer_turns is_open own passed m after x = record { threads = x.threads; may = x.may; comes = x.comes; enough = omega arith }
 
 -- a thread that has ended takes no turn
 ended_stays : (m : MachineState) (thread : ℕ) → turned m thread ≡ Ended → after_turn m thread ≡ m

@@ -14,7 +14,7 @@ use Rattle.octet_model.specs.Machine.{Journals, journal_of}
 use Rattle.octet_model.specs.Journals.{access_count, gapped_marks, log_of, log_of_journal}
 use Rattle.octet_model.proofs.lemmas.Splits.{length-gapped_marks, length_parts}
 use Rattle.octet_model.proofs.lemmas.Validity.{valid_script}
-use Rattle.octet_log.specs.Pieces.{marks_in}
+use Rattle.octet_log.specs.v2.Pieces.{marks_in}
 use Rattle.octet_state.specs.State.{ProtocolState}
 use Rattle.octet_state.proofs.lemmas.Widths.{few_marks}
 use Rattle.octet_rule.specs.Rule.{IsSeenBy}

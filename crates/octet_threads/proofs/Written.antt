@@ -6,7 +6,7 @@ use Rattle.octet_base.specs.Desk.{DeskState}
 use Rattle.octet_base.specs.declared.fault.DeskFault.{DeskFault}
 use Rattle.octet_model.specs.declared.log.Gapped.{Gapped}
 use Rattle.octet_model.specs.declared.log.ThreadLog.{ThreadLog}
-use Rattle.octet_log.specs.Pieces.{Piece, ArePieces, HaveMarks, marks_of}
+use Rattle.octet_log.specs.v2.Pieces.{Piece, ArePieces, HaveMarks, marks_of}
 use Rattle.octet_threads.specs.Live.{IsWritten}
 use Rattle.octet_threads.specs.Feeds.{AreOf}
 use Rattle.octet_threads.specs.Work.{Writes}

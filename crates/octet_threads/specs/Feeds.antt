@@ -4,7 +4,7 @@ use Rattle.std.specs.Option.{option_map}
 use Rattle.octet_base.specs.Desk.{DeskState}
 use Rattle.octet_base.specs.declared.fault.DeskFault.{DeskFault}
 use Rattle.octet_model.specs.declared.log.Gapped.{Gapped}
-use Rattle.octet_log.specs.Pieces.{Piece, ArePieces, marks_of}
+use Rattle.octet_log.specs.v2.Pieces.{Piece, ArePieces, marks_of}
 use Rattle.octet_ring.specs.Views.{RingName, SenderView, DrainView, received_of}
 use Rattle.octet_threads.specs.declared.feed.Feed.{Feed}
 use Rattle.octet_threads.specs.Live.{AddsPieces}

@@ -6,7 +6,7 @@ use Rattle.octet_base.specs.declared.fault.DeskFault.TheVariants.{OutOfMemory}
 use Rattle.octet_model.specs.declared.log.ThreadLog.{ThreadLog}
 use Rattle.octet_model.specs.Log.{is_log}
 use Rattle.octet_log.specs.declared.limits.TheConstants.{MAX_MARKS}
-use Rattle.octet_log.specs.Pieces.{Piece, piece_bytes, ArePieces, HaveMarks, marks_in}
+use Rattle.octet_log.specs.v2.Pieces.{Piece, piece_bytes, ArePieces, HaveMarks, marks_in}
 
 -- the desk refuses to add the piece, of at most 256 marks; or there is no memory for its bytes, and it is not asked
 abbrev pub IsRefused : Piece → DeskState → Option DeskFault → DeskState → Type 0

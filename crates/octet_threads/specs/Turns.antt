@@ -1,5 +1,5 @@
 -- What the turns come to that a worker takes while it has the machine: those of its own thread, and those of threads that have to go first.
-use Rattle.std.specs.Prelude.{◌≡◌, ℕ, ◌+◌, ◌≤◌, ◌<◌, ◌==◌, ◌⊎◌, Bool, true, false, List, [], ◌∷◌, length, count_by, Option, Some, None}
+use Rattle.std.specs.Prelude.{◌≡◌, ℕ, ◌≤◌, ◌<◌, ◌==◌, ◌⊎◌, Bool, true, false, List, [], ◌∷◌, length, count_by, Option, Some, None}
 use Rattle.octet_state.specs.declared.why.Why.{Why}
 use Rattle.octet_state.specs.declared.why.Why.TheVariants.{Held, Changed, Unanswered}
 use Rattle.octet_machine.specs.declared.turned.Turned.{Turned}

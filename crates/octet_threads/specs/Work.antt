@@ -2,7 +2,7 @@
 use Rattle.std.specs.Prelude.{◌≡◌, ℕ, ◌<◌, List, [], map, length, slice_index_or, Option}
 use Rattle.octet_base.specs.Desk.{DeskState}
 use Rattle.octet_base.specs.declared.fault.DeskFault.{DeskFault}
-use Rattle.octet_log.specs.Pieces.{Piece, ArePieces, marks_of}
+use Rattle.octet_log.specs.v2.Pieces.{Piece, ArePieces, marks_of}
 use Rattle.octet_model.specs.declared.log.Gapped.{Gapped}
 use Rattle.octet_model.specs.Journals.{gapped_marks}
 use Rattle.octet_heap.specs.declared.worker.Worker.{Worker}

@@ -14,6 +14,8 @@ mod live;
 #[cfg(test)]
 mod live_tests;
 mod locked;
+#[cfg(test)]
+mod loop_tests;
 mod patience;
 mod recording;
 mod runner;

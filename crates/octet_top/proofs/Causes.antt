@@ -7,7 +7,7 @@ use Rattle.sha2.specs.Sha256.{sha256}
 use Rattle.std.specs.Global.{Vec}
 use Rattle.octet_model.specs.declared.list.OutOfMemory.{OutOfMemory as NoMemory}
 use Rattle.octet_model.specs.Texts.{outcome_text}
-use Rattle.octet_log.specs.Pieces.{pieced_bytes}
+use Rattle.octet_log.specs.v2.Pieces.{pieced_bytes}
 use Rattle.octet_top.specs.declared.reply.Reply.{Reply}
 use Rattle.octet_top.specs.declared.reply.Status.{Status}
 use Rattle.octet_top.specs.declared.reply.Status.TheVariants as exit
@@ -16,15 +16,15 @@ use Rattle.octet_top.specs.Request.{Request, OfScript, OfLog, OfPair, Convert, R
 use Rattle.octet_top.specs.Commands.{Answers, IsAnswer}
 use Rattle.octet_top.specs.Replies.{Replies}
 use Rattle.octet_top.specs.Delivery.{Act, Begin, Add, Finish, Say, Does, Makes, IsRefused, acts_of, code_given, IsGiven}
-use Rattle.octet_top.specs.Live.{MakesSome, IsToldLive, IsCutLive, IsWrittenLive, IsRunLive}
+use Rattle.octet_top.specs.Live.{MakesSome, IsToldLive, IsWrittenLive, IsRunLive}
 use Rattle.octet_top.proofs.Parts.{log_parts, parts_acts}
 use Rattle.octet_top.proofs.LiveMade.{log_some, refused_log}
 use Rattle.octet_top.specs.Serving.{IsReplied, IsServed}
 use Rattle.octet_top.specs.Effects.{AsksRun, LeavesLog}
 use Rattle.octet_top.specs.Inputs.{IsScriptRead}
 use Rattle.octet_top.specs.Causes.{IsCause}
-use Rattle.octet_top.specs.Outputs.{IsPartlyWritten, IsWhole, IsCutShort, IsLeft}
-use Rattle.octet_top.proofs.Left.{Holds, some_is, some_of, joined, held_called, taken_held, answer_left, told_left, cut_left}
+use Rattle.octet_top.specs.Outputs.{IsPartlyWritten, IsWhole, IsCutShort}
+use Rattle.octet_top.proofs.Left.{IsLeft, Holds, some_is, some_of, joined, held_called, taken_held, answer_left, told_left, cut_left}
 use Rattle.octet_top.proofs.LiveFiles.{parts_joined, live_file}
 use Rattle.octet_top.proofs.Rows.{is_refusal, answers_row}
 

@@ -1,5 +1,5 @@
 -- What a run leaves that was cut.
-use Rattle.std.proofs.Common.{◌≡◌, ◌≢◌, ◌∙◌, ◌⊎◌, ◌++◌, ℕ, List, [], ◌∷◌, take, true, inl, inr, Option, Some, sym, refl, ap, subst}
+use Rattle.std.proofs.Common.{◌≡◌, ◌∙◌, ◌⊎◌, ℕ, List, true, inl, inr, Option, Some, sym, ap, subst}
 use Rattle.octet_base.specs.Desk.{Contents, DeskState}
 use Rattle.octet_model.specs.Texts.{outcome_text}
 use Rattle.octet_top.specs.declared.reply.Status.{Status}

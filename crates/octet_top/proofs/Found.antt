@@ -6,15 +6,18 @@ use Rattle.octet_top.specs.declared.inputs.Pair.{Pair}
 use Rattle.octet_top.specs.declared.reply.Reply.{Reply}
 use Rattle.octet_top.specs.declared.reply.Status.TheVariants.{Done, Read}
 use Rattle.octet_top.specs.declared.request.PairTask.{PairTask}
-use Rattle.octet_top.specs.Answer.{Answer, answer_of}
+use Rattle.octet_top.specs.Answer.{Answer, answer_of, wrong_script}
 use Rattle.octet_log.specs.declared.loader.Loaded.{Loaded}
+use Rattle.octet_replay.specs.declared.fitting.FitFault.{FitFault}
+use Rattle.octet_replay.specs.Fit.{IsOfScript, IsOfAnother}
 use Rattle.octet_model.specs.declared.limits.TheConstants.{MAX_LOG_FILE, MAX_SCRIPT_FILE}
 use Rattle.octet_top.specs.declared.inputs.Source.{Source}
 use Rattle.octet_top.specs.declared.request.ScriptTask.{ScriptTask}
 use Rattle.octet_top.specs.declared.request.LogTask.{LogTask}
 use Rattle.octet_top.specs.Request.{Way, Request, OfScript, OfLog, OfPair, Convert, Run, Gen}
 use Rattle.octet_top.specs.Inputs.{IsScriptRead, IsLogRead, IsPairRead, Refusal, Ends, WasRefused, TakesOne, TakesBoth}
-use Rattle.octet_top.specs.Commands.{Answering, Answers, ScriptAnswers, LogAnswers, RunAnswers, RequestAnswers, PairAnswers, ConvertAnswers, IsGeneration}
+use Rattle.octet_top.specs.Checked.{IsPairTaken, IsFittingTaken}
+use Rattle.octet_top.specs.Commands.{Answering, Answers, ScriptAnswers, LogAnswers, RunAnswers, RequestAnswers, Matching, PairReplays, Converts, IsGeneration}
 use Rattle.octet_top.specs.Replies.{Finds, Replies, IsNoSuccess, TakesFiles}
 use Rattle.octet_top.proofs.Steps.{as_short, both_as_short, one_keeps, both_keep}
 use Rattle.octet_top.proofs.Rows.{Refuses, not_done, script_refused, log_refused, pair_refused}
@@ -88,46 +91,60 @@ module _ (way : Way) (script log : List ℕ) where
   pub run_stops : (before after : DeskState) (stop : Refusal) → Ends (IsScriptRead script before.contents) before.take_faults (Err stop) after.take_faults → TakesOne script MAX_SCRIPT_FILE (WasRefused {T = Source} (Err stop)) before after → Replies (Some (Run way script log)) before stop after
   run_stops = one_stops (Run way script log) script MAX_SCRIPT_FILE Source (IsScriptRead script) (RunAnswers way log) (λ short before after calls. calls) (λ contents answer answers. answers) (script_refused script)
 
+-- the log is of another script, which is said
+another_script : (Next : Answer → Type 0) (pair : Pair) (fault : FitFault) (refusal : Refusal) → IsOfAnother pair.source.text pair.loaded.digest fault → IfOk refusal (λ reply. answer_of reply ≡ wrong_script fault)
+    → IfOk refusal (λ reply. Matching Next pair (answer_of reply))
+another_script Next pair fault (Ok reply) other said = inl (fault, other, said)
+another_script Next pair fault (Err none) other said = tt
+
+-- or it is not, and the command goes on
+same_script : (Next : Answer → Type 0) (pair : Pair) (result : Result Reply NoMemory) → IsOfScript pair.source.text pair.loaded.digest → IfOk result (λ reply. Next (answer_of reply)) → IfOk result (λ reply. Matching Next pair (answer_of reply))
+same_script Next pair (Ok reply) of says = inr (of, says)
+same_script Next pair (Err none) of says = tt
+
 -- a request that takes a script and a log
-module _ (request : Request) (script log : List ℕ) (object : Option (List ℕ)) (Reply' : Pair → Answer → Type 0)
+module _ (request : Request) (script log : List ℕ) (object : Option (List ℕ)) (Next : Pair → Answer → Type 0)
     (takes : (Short : Type 0) (before after : DeskState) → TakesBoth script log object Short before after → TakesFiles (Some request) Short before after)
-    (answers_it : (contents : Option Contents) (answer : Answer) → Answering (IsPairRead script log object contents) Reply' answer → RequestAnswers request contents answer) where
-  two_read : (before after : DeskState) (pair : Pair) (result : Result Reply NoMemory) → Ends (IsPairRead script log object before.contents) before.take_faults (Ok pair) after.take_faults
-      → TakesBoth script log object (WasRefused {T = Pair} {E = Refusal} (Ok pair)) before after → IfOk result (λ reply. Reply' pair (answer_of reply)) → Replies (Some request) before result after
-  two_read before after pair result ends calls answers = record {
-    found = as_found (Answering (IsPairRead script log object before.contents) Reply') (RequestAnswers request before.contents) (answers_it before.contents) _ _ result (found_done (IsPairRead script log object before.contents) Reply' pair _ _ result ends.0 ends.1 answers);
-    calls = takes (IsNoSuccess result) before after (both_as_short script log object ⊥ (IsNoSuccess result) before after (λ never. absurd never) calls);
-    begun = (both_keep script log object ⊥ before after calls).0;
-    write_faults = (both_keep script log object ⊥ before after calls).1;
+    (answers_it : (contents : Option Contents) (answer : Answer) → Answering (IsPairRead script log object contents) (λ pair. Matching (Next pair) pair) answer → RequestAnswers request contents answer) where
+  taken_both : (before after : DeskState) (pair : Pair) (result : Result Reply NoMemory) → IsPairTaken script log object before (Ok pair) after → IfOk result (λ reply. Matching (Next pair) pair (answer_of reply)) → Replies (Some request) before result after
+  taken_both before after pair result taken answers = record {
+    found = as_found (Answering (IsPairRead script log object before.contents) (λ pair. Matching (Next pair) pair)) (RequestAnswers request before.contents) (answers_it before.contents) _ _ result
+        (found_done (IsPairRead script log object before.contents) (λ pair. Matching (Next pair) pair) pair _ _ result taken.ends.0 taken.ends.1 answers);
+    calls = takes (IsNoSuccess result) before after (both_as_short script log object ⊥ (IsNoSuccess result) before after (λ never. absurd never) taken.calls);
+    begun = (both_keep script log object ⊥ before after taken.calls).0;
+    write_faults = (both_keep script log object ⊥ before after taken.calls).1;
   }
 
-  two_stop : (before after : DeskState) (stop : Refusal) → Ends (IsPairRead script log object before.contents) before.take_faults (Err stop) after.take_faults
-      → TakesBoth script log object (WasRefused {T = Pair} (Err stop)) before after → Replies (Some request) before stop after
-  two_stop before after stop ends calls = record {
-    found = as_found (Answering (IsPairRead script log object before.contents) Reply') (RequestAnswers request before.contents) (answers_it before.contents) _ _ stop (found_refused (IsPairRead script log object before.contents) Reply' _ _ stop ends);
+  stopped_both : (before after : DeskState) (stop : Refusal) → IsPairTaken script log object before (Err stop) after → Replies (Some request) before stop after
+  stopped_both before after stop taken = record {
+    found = as_found (Answering (IsPairRead script log object before.contents) (λ pair. Matching (Next pair) pair)) (RequestAnswers request before.contents) (answers_it before.contents) _ _ stop
+        (found_refused (IsPairRead script log object before.contents) (λ pair. Matching (Next pair) pair) _ _ stop taken.ends);
     calls = takes (IsNoSuccess stop) before after (both_as_short script log object (Unit {0}) (IsNoSuccess stop) before after
-        (λ refused. is_short (IsPairRead script log object before.contents) (pair_refused script log object before.contents) _ _ stop ends) calls);
-    begun = (both_keep script log object (Unit {0}) before after calls).0;
-    write_faults = (both_keep script log object (Unit {0}) before after calls).1;
+        (λ refused. is_short (IsPairRead script log object before.contents) (pair_refused script log object before.contents) _ _ stop taken.ends) taken.calls);
+    begun = (both_keep script log object (Unit {0}) before after taken.calls).0;
+    write_faults = (both_keep script log object (Unit {0}) before after taken.calls).1;
   }
+
+  two_read : (before after : DeskState) (pair : Pair) (result : Result Reply NoMemory) → IsFittingTaken script log object before (Ok pair) after → IfOk result (λ reply. Next pair (answer_of reply)) → Replies (Some request) before result after
+  two_read before after pair result taken says = taken_both before after pair result taken.0 (same_script (Next pair) pair result taken.1 says)
+
+  two_stop : (before after : DeskState) (stop : Refusal) → IsFittingTaken script log object before (Err stop) after → Replies (Some request) before stop after
+  two_stop before after stop (inl taken) = stopped_both before after stop taken
+  two_stop before after stop (inr (pair, fault, taken, other, said)) = taken_both before after pair stop taken (another_script (Next pair) pair fault stop other said)
 
 module _ (task : PairTask) (script log : List ℕ) (object : Option (List ℕ)) where
-  pub both_read : (before after : DeskState) (pair : Pair) (result : Result Reply NoMemory) → Ends (IsPairRead script log object before.contents) before.take_faults (Ok pair) after.take_faults
-      → TakesBoth script log object (WasRefused {T = Pair} {E = Refusal} (Ok pair)) before after → IfOk result (λ reply. PairAnswers task pair (answer_of reply)) → Replies (Some (OfPair task script log object)) before result after
-  both_read = two_read (OfPair task script log object) script log object (PairAnswers task) (λ short before after calls. calls) (λ contents answer answers. answers)
+  pub both_read : (before after : DeskState) (pair : Pair) (result : Result Reply NoMemory) → IsFittingTaken script log object before (Ok pair) after → IfOk result (λ reply. PairReplays task pair (answer_of reply)) → Replies (Some (OfPair task script log object)) before result after
+  both_read = two_read (OfPair task script log object) script log object (PairReplays task) (λ short before after calls. calls) (λ contents answer answers. answers)
 
-  pub both_stop : (before after : DeskState) (stop : Refusal) → Ends (IsPairRead script log object before.contents) before.take_faults (Err stop) after.take_faults
-      → TakesBoth script log object (WasRefused {T = Pair} (Err stop)) before after → Replies (Some (OfPair task script log object)) before stop after
-  both_stop = two_stop (OfPair task script log object) script log object (PairAnswers task) (λ short before after calls. calls) (λ contents answer answers. answers)
+  pub both_stop : (before after : DeskState) (stop : Refusal) → IsFittingTaken script log object before (Err stop) after → Replies (Some (OfPair task script log object)) before stop after
+  both_stop = two_stop (OfPair task script log object) script log object (PairReplays task) (λ short before after calls. calls) (λ contents answer answers. answers)
 
 module _ (script log out : List ℕ) where
-  pub conversion_read : (before after : DeskState) (pair : Pair) (result : Result Reply NoMemory) → Ends (IsPairRead script log None before.contents) before.take_faults (Ok pair) after.take_faults
-      → TakesBoth script log None (WasRefused {T = Pair} {E = Refusal} (Ok pair)) before after → IfOk result (λ reply. ConvertAnswers out pair (answer_of reply)) → Replies (Some (Convert script log out)) before result after
-  conversion_read = two_read (Convert script log out) script log None (ConvertAnswers out) (λ short before after calls. calls) (λ contents answer answers. answers)
+  pub conversion_read : (before after : DeskState) (pair : Pair) (result : Result Reply NoMemory) → IsFittingTaken script log None before (Ok pair) after → IfOk result (λ reply. Converts out pair (answer_of reply)) → Replies (Some (Convert script log out)) before result after
+  conversion_read = two_read (Convert script log out) script log None (Converts out) (λ short before after calls. calls) (λ contents answer answers. answers)
 
-  pub conversion_stop : (before after : DeskState) (stop : Refusal) → Ends (IsPairRead script log None before.contents) before.take_faults (Err stop) after.take_faults
-      → TakesBoth script log None (WasRefused {T = Pair} (Err stop)) before after → Replies (Some (Convert script log out)) before stop after
-  conversion_stop = two_stop (Convert script log out) script log None (ConvertAnswers out) (λ short before after calls. calls) (λ contents answer answers. answers)
+  pub conversion_stop : (before after : DeskState) (stop : Refusal) → IsFittingTaken script log None before (Err stop) after → Replies (Some (Convert script log out)) before stop after
+  conversion_stop = two_stop (Convert script log out) script log None (Converts out) (λ short before after calls. calls) (λ contents answer answers. answers)
 
 -- a reply that no file is taken for
 pub generated_reply : (number : ℕ) (script log : List ℕ) (before : DeskState) (result : Result Reply NoMemory)

@@ -23,7 +23,12 @@ use Rattle.octet_top.specs.Replies.{TakesFiles}
 use Rattle.octet_top.specs.Delivery.{Act, Add, Finish, Say, Makes, IsRefused, pieces, pieces_within, file_acts, acts_of}
 use Rattle.octet_top.specs.Live.{MakesSome}
 use Rattle.octet_top.proofs.Parts.{parts_acts}
-use Rattle.octet_top.specs.Outputs.{written, IsPartlyWritten, ArePartlyWritten, IsLeft}
+use Rattle.octet_top.specs.Outputs.{written, IsPartlyWritten, ArePartlyWritten, IsWhole, IsCutShort}
+
+-- what the calls of an answer leave, by how the last of them ended
+abbrev pub IsLeft : Answer → Result (Unit {0}) DeskFault → Contents → Contents → Type 0
+IsLeft answer (Ok done) before after = IsWhole answer before after
+IsLeft answer (Err fault) before after = IsCutShort answer before after
 
 pub some_is : {x y : Contents} → Some x ≡ Some y → x ≡ y
 some_is {x} {y} is = ap (λ o. unwrap_or o x) is

@@ -16,8 +16,9 @@ use Rattle.octet_model.specs.Texts.{log_bytes}
 use Rattle.octet_model.specs.Validity.{IsValidLog}
 use Rattle.octet_model.proofs.lemmas.Validity.{valid_log}
 use Rattle.octet_log.specs.declared.limits.TheConstants.{MAX_MARKS}
-use Rattle.octet_log.specs.Short.{groups, short_bytes}
-use Rattle.octet_log.specs.Pieces.{Piece, short_mark_of, short_mark_bytes, piece_bytes, tail_bytes, marks_in, whole_pieces, pieced_bytes, IsSpelling}
+use Rattle.octet_log.specs.v2.Short.{groups, short_bytes}
+use Rattle.octet_log.specs.v2.Pieces.{Piece, short_mark_of, short_mark_bytes, piece_bytes, tail_bytes, marks_in, whole_pieces, pieced_bytes}
+use Rattle.octet_log.specs.Spellings.{IsSpelling}
 use Rattle.octet_log.proofs.lemmas.Sizes.{few_marks}
 use Rattle.octet_top.specs.declared.request.RunTask.{RunTask}
 use Rattle.octet_top.specs.declared.request.RunTask.TheVariants as run

@@ -1,6 +1,7 @@
 pub mod Lengths
 pub mod Recorded
 pub mod Steps
+mod FirstSteps
 pub mod Counted
 pub mod Matches
 pub mod Rows

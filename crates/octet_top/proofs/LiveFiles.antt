@@ -1,5 +1,5 @@
 -- The bytes of a log that was written in parts.
-use Rattle.std.proofs.Common.{◌≡◌, ◌≢◌, ◌∙◌, ℕ, zero, suc, ◌+◌, ◌*◌, ◌<◌, ◌≤◌, ◌&&◌, inl, inr, true, false, cond, eqb, List, [], ◌∷◌, ◌++◌, map, length, length-append, Some, refl, sym, ap, subst, arith, append_assoc, append-nil}
+use Rattle.std.proofs.Common.{◌≡◌, ◌≢◌, ◌∙◌, ℕ, zero, suc, ◌+◌, ◌*◌, ◌<◌, ◌≤◌, inl, inr, true, cond, eqb, List, [], ◌∷◌, ◌++◌, map, length, length-append, Some, refl, sym, ap, arith, append_assoc, append-nil}
 use Rattle.std.specs.List.{flat_map, sum_by}
 use Rattle.std.specs.Int.{w32, to_be_bytes}
 use Rattle.std.proofs.lemmas.Bool.{cases_eq, ne_eqb}
@@ -17,8 +17,8 @@ use Rattle.octet_model.specs.Texts.{mark_bytes, bytes_of_mark, thread_bytes, log
 use Rattle.octet_model.specs.Validity.{IsValidLog}
 use Rattle.octet_model.proofs.lemmas.LogLength.{faithful_log_is_short}
 use Rattle.octet_model.proofs.lemmas.Validity.{valid_log}
-use Rattle.octet_log.specs.Short.{short_bytes}
-use Rattle.octet_log.specs.Pieces.{Piece, IsPiece, ArePieces, HaveMarks, marks_of, marks_in, short_mark_bytes, marks_bytes, piece_bytes, head_bytes, tail_bytes, pieced_bytes, SpellsPieces}
+use Rattle.octet_log.specs.v2.Short.{short_bytes}
+use Rattle.octet_log.specs.v2.Pieces.{Piece, IsPiece, ArePieces, HaveMarks, marks_of, marks_in, short_mark_bytes, piece_bytes, head_bytes, tail_bytes, pieced_bytes, SpellsPieces}
 use Rattle.octet_top.specs.Commands.{IsLogFile}
 use Rattle.octet_top.proofs.Parts.{log_parts}
 use Rattle.octet_top.proofs.Left.{joined}

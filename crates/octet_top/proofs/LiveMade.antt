@@ -1,5 +1,5 @@
 -- The calls by which a log is written while its threads run.
-use Rattle.std.proofs.Common.{◌≡◌, ◌≢◌, ◌∙◌, ◌⊎◌, ℕ, zero, suc, ◌≤◌, inl, inr, true, List, [], ◌∷◌, ◌++◌, map, length, Option, None, Some, Result, Ok, Err, refl, sym, ap, subst, append_assoc, arith}
+use Rattle.std.proofs.Common.{◌≡◌, ◌∙◌, ℕ, zero, suc, ◌≤◌, inl, inr, true, List, [], ◌∷◌, ◌++◌, map, length, Option, None, Some, Result, Ok, Err, refl, sym, ap, subst, arith}
 use Rattle.std.specs.List.{sum_by}
 use Rattle.std.proofs.lemmas.Bool.{and_from, le-leb}
 use Rattle.std.proofs.lemmas.List.Sums.{sum_by-cons}
@@ -17,7 +17,7 @@ use Rattle.octet_model.proofs.lemmas.Validity.{valid_script}
 use Rattle.octet_model.specs.Orders.{IsFaithful}
 use Rattle.octet_model.specs.Texts.{outcome_text}
 use Rattle.octet_log.specs.declared.limits.TheConstants.{MAX_MARKS}
-use Rattle.octet_log.specs.Pieces.{Piece, ArePieces, HaveMarks, head_bytes, piece_bytes, tail_bytes, pieced_bytes, marks_in, SpellsPieces}
+use Rattle.octet_log.specs.v2.Pieces.{Piece, ArePieces, HaveMarks, head_bytes, piece_bytes, tail_bytes, pieced_bytes, marks_in, SpellsPieces}
 use Rattle.octet_threads.specs.Live.{AddsPieces, IsWritten, IsPartlyWritten}
 use Rattle.octet_top.specs.declared.inputs.Source.{Source}
 use Rattle.octet_top.specs.Delivery.{Act, Begin, Add, Finish, Say, Does, IsRefused}
@@ -78,20 +78,10 @@ pub refused_log : (name digest : List ℕ) (pieces : List Piece) (logs : List Th
 refused_log name digest pieces logs before mid after fault opens refused =
     some_then (opening_acts name digest logs) (map Add (map piece_bytes pieces ++ tail_bytes logs ∷ []) ++ Finish ∷ []) before mid after (Err fault) opens (refused_some pieces (tail_bytes logs) (Finish ∷ []) mid after fault refused)
 
--- what was cut is cut among more calls
-pub some_stays : (acts more : List Act) (before after : DeskState) (fault : DeskFault) → MakesSome acts before (Err fault) after → MakesSome (acts ++ more) before (Err fault) after
-some_stays [] more before after fault (never, is) = absurd cc
-some_stays (act ∷ acts) more before after fault (inl memory) = inl memory
-some_stays (act ∷ acts) more before after fault (inr (inl refused)) = inr (inl refused)
-some_stays (act ∷ acts) more before after fault (inr (inr (between, does, makes))) = inr (inr (between, does, some_stays acts more between after fault makes))
-
 -- one call
 pub one_some : (act : Act) (before : DeskState) (result : Result (Unit {0}) DeskFault) (after : DeskState) → Does act before result after → MakesSome (act ∷ []) before result after
 one_some act before (Ok tt) after does = inr (inr (after, does, (refl, refl)))
 one_some act before (Err fault) after does = inr (inl (tt, does))
-
-pub none_some : (act : Act) (acts : List Act) (state : DeskState) → MakesSome (act ∷ acts) state (Err OutOfMemory) state
-none_some act acts state = inl (refl, refl)
 
 -- after the file is begun and the head is added it goes on
 module _ (name head : List ℕ) (before mid next : DeskState) (begins : Begins name before (Ok tt) mid) (heads : MakesSome (Add head ∷ []) mid (Ok tt) next) where

@@ -1,5 +1,5 @@
 -- What is found by a test that computes.
-use Rattle.std.proofs.Common.{Bool, true, false, List, [], ◌∷◌, Result, Ok, Err, IfOk, All}
+use Rattle.std.proofs.Common.{Bool, true, false, List, Result, Ok, Err, IfOk, All}
 use Rattle.std.proofs.lemmas.List.Elements.{All-weaker}
 use Rattle.octet_model.specs.declared.event.Event.{Event}
 use Rattle.octet_model.specs.declared.event.Place.{Place}

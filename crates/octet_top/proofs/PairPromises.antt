@@ -2,11 +2,11 @@
 use Rattle.std.proofs.Common.{◌≡◌, ◌≢◌, ◌∙◌, ◌⊎◌, ◌++◌, ℕ, List, Option, Some, None, Ok, false, inl, inr, ap, sym, refl, subst, arith}
 use Rattle.octet_base.specs.Desk.{Contents, DeskState}
 use Rattle.octet_model.specs.declared.outcome.Outcome.{Outcome}
-use Rattle.octet_model.specs.Orders.{execution, lowest_order, IsFaithful}
+use Rattle.octet_model.specs.Orders.{execution, lowest_order}
 use Rattle.octet_model.specs.Texts.{outcome_text}
 use Rattle.octet_replay.specs.Fit.{IsOfScript, IsOfAnother}
 use Rattle.octet_replay.specs.Judged.{IsLawful}
-use Rattle.octet_replay.proofs.lemmas.OneAnswer.{faithful, not_refused}
+use Rattle.octet_replay.proofs.lemmas.OneAnswer.{faithful}
 use Rattle.octet_clock.specs.declared.verdict.Verdict.{Verdict}
 use Rattle.octet_clock.specs.declared.verdict.Verdict.TheVariants as verdict
 use Rattle.octet_clock.specs.Verified.{IsVerified}
@@ -14,7 +14,7 @@ use Rattle.octet_top.specs.declared.inputs.Pair.{Pair}
 use Rattle.octet_top.specs.declared.request.PairTask.{PairTask}
 use Rattle.octet_top.specs.declared.request.PairTask.TheVariants.{Replay, Parallel, Verify, Regions, Slice, Stop, Trace}
 use Rattle.octet_top.specs.declared.reply.Status.{Status}
-use Rattle.octet_top.specs.declared.reply.Status.TheVariants.{Done, Read, Write, Memory, Misfit, Unordered, Cycle, NoEvent}
+use Rattle.octet_top.specs.declared.reply.Status.TheVariants.{Done, Misfit, Unordered, Cycle, NoEvent}
 use Rattle.octet_top.specs.Answer.{Answer, code_of, says, verdict_said}
 use Rattle.octet_top.specs.Slices.{slice_line}
 use Rattle.octet_top.specs.Request.{Request, request_in, OfPair}
@@ -22,7 +22,7 @@ use Rattle.octet_top.specs.Inputs.{IsPairRead}
 use Rattle.octet_top.specs.Commands.{Answers, RequestAnswers, PairSays}
 use Rattle.octet_top.specs.Serving.{IsServed}
 use Rattle.octet_top.specs.Outputs.{IsWhole}
-use Rattle.octet_top.specs.Promises.{IsOrderedPair, VerifiesOrdered, IsReplayedOnThreads, ReplaysOnThreads, IsFoundRegions, FindsRegions, RepeatsRecordings, IsSlicedPair, SlicesPasts, IsStoppedPair, StopsAtFirst, IsTracedPair, TracesOrders, IsTracedMisfit, TracesMisfits}
+use Rattle.octet_top.specs.Promises.{IsOrderedPair, VerifiesOrdered, IsReplayedOnThreads, ReplaysOnThreads, IsFoundRegions, FindsRegions, RepeatsRecordings, IsSlicedPair, SlicesPasts, StopsAtFirst, TracesOrders, IsTracedMisfit, TracesMisfits}
 use Rattle.octet_top.proofs.Causes.{has_cause}
 use Rattle.octet_top.proofs.Due.{pair_single, not_of_another}
 use Rattle.octet_top.proofs.Effects.{leaves}

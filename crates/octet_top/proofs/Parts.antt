@@ -1,7 +1,7 @@
 -- The parts in which a log is written while its threads run.
 use Rattle.std.proofs.Common.{ℕ, List, [], ◌∷◌, ◌++◌, map, length}
 use Rattle.octet_model.specs.declared.log.ThreadLog.{ThreadLog}
-use Rattle.octet_log.specs.Pieces.{Piece, head_bytes, piece_bytes, tail_bytes}
+use Rattle.octet_log.specs.v2.Pieces.{Piece, head_bytes, piece_bytes, tail_bytes}
 use Rattle.octet_top.specs.Delivery.{Act, Begin, Add, Finish}
 
 -- the head and the tail are added as they are, and the marks in pieces

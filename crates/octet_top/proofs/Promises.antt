@@ -9,7 +9,7 @@ use Rattle.octet_top.specs.declared.reply.Status.{Status}
 use Rattle.octet_top.specs.declared.reply.Status.TheVariants.{Done, Read, Write, Memory}
 use Rattle.octet_top.specs.Answer.{Answer, code_of, writes_file, writes_both, summary}
 use Rattle.octet_top.specs.Request.{Way, ByPicks, Run, request_in, Convert, Gen}
-use Rattle.octet_log.specs.Pieces.{IsSpelling}
+use Rattle.octet_log.specs.Spellings.{IsSpelling}
 use Rattle.octet_top.specs.Headline.{digest_kept, IsFaithfulRun, RunsFaithfully}
 use Rattle.octet_top.specs.Commands.{Answers, Records, RequestAnswers, second_bytes}
 use Rattle.octet_top.specs.Serving.{IsServed}

@@ -9,7 +9,6 @@ use Rattle.octet_clock.specs.declared.verdict.Verdict.TheVariants as verdict
 use Rattle.octet_clock.specs.Verified.{IsVerified}
 use Rattle.octet_model.specs.declared.log.ThreadLog.{ThreadLog}
 use Rattle.octet_regions.specs.declared.region.Region.{Region}
-use Rattle.octet_regions.specs.declared.serial.Serial.{Serial}
 use Rattle.octet_regions.specs.declared.serial.Serial.TheVariants as serial
 use Rattle.octet_regions.specs.Accesses.{accesses_of}
 use Rattle.octet_regions.specs.Choice.{IsSerialChoice, TakesAll}

@@ -1,14 +1,29 @@
--- How a command begins that needs a log which orders all conflicts.
-use Rattle.std.specs.Prelude.{ℕ, ◌≡◌, ◌≢◌, ◌⊎◌, Result, Ok, Err}
+-- How a command begins that needs a log which is of the script, or one which orders all conflicts.
+use Rattle.std.specs.Prelude.{ℕ, ◌≡◌, ◌≢◌, ◌⊎◌, List, Option, Result, Ok, Err, IfOk}
+use Rattle.octet_base.specs.Desk.{DeskState}
 use Rattle.octet_model.specs.declared.event.Place.{Place}
 use Rattle.octet_replay.specs.declared.fault.ReplayFault.{ReplayFault}
 use Rattle.octet_replay.specs.declared.fault.ReplayFault.TheVariants.{OutOfMemory}
 use Rattle.octet_replay.specs.Judged.{HasCause}
+use Rattle.octet_replay.specs.declared.fitting.FitFault.{FitFault}
+use Rattle.octet_replay.specs.Fit.{IsOfScript, IsOfAnother}
 use Rattle.octet_clock.specs.declared.verdict.Verdict.TheVariants.{Ordered, Unordered}
 use Rattle.octet_clock.specs.Verified.{IsVerified}
 use Rattle.octet_top.specs.declared.inputs.Pair.{Pair}
-use Rattle.octet_top.specs.Answer.{Answer, answer_of, does_not_fit, verdict_said}
-use Rattle.octet_top.specs.Inputs.{Refusal}
+use Rattle.octet_top.specs.Answer.{Answer, answer_of, does_not_fit, verdict_said, wrong_script}
+use Rattle.octet_top.specs.Inputs.{Refusal, IsPairRead, Ends, TakesBoth, WasRefused}
+
+-- a script and a log are taken and read, or that is refused
+pub record IsPairTaken (script log : List ℕ) (object : Option (List ℕ)) (before : DeskState) (result : Result Pair Refusal) (after : DeskState) : Type 0 where
+  pub ends : Ends (IsPairRead script log object before.contents) before.take_faults result after.take_faults
+  pub calls : TakesBoth script log object (WasRefused result) before after
+
+-- they were taken, and the log is of the script, or has no digest; or that was refused, or the log is of another script, which is said if there was memory for it
+abbrev pub IsFittingTaken : List ℕ → List ℕ → Option (List ℕ) → DeskState → Result Pair Refusal → DeskState → Type 0
+IsFittingTaken script log object before (Ok pair) after = IsPairTaken script log object before (Ok pair) after × IsOfScript pair.source.text pair.loaded.digest
+IsFittingTaken script log object before (Err refusal) after =
+    IsPairTaken script log object before (Err refusal) after
+    ⊎ ((pair : Pair) × (fault : FitFault) × IsPairTaken script log object before (Ok pair) after × IsOfAnother pair.source.text pair.loaded.digest fault × IfOk refusal (λ reply. answer_of reply ≡ wrong_script fault))
 
 -- the log does not fit, and why is said; or it does not order all conflicts, and two of them are
 abbrev pub RefusesOrder : Pair → Answer → Type 0

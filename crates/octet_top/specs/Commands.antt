@@ -13,7 +13,8 @@ use Rattle.octet_model.specs.Traces.{trace_of}
 use Rattle.octet_script.specs.Spelling.{canonical_text}
 use Rattle.octet_log.specs.Texts.{log_text}
 use Rattle.octet_log.specs.declared.loader.Loaded.{Loaded}
-use Rattle.octet_log.specs.Pieces.{IsSpelling, whole_pieces, pieced_bytes}
+use Rattle.octet_log.specs.Spellings.{IsSpelling}
+use Rattle.octet_log.specs.v2.Pieces.{whole_pieces, pieced_bytes}
 use Rattle.octet_replay.specs.declared.fitting.FitFault.{FitFault}
 use Rattle.octet_replay.specs.Fit.{IsOfScript, IsOfAnother}
 use Rattle.octet_replay.specs.declared.fault.ReplayFault.{ReplayFault}

@@ -1,5 +1,5 @@
 -- How an answer is given to the desk: call by call, up to the first that is refused.
-use Rattle.std.specs.Prelude.{ℕ, zero, suc, ◌≡◌, ◌⊎◌, ◌++◌, List, [], ◌∷◌, map, take, drop, length, Option, Result, Ok, Err}
+use Rattle.std.specs.Prelude.{ℕ, zero, suc, ◌≡◌, ◌⊎◌, ◌++◌, List, [], ◌∷◌, map, take, drop, length, Result, Ok, Err}
 use Rattle.std.specs.List.{flat_map}
 use Rattle.octet_base.specs.Desk.{DeskState, Begins, Adds, Finishes, Says}
 use Rattle.octet_base.specs.declared.fault.DeskFault.{DeskFault}

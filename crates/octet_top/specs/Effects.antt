@@ -6,7 +6,7 @@ use Rattle.octet_model.specs.Orders.{IsFaithful}
 use Rattle.sha2.specs.Sha256.{sha256}
 use Rattle.octet_model.specs.declared.log.Log.{Log}
 use Rattle.octet_model.specs.declared.outcome.Outcome.{Outcome}
-use Rattle.octet_log.specs.Pieces.{IsSpelling}
+use Rattle.octet_log.specs.Spellings.{IsSpelling}
 use Rattle.octet_model.specs.Texts.{outcome_text}
 use Rattle.octet_log.specs.declared.loader.Loaded.{Loaded}
 use Rattle.octet_replay.specs.Fit.{IsOfScript}

@@ -10,7 +10,7 @@ use Rattle.octet_model.specs.declared.outcome.Outcome.{Outcome}
 use Rattle.octet_model.specs.Texts.{outcome_text}
 use Rattle.octet_model.specs.Orders.{IsFaithful}
 use Rattle.octet_script.specs.Spelling.{Spells}
-use Rattle.octet_log.specs.Pieces.{IsSpelling}
+use Rattle.octet_log.specs.Spellings.{IsSpelling}
 use Rattle.octet_top.specs.declared.reply.Status.TheVariants.{Done}
 use Rattle.octet_top.specs.Answer.{code_of}
 use Rattle.octet_top.specs.Request.{Way, AsTheyCome, BehindLock, ByPicks, Run, request_in}

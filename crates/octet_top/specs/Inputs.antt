@@ -12,7 +12,7 @@ use Rattle.octet_script.specs.Spelling.{Spells}
 use Rattle.octet_script.specs.Parsing as script
 use Rattle.octet_log.specs.declared.cause.LogCause.{LogCause}
 use Rattle.octet_log.specs.declared.loader.Loaded.{Loaded}
-use Rattle.octet_log.specs.Pieces.{IsSpelling}
+use Rattle.octet_log.specs.Spellings.{IsSpelling}
 use Rattle.octet_log.specs.Readings.{reading_of}
 use Rattle.octet_log.specs.Loading as log
 use Rattle.octet_top.specs.declared.inputs.Source.{Source}

@@ -1,5 +1,5 @@
 -- How a log is written while its threads run: call by call, up to the first that is refused.
-use Rattle.std.specs.Prelude.{ℕ, ◌≡◌, ◌≤◌, ◌⊎◌, ◌++◌, List, [], ◌∷◌, map, length, Option, None, Some, Result, Ok, Err}
+use Rattle.std.specs.Prelude.{ℕ, ◌≡◌, ◌≤◌, ◌⊎◌, List, [], ◌∷◌, length, Option, None, Some, Result, Ok, Err}
 use Rattle.sha2.specs.Sha256.{sha256}
 use Rattle.std.specs.Global.{Vec}
 use Rattle.octet_base.specs.Desk.{DeskState, Takes, Adds}
@@ -11,7 +11,7 @@ use Rattle.octet_model.specs.declared.log.ThreadLog.{ThreadLog}
 use Rattle.octet_model.specs.declared.outcome.Outcome.{Outcome}
 use Rattle.octet_model.specs.Orders.{IsFaithful}
 use Rattle.octet_model.specs.Texts.{outcome_text}
-use Rattle.octet_log.specs.Pieces.{Piece, ArePieces, head_bytes, piece_bytes, tail_bytes, pieced_bytes, SpellsPieces}
+use Rattle.octet_log.specs.v2.Pieces.{Piece, ArePieces, head_bytes, piece_bytes, tail_bytes, pieced_bytes, SpellsPieces}
 use Rattle.octet_top.specs.declared.inputs.Source.{Source}
 use Rattle.octet_top.specs.declared.reply.Status.TheVariants.{Done}
 use Rattle.octet_top.specs.Inputs.{IsScriptRead}

@@ -1,8 +1,7 @@
 -- What an answer leaves in the files and in what was said, given whole or cut short.
-use Rattle.std.specs.Prelude.{ℕ, ◌≡◌, ◌⊎◌, ◌++◌, List, [], ◌∷◌, take, Result, Ok, Err}
+use Rattle.std.specs.Prelude.{ℕ, ◌≡◌, ◌⊎◌, ◌++◌, List, [], ◌∷◌, take}
 use Rattle.std.specs.FinMap.{insert}
 use Rattle.octet_base.specs.Desk.{Files, Contents}
-use Rattle.octet_base.specs.declared.fault.DeskFault.{DeskFault}
 use Rattle.octet_top.specs.Answer.{Answer}
 
 -- all files written, in order
@@ -29,8 +28,3 @@ abbrev pub IsCutShort : Answer → Contents → Contents → Type 0
 IsCutShort answer before after =
     (ArePartlyWritten answer.files before.files after.files × (after.said ≡ before.said))
     ⊎ ((after.files ≡ written answer.files before.files) × ((n : ℕ) × (after.said ≡ before.said ++ take n answer.text)))
-
--- what the calls of an answer leave, by how the last of them ended
-abbrev pub IsLeft : Answer → Result (Unit {0}) DeskFault → Contents → Contents → Type 0
-IsLeft answer (Ok done) before after = IsWhole answer before after
-IsLeft answer (Err fault) before after = IsCutShort answer before after

@@ -13,7 +13,7 @@ use Rattle.octet_model.specs.Orders.{execution, journals_after, lowest_order, Is
 use Rattle.octet_model.specs.Totals.{AddsUp}
 use Rattle.octet_model.specs.Traces.{trace_of}
 use Rattle.octet_script.specs.Spelling.{canonical_text}
-use Rattle.octet_log.specs.Pieces.{IsSpelling}
+use Rattle.octet_log.specs.Spellings.{IsSpelling}
 use Rattle.octet_replay.specs.Fit.{IsOfScript}
 use Rattle.octet_replay.specs.declared.fault.ReplayFault.{ReplayFault}
 use Rattle.octet_replay.specs.Line.{fit_line}

@@ -1,5 +1,5 @@
 -- What words ask for, and which files that takes and writes.
-use Rattle.std.specs.Prelude.{ℕ, List, [], ◌∷◌, map, codes, if◌then◌else◌, Option, Some, None, String, string_bytes}
+use Rattle.std.specs.Prelude.{ℕ, Bool, true, false, List, [], ◌∷◌, map, codes, if◌then◌else◌, Option, Some, None, String, string_bytes}
 use denote.Ref.{Bor}
 use Rattle.std.specs.Option.{option_map}
 use Rattle.std.specs.Str.{bytes_eq}
@@ -15,10 +15,8 @@ use Rattle.octet_top.specs.declared.request.PairTask.{PairTask}
 use Rattle.octet_top.specs.declared.request.PairTask.TheVariants.{Replay, Parallel, Verify, Regions, Slice, Stop, Trace, Profile}
 use Rattle.octet_top.specs.declared.request.RunTask.{RunTask}
 use Rattle.octet_top.specs.declared.request.RunTask.TheVariants as run
-use Rattle.octet_top.specs.declared.request.Reading.{Reading}
-use Rattle.octet_top.specs.declared.request.Reading.TheVariants as reading
-use Rattle.octet_top.specs.declared.request.Running.{Running}
-use Rattle.octet_top.specs.declared.request.Running.TheVariants as running
+use Rattle.octet_top.specs.declared.request.Request as declared
+use Rattle.octet_top.specs.declared.request.Request.TheVariants as request
 
 -- the bytes of each word
 abbrev pub texts : List (String Global) → List (List ℕ)
@@ -111,19 +109,33 @@ outputs_in (Some request) = outputs_of request
 abbrev pub name_in : Option (Bor (List ℕ)) → Option (List ℕ)
 name_in name = option_map (λ (shown : Bor (List ℕ)). shown.now) name
 
--- a request as the program has it
-abbrev pub shown_reading : Reading → Request
-shown_reading (reading.OfScript task script) = OfScript task script.now
-shown_reading (reading.OfLog task log) = OfLog task log.now
-shown_reading (reading.OfPair task script log object) = OfPair task script.now log.now (name_in object)
-shown_reading (reading.Convert script log out) = Convert script.now log.now out.now
-
 abbrev pub shown_task : RunTask → Way
 shown_task run.Locked = BehindLock
 shown_task (run.Turns picks) = ByPicks (map digit_value picks.now)
 
-abbrev pub shown_running : Running → Request
-shown_running (running.Live script log) = Run AsTheyCome script.now log.now
-shown_running (running.OfScript task script log) = Run (shown_task task) script.now log.now
-shown_running (running.Gen number script log) = Gen number script.now log.now
-shown_running (running.Parallel script log) = OfPair Parallel script.now log.now None
+-- a request as the program has it
+abbrev pub shown : declared.Request → Request
+shown (request.OfScript task script) = OfScript task script.now
+shown (request.OfLog task log) = OfLog task log.now
+shown (request.OfPair task script log object) = OfPair task script.now log.now (name_in object)
+shown (request.Convert script log out) = Convert script.now log.now out.now
+shown (request.Live script log) = Run AsTheyCome script.now log.now
+shown (request.Run task script log) = Run (shown_task task) script.now log.now
+shown (request.Gen number script log) = Gen number script.now log.now
+shown (request.Parallel script log) = OfPair Parallel script.now log.now None
+
+-- whether it starts threads or runs a script
+abbrev pub needs_runtime : declared.Request → Bool
+needs_runtime (request.Live script log) = true
+needs_runtime (request.Run task script log) = true
+needs_runtime (request.Gen number script log) = true
+needs_runtime (request.Parallel script log) = true
+needs_runtime _ = false
+
+-- a request that needs no runtime
+abbrev pub shown_alone : declared.Request → Option Request
+shown_alone asked = if needs_runtime asked then None else Some (shown asked)
+
+abbrev pub alone_in : Option declared.Request → Option Request
+alone_in None = None
+alone_in (Some asked) = shown_alone asked

@@ -1,30 +1,20 @@
 //! The command `convert SCRIPT LOG OUT`.
 ghost use Rattle.std.specs.Prelude.{◌≤◌, IfOk};
-ghost use Rattle.octet_log.specs.Pieces.{marks_in};
+ghost use Rattle.octet_log.specs.v2.Pieces.{marks_in};
 ghost use Rattle.octet_log.specs.declared.limits.TheConstants.{MAX_MARKS};
 ghost use Rattle.octet_top.specs.Answer.{answer_of};
-ghost use Rattle.octet_top.specs.Commands.{ConvertAnswers, Converts};
+ghost use Rattle.octet_top.specs.Commands.{Converts};
 
 use crate::inputs::Pair;
-use crate::refusal::{does_not_fit, wrong_script};
+use crate::refusal::does_not_fit;
 use crate::reply::Reply;
 use octet_log::{digest, encode_v2};
 use octet_model::OutOfMemory;
-use octet_replay::{ReplayFault, fit};
+use octet_replay::ReplayFault;
 use std::alloc::Global;
 
 /// The log is written in version 2, with the digest of the script's text.
 pub(crate) fn convert(alloc: Global, pair: &Pair, out: &str) -> Result<Reply, OutOfMemory>
-    requires { marks_in pair.now.loaded.log.threads ≤ MAX_MARKS }
-    ensures { IfOk result (λ reply. ConvertAnswers out.now pair.now (answer_of reply)) }
-{
-    match fit(pair.source.text.as_slice(), &pair.loaded) {
-        Ok(()) => convert_fitting(alloc, pair, out),
-        Err(fault) => wrong_script(alloc, &fault),
-    }
-}
-
-fn convert_fitting(alloc: Global, pair: &Pair, out: &str) -> Result<Reply, OutOfMemory>
     requires { marks_in pair.now.loaded.log.threads ≤ MAX_MARKS }
     ensures { IfOk result (λ reply. Converts out.now pair.now (answer_of reply)) }
 {

@@ -1,6 +1,6 @@
 //! Takes the files of a request from the desk and reads them, or refuses where that fails.
 ghost use Rattle.std.specs.Prelude.{◌≡◌, ◌≤◌, length, IfOk};
-ghost use Rattle.octet_log.specs.Pieces.{marks_in};
+ghost use Rattle.octet_log.specs.v2.Pieces.{marks_in};
 ghost use Rattle.octet_log.specs.declared.limits.TheConstants.{MAX_MARKS};
 ghost use Rattle.octet_top.specs.Request.{name_in};
 ghost use Rattle.octet_top.specs.Inputs.{Comes, Ends, IsTaken, IsParsed, IsDecoded, IsScriptRead, IsLogRead, IsChosen, IsScriptChosen, IsPairRead, TakesOne, TakesBoth, WasRefused};

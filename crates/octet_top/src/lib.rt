@@ -9,6 +9,7 @@ mod convert;
 mod convert_tests;
 mod deliver;
 mod event_text;
+mod fitting;
 #[cfg(test)]
 mod heap_tests;
 #[cfg(test)]
@@ -23,15 +24,13 @@ mod parallel;
 mod picks;
 mod profile;
 mod program;
-mod reading;
 mod recording;
 mod refusal;
+mod regions;
+#[cfg(test)]
+mod regions_tests;
 mod reply;
 mod request;
-mod running;
-mod serial;
-#[cfg(test)]
-mod serial_tests;
 mod slice;
 #[cfg(test)]
 mod slice_tests;
@@ -43,6 +42,8 @@ mod thread_tests;
 #[cfg(test)]
 mod tool_tests;
 mod trace;
+mod with_runtime;
+mod without_runtime;
 
 pub use program::{serve, serve_alone};
 pub use reply::Status;

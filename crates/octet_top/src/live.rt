@@ -3,7 +3,7 @@ ghost use Rattle.std.specs.Prelude.{◌≡◌, ◌≤◌, ◌∷◌, [], None, S
 ghost use Rattle.octet_model.specs.declared.limits.TheConstants.{MAX_THREADS};
 ghost use Rattle.octet_model.specs.Orders.{IsFaithful};
 ghost use Rattle.octet_model.specs.Texts.{outcome_text};
-ghost use Rattle.octet_log.specs.Pieces.{head_bytes, tail_bytes};
+ghost use Rattle.octet_log.specs.v2.Pieces.{head_bytes, tail_bytes};
 ghost use Rattle.octet_top.specs.Request.{Run, AsTheyCome};
 ghost use Rattle.octet_top.specs.Delivery.{Add, Finish, Say};
 ghost use Rattle.octet_top.specs.Live.{IsWrittenLive, MakesSome, MakesUnless};

@@ -5,18 +5,17 @@ ghost use Rattle.octet_clock.specs.Fronts.{OrdersConflicts};
 ghost use Rattle.octet_top.specs.declared.request.PairTask.TheVariants.{Parallel};
 ghost use Rattle.octet_top.specs.Answer.{answer_of};
 ghost use Rattle.octet_top.specs.Request.{OfPair};
-ghost use Rattle.octet_top.specs.Commands.{PairAnswers, PairReplays};
+ghost use Rattle.octet_top.specs.Commands.{PairReplays};
 ghost use Rattle.octet_top.specs.Replies.{Replies};
 
 use crate::commands::replay_ordered;
-use crate::inputs::{Pair, read_pair};
-use crate::refusal::wrong_script;
+use crate::fitting::read_fitting;
+use crate::inputs::Pair;
 use crate::reply::{Reply, Status};
 use octet_base::{Desk, Gate};
 use octet_clock::untied;
 use octet_model::{OutOfMemory, Outcome, outcome_text};
 use octet_parallel::parallel;
-use octet_replay::fit;
 use std::alloc::Global;
 use std::sync::Wait;
 use std::thread::Threads;
@@ -33,23 +32,9 @@ pub(crate) fn replay_on_threads<R: Threads + Wait + Sync, D: Desk, G: Gate>(
 ) -> Result<Reply, OutOfMemory>
     ensures { Replies (Some (OfPair Parallel script.now log.now None)) (D.state desk.old) result (D.state desk.new) }
 {
-    match read_pair(alloc, desk, script, log, None) {
-        Ok(pair) => answer_pair(rt, alloc, gate, &pair),
+    match read_fitting(alloc, desk, script, log, None) {
+        Ok(pair) => play_pair(rt, alloc, gate, &pair),
         Err(refusal) => refusal,
-    }
-}
-
-fn answer_pair<R: Threads + Wait + Sync, G: Gate>(
-    rt: &R,
-    alloc: Global,
-    gate: &G,
-    pair: &Pair,
-) -> Result<Reply, OutOfMemory>
-    ensures { IfOk result (λ reply. PairAnswers Parallel pair.now (answer_of reply)) }
-{
-    match fit(pair.source.text.as_slice(), &pair.loaded) {
-        Ok(()) => play_pair(rt, alloc, gate, pair),
-        Err(fault) => wrong_script(alloc, &fault),
     }
 }
 

@@ -1,6 +1,8 @@
 //! The commands `profile SCRIPT LOG` and `profile SCRIPT LOG NAME`.
-ghost use Rattle.std.specs.Prelude.{◌≡◌, ◌<◌, ◌^◌, ℕ, Some, length, IfOk};
-ghost use Rattle.octet_watch.specs.Tally.{all_events};
+ghost use Rattle.std.specs.Prelude.{◌≡◌, ◌<◌, ℕ, Some, length, IfErr, IfOk, OnOk};
+ghost use Rattle.octet_model.specs.Orders.{journals_after, lowest_order};
+ghost use Rattle.octet_replay.specs.Judged.{HasCause, IsLawful};
+ghost use Rattle.octet_replay.specs.ReplayState.{plain_state, HasHalted};
 ghost use Rattle.octet_top.specs.declared.request.PairTask.TheVariants.{Profile};
 ghost use Rattle.octet_top.specs.Answer.{answer_of};
 ghost use Rattle.octet_top.specs.Profile.{class_of, class_count, counts, counts_text};
@@ -9,8 +11,8 @@ ghost use Rattle.octet_top.specs.Commands.{PairReplays};
 use crate::inputs::Pair;
 use crate::refusal::does_not_fit;
 use crate::reply::{Reply, Status};
-use octet_model::{Event, List, Mark, OutOfMemory};
-use octet_replay::{ReplayFault, journals};
+use octet_model::{Event, Log, Mark, OutOfMemory, Script};
+use octet_replay::{ReplayFault, Replayer, Stepped};
 use octet_watch::{Class, Classes};
 use std::alloc::Global;
 
@@ -18,12 +20,11 @@ use std::alloc::Global;
 pub(crate) fn profile(alloc: Global, pair: &Pair) -> Result<Reply, OutOfMemory>
     ensures { IfOk result (λ reply. PairReplays Profile pair.now (answer_of reply)) }
 {
-    let journals = match journals(alloc, &pair.source.script, &pair.loaded.log) {
-        Ok(journals) => journals,
+    let numbers = match counts(alloc, pair.wanted, &pair.source.script, &pair.loaded.log) {
+        Ok(numbers) => numbers,
         Err(ReplayFault::OutOfMemory) => return Err(OutOfMemory),
         Err(fault) => return does_not_fit(alloc, &fault),
     };
-    let numbers = counts(alloc, pair.wanted, &journals)?;
     let text = counts_text(alloc, pair.wanted, numbers.as_slice())?;
     Ok(Reply::saying(alloc, Status::Done, text))
 }
@@ -61,32 +62,45 @@ fn class_count(wanted: Option<usize>) -> u32
     }
 }
 
-/// How many events of the journals are in each class.
+/// How many events of the journals of the log's lowest order are in each class. Counts them as
+/// they are made, and keeps none.
 fn counts(
     alloc: Global,
     wanted: Option<usize>,
-    journals: &List<List<Event>>,
-) -> Result<List<u64>, OutOfMemory>
-    requires few { length (all_events journals.now) < 2 ^ 64 }
-    ensures { IfOk result (λ numbers. numbers ≡ counts wanted journals.now) }
+    script: &Script,
+    log: &Log,
+) -> Result<Vec<u64>, ReplayFault>
+    ensures lawful { IfOk result (λ _. IsLawful script.now log.now.threads) }
+    ensures counts { IfOk result (λ numbers. numbers.items ≡ counts wanted (journals_after script.now log.now.threads (lowest_order script.now log.now.threads))) }
+    ensures refused { IfErr result (HasCause script.now log.now.threads) }
 {
     let class: Class = Box::new(alloc, move |event: &Event| class_of(wanted, event))?;
-    counts_with(alloc, wanted, class, journals)
+    let mut replayer = Replayer::new(alloc, script, log)?;
+    let numbers = count_steps(alloc, wanted, class, &mut replayer)?;
+    replayer.end(alloc)?;
+    Ok(numbers)
 }
 
-fn counts_with(
+// Steps to the end of the lowest order, and counts the events.
+fn count_steps(
     alloc: Global,
     wanted: Option<usize>,
     class: Class,
-    journals: &List<List<Event>>,
-) -> Result<List<u64>, OutOfMemory>
-    requires few { length (all_events journals.now) < 2 ^ 64 }
+    replayer: &mut Replayer<'_>,
+) -> Result<Vec<u64>, OutOfMemory>
     requires callable { Class.IsAlwaysCallable class }
     requires computes { (event : _) (answer : ℕ) → Class.post class event answer → answer ≡ class_of wanted event.now }
-    ensures { IfOk result (λ numbers. numbers ≡ counts wanted journals.now) }
+    requires begins { replayer.old.steps ≡ 0 }
+    requires agree { length replayer.old.script.threads ≡ length replayer.old.log.threads }
+    ensures halted { OnOk result (HasHalted replayer.new) }
+    ensures same { OnOk result ((replayer.new.script ≡ replayer.old.script) × (replayer.new.log ≡ replayer.old.log)) }
+    ensures counts { IfOk result (λ numbers. numbers.items ≡ counts wanted (plain_state replayer.new).journals) }
 {
     let classes = Classes::new(class_count(wanted), class);
-    let numbers = classes.tally(alloc, journals)?;
+    let mut numbers = classes.zeros(alloc)?;
+    while let Stepped::Made { event, .. } = replayer.step() {
+        classes.add(&event, &mut numbers);
+    }
     Ok(numbers)
 }
 

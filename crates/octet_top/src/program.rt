@@ -7,19 +7,15 @@ ghost use Rattle.octet_top.specs.Answer.{code_of};
 ghost use Rattle.octet_top.specs.Request.{texts, request_in, reading_in};
 ghost use Rattle.octet_top.specs.Causes.{IsCause, IsDue, NoneFailed};
 ghost use Rattle.octet_top.specs.Effects.{IsStatus, Leaves, CutsRun, KeepsOthers, KeepsFiles, CountsFailures, IsCompleted, IsWellMet};
-ghost use Rattle.octet_top.specs.Replies.{Replies};
 ghost use Rattle.octet_top.specs.Serving.{IsReplied, IsServed};
 ghost use Rattle.octet_top.specs.Headline.{RunsFaithfully};
 ghost use Rattle.octet_top.specs.Promises.{RunsAsPicked, RunsWithExactTotals, VerifiesOrdered, ReplaysOnThreads, FindsRegions, RepeatsRecordings, SlicesPasts, StopsAtFirst, TracesOrders, TracesMisfits, ConvertsLogs, GeneratesFaithfully};
 
 use crate::deliver::deliver;
-use crate::reading::read;
-use crate::refusal::not_a_command;
-use crate::reply::Reply;
-use crate::request::{reading_of, running_of};
-use crate::running::serve_running;
+use crate::request::request_of;
+use crate::with_runtime::serve_request;
+use crate::without_runtime::reply_alone;
 use octet_base::Desk;
-use octet_model::OutOfMemory;
 use octet_threads::HeapGate;
 use std::alloc::Global;
 use std::sync::Wait;
@@ -120,9 +116,12 @@ fn serve_words<R: Threads + Wait + Sync, D: Desk, G: HeapGate>(
     requires { (D.state desk.old).begun ≡ None }
     ensures { IsServed (request_in (texts words.now)) (D.state desk.old) (D.state desk.new) result }
 {
-    match running_of(words) {
-        Some(running) => serve_running(rt, alloc, running, desk, gate),
-        None => serve_alone(alloc, words, desk),
+    match request_of(words) {
+        Some(request) => serve_request(rt, alloc, request, desk, gate),
+        None => {
+            let reply = reply_alone(alloc, desk, None);
+            deliver(alloc, desk, reply)
+        }
     }
 }
 
@@ -132,15 +131,6 @@ pub fn serve_alone<D: Desk>(alloc: Global, words: &[String], desk: &mut D) -> u8
     requires { (D.state desk.old).begun ≡ None }
     ensures { IsReplied (reading_in (texts words.now)) (D.state desk.old) (D.state desk.new) result }
 {
-    let reply = reply_alone(alloc, words, desk);
+    let reply = reply_alone(alloc, desk, request_of(words));
     deliver(alloc, desk, reply)
-}
-
-fn reply_alone<D: Desk>(alloc: Global, words: &[String], desk: &mut D) -> Result<Reply, OutOfMemory>
-    ensures { Replies (reading_in (texts words.now)) (D.state desk.old) result (D.state desk.new) }
-{
-    match reading_of(words) {
-        Some(reading) => read(alloc, desk, reading),
-        None => not_a_command(alloc),
-    }
 }

@@ -1,7 +1,7 @@
 //! What words ask for: which task, and of which files.
 ghost use Rattle.std.specs.Prelude.{◌≡◌, ◌∷◌, []};
 ghost use Rattle.std.specs.Option.{option_map};
-ghost use Rattle.octet_top.specs.Request.{texts, shown_reading, shown_running, reading_in, running_in, reading_of_two, reading_of_three, reading_of_four, reading_of_five, running_of_three, running_of_four};
+ghost use Rattle.octet_top.specs.Request.{texts, shown, alone_in, or_else, request_in, reading_in, reading_of_two, reading_of_three, reading_of_four, reading_of_five, running_of_three, running_of_four};
 
 use crate::picks::are_picks;
 use octet_script::number_of;
@@ -44,9 +44,9 @@ pub(crate) enum RunTask<'a> {
     Turns { picks: &'a str },
 }
 
-/// What words ask for that starts no thread and waits for nobody, with the names of its files.
+/// What words ask for, with the names of its files.
 #[derive(Clone, Copy, Debug)]
-pub(crate) enum Reading<'a> {
+pub(crate) enum Request<'a> {
     OfScript {
         task: ScriptTask,
         script: &'a str,
@@ -68,22 +68,18 @@ pub(crate) enum Reading<'a> {
         log: &'a str,
         out: &'a str,
     },
-}
-
-/// What words ask for that starts threads or runs a script, and so may wait.
-#[derive(Clone, Copy, Debug)]
-pub(crate) enum Running<'a> {
-    /// As its threads come, beside each other, while its log is written.
+    /// A run of the script as its threads come, beside each other, while its log is written.
     Live {
         script: &'a str,
         log: &'a str,
     },
-    OfScript {
+    /// A run of the script, and then its log is written.
+    Run {
         task: RunTask<'a>,
         script: &'a str,
         log: &'a str,
     },
-    /// Of the script that the number generates.
+    /// A run of the script that the number generates.
     Gen {
         number: u64,
         script: &'a str,
@@ -96,28 +92,30 @@ pub(crate) enum Running<'a> {
     },
 }
 
-/// The reading that words ask for, if they ask for one.
-pub(crate) fn reading_of(words: &[String]) -> Option<Reading<'_>>
-    ensures { option_map shown_reading result ≡ reading_in (texts words.now) }
+/// What words ask for, if they ask for anything.
+pub(crate) fn request_of(words: &[String]) -> Option<Request<'_>>
+    ensures asked { option_map shown result ≡ request_in (texts words.now) }
+    ensures alone { alone_in result ≡ reading_in (texts words.now) }
 {
     match words {
-        [word, file] => reading_of_two(word, file),
-        [word, script, log] => reading_of_three(word, script, log),
-        [word, script, log, last] => reading_of_four(word, script, log, last),
-        [word, script, log, third, last] => reading_of_five(word, script, log, third, last),
+        [word, file] => of_two(word, file),
+        [word, script, log] => of_three(word, script, log),
+        [word, first, second, third] => of_four(word, first, second, third),
+        [word, script, log, third, last] => of_five(word, script, log, third, last),
         _ => None,
     }
 }
 
-fn reading_of_two<'a>(word: &str, file: &'a str) -> Option<Reading<'a>>
-    ensures { option_map shown_reading result ≡ reading_of_two word.now file.now }
+fn of_two<'a>(word: &str, file: &'a str) -> Option<Request<'a>>
+    ensures asked { option_map shown result ≡ reading_of_two word.now file.now }
+    ensures alone { alone_in result ≡ reading_of_two word.now file.now }
 {
     match word {
-        "tidy" => Some(Reading::OfScript {
+        "tidy" => Some(Request::OfScript {
             task: ScriptTask::Tidy,
             script: file,
         }),
-        "show" => Some(Reading::OfLog {
+        "show" => Some(Request::OfLog {
             task: LogTask::Show,
             log: file,
         }),
@@ -125,10 +123,20 @@ fn reading_of_two<'a>(word: &str, file: &'a str) -> Option<Reading<'a>>
     }
 }
 
-fn reading_of_three<'a>(word: &str, script: &'a str, log: &'a str) -> Option<Reading<'a>>
-    ensures { option_map shown_reading result ≡ reading_of_three word.now script.now log.now }
+fn of_three<'a>(word: &str, script: &'a str, log: &'a str) -> Option<Request<'a>>
+    ensures asked { option_map shown result ≡ or_else (running_of_three word.now script.now log.now) (reading_of_three word.now script.now log.now) }
+    ensures alone { alone_in result ≡ reading_of_three word.now script.now log.now }
 {
     let task = match word {
+        "run" => return Some(Request::Live { script, log }),
+        "locked" => {
+            return Some(Request::Run {
+                task: RunTask::Locked,
+                script,
+                log,
+            });
+        }
+        "parallel" => return Some(Request::Parallel { script, log }),
         "replay" => PairTask::Replay,
         "verify" => PairTask::Verify,
         "regions" => PairTask::Regions,
@@ -136,7 +144,7 @@ fn reading_of_three<'a>(word: &str, script: &'a str, log: &'a str) -> Option<Rea
         "profile" => PairTask::Profile,
         _ => return None,
     };
-    Some(Reading::OfPair {
+    Some(Request::OfPair {
         task,
         script,
         log,
@@ -144,41 +152,48 @@ fn reading_of_three<'a>(word: &str, script: &'a str, log: &'a str) -> Option<Rea
     })
 }
 
-fn reading_of_four<'a>(
-    word: &str,
-    script: &'a str,
-    log: &'a str,
-    last: &'a str,
-) -> Option<Reading<'a>>
-    ensures { option_map shown_reading result ≡ reading_of_four word.now script.now log.now last.now }
+fn of_four<'a>(word: &str, first: &'a str, second: &'a str, third: &'a str) -> Option<Request<'a>>
+    ensures asked { option_map shown result ≡ or_else (running_of_four word.now first.now second.now third.now) (reading_of_four word.now first.now second.now third.now) }
+    ensures alone { alone_in result ≡ reading_of_four word.now first.now second.now third.now }
 {
     match word {
-        "profile" => Some(Reading::OfPair {
-            task: PairTask::Profile,
-            script,
-            log,
-            object: Some(last),
+        "gen" => Some(Request::Gen {
+            number: number_of(first.as_bytes())?,
+            script: second,
+            log: third,
         }),
-        "convert" => Some(Reading::Convert {
-            script,
-            log,
-            out: last,
+        "turns" if are_picks(third) => Some(Request::Run {
+            task: RunTask::Turns { picks: third },
+            script: first,
+            log: second,
+        }),
+        "profile" => Some(Request::OfPair {
+            task: PairTask::Profile,
+            script: first,
+            log: second,
+            object: Some(third),
+        }),
+        "convert" => Some(Request::Convert {
+            script: first,
+            log: second,
+            out: third,
         }),
         _ => None,
     }
 }
 
-fn reading_of_five<'a>(
+fn of_five<'a>(
     word: &str,
     script: &'a str,
     log: &'a str,
     third: &'a str,
     last: &'a str,
-) -> Option<Reading<'a>>
-    ensures { option_map shown_reading result ≡ reading_of_five word.now script.now log.now third.now last.now }
+) -> Option<Request<'a>>
+    ensures asked { option_map shown result ≡ reading_of_five word.now script.now log.now third.now last.now }
+    ensures alone { alone_in result ≡ reading_of_five word.now script.now log.now third.now last.now }
 {
     match word {
-        "slice" => Some(Reading::OfPair {
+        "slice" => Some(Request::OfPair {
             task: PairTask::Slice {
                 thread: number_of(third.as_bytes())?,
                 event: number_of(last.as_bytes())?,
@@ -187,62 +202,13 @@ fn reading_of_five<'a>(
             log,
             object: None,
         }),
-        "stop" => Some(Reading::OfPair {
+        "stop" => Some(Request::OfPair {
             task: PairTask::Stop {
                 value: number_of(last.as_bytes())?,
             },
             script,
             log,
             object: Some(third),
-        }),
-        _ => None,
-    }
-}
-
-/// The run that words ask for, if they ask for one.
-pub(crate) fn running_of(words: &[String]) -> Option<Running<'_>>
-    ensures { option_map shown_running result ≡ running_in (texts words.now) }
-{
-    match words {
-        [word, script, log] => running_of_three(word, script, log),
-        [word, first, second, third] => running_of_four(word, first, second, third),
-        _ => None,
-    }
-}
-
-fn running_of_three<'a>(word: &str, script: &'a str, log: &'a str) -> Option<Running<'a>>
-    ensures { option_map shown_running result ≡ running_of_three word.now script.now log.now }
-{
-    match word {
-        "run" => Some(Running::Live { script, log }),
-        "locked" => Some(Running::OfScript {
-            task: RunTask::Locked,
-            script,
-            log,
-        }),
-        "parallel" => Some(Running::Parallel { script, log }),
-        _ => None,
-    }
-}
-
-fn running_of_four<'a>(
-    word: &str,
-    first: &'a str,
-    second: &'a str,
-    third: &'a str,
-) -> Option<Running<'a>>
-    ensures { option_map shown_running result ≡ running_of_four word.now first.now second.now third.now }
-{
-    match word {
-        "gen" => Some(Running::Gen {
-            number: number_of(first.as_bytes())?,
-            script: second,
-            log: third,
-        }),
-        "turns" if are_picks(third) => Some(Running::OfScript {
-            task: RunTask::Turns { picks: third },
-            script: first,
-            log: second,
         }),
         _ => None,
     }

@@ -14,12 +14,14 @@ use std::thread::{Threads, yield_now};
 /// How often a worker looks at the flags before it gives up.
 const MOST_LOOKS: u32 = 10_000_000;
 
-/// At its first access each of two threads raises its flag, and waits until both are up.
+/// At its first access each thread raises a flag, thread 0 the first and all others the second, and
+/// waits until both are up. The gate keeps whether it was shown a worker.
 #[derive(Drop)]
 struct TwoFlags {
     first: AtomicBool,
     second: AtomicBool,
     gave_up: AtomicBool,
+    shown: AtomicBool,
 }
 
 impl TwoFlags {
@@ -28,6 +30,7 @@ impl TwoFlags {
             first: AtomicBool::new(false),
             second: AtomicBool::new(false),
             gave_up: AtomicBool::new(false),
+            shown: AtomicBool::new(false),
         }
     }
 
@@ -64,7 +67,9 @@ impl Gate for TwoFlags {
 }
 
 impl HeapGate for TwoFlags {
-    fn note(&self, _thread: u8, _worker: &Worker) {}
+    fn note(&self, _thread: u8, _worker: &Worker) {
+        self.shown.store(true, Ordering::SeqCst);
+    }
 }
 
 /// Each of two threads writes an object of its own.
@@ -89,6 +94,16 @@ fn threads_run_beside_each_other(rt: HostRuntime) -> Result<(), Failed> {
         done_over(&rt, alloc, APART, line, &gate)?;
         both_passed(&rt, &gate, line);
     }
+    Ok(())
+}
+
+/// Nor does one that runs a generated script in rounds, nor under the lock, where no worker is shown.
+#[test]
+fn generated_threads_run_beside_each_other(rt: HostRuntime) -> Result<(), Failed> {
+    let gate = TwoFlags::new();
+    done_over(&rt, rt.alloc(), b"", "gen 1 S L", &gate)?;
+    both_passed(&rt, &gate, "gen 1 S L");
+    assert!(rt; gate.shown.load(Ordering::SeqCst));
     Ok(())
 }
 

@@ -88,9 +88,6 @@ module _ (answers : Event → ℕ → Type 0) where
   zip-append (event ∷ events) more [] others p q = elim p [ ]
   zip-append (event ∷ events) more (class ∷ classes) others p q = (p.0, zip-append events more classes others p.1 q)
 
-  pub counts_none : (numbers : List ℕ) → CountsOn answers [] numbers numbers
-  counts_none numbers = record { classes = []; answered = tt; counts = refl }
-
   pub counts_more : (events more all : List Event) (before numbers after : List ℕ) → CountsOn answers events before numbers → CountsOn answers more numbers after → all ≡ events ++ more → CountsOn answers all before after
   counts_more events more all before numbers after p q is = record {
     classes = p.classes ++ q.classes;

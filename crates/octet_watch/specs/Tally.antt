@@ -43,3 +43,9 @@ pub record CountsOn (answers : Event → ℕ → Type 0) (events : List Event) (
   pub classes : List ℕ
   pub answered : AllZip answers events classes
   pub counts : after ≡ counted classes before
+
+-- where each answer is that of a function of the event, one event more is counted in the class that the function gives it
+abbrev pub AddsByFunction : (Event → ℕ → Type 0) → Event → List ℕ → List ℕ → Type 0
+AddsByFunction answers event before after = (class_of : Event → ℕ)
+    → ((event : Event) (class : ℕ) → answers event class → class ≡ class_of event)
+    → after ≡ slice_set before (class_of event) (saturated (slice_index before (class_of event) + 1))

@@ -1,7 +1,7 @@
 //! Counting events by class.
-ghost use Rattle.std.specs.Prelude.{◌≡◌, ◌<◌, ◌+◌, ℕ, IfOk, length, slice_index, slice_set};
+ghost use Rattle.std.specs.Prelude.{◌≡◌, ◌<◌, ◌+◌, ℕ, [], ◌∷◌, IfOk, length, replicate, slice_index, slice_set};
 ghost use Rattle.octet_model.specs.declared.event.Event.{Event};
-ghost use Rattle.octet_watch.specs.Tally.{AnswersAt, IsTally, CountsByFunction, CountsOn, saturated};
+ghost use Rattle.octet_watch.specs.Tally.{AnswersAt, IsTally, CountsByFunction, CountsOn, AddsByFunction, saturated};
 
 use octet_model::{Event, List, OutOfMemory};
 use std::alloc::Global;
@@ -46,13 +46,29 @@ impl Classes {
         (self.class)(event)
     }
 
+    /// As many numbers as there are classes, before any event is counted.
+    pub fn zeros(&self, alloc: Global) -> Result<Vec<u64>, OutOfMemory>
+        ensures { IfOk result (λ numbers. numbers.items ≡ replicate self.now.count 0) }
+    {
+        Ok(vec![in alloc; 0u64; self.count as usize]?)
+    }
+
+    /// Counts one event more, in its class. A number saturates at 2^64 - 1. Takes no memory.
+    pub fn add(&self, event: &Event, numbers: &mut [u64])
+        requires { length numbers.old ≡ self.now.count }
+        ensures counts { CountsOn (AnswersAt (Class.post self.now.class)) (event.now ∷ []) numbers.old numbers.new }
+        ensures by_function { AddsByFunction (AnswersAt (Class.post self.now.class)) event.now numbers.old numbers.new }
+    {
+        let class = self.class_of(event);
+        count_one(numbers, class);
+    }
+
     fn count_journal(&self, journal: &[Event], numbers: &mut [u64])
         requires { length numbers.old ≡ self.now.count }
         ensures { CountsOn (AnswersAt (Class.post self.now.class)) journal.now numbers.old numbers.new }
     {
         for event in journal {
-            let class = self.class_of(event);
-            count_one(numbers, class);
+            self.add(event, numbers);
         }
     }
 
@@ -67,7 +83,7 @@ impl Classes {
         ensures tally { IfOk result (λ numbers. IsTally (AnswersAt (Class.post self.now.class)) self.now.count journals.now numbers) }
         ensures by_function { IfOk result (λ numbers. CountsByFunction (AnswersAt (Class.post self.now.class)) self.now.count journals.now numbers) }
     {
-        let mut numbers = vec![in alloc; 0u64; self.count as usize]?;
+        let mut numbers = self.zeros(alloc)?;
         for journal in journals.as_slice() {
             self.count_journal(journal.as_slice(), &mut numbers);
         }

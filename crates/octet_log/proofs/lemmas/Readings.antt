@@ -5,7 +5,7 @@ use Rattle.std.proofs.lemmas.List.{nil_from_length}
 use Rattle.octet_model.specs.declared.log.ThreadLog.{ThreadLog}
 use Rattle.octet_model.specs.Log.{is_log}
 use Rattle.octet_log.specs.declared.cause.LogCause.TheVariants.{Trailing}
-use Rattle.octet_log.specs.Pieces.{IsSpelling}
+use Rattle.octet_log.specs.Spellings.{IsSpelling}
 use Rattle.octet_log.specs.Loading.{Reading, loaded}
 use Rattle.octet_log.proofs.Fields.{wanted_ok, ok_is}
 use Rattle.octet_log.proofs.Spelled.{loaded_again, spelling_loaded}

@@ -7,9 +7,10 @@ use Rattle.std.proofs.lemmas.List.Sums.{sum_by-cons}
 use Rattle.std.proofs.lemmas.List.Concat.{flat_map-cons}
 use Rattle.octet_model.specs.declared.log.ThreadLog.{ThreadLog}
 use Rattle.octet_model.specs.Texts.{mark_bytes, thread_bytes}
-use Rattle.octet_log.specs.Pieces.{marks_in, IsSpelling}
+use Rattle.octet_log.specs.v2.Pieces.{marks_in}
+use Rattle.octet_log.specs.Spellings.{IsSpelling}
 use Rattle.octet_log.proofs.Fields.{wide32}
-use Rattle.octet_log.proofs.Marks.{length-marks}
+use Rattle.octet_log.proofs.version1.Marks.{length-marks}
 
 length-thread : (log : ThreadLog) → length (thread_bytes log) ≡ 8 + 14 * length log.marks
 length-thread log =

@@ -1,21 +1,22 @@
 -- The laws of the protocol, which the crates above cite.
 use Rattle.octet_state.specs.Laws.{GlanceIsLawful, AnswerIsLawful, BlockIsLawful, UnblockIsLawful, AskIsLawful, LookIsLawful, LoadIsLawful, ReadIsLawful, WriteIsLawful, BumpIsLawful, ClaimIsLawful, SettleOfClaimIsLawful, SettleOfShareIsLawful, DrawIsLawful, FenceIsLawful, RaiseIsLawful, ShareIsLawful, OpeningIsSound, RunIsSound, RejoiningIsSound, JournalsAreShort, CounterIsSmall, WordsFit, OffIsFrugal}
-use Rattle.octet_state.proofs.Glancing.{glance_is_lawful as glance_proved}
-use Rattle.octet_state.proofs.Swapping.{answer_is_lawful as answer_proved, block_is_lawful as block_proved, unblock_is_lawful as unblock_proved, rejoining_is_sound as rejoining_proved}
-use Rattle.octet_state.proofs.Asking.{ask_is_lawful as ask_proved}
-use Rattle.octet_state.proofs.Looking.{look_is_lawful as look_proved}
-use Rattle.octet_state.proofs.Loading.{load_is_lawful as load_proved}
-use Rattle.octet_state.proofs.ReadsAndWrites.{read_is_lawful as read_proved, write_is_lawful as write_proved, bump_is_lawful as bump_proved}
-use Rattle.octet_state.proofs.Claiming.{claim_is_lawful as claim_proved}
-use Rattle.octet_state.proofs.Settling.{settle_of_claim_is_lawful as settle_of_claim_proved}
-use Rattle.octet_state.proofs.SharesSettled.{settle_of_share_is_lawful as settle_of_share_proved}
-use Rattle.octet_state.proofs.Drawing.{draw_is_lawful as draw_proved}
-use Rattle.octet_state.proofs.Fencing.{fence_is_lawful as fence_proved}
-use Rattle.octet_state.proofs.Raising.{raise_is_lawful as raise_proved}
-use Rattle.octet_state.proofs.Sharing.{share_is_lawful as share_proved}
+use Rattle.octet_state.proofs.steps.Glance.{glance_is_lawful as glance_proved}
+use Rattle.octet_state.proofs.steps.Answer.{answer_is_lawful as answer_proved}
+use Rattle.octet_state.proofs.steps.Rest.{block_is_lawful as block_proved, unblock_is_lawful as unblock_proved, rejoining_is_sound as rejoining_proved}
+use Rattle.octet_state.proofs.steps.Ask.{ask_is_lawful as ask_proved}
+use Rattle.octet_state.proofs.steps.Look.{look_is_lawful as look_proved}
+use Rattle.octet_state.proofs.steps.Load.{load_is_lawful as load_proved}
+use Rattle.octet_state.proofs.steps.ReadWriteUpdate.{read_is_lawful as read_proved, write_is_lawful as write_proved, bump_is_lawful as bump_proved}
+use Rattle.octet_state.proofs.steps.Claim.{claim_is_lawful as claim_proved}
+use Rattle.octet_state.proofs.steps.SettleOfClaim.{settle_of_claim_is_lawful as settle_of_claim_proved}
+use Rattle.octet_state.proofs.steps.SettleOfShare.{settle_of_share_is_lawful as settle_of_share_proved}
+use Rattle.octet_state.proofs.steps.Draw.{draw_is_lawful as draw_proved}
+use Rattle.octet_state.proofs.steps.Fence.{fence_is_lawful as fence_proved}
+use Rattle.octet_state.proofs.steps.Raise.{raise_is_lawful as raise_proved}
+use Rattle.octet_state.proofs.steps.Share.{share_is_lawful as share_proved}
 use Rattle.octet_state.proofs.Opening.{opening_is_sound as opening_proved}
 use Rattle.octet_state.proofs.Running.{run_is_sound as run_proved}
-use Rattle.octet_state.proofs.Draws.{few_draws}
+use Rattle.octet_state.proofs.parts.DrawsCounted.{few_draws}
 use Rattle.octet_state.proofs.lemmas.Widths.{few_marks, state_fits, status_fits}
 use Rattle.octet_state.proofs.AllOff.{frugal_when_off}
 

@@ -1,4 +1,5 @@
 use Rattle.std.proofs.Common.{ℕ, refl, sym, ap, ◌∙◌, subst, arith}
+use Rattle.octet_model.proofs.lemmas.Validity.{valid_log}
 use Rattle.octet_model.specs.Orders.{journals_after, lowest_order}
 use Rattle.octet_replay.specs.ReplayState.{ReplayState}
 use Rattle.octet_replay.proofs.lemmas.Halting.{halted_after}
@@ -6,6 +7,9 @@ use Rattle.octet_clock.specs.Checker.{Holds}
 use Rattle.octet_clock.specs.Verdict.{JudgedUpTo}
 use Rattle.octet_clock.proofs.Verifying.{as_many_journals, holds_after, next_in_play, room_in_play, thread_in_play}
 use Rattle.octet_clock.proofs.checker.judge.Goals as goal
+
+pub new-requires : goal.new-requires
+new-requires c = omega (arith, (valid_log c.args.replayer.now.log.threads c.args.replayer.now.log.valid).most_threads, c.requires.threads)
 
 pub loop-thread-init : goal.loop-thread-init
 loop-thread-init c =

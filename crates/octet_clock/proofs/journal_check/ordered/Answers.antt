@@ -1,8 +1,15 @@
 use Rattle.std.proofs.Common.{refl, subst}
 use Rattle.octet_model.specs.Machine.{Journals}
 use Rattle.octet_clock.specs.Ordered.{ChecksAt}
+use Rattle.octet_clock.specs.Sharing.{HasNoConflict}
 use Rattle.octet_clock.proofs.JournalsAlone.{is_ordered, not_ordered}
+use Rattle.octet_clock.proofs.SharedObjects.{all_ordered}
 use Rattle.octet_clock.proofs.journal_check.ordered.Goals as goal
+
+pub returns-then-branch : goal.returns-then-branch
+returns-then-branch c =
+    let nothing = subst HasNoConflict c.as_slice-journals.ensures (c.in_ok-nothing_conflicts.ensures c.if-branch.true) in
+    (λ yes. all_ordered c.args.journals.now nothing, λ ordered. refl)
 
 pub returns-in-Unordered : goal.returns-in-Unordered
 returns-in-Unordered c =

@@ -23,7 +23,7 @@ returns-then-knows c = λ journals play index next draws marks is.
     let first = c.in-Some.first in
     let source = subst (λ (o : Option Prefix). TakesIn journals play index t o) c.in-Some.is (c.source_of.ensures journals play index t next draws) in
     let at_t = slice_get_read c.args.marks.now _ t c.index-marks-thread.result refl c.requires.thread c.index-marks-thread.is in
-    let kept = subst (λ (m : Marks). KeepsMarks journals t (made_by play index t) m.kept.items) c.index-marks-thread.is (marks.each t c.index-marks-thread.result at_t) in
+    let kept = subst (λ (m : Marks). KeepsMarks journals t (made_by play index t) m) c.index-marks-thread.is (marks.each t c.index-marks-thread.result at_t) in
     let known = c.if-knows.ensures refl journals (made_by play index t) kept (λ same. subst (λ (u : ℕ). first.count ≤ made_by play index u) same source.made) in
     marks_stay journals play index t (Marked c.args.mark) next c.args.marks.now (known_adds_nothing journals play index t first source known) marks
 
@@ -35,8 +35,8 @@ returns c = on_ok_weaker c.keep.result
     let source = subst (λ (o : Option Prefix). TakesIn journals play index t o) c.in-Some.is (c.source_of.ensures journals play index t next draws) in
     let past = c.clock_with-clock.ensures journals play index event next source marks is in
     let at_t = slice_get_read c.args.marks.now _ t c.index-marks-thread-2.result refl c.requires.thread c.index-marks-thread-2.is in
-    let kept = subst (λ (n : ℕ). KeepsMarks journals t n c.index-marks-thread-2.result.kept.items) (sym is) (marks.each t c.index-marks-thread-2.result at_t) in
-    let kept' = subst (λ (m : Marks). KeepsMarks journals t c.args.count m.kept.items) c.index-marks-thread-2.is kept in
+    let kept = subst (λ (n : ℕ). KeepsMarks journals t n c.index-marks-thread-2.result) (sym is) (marks.each t c.index-marks-thread-2.result at_t) in
+    let kept' = subst (λ (m : Marks). KeepsMarks journals t c.args.count m) c.index-marks-thread-2.is kept in
     let more = keeps journals t past kept' in
-    marks_with journals play index t event next c.args.marks.now _ c.keep.new.self (subst (λ (n : ℕ). KeepsMarks journals t (suc n) c.keep.new.self.kept.items) is more) refl marks)
+    marks_with journals play index t event next c.args.marks.now _ c.keep.new.self (subst (λ (n : ℕ). KeepsMarks journals t (suc n) c.keep.new.self) is more) refl marks)
     c.keep.ensures

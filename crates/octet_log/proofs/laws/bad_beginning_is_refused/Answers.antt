@@ -1,4 +1,5 @@
-use Rattle.octet_log.proofs.PieceRefused.{lack_magic, no_version, no_threads, digest_cut}
+use Rattle.octet_log.proofs.Refused.{lack_magic, no_version, no_threads}
+use Rattle.octet_log.proofs.version2.Refused.{digest_cut}
 use Rattle.octet_log.proofs.laws.bad_beginning_is_refused.Goals as goal
 
 pub returns : goal.returns

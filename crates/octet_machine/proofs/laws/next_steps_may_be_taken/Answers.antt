@@ -1,4 +1,4 @@
-use Rattle.octet_machine.proofs.Keeping.{next_steps_may}
+use Rattle.octet_machine.proofs.running.EachTurn.{next_steps_may}
 use Rattle.octet_machine.proofs.laws.next_steps_may_be_taken.Goals as goal
 
 pub returns : goal.returns

@@ -3,7 +3,7 @@ use Rattle.std.proofs.lemmas.List.FromFn.{map-range_with_len_more}
 use Rattle.octet_interp.specs.Demands.{ThreadState}
 use Rattle.octet_machine.specs.declared.run.Runner.{Runner}
 use Rattle.octet_machine.specs.Machine.{starting_runner, starting_runners}
-use Rattle.octet_machine.proofs.Beginning.{started}
+use Rattle.octet_machine.proofs.running.Opening.{started}
 use Rattle.octet_machine.proofs.opening.starting_runners.Goals as goal
 
 pub loop-thread-preserved : goal.loop-thread-preserved

@@ -1,7 +1,7 @@
 use Rattle.std.proofs.Common.{◌≡◌, length, IfOk, subst}
 use Rattle.octet_model.specs.declared.script.Script.{Script}
 use Rattle.octet_model.specs.Orders.{IsFaithful}
-use Rattle.octet_machine.proofs.Playing.{same_script, is_played}
+use Rattle.octet_machine.proofs.running.ManyTurns.{same_script, is_played}
 use Rattle.octet_machine.proofs.rounds.play.Goals as goal
 
 pub returns-clause-played : goal.returns-clause-played

@@ -1,5 +1,5 @@
 use Rattle.std.proofs.Common.{◌≡◌, suc, ◌+◌, ◌-◌, ◌∙◌, sym, arith}
-use Rattle.octet_machine.proofs.Playing.{one_turn}
+use Rattle.octet_machine.proofs.running.ManyTurns.{one_turn}
 use Rattle.octet_machine.proofs.rounds.take_round.Goals as goal
 
 pub loop-thread-preserved : goal.loop-thread-preserved

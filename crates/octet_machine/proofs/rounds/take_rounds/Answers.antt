@@ -1,5 +1,5 @@
 use Rattle.std.proofs.Common.{sym, ◌∙◌}
-use Rattle.octet_machine.proofs.Playing.{one_round}
+use Rattle.octet_machine.proofs.running.ManyTurns.{one_round}
 use Rattle.octet_machine.proofs.rounds.take_rounds.Goals as goal
 
 pub loop-preserved : goal.loop-preserved

@@ -1,5 +1,5 @@
 use Rattle.std.proofs.Common.{◌≡◌}
-use Rattle.octet_machine.proofs.Playing.{IsUnderway}
+use Rattle.octet_machine.proofs.running.ManyTurns.{IsUnderway}
 use Rattle.octet_machine.proofs.rounds.take_rounds.Given as goal
 
 abbrev pub invariant-loop : goal.invariant-loop

@@ -2,7 +2,7 @@ use Rattle.std.proofs.Common.{rules, ◌≡◌, All, List, ◌∷◌, ◌∙◌,
 use Rattle.std.specs.List.{AllZip}
 use Rattle.std.proofs.lemmas.List.Elements.{All-cons}
 use Rattle.octet_parallel.specs.declared.player.Player.{Player}
-use Rattle.octet_parallel.specs.Playing.{view_of, IsPlayerOf}
+use Rattle.octet_parallel.specs.Calls.{view_of, IsPlayerOf}
 use Rattle.octet_parallel.specs.Judging.{IsSamePlayer}
 use Rattle.octet_parallel.proofs.Zips.{all_first, all_others, all_same}
 use Rattle.octet_parallel.proofs.tests.+step_at.Goals as goal

@@ -4,7 +4,7 @@ use Rattle.std.proofs.lemmas.List.{take_at}
 use Rattle.std.proofs.lemmas.List.Elements.{length_all_zip}
 use Rattle.std.specs.List.{AllZip}
 use Rattle.octet_parallel.specs.declared.player.Player.{Player}
-use Rattle.octet_parallel.specs.Playing.{EachUnbegun, EachEnded}
+use Rattle.octet_parallel.specs.Calls.{EachUnbegun, EachEnded}
 use Rattle.octet_parallel.specs.Judging.{HasPlayed, IsSamePlayer}
 use Rattle.octet_parallel.proofs.Verdicts.{each_ended}
 use Rattle.octet_parallel.proofs.tests.played.Goals as goal

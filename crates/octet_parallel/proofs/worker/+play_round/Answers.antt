@@ -1,6 +1,6 @@
-use Rattle.std.proofs.Common.{rules, ◌≡◌, All, ◌∷◌, sym, subst}
+use Rattle.std.proofs.Common.{rules, ◌≡◌, All, ◌∷◌, subst}
 use Rattle.std.proofs.lemmas.List.Elements.{All-cons}
-use Rattle.octet_parallel.specs.Playing.{IsPlayerOf}
+use Rattle.octet_parallel.specs.Calls.{IsPlayerOf}
 use Rattle.octet_parallel.specs.Judging.{HasPlayed}
 use Rattle.octet_parallel.proofs.Zips.{all_first, all_others}
 use Rattle.octet_parallel.proofs.worker.+play_round.Goals as goal

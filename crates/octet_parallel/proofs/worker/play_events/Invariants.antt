@@ -1,4 +1,4 @@
-use Rattle.octet_parallel.specs.Playing.{IsPlayerOf}
+use Rattle.octet_parallel.specs.Calls.{IsPlayerOf}
 use Rattle.octet_parallel.specs.Judging.{IsSamePlayer}
 use Rattle.octet_parallel.proofs.worker.play_events.Given as goal
 

@@ -1,6 +1,6 @@
 use Rattle.std.proofs.Common.{All}
 use Rattle.std.specs.List.{AllZip}
-use Rattle.octet_parallel.specs.Playing.{IsPlayerOf}
+use Rattle.octet_parallel.specs.Calls.{IsPlayerOf}
 use Rattle.octet_parallel.specs.Judging.{IsSamePlayer}
 use Rattle.octet_parallel.proofs.worker.play_rounds.Given as goal
 

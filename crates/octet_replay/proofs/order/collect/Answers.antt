@@ -1,6 +1,6 @@
 use Rattle.std.proofs.Common.{refl, ap, ◌∙◌}
 use Rattle.octet_replay.specs.ReplayState.{ReplayState}
-use Rattle.octet_replay.proofs.Collecting.{begins_empty, one_more_event, fewer_left}
+use Rattle.octet_replay.proofs.lemmas.Collecting.{begins_empty, one_more_event, fewer_left}
 use Rattle.octet_replay.proofs.order.collect.Goals as goal
 
 pub loop-thread-init : goal.loop-thread-init

@@ -1,4 +1,4 @@
-use Rattle.octet_replay.proofs.Collecting.{collected, collected_fit}
+use Rattle.octet_replay.proofs.lemmas.Collecting.{collected, collected_fit}
 use Rattle.octet_replay.proofs.order.journals.Goals as goal
 
 pub returns-clause-journals : goal.returns-clause-journals

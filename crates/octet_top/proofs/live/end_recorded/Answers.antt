@@ -1,6 +1,6 @@
 use Rattle.std.proofs.Common.{◌≡◌, ◌∙◌, ℕ, List, [], ◌∷◌, subst}
 use Rattle.octet_model.specs.Texts.{outcome_text}
-use Rattle.octet_log.specs.Pieces.{tail_bytes}
+use Rattle.octet_log.specs.v2.Pieces.{tail_bytes}
 use Rattle.octet_top.specs.Request.{AsTheyCome}
 use Rattle.octet_top.specs.Delivery.{Add, Finish, Say}
 use Rattle.octet_base.specs.Desk.{Says}

@@ -2,6 +2,9 @@ use Rattle.std.proofs.Common.{refl, arith}
 use Rattle.octet_clock.proofs.JournalsAlone.{check_starts, fit_in_places, some_journals, start_names}
 use Rattle.octet_clock.proofs.journal_check.JournalCheck.new.Goals as goal
 
+pub new-requires : goal.new-requires
+new-requires c = omega (arith, (fit_in_places c.args.journals.now c.requires).threads)
+
 pub new-requires-2-clause-some : goal.new-requires-2-clause-some
 new-requires-2-clause-some c = omega (arith, some_journals c.args.journals.now c.requires, c.in_ok-needs.ensures.as_many)
 

@@ -1,8 +1,9 @@
-use Rattle.std.proofs.Common.{◌≡◌, ℕ, suc, ◌-◌, length, Some, slice_get, ap, sym, ◌∙◌, subst, arith, List}
+use Rattle.std.proofs.Common.{◌≡◌, ℕ, suc, ◌-◌, ◌<◌, length, get_or, ap, sym, ◌∙◌, subst, arith}
 use Rattle.std.proofs.lemmas.Bool.{leb-true, eqb-true}
+use Rattle.std.proofs.lemmas.Option.{slice_get-get_or}
 use Rattle.octet_model.specs.Past.{InPast}
 use Rattle.octet_model.proofs.lemmas.Pasts.{past_grows}
-use Rattle.octet_clock.specs.declared.marks.MarkClock.{MarkClock}
+use Rattle.octet_clock.specs.Past.{count_after}
 use Rattle.octet_clock.proofs.Known.{past_within}
 use Rattle.octet_clock.proofs.marks.Marks.knows.Goals as goal
 
@@ -11,15 +12,17 @@ returns-then-first-thread c = λ is journals now keeps own place h.
     let same = c.if-first-thread.true in
     past_grows journals c.args.thread c.args.first.count now place (own same) (subst (λ (u : ℕ). InPast journals u c.args.first.count place) same h)
 
-pub returns-in-Some : goal.returns-in-Some
-returns-in-Some c = λ is journals now keeps own place h.
-    let kept = c.args.self.now.kept in
-    let there : slice_get kept.items (length kept.items - 1) ≡ Some c.in-Some.last.now =
-    ap (λ (marks : List MarkClock). slice_get marks (length marks - 1)) (sym c.deref.ensures.value) ∙ sym c.in-Some.ensures.value in
-    let last = c.in-Some.last.now in
-    let known = leb-true c.args.first.count c.count.result is in
-    past_grows journals c.args.thread (suc last.event) now place (omega (arith, keeps.made (length kept.items - 1) last there))
-    (past_within journals c.args.thread (suc last.event) c.args.first.thread c.args.first.count last.clock (keeps.pasts (length kept.items - 1) last there) (omega (arith, c.count.ensures, known)) place h)
+pub returns : goal.returns
+returns c = λ is journals now keeps own place h.
+    let marks = c.args.self.now in
+    let last : ℕ = length marks.events.items - 1 in
+    let within : last < length marks.events.items = omega (arith, c.if-kept-eq0.false, c.len-kept.ensures, marks.events.ok.0) in
+    let at = slice_get-get_or marks.events.items last 0 within in
+    let event = get_or marks.events.items last 0 in
+    let known = leb-true c.args.first.count c.count_after.result is in
+    let here = c.count_after.ensures ∙ ap (λ (n : ℕ). count_after marks (n - 1) c.args.first.thread) (c.len-kept.ensures ∙ marks.events.ok.0) in
+    past_grows journals c.args.thread (suc event) now place (keeps.made last event at)
+    (past_within journals c.args.thread (suc event) c.args.first.thread c.args.first.count (count_after marks last) (keeps.pasts last event at) (omega (arith, here, known)) place h)
 
-pub returns-in-None : goal.returns-in-None
-returns-in-None c = λ is journals now keeps own place h. absurd (let none = eqb-true c.args.first.count 0 is in omega (arith, h.below))
+pub returns-then-kept-eq0 : goal.returns-then-kept-eq0
+returns-then-kept-eq0 c = λ is journals now keeps own place h. absurd (let none = eqb-true c.args.first.count 0 is in omega (arith, h.below))

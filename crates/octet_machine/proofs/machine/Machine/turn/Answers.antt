@@ -5,8 +5,8 @@ use Rattle.octet_machine.specs.declared.run.Runner.{Runner}
 use Rattle.octet_machine.specs.Machine.{MachineState}
 use Rattle.octet_machine.specs.Run.{machine_in, IsHeld, Steps}
 use Rattle.octet_machine.specs.Running.{IsRunning}
-use Rattle.octet_machine.proofs.Keeping.{next_steps_may}
-use Rattle.octet_machine.proofs.Taking.{not_ended, steps_hold}
+use Rattle.octet_machine.proofs.running.EachTurn.{next_steps_may}
+use Rattle.octet_machine.proofs.next_steps.OfRun.{not_ended, steps_hold}
 use Rattle.octet_machine.proofs.machine.Machine.turn.Goals as goal
 
 held_after : (before after : Run) (m : MachineState) (me : ℕ) (x : Runner) → IsHeld before → machine_in before ≡ m → me < length m.runners → x ≡ get_or before.runners.items me x → false ≡ is_some x.end → Steps me before after → IsHeld after

@@ -1,6 +1,6 @@
 use Rattle.std.proofs.Common.{refl}
 use Rattle.octet_machine.specs.Memory.{held}
-use Rattle.octet_machine.proofs.Stepping.{same_at, bumps}
+use Rattle.octet_machine.proofs.memory_steps.Steps.{same_at, bumps}
 use Rattle.octet_machine.proofs.memory.Memory.bump.Goals as goal
 
 pub returns-clause-step : goal.returns-clause-step

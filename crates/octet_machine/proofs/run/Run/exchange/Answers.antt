@@ -3,8 +3,8 @@ use Rattle.octet_state.specs.declared.phase.Phase.TheVariants.{Want}
 use Rattle.octet_state.specs.Steps.{ToRaise, ToClaim}
 use Rattle.octet_state.specs.NextStep.{exchange_of}
 use Rattle.octet_machine.specs.Run.{machine_in}
-use Rattle.octet_machine.proofs.Going.{kind_here}
-use Rattle.octet_machine.proofs.Taking.{states_fit, has_room, thread_there, object_there, holds_phase, exchange_is, claims_else, takes, waits_by}
+use Rattle.octet_machine.proofs.next_steps.ByPhase.{kind_here}
+use Rattle.octet_machine.proofs.next_steps.OfRun.{states_fit, has_room, thread_there, object_there, holds_phase, exchange_is, claims_else, takes, waits_by}
 use Rattle.octet_machine.proofs.run.Run.exchange.Goals as goal
 
 pub raise-requires-clause-fits : goal.raise-requires-clause-fits

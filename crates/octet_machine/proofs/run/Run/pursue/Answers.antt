@@ -1,7 +1,7 @@
 use Rattle.std.proofs.Common.{true, false, refl, ◌∙◌}
 use Rattle.std.proofs.lemmas.Bool.{eq-eqb, ne_eqb}
 use Rattle.octet_state.specs.Steps.{ToSettle, ToLook, ToAsk}
-use Rattle.octet_machine.proofs.Taking.{statuses_fit, has_room, pursuit_is, then_asks, takes}
+use Rattle.octet_machine.proofs.next_steps.OfRun.{statuses_fit, has_room, pursuit_is, then_asks, takes}
 use Rattle.octet_machine.proofs.run.Run.pursue.Goals as goal
 
 pub look-requires-clause-fits : goal.look-requires-clause-fits

@@ -1,4 +1,4 @@
-use Rattle.std.proofs.Common.{rules, ◌≡◌, ◌∙◌, inl, refl, ap}
+use Rattle.std.proofs.Common.{rules, ◌∙◌, inl, refl, ap}
 use Rattle.octet_model.specs.declared.event.Event.TheVariants.{Update}
 use Rattle.octet_model.specs.Thread.{added}
 use Rattle.octet_parallel.specs.Steps.{ToBump, event_next}

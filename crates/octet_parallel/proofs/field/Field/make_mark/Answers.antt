@@ -1,4 +1,4 @@
-use Rattle.std.proofs.Common.{rules, ◌≡◌, ◌∙◌, refl, ap}
+use Rattle.std.proofs.Common.{rules, ◌∙◌, refl, ap}
 use Rattle.octet_model.specs.declared.event.Event.TheVariants.{Marked}
 use Rattle.octet_parallel.specs.Views.{PlayerView}
 use Rattle.octet_parallel.proofs.Turns.{mark_happens, track_after, journal_room, became}

@@ -1,8 +1,6 @@
-use Rattle.std.proofs.Common.{rules, ◌≡◌, ◌∙◌, List, length, sym, subst, ap}
+use Rattle.std.proofs.Common.{rules, ◌≡◌, ◌∙◌, length, sym, subst, ap}
 use Rattle.octet_model.specs.declared.log.Log.{Log}
-use Rattle.octet_parallel.specs.declared.field.Field.{Field}
-use Rattle.octet_parallel.specs.declared.player.Player.{Player}
-use Rattle.octet_parallel.specs.Playing.{EachUnbegun}
+use Rattle.octet_parallel.specs.Calls.{EachUnbegun}
 use Rattle.octet_parallel.proofs.Beginning.{each_unbegun, as_many_players}
 use Rattle.octet_parallel.proofs.field.Field.new.Goals as goal
 

@@ -1,5 +1,4 @@
-use Rattle.std.proofs.Common.{rules, ◌≡◌, ◌∙◌, inr, refl, sym, ap, subst, ℕ, List, ◌++◌, ◌∷◌, []}
-use Rattle.octet_model.specs.declared.event.Event.{Event}
+use Rattle.std.proofs.Common.{rules, ◌≡◌, ◌∙◌, inr, sym, ap, subst, ℕ, ◌++◌, ◌∷◌, []}
 use Rattle.octet_model.specs.declared.event.Event.TheVariants.{Marked}
 use Rattle.octet_model.specs.declared.log.Log.{Log}
 use Rattle.octet_model.specs.Machine.{Next}

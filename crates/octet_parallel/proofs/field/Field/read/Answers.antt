@@ -1,6 +1,5 @@
-use Rattle.std.proofs.Common.{rules, ◌≡◌, ◌∙◌, inl, refl, ap}
+use Rattle.std.proofs.Common.{rules, ◌∙◌, inl, refl, ap}
 use Rattle.octet_model.specs.declared.event.Event.TheVariants.{Read}
-use Rattle.octet_model.specs.Thread.{added}
 use Rattle.octet_parallel.specs.Steps.{ToRead, event_next}
 use Rattle.octet_model.specs.Machine.{Next}
 use Rattle.octet_parallel.specs.Views.{PlayerView}

@@ -2,7 +2,7 @@ use Rattle.std.proofs.Common.{rules, ◌≡◌, ◌∙◌, ◌∷◌, List, ℕ,
 use Rattle.std.specs.Mem.Slots.{slots_items}
 use Rattle.octet_parallel.specs.declared.words.Seat.{Seat}
 use Rattle.octet_parallel.specs.Cells.{cells_in}
-use Rattle.octet_parallel.specs.Players.{script_of, log_of, Closes}
+use Rattle.octet_parallel.specs.Seats.{script_of, log_of, Closes}
 use Rattle.octet_parallel.proofs.Ending.{IsParted, parted, first_rest, closes, if_ok}
 use Rattle.octet_parallel.proofs.words.Words.close.Goals.{After-remove-first}
 use Rattle.octet_parallel.proofs.words.Words.close.Goals as goal

@@ -1,5 +1,5 @@
 use Rattle.std.proofs.Common.{◌≡◌, ℕ, ◌++◌, map, length}
-use Rattle.octet_parallel.specs.Players.{view, BelongsTo, AreInRow, state_left}
+use Rattle.octet_parallel.specs.Seats.{view, BelongsTo, AreInRow, state_left}
 use Rattle.octet_parallel.proofs.words.Words.join_all.Given as goal
 
 abbrev pub decreases-loop-seats : goal.decreases-loop-seats

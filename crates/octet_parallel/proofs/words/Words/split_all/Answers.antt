@@ -1,6 +1,6 @@
 use Rattle.std.proofs.Common.{rules, ◌≡◌, ◌∙◌, ◌++◌, ◌∷◌, [], sym, ap, subst}
 use Rattle.octet_parallel.specs.Views.{PlayerView}
-use Rattle.octet_parallel.specs.Players.{AreFresh}
+use Rattle.octet_parallel.specs.Seats.{AreFresh}
 use Rattle.octet_parallel.proofs.Ending.{each_fresh, fresh_more}
 use Rattle.octet_parallel.proofs.words.Words.split_all.Goals as goal
 

@@ -1,5 +1,5 @@
-use Rattle.std.proofs.Common.{◌≡◌, ◌+◌, ℕ, [], length}
-use Rattle.octet_parallel.specs.Players.{view, BelongsTo, IsFresh, AreFresh}
+use Rattle.std.proofs.Common.{◌≡◌, ◌+◌, [], length}
+use Rattle.octet_parallel.specs.Seats.{view, BelongsTo, IsFresh, AreFresh}
 use Rattle.octet_parallel.proofs.words.Words.split_all.Given as goal
 
 abbrev pub invariant-loop : goal.invariant-loop

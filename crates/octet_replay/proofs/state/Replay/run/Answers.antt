@@ -1,6 +1,6 @@
 use Rattle.octet_replay.specs.Replayed.{state_of}
 use Rattle.octet_replay.proofs.lemmas.Halting.{halted_after}
-use Rattle.octet_replay.proofs.Collecting.{fewer_left}
+use Rattle.octet_replay.proofs.lemmas.Collecting.{fewer_left}
 use Rattle.octet_replay.proofs.state.Replay.run.Goals as goal
 
 pub loop-smaller : goal.loop-smaller

@@ -1,7 +1,6 @@
 use Rattle.std.proofs.Common.{rules, refl}
 use Rattle.octet_rule.proofs.Acting.{reads}
 use Rattle.octet_rule.proofs.Known.{grows, few_after}
-use Rattle.octet_rule.proofs.Letting.{read_is_allowed}
 use Rattle.octet_rule.proofs.words.Words.read.Goals as goal
 
 pub load-value-requires : goal.load-value-requires
@@ -9,6 +8,3 @@ load-value-requires c = (search rules, search rules, reads _ _ _ _ _ (search rul
 
 pub invariant_of-seat : goal.invariant_of-seat
 invariant_of-seat c = let took = c.load-value.ensures.2.1 in let more = grows _ _ _ _ _ took refl in let few = few_after _ _ _ _ took in search rules
-
-pub returns-clause-allowed : goal.returns-clause-allowed
-returns-clause-allowed c = read_is_allowed _ _ _ c.load-value.ensures.2.1

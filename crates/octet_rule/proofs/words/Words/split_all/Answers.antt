@@ -1,7 +1,6 @@
 use Rattle.std.proofs.Common.{rules, ◌≡◌, ◌∙◌, ◌++◌, ◌∷◌, [], sym, ap, subst}
 use Rattle.octet_rule.specs.Views.{SeatView}
-use Rattle.octet_rule.specs.Seats.{AreFresh}
-use Rattle.octet_rule.proofs.Ending.{each_fresh, fresh_more}
+use Rattle.octet_rule.proofs.Ending.{AreFresh, each_fresh, fresh_more}
 use Rattle.octet_rule.proofs.words.Words.split_all.Goals as goal
 
 pub loop-thread-preserved : goal.loop-thread-preserved

@@ -1,5 +1,6 @@
 use Rattle.std.proofs.Common.{◌≡◌, ◌+◌, [], length}
-use Rattle.octet_rule.specs.Seats.{view, BelongsTo, IsFresh, AreFresh}
+use Rattle.octet_rule.specs.Seats.{view, BelongsTo, IsFresh}
+use Rattle.octet_rule.proofs.Ending.{AreFresh}
 use Rattle.octet_rule.proofs.words.Words.split_all.Given as goal
 
 abbrev pub invariant-loop-thread : goal.invariant-loop-thread

@@ -1,7 +1,6 @@
 use Rattle.std.proofs.Common.{rules, refl}
 use Rattle.octet_rule.proofs.Acting.{writes}
 use Rattle.octet_rule.proofs.Known.{grows, few_after}
-use Rattle.octet_rule.proofs.Letting.{write_is_allowed}
 use Rattle.octet_rule.proofs.words.Words.write.Goals as goal
 
 pub store-requires : goal.store-requires
@@ -9,6 +8,3 @@ store-requires c = (search rules, search rules, writes _ _ _ _ _ (search rules) 
 
 pub invariant_of-seat : goal.invariant_of-seat
 invariant_of-seat c = let took = c.store.ensures.2.1 in let more = grows _ _ _ _ _ took refl in let few = few_after _ _ _ _ took in search rules
-
-pub returns-clause-allowed : goal.returns-clause-allowed
-returns-clause-allowed c = write_is_allowed _ _ _ _ c.store.ensures.2.1

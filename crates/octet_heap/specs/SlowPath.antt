@@ -1,0 +1,39 @@
+-- Which accesses take the slow path.
+use Rattle.std.specs.Prelude.{ℕ, suc, Bool, true, false, ◌&&◌, if◌then◌else◌, List, [], ◌∷◌}
+use Rattle.octet_state.specs.declared.act.Act.{Act}
+use Rattle.octet_state.specs.declared.act.Act.TheVariants.{Pass}
+use Rattle.octet_state.specs.declared.phase.Phase.{Phase}
+use Rattle.octet_state.specs.declared.phase.Phase.TheVariants.{Idle}
+use Rattle.octet_state.specs.Words.{unpacked_state}
+use Rattle.octet_state.specs.Table.{decided}
+use Rattle.octet_state.specs.Steps.{state_in}
+use Rattle.octet_rule.specs.Views.{SeatView, Taken}
+use Rattle.octet_heap.specs.declared.wish.Wish.{Wish}
+use Rattle.octet_heap.specs.declared.poll.Poll.{Poll}
+use Rattle.octet_heap.specs.declared.poll.Poll.TheVariants.{Ready, Pending}
+
+abbrev pub is_idle : Phase → Bool
+is_idle Idle = true
+is_idle _ = false
+
+abbrev pub is_pass : Act → Bool
+is_pass Pass = true
+is_pass _ = false
+
+-- the first of these steps, a load, has found a state that lets the thread make the access
+abbrev pub passes_by : Wish → SeatView → List Taken → Bool
+passes_by wish v [] = false
+passes_by wish v (load ∷ more) = is_pass (decided (state_in (unpacked_state load.word)) v.number wish.mode v.thread.count)
+
+-- an access takes the fast path where it has not loaded the state before, and the state that it loads lets the thread make it
+abbrev pub is_fast : Wish → SeatView → List Taken → Bool
+is_fast wish v steps = is_idle v.thread.phase && passes_by wish v steps
+
+-- the accesses that took the slow path, after another one that is made
+abbrev pub slow_by : Bool → ℕ → ℕ
+slow_by fast slow = if fast then slow else suc slow
+
+-- and after a poll
+abbrev pub slow_after : Poll → Bool → ℕ → ℕ
+slow_after (Ready value) fast slow = slow_by fast slow
+slow_after (Pending why) fast slow = slow

@@ -1,5 +1,0 @@
-use Rattle.octet_log.proofs.Refused.{lacks_magic, other_version, bad_threads}
-use Rattle.octet_log.proofs.laws.bad_head_is_refused.Goals as goal
-
-pub returns : goal.returns
-returns c = record { magic = lacks_magic; version = other_version; threads = bad_threads }

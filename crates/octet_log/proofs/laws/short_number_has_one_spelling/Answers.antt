@@ -1,5 +1,0 @@
-use Rattle.octet_log.proofs.Groups.{spelled_short, short_spelled, short_again}
-use Rattle.octet_log.proofs.laws.short_number_has_one_spelling.Goals as goal
-
-pub returns : goal.returns
-returns c = record { one = λ bytes number small. (spelled_short bytes number, short_spelled bytes number small); again = short_again }

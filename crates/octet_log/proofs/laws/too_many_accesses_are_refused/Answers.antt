@@ -1,5 +1,0 @@
-use Rattle.octet_log.proofs.Refused.{too_many}
-use Rattle.octet_log.proofs.laws.too_many_accesses_are_refused.Goals as goal
-
-pub returns : goal.returns
-returns c = too_many

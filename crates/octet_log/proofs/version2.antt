@@ -1,0 +1,9 @@
+pub mod Groups
+pub mod ShortRefused
+pub mod Marks
+pub mod Pieces
+pub mod Loops
+pub mod Whole
+pub mod WholePieces
+pub mod Refused
+pub mod Cuts

@@ -1,0 +1,4 @@
+pub mod AtRest
+pub mod ByPhase
+pub mod OfRun
+pub mod SameDemand

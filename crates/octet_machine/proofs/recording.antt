@@ -1,0 +1,2 @@
+pub mod AccessCounts
+pub mod Ends

@@ -1,0 +1,5 @@
+pub mod EachTurn
+pub mod End
+pub mod Journals
+pub mod ManyTurns
+pub mod Opening

@@ -1,6 +1,0 @@
-use Rattle.std.proofs.Common.{◌≡◌, drop}
-use Rattle.octet_parallel.specs.Drawn.{highest_of}
-use Rattle.octet_parallel.proofs.needs.highest_of.Given as goal
-
-abbrev pub invariant-loop-next : goal.invariant-loop-next
-invariant-loop-next l = highest_of (drop l.next-index l.marks) l.highest ≡ highest_of l.marks l.before

@@ -1,7 +1,0 @@
-use Rattle.std.proofs.Common.{rules, ◌≡◌, ◌∙◌, ◌+◌, ◌<◌, get_or, length, refl, sym, subst, ap}
-use Rattle.octet_model.specs.declared.log.ThreadLog.{ThreadLog}
-use Rattle.octet_parallel.proofs.Beginning.{few_events}
-use Rattle.octet_parallel.proofs.starting.player.Goals as goal
-
-pub overflow_add-events : goal.overflow_add-events
-overflow_add-events c = let few = few_events c.args.log.now c.args.number c.index-as_slice-number.result c.requires.number (search rules) in search rules

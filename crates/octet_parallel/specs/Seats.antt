@@ -1,0 +1,61 @@
+-- What a clause says of words, seats and players.
+use Rattle.std.specs.Prelude.{◌≡◌, ℕ, ◌+◌, ◌<◌, List, [], ◌∷◌, map, length, slice_index_or}
+use Rattle.octet_model.specs.declared.script.Script.{Script}
+use Rattle.octet_model.specs.declared.log.Log.{Log}
+use Rattle.octet_parallel.specs.State.{PlayerState, FieldState, unbegun}
+use Rattle.octet_parallel.specs.Soundness.{IsSoundField}
+use Rattle.octet_parallel.specs.Views.{PlayerView}
+use Rattle.octet_parallel.specs.declared.words.Seat.{Seat}
+use Rattle.octet_parallel.specs.declared.words.Words.{Words}
+
+abbrev pub view : Seat → PlayerView
+view seat = seat.inner.me.0
+
+abbrev pub script_of : Words → Script
+script_of words = words.table.shared.key.script.value
+
+abbrev pub log_of : Words → Log
+log_of words = words.table.shared.key.log.value
+
+-- the seat is one of these words'
+abbrev pub BelongsTo : Words → Seat → Type 0
+BelongsTo words seat = (seat.inner.table_id ≡ words.table.shared.table_id) × ((view seat).script ≡ script_of words) × ((view seat).log ≡ log_of words)
+
+-- likewise, once all seats are made and before any has joined
+abbrev pub IsSeatOf : Words → Seat → Type 0
+IsSeatOf words seat = BelongsTo words seat × ((view seat).number ≡ 0 → (view seat).players_made ≡ words.players) × ((view seat).number ≡ 0 → (view seat).joined ≡ [])
+
+-- the seat of this player, which has taken no step
+abbrev pub IsFresh : ℕ → Seat → Type 0
+IsFresh number seat = ((view seat).number ≡ number) × ((view seat).player ≡ unbegun) × ((view seat).trail ≡ [])
+
+-- each seat is that of its player, which has taken no step
+abbrev pub EachFresh : Words → List Seat → Type 0
+EachFresh words seats = (number : ℕ) (none : Seat) → number < length seats → IsSeatOf words (slice_index_or seats number none) × IsFresh number (slice_index_or seats number none)
+
+-- each seat is that of its player
+abbrev pub EachOf : Words → List Seat → Type 0
+EachOf words seats = (number : ℕ) (none : Seat) → number < length seats → IsSeatOf words (slice_index_or seats number none) × ((view (slice_index_or seats number none)).number ≡ number)
+
+-- while seats are made: those of the players from this one on, in order
+abbrev pub AreFresh : Words → ℕ → List Seat → Type 0
+AreFresh words number [] = Unit {0}
+AreFresh words number (seat ∷ seats) = BelongsTo words seat × IsFresh number seat × AreFresh words (number + 1) seats
+
+-- while seats join: likewise
+abbrev pub AreInRow : Words → ℕ → List Seat → Type 0
+AreInRow words number [] = Unit {0}
+AreInRow words number (seat ∷ seats) = BelongsTo words seat × ((view seat).number ≡ number) × AreInRow words (number + 1) seats
+
+-- what a seat leaves that joins the first one
+abbrev pub state_left : Seat → ℕ × PlayerState
+state_left seat = ((view seat).number, (view seat).player)
+
+-- the cells have these values in one sound state of the script and the log, whose players are those of the seats
+pub record Closes (script : Script) (log : Log) (seats : List Seat) (values : List ℕ) : Type 0 where
+  pub last : FieldState
+  pub sound : IsSoundField last
+  pub is_script : last.script ≡ script
+  pub is_log : last.log ≡ log
+  pub players : last.players ≡ map (λ seat. (view seat).player) seats
+  pub cells : last.cells ≡ values

@@ -1,0 +1,60 @@
+//! A log that is replayed on threads, and judged by the journals that they made.
+ghost use Rattle.std.specs.Prelude.{◌≡◌, length, IfOk};
+ghost use Rattle.octet_clock.specs.Untied.{IsUntied};
+ghost use Rattle.octet_parallel.specs.Judging.{IsJudged};
+ghost use Rattle.octet_parallel.specs.Calls.{IsFinishedReplay};
+
+use crate::crew::Crew;
+use crate::field::Field;
+use crate::finished::Finished;
+use crate::worker::play_all;
+use octet_base::Gate;
+use octet_clock::ordered;
+use octet_model::{List, Log, OutOfMemory, Outcome, Script};
+use std::alloc::Global;
+use std::sync::Wait;
+use std::thread::Threads;
+
+/// Replays a log by a player per thread of the script, and judges it by the journals that these
+/// make: the outcome of the lowest order, where that is lawful and has ordered journals, and None
+/// where it is not or has not. Each player has a thread of its own while threads are to be had and
+/// are of use; some rounds, or all that is left, may be played on one thread. A player that has to
+/// wait for another looks again for a while, and then sleeps. Before each access it passes the gate,
+/// unless that is open. May wait: nothing says that the players come to an end.
+pub fn parallel<R: Threads + Wait + Sync, G: Gate>(
+    rt: &R,
+    alloc: Global,
+    script: &Script,
+    log: &Log,
+    gate: &G,
+) -> Result<Option<Outcome>, OutOfMemory>
+    requires threads { length script.now.threads ≡ length log.now.threads }
+    requires untied { IsUntied log.now.threads }
+    ensures { IfOk result (λ outcome. IsJudged script.now log.now.threads outcome) }
+{
+    let (field, players) = Field::new(alloc, script, log)?;
+    let mut players = players.into_vec();
+    let crew = Crew::new(alloc, players.len())?;
+    play_all(rt, &field, gate, &crew, players.as_mut_slice());
+    match field.close(alloc, List::from_vec(players))? {
+        None => Ok(None),
+        Some(finished) => judged(alloc, script, log, finished),
+    }
+}
+
+// The outcome of a finished replay, where its journals are ordered.
+fn judged(
+    alloc: Global,
+    script: &Script,
+    log: &Log,
+    finished: Finished,
+) -> Result<Option<Outcome>, OutOfMemory>
+    requires { IsFinishedReplay script.now log.now.threads finished }
+    ensures { IfOk result (λ outcome. IsJudged script.now log.now.threads outcome) }
+{
+    let is_ordered = ordered(alloc, &finished.journals)?;
+    if is_ordered {
+        return Ok(Some(finished.outcome));
+    }
+    Ok(None)
+}

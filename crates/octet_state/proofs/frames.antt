@@ -1,0 +1,11 @@
+pub mod AnyStep
+pub mod CounterChange
+pub mod EventMade
+pub mod LongerJournals
+pub mod MarkMade
+pub mod RequestBit
+pub mod SeenByOthers
+pub mod StateChange
+pub mod StatusChange
+pub mod ThreadChange
+pub mod WordOfStep

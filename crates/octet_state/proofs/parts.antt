@@ -1,0 +1,9 @@
+pub mod DrawsCounted
+pub mod FrugalShape
+pub mod FrugalShapeOfAccesses
+pub mod FrugalShapeOfMarks
+pub mod HandoverInClaims
+pub mod Passing
+pub mod PassingInClaims
+pub mod Takeable
+pub mod WhomClaimsAsk

@@ -1,0 +1,16 @@
+pub mod Access
+pub mod Answer
+pub mod AnsweredClaim
+pub mod Ask
+pub mod Claim
+pub mod Draw
+pub mod Fence
+pub mod Glance
+pub mod Load
+pub mod Look
+pub mod Raise
+pub mod ReadWriteUpdate
+pub mod Rest
+pub mod SettleOfClaim
+pub mod SettleOfShare
+pub mod Share

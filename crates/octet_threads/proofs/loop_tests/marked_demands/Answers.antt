@@ -1,0 +1,8 @@
+use Rattle.octet_model.specs.Thread.{starting_configuration}
+use Rattle.octet_heap.specs.Workers.{seat_of}
+use Rattle.octet_threads.proofs.Fuel.{access_left}
+use Rattle.octet_threads.proofs.loop_tests.marked_demands.Goals as goal
+
+pub carry-demand-requires-clause-more : goal.carry-demand-requires-clause-more
+carry-demand-requires-clause-more g c κs within = λ wants.
+    access_left (starting_configuration c.args.heap.now.fuel) (seat_of c.loop.worker).journal c.loop.config c.loop.invariant.kept wants

@@ -1,9 +1,0 @@
-use Rattle.octet_top.specs.Request.{name_in}
-use Rattle.octet_top.proofs.Found.{both_read, both_stop}
-use Rattle.octet_top.proofs.reading.of_pair.Goals as goal
-
-pub returns-in-Ok : goal.returns-in-Ok
-returns-in-Ok g c = both_read c.args.task c.args.script.now c.args.log.now (name_in c.args.object) _ _ c.in-Ok.pair _ c.in-Ok.ensures.ends c.in-Ok.ensures.calls c.answer_pair.ensures
-
-pub returns-in-Err : goal.returns-in-Err
-returns-in-Err g c = both_stop c.args.task c.args.script.now c.args.log.now (name_in c.args.object) _ _ c.in-Err.refusal c.in-Err.ensures.ends c.in-Err.ensures.calls

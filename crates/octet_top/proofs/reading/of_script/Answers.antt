@@ -1,5 +1,0 @@
-use Rattle.octet_top.proofs.Found.{script_read}
-use Rattle.octet_top.proofs.reading.of_script.Goals as goal
-
-pub returns-in-Ok : goal.returns-in-Ok
-returns-in-Ok g c = script_read c.args.task c.args.script.now _ _ c.in-Ok.source _ c.in-Ok.ensures.ends c.in-Ok.ensures.calls c.answer_script.ensures

@@ -1,0 +1,22 @@
+use Rattle.std.proofs.Common.{Some, sym, subst}
+use Rattle.octet_top.specs.declared.request.Request.{Request}
+use Rattle.octet_top.specs.Request.{shown}
+use Rattle.octet_top.specs.Serving.{IsServed}
+use Rattle.octet_top.proofs.Found.{generated_reply}
+use Rattle.octet_top.proofs.with_runtime.serve_request.Goals as goal
+
+pub returns-in-Live : goal.returns-in-Live
+returns-in-Live g c =
+    let state = g.D.Desk.state in
+    subst (λ (request : Request). IsServed (Some (shown request)) (state c.args.desk.now) (state c.serve_live.new.desk) c.serve_live.result) (sym c.in-Live.is) c.serve_live.ensures
+
+pub returns-in-Gen : goal.returns-in-Gen
+returns-in-Gen g c =
+    let state = g.D.Desk.state in
+    subst (λ (request : Request). IsServed (Some (shown request)) (state c.args.desk.now) (state c.deliver-in-Gen.new.desk) c.deliver-in-Gen.result) (sym c.in-Gen.is)
+    (record {
+      mid = state c.args.desk.now;
+      reply = c.generate-reply.result;
+      found = generated_reply c.in-Gen.number c.in-Gen.script.now c.in-Gen.log.now (state c.args.desk.now) c.generate-reply.result c.generate-reply.ensures;
+      given = c.deliver-in-Gen.ensures;
+    })

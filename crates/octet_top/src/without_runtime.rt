@@ -1,0 +1,152 @@
+//! Requests that need no runtime: from the files to a reply, before any of it is written or said.
+ghost use Rattle.std.specs.Prelude.{◌≡◌, IfOk, Some};
+ghost use Rattle.octet_top.specs.Answer.{answer_of};
+ghost use Rattle.octet_top.specs.Request.{shown_alone, alone_in, name_in, OfScript, OfLog, OfPair, Convert};
+ghost use Rattle.octet_top.specs.Commands.{ScriptAnswers, LogAnswers, PairReplays};
+ghost use Rattle.octet_top.specs.Replies.{Replies};
+
+use crate::commands::{replay, replay_ordered, show, tidy, verify};
+use crate::convert::convert;
+use crate::fitting::read_fitting;
+use crate::inputs::{Pair, Source, read_log, read_script};
+use crate::profile::profile;
+use crate::refusal::not_a_command;
+use crate::regions::regions;
+use crate::reply::Reply;
+use crate::request::{LogTask, PairTask, Request, ScriptTask};
+use crate::slice::slice;
+use crate::stop::stop;
+use crate::trace::trace;
+use octet_base::Desk;
+use octet_log::Loaded;
+use octet_model::OutOfMemory;
+use std::alloc::Global;
+
+fn answer_script(alloc: Global, task: ScriptTask, source: &Source) -> Result<Reply, OutOfMemory>
+    ensures { IfOk result (λ reply. ScriptAnswers task source.now (answer_of reply)) }
+{
+    match task {
+        ScriptTask::Tidy => tidy(alloc, source),
+    }
+}
+
+fn answer_log(alloc: Global, task: LogTask, loaded: &Loaded) -> Result<Reply, OutOfMemory>
+    ensures { IfOk result (λ reply. LogAnswers task loaded.now (answer_of reply)) }
+{
+    match task {
+        LogTask::Show => show(alloc, loaded),
+    }
+}
+
+fn replay_pair(alloc: Global, task: PairTask, pair: &Pair) -> Result<Reply, OutOfMemory>
+    ensures { IfOk result (λ reply. PairReplays task pair.now (answer_of reply)) }
+{
+    match task {
+        PairTask::Replay => replay(alloc, pair),
+        PairTask::Parallel => replay_ordered(alloc, pair),
+        PairTask::Verify => verify(alloc, pair),
+        PairTask::Regions => regions(alloc, pair),
+        PairTask::Slice { thread, event } => slice(alloc, pair, thread, event),
+        PairTask::Stop { value } => stop(alloc, pair, value),
+        PairTask::Trace => trace(alloc, pair),
+        PairTask::Profile => profile(alloc, pair),
+    }
+}
+
+#[tactic(auto, using(crate::proofs::Found::script_stops))]
+fn of_script<D: Desk>(
+    alloc: Global,
+    desk: &mut D,
+    task: ScriptTask,
+    script: &str,
+) -> Result<Reply, OutOfMemory>
+    ensures { Replies (Some (OfScript task script.now)) (D.state desk.old) result (D.state desk.new) }
+{
+    match read_script(alloc, desk, script) {
+        Ok(source) => answer_script(alloc, task, &source),
+        Err(refusal) => refusal,
+    }
+}
+
+#[tactic(auto, using(crate::proofs::Found::log_stops))]
+fn of_log<D: Desk>(
+    alloc: Global,
+    desk: &mut D,
+    task: LogTask,
+    log: &str,
+) -> Result<Reply, OutOfMemory>
+    ensures { Replies (Some (OfLog task log.now)) (D.state desk.old) result (D.state desk.new) }
+{
+    match read_log(alloc, desk, log) {
+        Ok(loaded) => answer_log(alloc, task, &loaded),
+        Err(refusal) => refusal,
+    }
+}
+
+fn of_pair<D: Desk>(
+    alloc: Global,
+    desk: &mut D,
+    task: PairTask,
+    script: &str,
+    log: &str,
+    object: Option<&str>,
+) -> Result<Reply, OutOfMemory>
+    ensures { Replies (Some (OfPair task script.now log.now (name_in object.entry))) (D.state desk.old) result (D.state desk.new) }
+{
+    match read_fitting(alloc, desk, script, log, object) {
+        Ok(pair) => replay_pair(alloc, task, &pair),
+        Err(refusal) => refusal,
+    }
+}
+
+fn of_conversion<D: Desk>(
+    alloc: Global,
+    desk: &mut D,
+    script: &str,
+    log: &str,
+    out: &str,
+) -> Result<Reply, OutOfMemory>
+    ensures { Replies (Some (Convert script.now log.now out.now)) (D.state desk.old) result (D.state desk.new) }
+{
+    match read_fitting(alloc, desk, script, log, None) {
+        Ok(pair) => convert(alloc, &pair, out),
+        Err(refusal) => refusal,
+    }
+}
+
+/// The reply to a request that needs no runtime; to another, that it is no command.
+fn reply_to<D: Desk>(
+    alloc: Global,
+    desk: &mut D,
+    request: Request<'_>,
+) -> Result<Reply, OutOfMemory>
+    ensures { Replies (shown_alone request.entry) (D.state desk.old) result (D.state desk.new) }
+{
+    match request {
+        Request::OfScript { task, script } => of_script(alloc, desk, task, script),
+        Request::OfLog { task, log } => of_log(alloc, desk, task, log),
+        Request::OfPair {
+            task,
+            script,
+            log,
+            object,
+        } => of_pair(alloc, desk, task, script, log, object),
+        Request::Convert { script, log, out } => of_conversion(alloc, desk, script, log, out),
+        _ => not_a_command(alloc),
+    }
+}
+
+/// The reply to what words ask for, where that needs no runtime: its files are taken, and nothing is
+/// written or said yet. To all other words it is that they are no command.
+pub(crate) fn reply_alone<D: Desk>(
+    alloc: Global,
+    desk: &mut D,
+    request: Option<Request<'_>>,
+) -> Result<Reply, OutOfMemory>
+    ensures { Replies (alone_in request.entry) (D.state desk.old) result (D.state desk.new) }
+{
+    match request {
+        Some(request) => reply_to(alloc, desk, request),
+        None => not_a_command(alloc),
+    }
+}
