@@ -5,8 +5,8 @@
 definitions of each: all that `RunsFaithfully` (octet_top, `specs/Headline.antt`) says, down to the
 numbers and lists of the standard library. `tests/definitions.py unread` lists the definitions, lemmas and
 imports that nothing reads, `tests/definitions.py literals` the lines of definitions and code in which the
-number of a limit stands, where neither the limit's comment nor the table below names the file; these two
-end with 1 where there are any. Needs Python 3 alone.
+number of a limit stands, where neither the limit's comment nor the table below names the file, and the
+files that such a comment names in vain; these two end with 1 where there are any. Needs Python 3 alone.
 """
 
 import pathlib
@@ -226,8 +226,8 @@ def numbers_in(path):
 
 
 def literals():
-    """Where the number of a limit stands unlisted, and which file of the table has none."""
-    allowed, lines, found = limits(), [], set()
+    """Where the number of a limit stands unlisted, and which file that is listed has none."""
+    allowed, lines, found, listed = limits(), [], set(), set()
     for path in sorted([*CRATES.glob("*/specs/**/*.antt"), *CRATES.glob("*/src/**/*.rt")]):
         name = str(path.relative_to(CRATES))
         if name.endswith(("/src/limits.rt", "tests.rt")):
@@ -235,8 +235,11 @@ def literals():
         for line, numbers in numbers_in(path):
             for number in numbers & allowed.keys():
                 found.add(name)
+                if name in allowed[number]:
+                    listed.add(name)
                 if name not in allowed[number] and number not in OTHERS.get(name, set()):
                     lines.append(f"{name}: {number} in `{line}`")
+    lines += [f"{name}: in a limit's comment, and has not its number" for name in sorted(set().union(*allowed.values()) - listed)]
     return lines + [f"{name}: in the table, and has no number of a limit" for name in sorted(set(OTHERS) - found)]
 
 

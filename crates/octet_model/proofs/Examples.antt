@@ -1,5 +1,5 @@
 -- Journals that are ordered, journals that are not, and journals that are not frugal.
-use Rattle.std.proofs.Common.{◌≡◌, ℕ, zero, suc, inl, inr, List, [], ◌∷◌, ◌++◌, Option, Some, None, slice_get, refl, ap, ◌∙◌, arith}
+use Rattle.std.proofs.Common.{◌≡◌, ℕ, zero, suc, ◌⊎◌, inl, inr, List, [], ◌∷◌, ◌++◌, Option, Some, None, slice_get, refl, sym, ap, ◌∙◌, arith}
 use Rattle.std.specs.Option.{option_map, unwrap_or}
 use Rattle.octet_model.specs.declared.event.Event.{Event}
 use Rattle.octet_model.specs.declared.event.Event.TheVariants.{Read, Write, Marked}
@@ -7,12 +7,8 @@ use Rattle.octet_model.specs.declared.event.Mark.{Mark}
 use Rattle.octet_model.specs.declared.event.Mark.TheVariants.{Join}
 use Rattle.octet_model.specs.declared.event.Place.{Place}
 use Rattle.octet_model.specs.Machine.{Journals, journal_of}
-use Rattle.octet_model.specs.HappensBefore.{event_at, object_of, Edge, ProgramOrder, Joined, Drawn, Fenced, IsPath, IsOrdered}
+use Rattle.octet_model.specs.HappensBefore.{event_at, object_of, Edge, ProgramOrder, Joined, Drawn, Fenced, IsPath, HappensBefore, IsOrdered}
 use Rattle.octet_model.specs.Frugal.{IsPrivate, IsFrugal}
-use Rattle.octet_model.specs.Plays.{IsOneHistory}
-use Rattle.octet_model.specs.Past.{AreOwned}
-use Rattle.octet_model.proofs.lemmas.Growth.{history_begins}
-use Rattle.octet_model.proofs.lemmas.Owners.{history_with_mark, history_with_access, owned_with_event, owned_with_join}
 
 -- a write and a read with no mark
 abbrev unmarked : Journals
@@ -47,33 +43,45 @@ unmarked_is_unordered ordered =
       | inr p ↦ omega (arith, path_within p.between b a p.is_path)
     ]
 
--- the same with a Join before the read, event by event
-joined_is_ordered : IsOrdered ((Write 0 7 ∷ []) ∷ (Marked (Join 0 1) ∷ Read 0 7 ∷ []) ∷ [])
-joined_is_ordered =
-    let start : List ℕ = 5 ∷ [] in
-    let empty : Journals = [] ∷ [] ∷ [] in
-    let one : Journals = (Write 0 7 ∷ []) ∷ [] ∷ [] in
-    let two : Journals = (Write 0 7 ∷ []) ∷ (Marked (Join 0 1) ∷ []) ∷ [] in
-    let nothing : IsOneHistory start empty start 0 = history_begins start empty in
-    let no_owner : AreOwned empty (λ o. 0) = record { by = λ o a is. absurd (none a.thread a.event is.0 is.1) } in
-    let first = history_with_access start empty start 0 0 (omega arith) nothing (Write 0 7) 0 refl refl refl (λ a is. no_owner.by 0 a is) in
-    let owned = owned_with_event empty 0 (omega arith) (λ o. 0) no_owner (Write 0 7) (λ o e. refl) in
-    let joined = history_with_mark start one (7 ∷ []) 0 1 (omega arith) first (Join 0 1) refl in
-    let taken = owned_with_join one 1 (omega arith) (λ o. 0) owned 0 owner' refl others in
-    (history_with_access start two (7 ∷ []) 0 1 (omega arith) joined (Read 0 7) 0 refl refl refl (λ a is. taken.by 0 a is)).ordered
-  where
-    none : (t k : ℕ) (x : Event) → slice_get (journal_of ([] ∷ [] ∷ []) t) k ≡ Some x → ⊥
-    none zero k x is = cc (is)
-    none (suc zero) k x is = cc (is)
-    none (suc (suc t)) k x is = cc (is)
+-- the same with a Join before the read
+abbrev joined : Journals
+joined = (Write 0 7 ∷ []) ∷ (Marked (Join 0 1) ∷ Read 0 7 ∷ []) ∷ []
 
-    owner' : ℕ → ℕ
-    owner' zero = 1
-    owner' (suc o) = 0
+-- its accesses are the first event of thread 0 and the second of thread 1
+joined_accesses : (t k object : ℕ) (x : Event) → slice_get (journal_of joined t) k ≡ Some x → object_of x ≡ Some object
+    → ((t ≡ 0) × (k ≡ 0)) ⊎ ((t ≡ 1) × (k ≡ 1))
+joined_accesses zero zero object x is of = inl (refl, refl)
+joined_accesses zero (suc k) object x is of = absurd (cc is)
+joined_accesses (suc zero) zero object x is of =
+    let same : ◌≡◌ {A = Option ℕ} None (Some object) = ap (λ (o : Option Event). unwrap_or (option_map object_of o) None) is ∙ of in
+    absurd (cc same)
+joined_accesses (suc zero) (suc zero) object x is of = inr (refl, refl)
+joined_accesses (suc zero) (suc (suc k)) object x is of = absurd (cc is)
+joined_accesses (suc (suc t)) k object x is of = absurd (cc is)
 
-    others : (o : ℕ) → (o ≡ 0 → ⊥) → owner' o ≡ 0
-    others zero differ = absurd (differ refl)
-    others (suc o) differ = refl
+joined_path : (a b : Place) (first second : Event) → event_at joined a ≡ Some first → event_at joined b ≡ Some second
+    → (a.thread ≡ 0) × (a.event ≡ 0) → (b.thread ≡ 1) × (b.event ≡ 1) → HappensBefore joined a b
+joined_path a b first second is_first is_second at_a at_b =
+    let join : Place = record { thread = 1; event = 0 } in
+    let from : event_at joined join ≡ Some (Marked (Join a.thread 1)) = ap (λ (t : ℕ). Some (Marked (Join t 1))) (sym at_a.0) in
+    let on : Edge joined join b = ProgramOrder (sym at_b.0) (sym at_b.1) in
+    record {
+      between = join ∷ [];
+      is_path = ((first, is_first), Joined 1 from (omega (arith, at_a.1)), ((Marked (Join 0 1), refl), on, (second, is_second)));
+    }
+
+joined_is_ordered : IsOrdered joined
+joined_is_ordered a b c =
+    elim (joined_accesses a.thread a.event c.object c.first c.is_first c.of_one) [
+      | inl a_first ↦ elim (joined_accesses b.thread b.event c.object c.second c.is_second c.of_same) [
+        | inl b_first ↦ absurd (c.by_others (a_first.0 ∙ sym b_first.0))
+        | inr b_second ↦ inl (joined_path a b c.first c.second c.is_first c.is_second a_first b_second)
+      ]
+      | inr a_second ↦ elim (joined_accesses b.thread b.event c.object c.second c.is_second c.of_same) [
+        | inl b_first ↦ inr (joined_path b a c.second c.first c.is_second c.is_first b_first a_second)
+        | inr b_second ↦ absurd (c.by_others (a_second.0 ∙ sym b_second.0))
+      ]
+    ]
 
 -- a Join before the second access of an object that one thread has to itself
 abbrev chained : Journals

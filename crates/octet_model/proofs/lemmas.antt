@@ -8,7 +8,6 @@ pub mod Plays
 pub mod LogsOfJournals
 pub mod Growth
 pub mod Pasts
-pub mod Owners
 pub mod MarksSeen
 pub mod LowestFronts
 pub mod LawfulOrders

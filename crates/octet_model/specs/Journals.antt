@@ -30,7 +30,7 @@ abbrev pub gap_after : ℕ → List Event → ℕ
 gap_after before [] = before
 gap_after before (Read object value ∷ journal) = gap_after (suc before) journal
 gap_after before (Write object value ∷ journal) = gap_after (suc before) journal
-gap_after made (Update object before after ∷ journal) = gap_after (suc made) journal
+gap_after before (Update object old new ∷ journal) = gap_after (suc before) journal
 gap_after before (Marked mark ∷ journal) = gap_after 0 journal
 
 -- the marks with their gaps, where accesses stand before the journal
@@ -38,7 +38,7 @@ abbrev pub gapped_marks : ℕ → List Event → List Gapped
 gapped_marks before [] = []
 gapped_marks before (Read object value ∷ journal) = gapped_marks (suc before) journal
 gapped_marks before (Write object value ∷ journal) = gapped_marks (suc before) journal
-gapped_marks made (Update object before after ∷ journal) = gapped_marks (suc made) journal
+gapped_marks before (Update object old new ∷ journal) = gapped_marks (suc before) journal
 gapped_marks before (Marked mark ∷ journal) = record { gap = before; mark = mark } ∷ gapped_marks 0 journal
 
 -- the log of one journal, and of all

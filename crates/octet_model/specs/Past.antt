@@ -1,11 +1,10 @@
 -- What lies in the past of the first events of a thread.
-use Rattle.std.specs.Prelude.{◌≡◌, ℕ, ◌<◌, ◌⊎◌, Some, length}
+use Rattle.std.specs.Prelude.{◌≡◌, ℕ, ◌<◌, ◌⊎◌, Some}
 use Rattle.octet_model.specs.declared.event.Mark.TheVariants.{Draw}
 use Rattle.octet_model.specs.declared.event.Event.TheVariants.{Marked}
 use Rattle.octet_model.specs.declared.event.Place.{Place}
-use Rattle.octet_model.specs.Machine.{Journals, journal_of}
+use Rattle.octet_model.specs.Machine.{Journals}
 use Rattle.octet_model.specs.HappensBefore.{event_at, IsEvent, HappensBefore}
-use Rattle.octet_model.specs.Frugal.{Accesses}
 
 -- an event is another, or happens before it
 abbrev pub Reaches : Journals → Place → Place → Type 0
@@ -21,7 +20,3 @@ pub record InPast (journals : Journals) (thread now : ℕ) (place : Place) : Typ
 -- no two draws of the journals have one number
 abbrev pub DrawsDiffer : Journals → Type 0
 DrawsDiffer journals = (a b : Place) (number : ℕ) → event_at journals a ≡ Some (Marked (Draw number)) → event_at journals b ≡ Some (Marked (Draw number)) → a ≡ b
-
--- all accesses of each object lie in the past of its owner's events
-pub record AreOwned (journals : Journals) (owner : ℕ → ℕ) : Type 0 where
-  pub by : (object : ℕ) (place : Place) → Accesses journals place object → InPast journals (owner object) (length (journal_of journals (owner object))) place

@@ -4,7 +4,7 @@
 /// Threads of a script or a log; there is at least 1.
 /// As a number, 15 or 16: `octet_state/specs/Words.antt`, `octet_state/src/state_word.rt`,
 /// `octet_state/src/status_word.rt`, `octet_state/src/whom.rt` (a word has room for no more),
-/// `octet_machine/specs/Memory.antt`, `octet_machine/src/memory.rt`, `octet_machine/src/steps.rt`.
+/// `octet_machine/specs/Memory.antt`, `octet_machine/src/memory.rt`.
 pub const MAX_THREADS: usize = 16;
 
 /// Objects of a script.

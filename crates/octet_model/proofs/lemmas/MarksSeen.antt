@@ -25,53 +25,53 @@ draws_one (MakeMark (Draw number)) heap c n is = refl
 draws_one other heap c n is = absurd cc
 
 module _ (s : PlainState) (t : ℕ) (o : Operation) (lt : t < length s.journals) (enabled : IsTrue (is_enabled s o)) (seen : MarksSeen s.journals s.draws) where
-  abbrev made : Event
-  made = event_made o s.heap
+  abbrev next_event : Event
+  next_event = event_made o s.heap
 
   abbrev more : Journals
-  more = appended s.journals t made
+  more = appended s.journals t next_event
 
-  is_made : (x : Event) → event_at more (new s.journals t made) ≡ Some x → made ≡ x
-  is_made x is = let there = new_event s.journals t made lt in cc
+  is_made : (x : Event) → event_at more (new s.journals t next_event) ≡ Some x → next_event ≡ x
+  is_made x is = let there = new_event s.journals t next_event lt in cc
 
-  draw_made : (c : ℕ) → made ≡ Marked (Draw c) → (c ≡ suc s.draws) × (draws_after o s.draws ≡ suc s.draws)
+  draw_made : (c : ℕ) → next_event ≡ Marked (Draw c) → (c ≡ suc s.draws) × (draws_after o s.draws ≡ suc s.draws)
   draw_made c is = (drawn_next s o s.heap c enabled is, draws_one o s.heap c s.draws is)
 
   still_joined : (b : Place) (from upto : ℕ) → event_at more b ≡ Some (Marked (Join from upto)) → upto ≤ count more from
   still_joined b from upto is =
-      elim (old_or_new s.journals t made b (Marked (Join from upto)) lt is) [
-        | inl old ↦ omega (arith, seen.joined b from upto old, grows s.journals t from made)
-        | inr b_new ↦ omega (arith, joined_upto s o s.heap from upto enabled (is_made (Marked (Join from upto)) (ap (event_at more) (sym b_new) ∙ is)), grows s.journals t from made)
+      elim (old_or_new s.journals t next_event b (Marked (Join from upto)) lt is) [
+        | inl old ↦ omega (arith, seen.joined b from upto old, grows s.journals t from next_event)
+        | inr b_new ↦ omega (arith, joined_upto s o s.heap from upto enabled (is_made (Marked (Join from upto)) (ap (event_at more) (sym b_new) ∙ is)), grows s.journals t from next_event)
       ]
 
   still_drawn : (a : Place) (number : ℕ) → event_at more a ≡ Some (Marked (Draw number)) → number ≤ draws_after o s.draws
   still_drawn a number is =
-      elim (old_or_new s.journals t made a (Marked (Draw number)) lt is) [
+      elim (old_or_new s.journals t next_event a (Marked (Draw number)) lt is) [
         | inl old ↦ omega (arith, seen.drawn a number old, draws_grow o s.draws)
         | inr a_new ↦ let d = draw_made number (is_made (Marked (Draw number)) (ap (event_at more) (sym a_new) ∙ is)) in omega (arith, d.0, d.1)
       ]
 
   still_fenced : (b : Place) (upto : ℕ) → event_at more b ≡ Some (Marked (Fence upto)) → upto ≤ draws_after o s.draws
   still_fenced b upto is =
-      elim (old_or_new s.journals t made b (Marked (Fence upto)) lt is) [
+      elim (old_or_new s.journals t next_event b (Marked (Fence upto)) lt is) [
         | inl old ↦ omega (arith, seen.fenced b upto old, draws_grow o s.draws)
         | inr b_new ↦ omega (arith, fenced_upto s o s.heap upto enabled (is_made (Marked (Fence upto)) (ap (event_at more) (sym b_new) ∙ is)), draws_grow o s.draws)
       ]
 
   -- a draw that is new has a higher number than one that is old
-  not_one_number : (a b : Place) (number : ℕ) → event_at s.journals a ≡ Some (Marked (Draw number)) → b ≡ new s.journals t made → event_at more b ≡ Some (Marked (Draw number)) → ⊥
+  not_one_number : (a b : Place) (number : ℕ) → event_at s.journals a ≡ Some (Marked (Draw number)) → b ≡ new s.journals t next_event → event_at more b ≡ Some (Marked (Draw number)) → ⊥
   not_one_number a b number old b_new is =
       let d = draw_made number (is_made (Marked (Draw number)) (ap (event_at more) (sym b_new) ∙ is)) in
       omega (arith, d.0, seen.drawn a number old)
 
   still_differ : DrawsDiffer more
   still_differ a b number is_a is_b =
-      elim (old_or_new s.journals t made a (Marked (Draw number)) lt is_a) [
-        | inl a_old ↦ elim (old_or_new s.journals t made b (Marked (Draw number)) lt is_b) [
+      elim (old_or_new s.journals t next_event a (Marked (Draw number)) lt is_a) [
+        | inl a_old ↦ elim (old_or_new s.journals t next_event b (Marked (Draw number)) lt is_b) [
           | inl b_old ↦ seen.differ a b number a_old b_old
           | inr b_new ↦ absurd (not_one_number a b number a_old b_new is_b)
         ]
-        | inr a_new ↦ elim (old_or_new s.journals t made b (Marked (Draw number)) lt is_b) [
+        | inr a_new ↦ elim (old_or_new s.journals t next_event b (Marked (Draw number)) lt is_b) [
           | inl b_old ↦ absurd (not_one_number b a number b_old a_new is_a)
           | inr b_new ↦ a_new ∙ sym b_new
         ]
@@ -82,25 +82,25 @@ module _ (s : PlainState) (t : ℕ) (o : Operation) (lt : t < length s.journals)
   marks_seen_longer = record { joined = still_joined; drawn = still_drawn; fenced = still_fenced; differ = still_differ }
 
   -- no new event has an edge to an old one
-  no_edge_back : (b : Place) → Edge more (new s.journals t made) b → IsEvent s.journals b → ⊥
+  no_edge_back : (b : Place) → Edge more (new s.journals t next_event) b → IsEvent s.journals b → ⊥
   no_edge_back b (ProgramOrder same next) is =
       let within : b.event < count s.journals b.thread = slice_get_within (journal_of s.journals b.thread) b.event is.0 is.1 in
       omega (arith, within, next, ap (λ (u : ℕ). count s.journals u) same)
   no_edge_back b (Joined upto is_b below) is =
-      let old : event_at s.journals b ≡ Some (Marked (Join t upto)) = let there = stays_appended s.journals t b.thread b.event made is.0 is.1 in let fact = is.1 in cc in
+      let old : event_at s.journals b ≡ Some (Marked (Join t upto)) = let there = stays_appended s.journals t b.thread b.event next_event is.0 is.1 in let fact = is.1 in cc in
       omega (arith, seen.joined b t upto old, below)
   no_edge_back b (Drawn first then is_a is_b below) is =
-      let old : event_at s.journals b ≡ Some (Marked (Draw then)) = let there = stays_appended s.journals t b.thread b.event made is.0 is.1 in let fact = is.1 in cc in
+      let old : event_at s.journals b ≡ Some (Marked (Draw then)) = let there = stays_appended s.journals t b.thread b.event next_event is.0 is.1 in let fact = is.1 in cc in
       let d = draw_made first (is_made (Marked (Draw first)) is_a) in
       omega (arith, seen.drawn b then old, d.0, below)
   no_edge_back b (Fenced number upto is_a is_b below) is =
-      let old : event_at s.journals b ≡ Some (Marked (Fence upto)) = let there = stays_appended s.journals t b.thread b.event made is.0 is.1 in let fact = is.1 in cc in
+      let old : event_at s.journals b ≡ Some (Marked (Fence upto)) = let there = stays_appended s.journals t b.thread b.event next_event is.0 is.1 in let fact = is.1 in cc in
       let d = draw_made number (is_made (Marked (Draw number)) is_a) in
       omega (arith, seen.fenced b upto old, d.0, below)
 
   -- what an old place holds in longer journals it held before
   held_before : (a : Place) (x : Event) → IsEvent s.journals a → event_at more a ≡ Some x → event_at s.journals a ≡ Some x
-  held_before a x is there = let stays = stays_appended s.journals t a.thread a.event made is.0 is.1 in let fact = is.1 in cc
+  held_before a x is there = let stays = stays_appended s.journals t a.thread a.event next_event is.0 is.1 in let fact = is.1 in cc
 
   edge_before : (a b : Place) → Edge more a b → IsEvent s.journals a → IsEvent s.journals b → Edge s.journals a b
   edge_before a b (ProgramOrder same next) old_a old_b = ProgramOrder same next
@@ -111,7 +111,7 @@ module _ (s : PlainState) (t : ℕ) (o : Operation) (lt : t < length s.journals)
   -- what has an edge to an old event is old
   old_before : (a b : Place) → IsEvent more a → Edge more a b → IsEvent s.journals b → IsEvent s.journals a
   old_before a b is edge old_b =
-      elim (old_or_new s.journals t made a is.0 lt is.1) [
+      elim (old_or_new s.journals t next_event a is.0 lt is.1) [
         | inl old ↦ (is.0, old)
         | inr a_new ↦ absurd (no_edge_back b (subst (λ (p : Place). Edge more p b) a_new edge) old_b)
       ]
