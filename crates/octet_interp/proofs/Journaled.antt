@@ -10,21 +10,21 @@ use Rattle.octet_interp.specs.Demands.{ThreadState, next_demand, after_demand}
 use Rattle.octet_interp.specs.Laws.{Agrees, IsJournalOf, IsJournalPast, JournalsKeepUp, JournalsTakeMarks}
 use Rattle.octet_interp.proofs.Agreement.{agrees, follows}
 
--- standing elsewhere
-abbrev moved : ThreadState → Configuration → Bool → ℕ → ThreadState
-moved s at waits regions = record { commands = s.commands; at = at; waits = waits; objects = s.objects; regions = regions }
+-- the same thread, standing there
+abbrev standing_at : ThreadState → Configuration → Bool → ℕ → ThreadState
+standing_at s at waits regions = record { commands = s.commands; at = at; waits = waits; objects = s.objects; regions = regions }
 
 -- an event that fits the journal, and leaves it to settle where the thread now stands
 with_event : (start : Configuration) (journal : List Event) (s : ThreadState) (at : Configuration) (waits : Bool) (regions : ℕ) (event : Event) → IsJournalOf start journal s
     → FitsFrom s.commands (configuration_after s.commands start journal) (event ∷ []) → configuration_after s.commands (configuration_after s.commands start journal) (event ∷ []) ≡ at
-    → IsJournalOf start (journal ++ event ∷ []) (moved s at waits regions)
+    → IsJournalOf start (journal ++ event ∷ []) (standing_at s at waits regions)
 with_event start journal s at waits regions event kept fits leaves = record {
   fits = fits_join s.commands start journal (event ∷ []) kept.fits fits;
   settles = ap (settled s.commands) (configuration_split s.commands start journal (event ∷ []) ∙ leaves);
 }
 
 keeps_with : (start : Configuration) (journal : List Event) (s : ThreadState) (at : Configuration) (waits : Bool) (regions : ℕ) (demand : Demand)
-    → Agrees demand s (moved s at waits regions) → IsJournalOf start journal s → IsJournalPast start journal demand (moved s at waits regions)
+    → Agrees demand s (standing_at s at waits regions) → IsJournalOf start journal s → IsJournalPast start journal demand (standing_at s at waits regions)
 keeps_with start journal s at waits regions (Read object) agrees kept =
     let alike = follows s.commands (configuration_after s.commands start journal) s.at kept.settles in
     λ value. with_event start journal s _ false regions (Read object value) kept (alike.0 ∙ agrees.0, tt) (alike.1 value ∙ sym (agrees.1 value))

@@ -100,20 +100,20 @@ closer_opens_not Close is = refl
 closer_opens_not _ is = absurd cc
 
 -- the search downward for an opener finds the last that has its end there
-found : (commands : List Command) (opener end place : ℕ) → opener < place → is_opened_at commands opener end ≡ true
+opener_found : (commands : List Command) (opener end place : ℕ) → opener < place → is_opened_at commands opener end ≡ true
     → ((k : ℕ) → opener < k → k < place → is_opened_at commands k end ≡ false) → matching_opener commands end place ≡ opener
-found commands opener end zero lt is none = absurd (omega arith)
-found commands opener end (suc place) lt is none =
+opener_found commands opener end zero lt is none = absurd (omega arith)
+opener_found commands opener end (suc place) lt is none =
     elim (cases_eq opener place) [
       | inl e ↦ ap after_test (subst (λ (k : ℕ). is_opened_at commands k end ≡ true) e is) ∙ sym e
-      | inr apart ↦ ap after_test (none place (omega arith) (omega arith)) ∙ found commands opener end place (omega arith) is (λ k above below. none k above (omega arith))
+      | inr apart ↦ ap after_test (none place (omega arith) (omega arith)) ∙ opener_found commands opener end place (omega arith) is (λ k above below. none k above (omega arith))
     ]
   where
     after_test : Bool → ℕ
     after_test b = elim b [ true ↦ place | false ↦ matching_opener commands end place ]
 
-moved : (commands : List Command) (k k' e e' : ℕ) → k ≡ k' → e ≡ e' → is_opened_at commands k e ≡ true → is_opened_at commands k' e' ≡ true
-moved commands k k' e e' p q is = subst₂ (λ (a b : ℕ). is_opened_at commands a b ≡ true) p q is
+opens_where : (commands : List Command) (k k' e e' : ℕ) → k ≡ k' → e ≡ e' → is_opened_at commands k e ≡ true → is_opened_at commands k' e' ≡ true
+opens_where commands k k' e e' p q is = subst₂ (λ (a b : ℕ). is_opened_at commands a b ≡ true) p q is
 
 later : (commands : List Command) (leads : List ℕ) (here place : ℕ) → HasItsLead commands leads here place → HasItsLead commands leads (suc here) place
 later commands leads here place t = record { right = t.right; ended = λ end le. t.ended end (omega arith) }
@@ -139,11 +139,11 @@ takes_opener commands here command opened leads m at within opener =
         | inr g ↦ omega (arith, m.below i (omega arith), old i (omega arith), new j (omega arith))
       ];
       open_here = λ j jn. elim (cases_lt j (length opened)) [
-        | inl l ↦ moved commands _ _ _ _ (sym (old j l))
+        | inl l ↦ opens_where commands _ _ _ _ (sym (old j l))
             (ap (end_from (length opened - j) here) d ∙ end_opener (length opened - j) here command tail opener
             ∙ ap (λ (k : ℕ). end_from k (suc here) tail) (let e : suc (length opened - j) ≡ length (opened ++ here ∷ []) - j = omega arith in e))
             (m.open_here j l)
-        | inr g ↦ moved commands _ _ _ _ (sym (new j (omega arith)))
+        | inr g ↦ opens_where commands _ _ _ _ (sym (new j (omega arith)))
             (ap (λ (k : ℕ). end_from k (suc here) tail) (let e : 1 ≡ length (opened ++ here ∷ []) - j = omega arith in e))
             (opens commands here (end_from 1 (suc here) tail) command at opener (ap (end_from 0 here) d ∙ end_opener 0 here command tail opener))
       ];
@@ -168,7 +168,7 @@ takes_closer commands here command rest opener leads past m at within closer lea
     let top : get_or (rest ++ opener ∷ []) (length rest) 0 ≡ opener = get_or_push rest opener 0 (length rest) refl in
     let below : opener < here = omega (arith, m.below (length rest) (omega arith)) in
     let one : length (rest ++ opener ∷ []) - length rest ≡ 1 = omega arith in
-    let here_opened : is_opened_at commands opener here ≡ true = moved commands _ _ _ _ top
+    let here_opened : is_opened_at commands opener here ≡ true = opens_where commands _ _ _ _ top
     (ap (λ (k : ℕ). end_from k here (drop here commands)) one ∙ ap (end_from 1 here) d ∙ end_here here command tail closer)
     (m.open_here (length rest) (omega arith)) in
     let between : (k : ℕ) → opener < k → k < here → is_opened_at commands k here ≡ false = λ k above lt. elim (m.others k lt) [
@@ -178,14 +178,14 @@ takes_closer commands here command rest opener leads past m at within closer lea
       ])
       | inr t ↦ t.ended here (omega arith)
     ] in
-    let opener_is : matching_opener commands here here ≡ opener = found commands opener here here below here_opened between in
+    let opener_is : matching_opener commands here here ≡ opener = opener_found commands opener here here below here_opened between in
     let size : length (set leads opener (suc here)) ≡ length leads = length-set leads opener (suc here) in
     record {
       len = length-set (set leads opener (suc here)) here past ∙ size ∙ m.len;
       nested = nested_closer (length rest) command tail closer (ap (λ (k : ℕ). is_nested k (command ∷ tail)) (let e : suc (length rest) ≡ length (rest ++ opener ∷ []) = omega arith in e) ∙ ap (is_nested (length (rest ++ opener ∷ []))) (sym d) ∙ m.nested);
       below = λ j lt. omega (arith, m.below j (omega arith), old j lt);
       rising = λ i j lt jn. omega (arith, m.rising i j lt (omega arith), old i (omega arith), old j jn);
-      open_here = λ j jn. moved commands _ _ _ _ (old j jn)
+      open_here = λ j jn. opens_where commands _ _ _ _ (old j jn)
           (ap (end_from (length (rest ++ opener ∷ []) - j) here) d
           ∙ ap (λ (k : ℕ). end_from k here (command ∷ tail)) (let e : length (rest ++ opener ∷ []) - j ≡ suc (suc (length rest - suc j)) = omega arith in e)
           ∙ end_closer (length rest - suc j) here command tail closer
@@ -230,7 +230,7 @@ takes_other commands here command opened leads m at within opener closer =
       nested = nested_other (length opened) command tail opener closer (ap (is_nested (length opened)) (sym d) ∙ m.nested);
       below = λ j lt. omega (arith, m.below j lt);
       rising = m.rising;
-      open_here = λ j jn. moved commands _ _ _ _ refl
+      open_here = λ j jn. opens_where commands _ _ _ _ refl
           (ap (end_from (length opened - j) here) d ∙ end_other (length opened - j) here command tail opener closer)
           (m.open_here j jn);
       empty = λ place le. m.empty place (omega arith);

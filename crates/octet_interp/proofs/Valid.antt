@@ -31,11 +31,11 @@ commands_valid fuel objects threads thread d valid lt = ((valid_script fuel obje
 -- a thread at its start, with its own commands and table
 pub consistent_at_start : (objects number : ℕ) (commands items : List Command) (leads : List ℕ) (context : Context) → number ≡ objects → items ≡ commands
     → All (IsCommand objects) commands → IsLeadTable commands leads → context.regions + context.fuel ≤ MAX_FUEL → IsConsistent items leads number context false
-consistent_at_start objects number commands items leads context numbered copied valid led few =
+consistent_at_start objects number commands items leads context numbered copied valid lead_table few =
     subst₂ (λ (n : ℕ) (cs : List Command). IsConsistent cs leads n context false) (sym numbered) (sym copied) (record {
       registers_there = λ place d lt. (valid place d lt).0;
       objects_there = λ place d lt. (valid place d lt).2;
-      led = led;
+      lead_table = lead_table;
       read_waits = λ waits. absurd cc;
       regions_took_fuel = few;
     })

@@ -62,6 +62,6 @@ WaitsAt _ fuel = ⊥
 pub record IsConsistent (commands : List Command) (leads : List ℕ) (objects : ℕ) (context : Context) (waits : Bool) : Type 0 where
   pub registers_there : All HasRegisters commands
   pub objects_there : All (HasObject objects) commands
-  pub led : IsLeadTable commands leads
+  pub lead_table : IsLeadTable commands leads
   pub read_waits : waits ≡ true → WaitsAt (slice_get commands context.place) context.fuel
   pub regions_took_fuel : context.regions + context.fuel ≤ MAX_FUEL

@@ -23,7 +23,7 @@ pub(crate) struct Context {
 /// One command on, to this place.
 pub(crate) fn move_to(context: &mut Context, place: usize)
     requires { 0 < context.old.fuel }
-    ensures moved { configuration_of context.new ≡ moved_to (configuration_of context.old) place }
+    ensures place { configuration_of context.new ≡ moved_to (configuration_of context.old) place }
     ensures regions { context.new.regions ≡ context.old.regions }
 {
     context.place = place;
@@ -33,7 +33,7 @@ pub(crate) fn move_to(context: &mut Context, place: usize)
 /// One command on, to the next place, with this value in a register.
 pub(crate) fn set_register(context: &mut Context, to: u8, value: u64)
     requires register { to < REGISTERS }
-    requires fuelled { 0 < context.old.fuel }
+    requires fuel { 0 < context.old.fuel }
     requires room { context.old.place < usize.MAX }
     ensures set { configuration_of context.new ≡ with_register (configuration_of context.old) to value }
     ensures regions { context.new.regions ≡ context.old.regions }
@@ -73,7 +73,7 @@ fn value_in(registers: &[u64; REGISTERS], register: u8) -> u64
 }
 
 // The register that a command sets, if it sets one, and its value.
-fn calculated(command: Command, registers: &[u64; REGISTERS]) -> Option<(u8, u64)>
+fn calculation(command: Command, registers: &[u64; REGISTERS]) -> Option<(u8, u64)>
     requires { HasRegisters command }
     ensures none { IsNone result ↔ (is_calculation command ≡ false) }
     ensures some { IfSome result (Calculates command registers.now) }
@@ -123,13 +123,13 @@ fn leads_away(command: Command, registers: &[u64; REGISTERS]) -> bool
 // One command that is no demand; the lead is where it leads, if it leads away.
 fn obey(context: &mut Context, command: Command, lead: usize)
     requires registers { HasRegisters command }
-    requires fuelled { 0 < context.old.fuel }
+    requires fuel { 0 < context.old.fuel }
     requires room { context.old.place < usize.MAX }
     requires few { context.old.regions + 1 < 2 ^ 32 }
     ensures obeys { Obeys command lead (configuration_of context.old) (configuration_of context.new) }
     ensures regions { context.new.regions ≡ context.old.regions + region_count command }
 {
-    if let Some((to, value)) = calculated(command, &context.registers) {
+    if let Some((to, value)) = calculation(command, &context.registers) {
         set_register(context, to, value);
         return;
     }

@@ -128,10 +128,10 @@ fn bumps_give_no_value(rt: HostRuntime) -> Result<(), Fail> {
         bump(1),
         write(0),
     ];
-    let next_demand = [bumped(2), READ, bumped(9), written(2), DONE];
+    let bump_demands = [bumped(2), READ, bumped(9), written(2), DONE];
     assert_eq!(rt;
         demands(alloc, 5, &bumps)?.as_slice(),
-        next_demand.as_slice()
+        bump_demands.as_slice()
     );
     assert_eq!(rt;
         demands(alloc, 2, &bumps)?.as_slice(),
@@ -156,11 +156,11 @@ fn a_thousand_turns_use_their_fuel(rt: HostRuntime) -> Result<(), Fail> {
         },
         Command::Close,
     ];
-    let next_demand = demands(alloc, 4003, &countdown)?;
-    assert_eq!(rt; next_demand.len(), 1001);
-    assert_eq!(rt; next_demand[0], written(1000));
-    assert_eq!(rt; next_demand[999], written(1));
-    assert_eq!(rt; next_demand[1000], DONE);
+    let countdown_demands = demands(alloc, 4003, &countdown)?;
+    assert_eq!(rt; countdown_demands.len(), 1001);
+    assert_eq!(rt; countdown_demands[0], written(1000));
+    assert_eq!(rt; countdown_demands[999], written(1));
+    assert_eq!(rt; countdown_demands[1000], DONE);
     let spent = demands(alloc, 4002, &countdown)?;
     assert_eq!(rt; spent.len(), 1001);
     assert_eq!(rt; spent[1000], SPENT);
@@ -190,10 +190,10 @@ fn loops_nest_and_branches_go_on(rt: HostRuntime) -> Result<(), Fail> {
         },
         Command::Close,
     ];
-    let next_demand = [written(2), written(1), written(2), written(1), DONE];
+    let nested_demands = [written(2), written(1), written(2), written(1), DONE];
     assert_eq!(rt;
         demands(alloc, 100, &nested)?.as_slice(),
-        next_demand.as_slice()
+        nested_demands.as_slice()
     );
     let branches = [
         Command::Branch { test: 0 },
@@ -207,10 +207,10 @@ fn loops_nest_and_branches_go_on(rt: HostRuntime) -> Result<(), Fail> {
         write(1),
         Command::Close,
     ];
-    let next_demand = [Demand::Pause, READ, Demand::Safe, written(7), DONE];
+    let branch_demands = [Demand::Pause, READ, Demand::Safe, written(7), DONE];
     assert_eq!(rt;
         demands(alloc, 100, &branches)?.as_slice(),
-        next_demand.as_slice()
+        branch_demands.as_slice()
     );
     Ok(())
 }
@@ -239,7 +239,7 @@ fn arithmetic_wraps(rt: HostRuntime) -> Result<(), Fail> {
         Command::Xor { to, left, right },
         write(to),
     ];
-    let next_demand = [
+    let sum_demands = [
         written(1),
         written(3),
         written(1),
@@ -248,7 +248,7 @@ fn arithmetic_wraps(rt: HostRuntime) -> Result<(), Fail> {
     ];
     assert_eq!(rt;
         demands(alloc, 10, &sums)?.as_slice(),
-        next_demand.as_slice()
+        sum_demands.as_slice()
     );
     let tests = [
         set(left, u64::MAX),
@@ -270,10 +270,10 @@ fn arithmetic_wraps(rt: HostRuntime) -> Result<(), Fail> {
         Command::Same { to, left, right },
         write(to),
     ];
-    let next_demand = [written(1), written(0), written(1), written(0), DONE];
+    let test_demands = [written(1), written(0), written(1), written(0), DONE];
     assert_eq!(rt;
         demands(alloc, 10, &tests)?.as_slice(),
-        next_demand.as_slice()
+        test_demands.as_slice()
     );
     Ok(())
 }
