@@ -12,4 +12,5 @@ pub mod MarksSeen
 pub mod LowestFronts
 pub mod LawfulOrders
 pub mod LogLength
+pub mod ThreadLogs
 pub mod Totals

@@ -41,7 +41,7 @@ by_finish None (ToEnd end) false true is = absurd cc
 by_finish None (ToEnd end) false false is = record { end = end; demands = refl; no_access = refl; no_mark = refl }
 
 -- the mark that is due is the first of what is left, with its gap
-due_is_first : (rest : List Gapped) (gap : ℕ) (mark : Mark) → due_mark (slice_get rest 0) gap ≡ Some mark
+pub due_is_first : (rest : List Gapped) (gap : ℕ) (mark : Mark) → due_mark (slice_get rest 0) gap ≡ Some mark
     → (more : List Gapped) × (rest ≡ record { gap = gap; mark = mark } ∷ more)
 due_is_first [] gap mark is = absurd cc
 due_is_first (first ∷ more) gap mark is = go (first.gap == gap) refl is

@@ -48,7 +48,7 @@ mark_length m = of_mark m.mark
     of_mark (Draw number) = refl
     of_mark (Fence number) = refl
 
-marks_length : (marks : List Gapped) → length (flat_map mark_bytes marks) ≡ 14 * length marks
+pub marks_length : (marks : List Gapped) → length (flat_map mark_bytes marks) ≡ 14 * length marks
 marks_length [] = refl
 marks_length (m ∷ marks) = omega (arith, length-append (mark_bytes m) (flat_map mark_bytes marks), mark_length m, marks_length marks)
 

@@ -24,13 +24,13 @@ use Rattle.octet_model.proofs.lemmas.LowestThread.{first_same, lowest_may}
 use Rattle.octet_model.proofs.lemmas.Plays.{total, total_cons, all_finished}
 
 -- the next mark of a log is the first of what is left of the journal
-next_gapped : (before : ℕ) (pre post : List Event) → slice_get (gapped_marks before (pre ++ post)) (mark_count pre) ≡ slice_get (gapped_marks (gap_after before pre) post) 0
+pub next_gapped : (before : ℕ) (pre post : List Event) → slice_get (gapped_marks before (pre ++ post)) (mark_count pre) ≡ slice_get (gapped_marks (gap_after before pre) post) 0
 next_gapped before [] post = refl
 next_gapped before (Marked mark ∷ pre) post = next_gapped 0 pre post
 next_gapped before (access ∷ pre) post = next_gapped (suc before) pre post
 
 -- a mark after an access is not due before it
-not_due_mark : (gap more : ℕ) (post : List Event) → gap < more → due_mark (slice_get (gapped_marks more post) 0) gap ≡ None
+pub not_due_mark : (gap more : ℕ) (post : List Event) → gap < more → due_mark (slice_get (gapped_marks more post) 0) gap ≡ None
 not_due_mark gap more [] lt = refl
 not_due_mark gap more (Marked mark ∷ post) lt = ap (λ (b : Bool). cond b (Some mark) None) (ne_eqb more gap (λ e. omega arith))
 not_due_mark gap more (access ∷ post) lt = not_due_mark gap (suc more) post (omega arith)

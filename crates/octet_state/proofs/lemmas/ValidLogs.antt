@@ -1,40 +1,19 @@
 -- The log of the journals of a sound state is valid, where no thread has more accesses than its script's fuel.
-use Rattle.std.proofs.Common.{◌≡◌, ℕ, suc, ◌+◌, ◌*◌, ◌<◌, ◌≤◌, ◌^◌, true, List, [], ◌∷◌, length, get_or, All, Some, IsTrue, slice_get, sum_by, refl, sym, ap, ◌∙◌, subst, arith}
-use Rattle.std.specs.List.{list_all}
+use Rattle.std.proofs.Common.{◌≡◌, ℕ, ◌+◌, ◌*◌, ◌<◌, ◌≤◌, ◌^◌, true, [], length, get_or, All, IsTrue, sum_by, sym, ap, ◌∙◌, subst, arith}
 use Rattle.std.proofs.lemmas.Bool.{and_from, le-leb, lt-ltb}
 use Rattle.std.proofs.lemmas.List.{length-map, get_or-map}
-use Rattle.std.proofs.lemmas.List.Sums.{sum_by-cons, sum_by-le}
-use Rattle.octet_model.specs.declared.event.Event.{Event}
-use Rattle.octet_model.specs.declared.event.Event.TheVariants.{Marked}
-use Rattle.octet_model.specs.declared.event.Mark.{Mark}
-use Rattle.octet_model.specs.declared.log.Gapped.{Gapped}
+use Rattle.std.proofs.lemmas.List.Sums.{sum_by-le}
 use Rattle.octet_model.specs.declared.log.ThreadLog.{ThreadLog}
 use Rattle.octet_model.specs.declared.script.Script.{Script}
-use Rattle.octet_model.specs.Log.{is_mark, is_thread_log, are_thread_logs, is_log}
+use Rattle.octet_model.specs.Log.{is_mark, is_thread_log, is_log}
 use Rattle.octet_model.specs.Machine.{Journals, journal_of}
 use Rattle.octet_model.specs.Journals.{access_count, gapped_marks, log_of, log_of_journal}
 use Rattle.octet_model.proofs.lemmas.Splits.{length-gapped_marks, length_parts}
 use Rattle.octet_model.proofs.lemmas.Validity.{valid_script}
+use Rattle.octet_model.proofs.lemmas.ThreadLogs.{gaps_in_all, marks_valid, thread_logs_valid}
 use Rattle.octet_state.specs.State.{ProtocolState}
 use Rattle.octet_state.specs.Soundness.{IsSound}
 use Rattle.octet_state.proofs.lemmas.Widths.{few_marks}
-
--- the gaps of marks sum to at most the accesses
-gaps_in_all : (before : ℕ) (journal : List Event) → sum_by (λ m. m.gap) (gapped_marks before journal) ≤ before + access_count journal
-gaps_in_all before [] = omega arith
-gaps_in_all before (Marked mark ∷ journal) = omega (arith, sum_by-cons (λ (m : Gapped). m.gap) (record { gap = before; mark = mark }) (gapped_marks 0 journal), gaps_in_all 0 journal)
-gaps_in_all before (access ∷ journal) = omega (arith, gaps_in_all (suc before) journal)
-
-marks_valid : (threads thread before : ℕ) (journal : List Event) → ((k : ℕ) (mark : Mark) → slice_get journal k ≡ Some (Marked mark) → IsTrue (is_mark threads thread mark)) → list_all (λ m. is_mark threads thread m.mark) (gapped_marks before journal) ≡ true
-marks_valid threads thread before [] valid = refl
-marks_valid threads thread before (Marked mark ∷ journal) valid = and_from _ _ (valid 0 mark refl) (marks_valid threads thread 0 journal (λ k other is. valid (suc k) other is))
-marks_valid threads thread before (access ∷ journal) valid = marks_valid threads thread (suc before) journal (λ k mark is. valid (suc k) mark is)
-
-thread_logs_valid : (threads first : ℕ) (js : Journals) → ((u : ℕ) → is_thread_log threads (first + u) (log_of_journal (journal_of js u)) ≡ true) → are_thread_logs threads first (log_of js) ≡ true
-thread_logs_valid threads first [] each = refl
-thread_logs_valid threads first (journal ∷ js) each =
-    and_from _ _ (ap (λ (u : ℕ). is_thread_log threads u (log_of_journal journal)) (omega arith) ∙ each 0)
-    (thread_logs_valid threads (suc first) js (λ u. let step : suc first + u ≡ first + suc u = omega arith in ap (λ (n : ℕ). is_thread_log threads n (log_of_journal (journal_of js u))) step ∙ each (suc u)))
 
 module _ (script : Script) (s : ProtocolState) (sound : IsSound s) (as_many : length s.journals ≡ length script.threads) (fuelled : (t : ℕ) → access_count (journal_of s.journals t) ≤ script.fuel) where
   abbrev js : Journals
@@ -68,6 +47,6 @@ module _ (script : Script) (s : ProtocolState) (sound : IsSound s) (as_many : le
       (and_from _ _
       (and_from _ _ (le-leb 1 (length logs) (omega (arith, bound.some_threads))) (le-leb (length logs) 16 (omega (arith, bound.most_threads))))
       (le-leb (sum_by (λ log. log.accesses) logs) 262144 total))
-      (thread_logs_valid (length logs) 0 js (λ u.
+      (thread_logs_valid (length logs) 0 js (λ u less.
       subst (λ (n : ℕ). is_thread_log n (0 + u) (log_of_journal (journal_of js u)) ≡ true) (sym (length-map js log_of_journal))
       (ap (λ (t : ℕ). is_thread_log (length js) t (log_of_journal (journal_of js u))) (omega arith) ∙ thread_log_valid u)))
