@@ -20,7 +20,7 @@ pub use laws::{
 };
 pub use limits::MAX_MARKS;
 pub use loader::{Digest, Loaded, decode};
-pub use text::{refusal_line, show};
+pub use text::{push_mark, refusal_line, show};
 pub use v1::{
     bad_head_is_refused, bad_mark_is_refused, byte_after_log_is_trailing, bytes_spell_one_log,
     cut_input_is_refused, decoding_accepts_spellings_alone, encode_v1, field_has_one_spelling,

@@ -7,7 +7,8 @@ use crate::LogCause;
 use octet_model::{Gapped, Log, Mark, OutOfMemory, ThreadLog, push_number};
 use std::alloc::Global;
 
-fn push_mark(out: &mut Vec<u8>, mark: Mark) -> Result<(), OutOfMemory>
+/// Adds a mark at the end, its kind and its numbers.
+pub fn push_mark(out: &mut Vec<u8>, mark: Mark) -> Result<(), OutOfMemory>
     ensures { OnOk result (out.new.items ≡ out.old.items ++ mark_words mark) }
 {
     match mark {

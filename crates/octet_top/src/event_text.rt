@@ -1,10 +1,10 @@
 //! Events and their places as text.
 ghost use Rattle.std.specs.Prelude.{◌≡◌, ◌++◌, OnOk};
-ghost use Rattle.octet_log.specs.Texts.{mark_words};
 ghost use Rattle.octet_top.specs.Answer.{place_text};
 ghost use Rattle.octet_top.specs.EventTexts.{event_text, object_name, placed_text};
 
-use octet_model::{Event, Mark, OutOfMemory, Place, Script, push_number};
+use octet_log::push_mark;
+use octet_model::{Event, OutOfMemory, Place, Script, push_number};
 
 fn push_name(out: &mut Vec<u8>, script: &Script, object: u16) -> Result<(), OutOfMemory>
     ensures { OnOk result (out.new.items ≡ out.old.items ++ object_name script.now object) }
@@ -13,27 +13,6 @@ fn push_name(out: &mut Vec<u8>, script: &Script, object: u16) -> Result<(), OutO
         out.extend_from_slice(found.name.as_bytes())?;
     }
     Ok(())
-}
-
-fn push_mark(out: &mut Vec<u8>, mark: Mark) -> Result<(), OutOfMemory>
-    ensures { OnOk result (out.new.items ≡ out.old.items ++ mark_words mark) }
-{
-    match mark {
-        Mark::Join { from, upto } => {
-            out.extend_from_slice(b"join ")?;
-            push_number(out, u64::from(from))?;
-            out.extend_from_slice(b" ")?;
-            push_number(out, upto)
-        }
-        Mark::Draw { number } => {
-            out.extend_from_slice(b"draw ")?;
-            push_number(out, number)
-        }
-        Mark::Fence { number } => {
-            out.extend_from_slice(b"fence ")?;
-            push_number(out, number)
-        }
-    }
 }
 
 /// Adds an event's text at the end: an access of an object with its values, or a mark with its
