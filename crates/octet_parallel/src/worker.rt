@@ -14,7 +14,8 @@ use crate::player::Player;
 use crate::words::STOP_NUMBER;
 use octet_base::Gate;
 use std::sync::Wait;
-use std::thread::{Threads, join_mut};
+use std::thread;
+use std::thread::Threads;
 
 /// How many rounds are played on one thread before the players have threads of their own again. Each
 /// time twice as many.
@@ -119,21 +120,15 @@ fn play_beside<R: Threads + Wait + Sync, G: Gate>(
     if players.is_empty() {
         return;
     }
-    if players.len() == 1 {
-        work(rt, field, gate, crew, &mut players[0]);
-        return;
-    }
-    let (front, back) = players.split_at_mut(players.len() / 2);
-    join_mut(
+    let threads = players.len();
+    thread::for_each_mut(
         rt,
-        &mut || -> ()
-            requires { IsSync R.row × IsSync G.row × All (IsPlayerOf field.now) front.now }
-            ensures { All (IsPlayerOf field.entry.now) front.exit.now × AllZip IsSamePlayer front.entry.now front.exit.now }
-        { play_beside(rt, field, gate, crew, front) },
-        &mut || -> ()
-            requires { IsSync R.row × IsSync G.row × All (IsPlayerOf field.now) back.now }
-            ensures { All (IsPlayerOf field.entry.now) back.exit.now × AllZip IsSamePlayer back.entry.now back.exit.now }
-        { play_beside(rt, field, gate, crew, back) },
+        players,
+        threads,
+        &|_, player: &mut Player| -> ()
+            requires { IsSync R.row × IsSync G.row × IsPlayerOf field.now player.now }
+            ensures { IsPlayerOf field.entry.now player.exit.now × IsSamePlayer player.entry.now player.exit.now }
+        { work(rt, field, gate, crew, player) },
     );
 }
 

@@ -1,4 +1,3 @@
-pub mod Zips
 pub mod Props
 pub mod Doing
 pub mod Polling

@@ -43,7 +43,7 @@ pub fn run_locked<R: Threads + Wait + Sync, G: Gate>(
     let machine = Machine::new(alloc, script)?;
     let threads = machine.threads();
     let shared = Mutex::new(machine);
-    run_workers(rt, &shared, gate, 0, threads);
+    run_workers(rt, &shared, gate, threads);
     let mut machine = machine_of(alloc, script, shared.into_inner())?;
     take_rounds(rt, &mut machine);
     machine.finish(alloc)

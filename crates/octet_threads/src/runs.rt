@@ -16,7 +16,8 @@ use crate::runner::Runner;
 use octet_heap::Heap;
 use octet_interp::Demand;
 use std::sync::Wait;
-use std::thread::{Threads, join_mut};
+use std::thread;
+use std::thread::Threads;
 use std::time::Duration;
 
 fn is_access(demand: Demand) -> bool {
@@ -139,20 +140,14 @@ pub(crate) fn run_all<R: Threads + Wait + Sync, G: HeapGate>(
     if runners.is_empty() {
         return;
     }
-    if runners.len() == 1 {
-        runners[0].run(rt, heap, gate, crew);
-        return;
-    }
-    let (front, back) = runners.split_at_mut(runners.len() / 2);
-    join_mut(
+    let threads = runners.len();
+    thread::for_each_mut(
         rt,
-        &mut || -> ()
-            requires { IsSync R.row × IsSync G.row × All (IsAtRest heap.now) front.now }
-            ensures { All (HasEnded heap.entry.now) front.exit.now × AllZip IsSame front.entry.now front.exit.now }
-        { run_all(rt, heap, gate, crew, front) },
-        &mut || -> ()
-            requires { IsSync R.row × IsSync G.row × All (IsAtRest heap.now) back.now }
-            ensures { All (HasEnded heap.entry.now) back.exit.now × AllZip IsSame back.entry.now back.exit.now }
-        { run_all(rt, heap, gate, crew, back) },
+        runners,
+        threads,
+        &|_, runner: &mut Runner| -> ()
+            requires { IsSync R.row × IsSync G.row × IsAtRest heap.now runner.now }
+            ensures { HasEnded heap.entry.now runner.exit.now × IsSame runner.entry.now runner.exit.now }
+        { runner.run(rt, heap, gate, crew) },
     );
 }

@@ -1,6 +1,7 @@
 //! The workers: each takes the turns of one thread of the machine.
-ghost use Rattle.std.specs.Prelude.{◌≡◌, ◌↔◌, ◌≤◌, ◌<◌, true, length};
+ghost use Rattle.std.specs.Prelude.{◌≡◌, ◌↔◌, ◌<◌, true, length};
 ghost use Rattle.std.specs.Thread.{IsSync};
+ghost use Rattle.octet_model.specs.declared.limits.TheConstants.{MAX_THREADS};
 ghost use Rattle.octet_machine.specs.declared.turned.Turned.TheVariants.{Moved};
 ghost use Rattle.octet_threads.specs.declared.step.Found.TheVariants.{Took};
 ghost use Rattle.octet_threads.specs.declared.tuning.TheConstants.{TURNS};
@@ -12,9 +13,11 @@ use crate::step::{Found, step};
 use crate::tuning::TURNS;
 use octet_base::Gate;
 use octet_machine::{Machine, Turned};
+use octet_model::MAX_THREADS;
 use octet_state::Why;
 use std::sync::{Mutex, Wait};
-use std::thread::{Threads, join};
+use std::thread;
+use std::thread::Threads;
 
 // The thread that has to go first, if there is one.
 fn first(why: Why) -> Option<u8>
@@ -173,31 +176,21 @@ fn work<R: Threads + Wait + Sync, G: Gate>(rt: &R, shared: &Mutex<Machine>, gate
     }
 }
 
-/// Runs a worker for each thread from the first number on and below the other, beside each other.
+/// Runs a worker for each of so many threads, all beside each other.
 pub(crate) fn run_workers<R: Threads + Wait + Sync, G: Gate>(
     rt: &R,
     shared: &Mutex<Machine>,
     gate: &G,
-    first: u8,
-    end: u8,
-)
-    requires { first ≤ end }
-{
-    if first == end {
-        return;
-    }
-    if end - first == 1 {
-        work(rt, shared, gate, first);
-        return;
-    }
-    let middle = first + (end - first) / 2;
-    join(
+    threads: u8,
+) {
+    let mut places = [(); MAX_THREADS];
+    let many = usize::from(threads).min(MAX_THREADS);
+    thread::for_each_mut(
         rt,
-        || -> ()
-            requires { IsSync R.row × IsSync G.row × (first ≤ middle) }
-        { run_workers(rt, shared, gate, first, middle) },
-        || -> ()
-            requires { IsSync R.row × IsSync G.row × (middle ≤ end) }
-        { run_workers(rt, shared, gate, middle, end) },
+        &mut places[..many],
+        MAX_THREADS,
+        &|thread, _: &mut ()| -> ()
+            requires { IsSync R.row × IsSync G.row × (thread < MAX_THREADS) }
+        { work(rt, shared, gate, thread as u8) },
     );
 }
