@@ -77,9 +77,14 @@ IsClaimOf object mode _ = ⊥
 abbrev pub thread_here : Memory → ℕ → Thread
 thread_here m me = thread_of (held [] m) me
 
+-- the memory holds what this makes of the state that it held, of whatever start, and is as large
+pub record Becomes (made : ProtocolState → ProtocolState) (before after : Memory) : Type 0 where
+  pub state : (starts : List ℕ) → held starts after ≡ made (held starts before)
+  pub same_shape : shape after ≡ shape before
+
 -- the memory took the thread's step of this kind
 abbrev pub TakesStep : Kind → ℕ → Memory → Memory → Type 0
-TakesStep k me before after = (starts : List ℕ) → held starts after ≡ step k me (held starts before)
+TakesStep k me = Becomes (step k me)
 
 -- why the thread waits after it, if it waits
 abbrev pub waits_here : Kind → ℕ → Memory → Option Why

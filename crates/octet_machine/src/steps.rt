@@ -11,7 +11,7 @@ ghost use Rattle.octet_state.specs.State.{thread_of, status_of, state_of, now};
 ghost use Rattle.octet_state.specs.Table.{is_changed_by};
 ghost use Rattle.octet_state.specs.Words.{packed_state, FitsStateWord, FitsStatusWord};
 ghost use Rattle.octet_state.specs.Steps.{ToGlance, ToAnswer, ToBlock, ToUnblock, ToAsk, ToLook, ToLoad, ToRead, ToWrite, ToBump, ToClaim, ToSettle, ToDraw, ToFence, ToRaise, ToShare, moved, done_of, shown, with_status, told};
-ghost use Rattle.octet_machine.specs.Memory.{held, shape, thread_here, waits_here, with_thread, with_event, IsClaimOf, IsThread, IsObject, HasRoom, TakesStep};
+ghost use Rattle.octet_machine.specs.Memory.{held, shape, thread_here, waits_here, with_thread, with_event, IsClaimOf, IsThread, IsObject, HasRoom, Becomes, TakesStep};
 
 use crate::memory::{Memory, ProtocolThread};
 use octet_model::{Event, Mark};
@@ -21,8 +21,7 @@ impl Memory {
     // Swaps the thread's own status.
     fn show(&mut self, me: u8, blocked: bool)
         requires { IsThread (shape self.old) me }
-        ensures state { (starts : List ℕ) → held starts self.new ≡ with_status (held starts self.old) me (shown blocked (now (held starts self.old) me)) }
-        ensures shape { shape self.new ≡ shape self.old }
+        ensures { Becomes (λ s. with_status s me (shown blocked (now s me))) self.old self.new }
     {
         let upto = self.now(me);
         self.set_status(me, StatusWord::shown(blocked, upto));
@@ -32,8 +31,7 @@ impl Memory {
     pub(crate) fn glance(&mut self, me: u8)
         requires thread { IsThread (shape self.old) me }
         requires fits { FitsStatusWord (status_of (held [] self.old) me) }
-        ensures step { TakesStep ToGlance me self.old self.new }
-        ensures shape { shape self.new ≡ shape self.old }
+        ensures { TakesStep ToGlance me self.old self.new }
     {
         let status = self.status(me);
         let phase = self.thread(me).phase;
@@ -43,8 +41,7 @@ impl Memory {
     /// Answers all that have asked.
     pub(crate) fn answer(&mut self, me: u8)
         requires { IsThread (shape self.old) me }
-        ensures step { TakesStep ToAnswer me self.old self.new }
-        ensures shape { shape self.new ≡ shape self.old }
+        ensures { TakesStep ToAnswer me self.old self.new }
     {
         self.show(me, false);
         let phase = self.thread(me).phase;
@@ -54,8 +51,7 @@ impl Memory {
     /// Marks the thread blocked, at its end or for a while.
     pub(crate) fn block(&mut self, me: u8, ends: bool)
         requires { IsThread (shape self.old) me }
-        ensures step { TakesStep (ToBlock ends) me self.old self.new }
-        ensures shape { shape self.new ≡ shape self.old }
+        ensures { TakesStep (ToBlock ends) me self.old self.new }
     {
         self.show(me, true);
         self.move_to(me, Phase::blocked_in(ends), Due::Nothing);
@@ -64,8 +60,7 @@ impl Memory {
     /// Marks the thread running.
     pub(crate) fn unblock(&mut self, me: u8)
         requires { IsThread (shape self.old) me }
-        ensures step { TakesStep ToUnblock me self.old self.new }
-        ensures shape { shape self.new ≡ shape self.old }
+        ensures { TakesStep ToUnblock me self.old self.new }
     {
         self.show(me, false);
         self.move_to(me, Phase::Idle, Due::Nothing);
@@ -75,8 +70,7 @@ impl Memory {
     fn join(&mut self, me: u8, from: u8, upto: u64)
         requires thread { IsThread (shape self.old) me }
         requires room { HasRoom self.old me }
-        ensures state { (starts : List ℕ) → held starts self.new ≡ with_event (held starts self.old) me (Marked (Join from upto)) }
-        ensures shape { shape self.new ≡ shape self.old }
+        ensures { Becomes (λ s. with_event s me (Marked (Join from upto))) self.old self.new }
     {
         let mark = Mark::Join { from, upto };
         self.append(me, Event::Marked { mark });
@@ -90,7 +84,6 @@ impl Memory {
         requires fits { FitsStatusWord (status_of (held [] self.old) whom) }
         requires few { done_of (thread_here self.old me).phase < 255 }
         ensures step { TakesStep (ToAsk whom) me self.old self.new }
-        ensures shape { shape self.new ≡ shape self.old }
         ensures waits { result ≡ waits_here (ToAsk whom) me self.old }
     {
         let status = self.status(whom);
@@ -118,7 +111,6 @@ impl Memory {
         requires fits { FitsStatusWord (status_of (held [] self.old) whom) }
         requires few { done_of (thread_here self.old me).phase < 255 }
         ensures step { TakesStep (ToLook whom) me self.old self.new }
-        ensures shape { shape self.new ≡ shape self.old }
         ensures waits { result ≡ waits_here (ToLook whom) me self.old }
     {
         let status = self.status(whom);
@@ -142,7 +134,6 @@ impl Memory {
         requires fits { FitsStateWord (state_of (held [] self.old) object) }
         requires by_others { IsFalse (is_changed_by (state_of (held [] self.old) object) me) }
         ensures step { TakesStep (ToLoad object mode) me self.old self.new }
-        ensures shape { shape self.new ≡ shape self.old }
         ensures waits { result ≡ waits_here (ToLoad object mode) me self.old }
     {
         let state = self.state(object);
@@ -161,7 +152,6 @@ impl Memory {
         requires room { HasRoom self.old me }
         requires phase { (thread_here self.old me).phase ≡ Pass object Mode.Read }
         ensures step { TakesStep ToRead me self.old self.new }
-        ensures shape { shape self.new ≡ shape self.old }
         ensures told { result ≡ told ToRead me (held [] self.old) }
     {
         let value = self.cells[object as usize];
@@ -176,8 +166,7 @@ impl Memory {
         requires object { IsObject (shape self.old) object }
         requires room { HasRoom self.old me }
         requires phase { (thread_here self.old me).phase ≡ Pass object Mode.Write }
-        ensures step { TakesStep (ToWrite value) me self.old self.new }
-        ensures shape { shape self.new ≡ shape self.old }
+        ensures { TakesStep (ToWrite value) me self.old self.new }
     {
         self.append(me, Event::Write { object, value });
         self.cells[object as usize] = value;
@@ -190,8 +179,7 @@ impl Memory {
         requires object { IsObject (shape self.old) object }
         requires room { HasRoom self.old me }
         requires phase { (thread_here self.old me).phase ≡ Pass object Mode.Update }
-        ensures step { TakesStep (ToBump amount) me self.old self.new }
-        ensures shape { shape self.new ≡ shape self.old }
+        ensures { TakesStep (ToBump amount) me self.old self.new }
     {
         let before = self.cells[object as usize];
         let after = before.wrapping_add(amount);
@@ -221,8 +209,7 @@ impl Memory {
     fn lose(&mut self, me: u8, object: u16, mode: Mode, seen: StateWord, found: u64) -> Option<Why>
         requires thread { IsThread (shape self.old) me }
         requires fits { FitsStateWord seen }
-        ensures state { (starts : List ℕ) → held starts self.new ≡ with_thread (held starts self.old) me (moved (Want object mode None) Glance (thread_of (held starts self.old) me)) }
-        ensures shape { shape self.new ≡ shape self.old }
+        ensures state { Becomes (λ s. with_thread s me (moved (Want object mode None) Glance (thread_of s me))) self.old self.new }
         ensures why { result ≡ Some (Changed (packed_state seen) found) }
     {
         let word = seen.pack();
@@ -239,7 +226,6 @@ impl Memory {
         requires seen { FitsStateWord seen }
         requires phase { (thread_here self.old me).phase ≡ Want object mode (Some seen) }
         ensures step { TakesStep ToClaim me self.old self.new }
-        ensures shape { shape self.new ≡ shape self.old }
         ensures waits { result ≡ waits_here ToClaim me self.old }
     {
         let (found, is_same) = self.finds(object, seen);
@@ -266,7 +252,6 @@ impl Memory {
         requires seen { FitsStateWord seen }
         requires phase { (thread_here self.old me).phase ≡ Want object mode (Some seen) }
         ensures step { TakesStep ToRaise me self.old self.new }
-        ensures shape { shape self.new ≡ shape self.old }
         ensures waits { result ≡ waits_here ToRaise me self.old }
     {
         let (found, is_same) = self.finds(object, seen);
@@ -295,7 +280,6 @@ impl Memory {
         requires seen { FitsStateWord (RdEx owner upto) }
         requires phase { (thread_here self.old me).phase ≡ Want object mode (Some (RdEx owner upto)) }
         ensures step { TakesStep ToShare me self.old self.new }
-        ensures shape { shape self.new ≡ shape self.old }
         ensures waits { result ≡ waits_here ToShare me self.old }
     {
         let seen = StateWord::RdEx { owner, upto };
@@ -315,8 +299,7 @@ impl Memory {
         requires thread { IsThread (shape self.old) me }
         requires object { IsObject (shape self.old) object }
         requires phase { IsClaimOf object mode (thread_here self.old me).phase }
-        ensures step { TakesStep ToSettle me self.old self.new }
-        ensures shape { shape self.new ≡ shape self.old }
+        ensures { TakesStep ToSettle me self.old self.new }
     {
         let events = self.now(me);
         self.set_state(object, StateWord::owning(me, events, mode));
@@ -328,8 +311,7 @@ impl Memory {
         requires thread { IsThread (shape self.old) me }
         requires object { IsObject (shape self.old) object }
         requires phase { (thread_here self.old me).phase ≡ Sharing object (Some number) }
-        ensures step { TakesStep ToSettle me self.old self.new }
-        ensures shape { shape self.new ≡ shape self.old }
+        ensures { TakesStep ToSettle me self.old self.new }
     {
         self.set_state(object, StateWord::RdSh { number });
         let mode = Mode::Read;
@@ -342,8 +324,7 @@ impl Memory {
         requires room { HasRoom self.old me }
         requires phase { (thread_here self.old me).phase ≡ Sharing object None }
         requires small { self.old.counter < u64.MAX }
-        ensures step { TakesStep ToDraw me self.old self.new }
-        ensures shape { shape self.new ≡ shape self.old }
+        ensures { TakesStep ToDraw me self.old self.new }
     {
         let number = self.counter + 1;
         let mark = Mark::Draw { number };
@@ -363,8 +344,7 @@ impl Memory {
         requires thread { IsThread (shape self.old) me }
         requires room { HasRoom self.old me }
         requires phase { (n : ℕ) × ((thread_here self.old me).phase ≡ FenceDue object n) }
-        ensures step { TakesStep ToFence me self.old self.new }
-        ensures shape { shape self.new ≡ shape self.old }
+        ensures { TakesStep ToFence me self.old self.new }
     {
         let number = self.counter;
         let mark = Mark::Fence { number };

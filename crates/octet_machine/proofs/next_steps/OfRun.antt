@@ -50,21 +50,21 @@ module _ (run : Run) (me : ℕ) (p : Phase) (at : StandsIn run me p) where
   R = runner_of (machine_in run) me
 
   -- the step of this kind, by what it does to the memory and to the thread's run
-  pub takes_to : (k : Kind) (run' : Run) → kind_here m me p ≡ k → run'.script ≡ run.script → TakesStep k me run.memory run'.memory → shape run'.memory ≡ shape run.memory
+  pub takes_to : (k : Kind) (run' : Run) → kind_here m me p ≡ k → run'.script ≡ run.script → TakesStep k me run.memory run'.memory
       → run'.runners.items ≡ slice_set m.runners me (run_in_phase (told k me m.protocol) p R) → Steps me run run'
-  takes_to k run' kind same takes shaped runs =
-      let protocol : held (starting_heap run'.script) run'.memory ≡ step k me m.protocol = ap (λ (script : Script). held (starting_heap script) run'.memory) same ∙ takes (starting_heap run.script) in
+  takes_to k run' kind same takes runs =
+      let protocol : held (starting_heap run'.script) run'.memory ≡ step k me m.protocol = ap (λ (script : Script). held (starting_heap script) run'.memory) same ∙ takes.state (starting_heap run.script) in
       let ends : machine_in run' ≡ ends_by m me k Nothing p = λ i. record { protocol = protocol i; runners = runs i; script = same i } in
       record {
         machine = ends ∙ sym (after_is m me Nothing p at.owes_nothing at.stands ∙ ap (λ (j : Kind). ends_by m me j Nothing p) kind);
-        same_shape = shaped;
+        same_shape = takes.same_shape;
       }
 
   -- where the thread's run stays as it is
-  pub takes : (k : Kind) (run' : Run) → kind_here m me p ≡ k → ((word : ℕ) → run_in_phase word p R ≡ R) → run'.script ≡ run.script → TakesStep k me run.memory run'.memory → shape run'.memory ≡ shape run.memory
+  pub takes : (k : Kind) (run' : Run) → kind_here m me p ≡ k → ((word : ℕ) → run_in_phase word p R ≡ R) → run'.script ≡ run.script → TakesStep k me run.memory run'.memory
       → run'.runners.items ≡ run.runners.items → Steps me run run'
-  takes k run' kind stays same taken shaped runs =
-      takes_to k run' kind same taken shaped
+  takes k run' kind stays same taken runs =
+      takes_to k run' kind same taken
       (runs ∙ sym (set-get_or m.runners me no_runner) ∙ ap (λ (x : Runner). slice_set m.runners me x) (sym (stays (told k me m.protocol))))
 
   -- and why it waits then
@@ -163,10 +163,10 @@ module _ (run : Run) (me : ℕ) (at : StandsIn run me Idle) (x : Runner) (config
       ∙ ap (λ (y : Runner). set run.runners.items me (taken_with d (after_demand y.config) y)) (is_run run me Idle at x found)
       ∙ ap (set run.runners.items me) (taken_is d Q ∙ ap (λ (e : Demand). taken_up e Q) (sym demand_is))
 
-  pub demand_steps : (memory : Memory) → TakesStep (kind_of_demand d) me run.memory memory → shape memory ≡ shape run.memory → (run' : Run) → run'.script ≡ run.script → run'.memory ≡ memory → run'.runners.items ≡ set run.runners.items me (taken_with d config x) → Steps me run run'
-  demand_steps memory steps shaped run' same same_memory runs =
+  pub demand_steps : (memory : Memory) → TakesStep (kind_of_demand d) me run.memory memory → (run' : Run) → run'.script ≡ run.script → run'.memory ≡ memory → run'.runners.items ≡ set run.runners.items me (taken_with d config x) → Steps me run run'
+  demand_steps memory steps run' same same_memory runs =
       takes_to run me Idle at (kind_of_demand d) run' (ap kind_of_demand demand_is) same
-      (subst (λ (n : Memory). TakesStep (kind_of_demand d) me run.memory n) (sym same_memory) steps) (ap shape same_memory ∙ shaped) (runs ∙ takes_up)
+      (subst (λ (n : Memory). TakesStep (kind_of_demand d) me run.memory n) (sym same_memory) steps) (runs ∙ takes_up)
 
 -- the thread and the object are there
 pub thread_there : (run : Run) (me : ℕ) → IsNext run me → IsThread (shape run.memory) me
@@ -192,17 +192,17 @@ module _ (run run' : Run) (me : ℕ) (d : Due) (k : Kind) (due : (thread_of (mac
   abbrev n : MachineState
   n = machine_in run
 
-  pub due_steps : run'.script ≡ run.script → TakesStep k me run.memory run'.memory → shape run'.memory ≡ shape run.memory → run'.runners.items ≡ run.runners.items → Steps me run run'
-  due_steps same taken shaped runs =
+  pub due_steps : run'.script ≡ run.script → TakesStep k me run.memory run'.memory → run'.runners.items ≡ run.runners.items → Steps me run run'
+  due_steps same taken runs =
       let x = runner_of n me in
       let p = (thread_of n.protocol me).phase in
-      let protocol : held (starting_heap run'.script) run'.memory ≡ step k me n.protocol = ap (λ (script : Script). held (starting_heap script) run'.memory) same ∙ taken (starting_heap run.script) in
+      let protocol : held (starting_heap run'.script) run'.memory ≡ step k me n.protocol = ap (λ (script : Script). held (starting_heap script) run'.memory) same ∙ taken.state (starting_heap run.script) in
       let items : run'.runners.items ≡ slice_set n.runners me (run_by_due d x (run_in_phase (told k me n.protocol) p x)) =
       runs ∙ sym (set-get_or n.runners me no_runner) ∙ ap (λ (y : Runner). slice_set n.runners me y) (sym (same_run x (run_in_phase (told k me n.protocol) p x))) in
       let ends : machine_in run' ≡ ends_by n me k d p = λ i. record { protocol = protocol i; runners = items i; script = same i } in
       record {
         machine = ends ∙ sym (after_is n me d p due refl ∙ ap (λ (j : Kind). ends_by n me j d p) (kind (kind_here n me p)));
-        same_shape = shaped;
+        same_shape = taken.same_shape;
       }
 
   pub due_waits : None ≡ waits k me (told k me n.protocol) (thread_of n.protocol me) → None ≡ next_waits n me

@@ -20,7 +20,7 @@ raises : (c : goal.After-raise) → kind_here (machine_in c.args.self.now) c.arg
 raises c = exchange_is c.args.self.now c.args.me c.args.object c.args.mode c.args.seen c.thread-count.result c.decide.result c.thread-count.ensures c.decide.ensures ∙ ap exchange_of c.in-Raise.is
 
 pub returns-in-Raise-clause-steps : goal.returns-in-Raise-clause-steps
-returns-in-Raise-clause-steps c = takes c.args.self.now c.args.me _ c.requires ToRaise _ (raises c) (λ word. refl) refl c.raise.ensures.step c.raise.ensures.shape refl
+returns-in-Raise-clause-steps c = takes c.args.self.now c.args.me _ c.requires ToRaise _ (raises c) (λ word. refl) refl c.raise.ensures.step refl
 
 claims : (c : goal.After-claim) → kind_here (machine_in c.args.self.now) c.args.me (Want c.args.object c.args.mode (Some c.args.seen)) ≡ ToClaim
 claims c =
@@ -40,6 +40,6 @@ claim-requires c =
 
 pub returns-in_default : goal.returns-in_default
 returns-in_default c = record {
-  steps = takes c.args.self.now c.args.me _ c.requires ToClaim _ (claims c) (λ word. refl) refl c.claim.ensures.step c.claim.ensures.shape refl;
+  steps = takes c.args.self.now c.args.me _ c.requires ToClaim _ (claims c) (λ word. refl) refl c.claim.ensures.step refl;
   waits = waits_by c.args.self.now c.args.me _ c.requires ToClaim _ (claims c) c.claim.ensures.waits;
 }

@@ -21,7 +21,7 @@ returns-then-done-count-clause-steps c =
     takes c.args.self.now c.args.me _ c.requires ToSettle _
     (pursuit_is c.args.self.now c.args.me c.args.object c.args.mode c.args.prior c.args.done c.args.asked c.whom_to_ask-whom.result c.thread_count.result c.count.result true
     c.whom_to_ask-whom.ensures c.thread_count.ensures c.count.ensures (eq-eqb c.args.done c.count.result c.if-done-count.true))
-    (λ word. refl) refl c.settle_claim.ensures.step c.settle_claim.ensures.shape refl
+    (λ word. refl) refl c.settle_claim.ensures refl
 
 pub returns-then-asked-clause-steps : goal.returns-then-asked-clause-steps
 returns-then-asked-clause-steps c =
@@ -29,7 +29,7 @@ returns-then-asked-clause-steps c =
     (pursuit_is c.args.self.now c.args.me c.args.object c.args.mode c.args.prior c.args.done c.args.asked c.whom_to_ask-whom.result c.thread_count.result c.count.result false
     c.whom_to_ask-whom.ensures c.thread_count.ensures c.count.ensures (ne_eqb c.args.done c.count.result c.if-done-count.false)
     ∙ then_asks c.args.me c.args.done c.next-next.result c.args.prior c.whom_to_ask-whom.result c.args.asked true c.whom_to_ask-whom.ensures c.next-next.ensures c.if-asked.true)
-    (λ word. refl) refl c.look.ensures.step c.look.ensures.shape refl
+    (λ word. refl) refl c.look.ensures.step refl
 
 pub returns-else-asked-clause-steps : goal.returns-else-asked-clause-steps
 returns-else-asked-clause-steps c =
@@ -37,4 +37,4 @@ returns-else-asked-clause-steps c =
     (pursuit_is c.args.self.now c.args.me c.args.object c.args.mode c.args.prior c.args.done c.args.asked c.whom_to_ask-whom.result c.thread_count.result c.count.result false
     c.whom_to_ask-whom.ensures c.thread_count.ensures c.count.ensures (ne_eqb c.args.done c.count.result c.if-done-count.false)
     ∙ then_asks c.args.me c.args.done c.next-next.result c.args.prior c.whom_to_ask-whom.result c.args.asked false c.whom_to_ask-whom.ensures c.next-next.ensures c.if-asked.false)
-    (λ word. refl) refl c.ask.ensures.step c.ask.ensures.shape refl
+    (λ word. refl) refl c.ask.ensures.step refl
