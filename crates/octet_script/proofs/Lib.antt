@@ -1,15 +1,3 @@
-pub mod Keywords
-pub mod Cut
-pub mod Declared
-pub mod Numbers
-pub mod Judged
-pub mod Printed
-pub mod Steps
-pub mod Valid
-pub mod Sound
-pub mod Spelled
-pub mod Complete
-pub mod Canonical
-pub mod BrokenRules
-pub mod WholeTexts
 pub mod lemmas
+mod judging
+mod spelling

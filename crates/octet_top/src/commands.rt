@@ -73,7 +73,7 @@ pub(crate) fn check_order(alloc: Global, pair: &Pair) -> Result<(), Refusal>
 }
 
 /// The outcome of the log's lowest order is said, where the log orders all conflicts.
-#[tactic(auto, using(crate::proofs::Checking::check_refused, crate::proofs::Checking::check_passed))]
+#[tactic(auto, using(crate::proofs::answering::Checking::check_refused, crate::proofs::answering::Checking::check_passed))]
 pub(crate) fn replay_ordered(alloc: Global, pair: &Pair) -> Result<Reply, OutOfMemory>
     ensures { IfOk result (λ reply. PairReplays Parallel pair.now (answer_of reply)) }
 {

@@ -16,7 +16,7 @@ use std::alloc::Global;
 
 /// Of a log that orders all conflicts, the regions in a serial order and the outcome are said, or a
 /// cycle of hops; of another, why it does not.
-#[tactic(auto, using(crate::proofs::Checking::check_refused, crate::proofs::Checking::check_passed))]
+#[tactic(auto, using(crate::proofs::answering::Checking::check_refused, crate::proofs::answering::Checking::check_passed))]
 pub(crate) fn regions(alloc: Global, pair: &Pair) -> Result<Reply, OutOfMemory>
     ensures { IfOk result (λ reply. PairReplays Regions pair.now (answer_of reply)) }
 {

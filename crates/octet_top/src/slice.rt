@@ -20,7 +20,7 @@ use std::alloc::Global;
 
 /// The event at a place is said, and how many events lie in its past, where the log orders all
 /// conflicts.
-#[tactic(auto, using(crate::proofs::Checking::check_refused, crate::proofs::Checking::check_passed))]
+#[tactic(auto, using(crate::proofs::answering::Checking::check_refused, crate::proofs::answering::Checking::check_passed))]
 pub(crate) fn slice(
     alloc: Global,
     pair: &Pair,

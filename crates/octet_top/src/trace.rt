@@ -18,7 +18,7 @@ use std::alloc::Global;
 
 /// Each event of the log's lowest order is said, as far as that goes; and then, where the log does
 /// not fit, why.
-#[tactic(auto, using(crate::proofs::Tracing::not_begun, crate::proofs::Tracing::made_first))]
+#[tactic(auto, using(crate::proofs::answering::Tracing::not_begun, crate::proofs::answering::Tracing::made_first))]
 pub(crate) fn trace(alloc: Global, pair: &Pair) -> Result<Reply, OutOfMemory>
     ensures { IfOk result (λ reply. PairReplays Trace pair.now (answer_of reply)) }
 {

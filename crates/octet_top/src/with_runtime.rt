@@ -64,7 +64,7 @@ pub(crate) fn serve_request<R: Threads + Wait + Sync, D: Desk, G: HeapGate>(
     }
 }
 
-#[tactic(auto, using(crate::proofs::Found::run_stops))]
+#[tactic(auto, using(crate::proofs::answering::Found::run_stops))]
 fn run_script<R: Threads + Wait + Sync, D: Desk, G: HeapGate>(
     rt: &R,
     alloc: Global,

@@ -53,7 +53,7 @@ fn replay_pair(alloc: Global, task: PairTask, pair: &Pair) -> Result<Reply, OutO
     }
 }
 
-#[tactic(auto, using(crate::proofs::Found::script_stops))]
+#[tactic(auto, using(crate::proofs::answering::Found::script_stops))]
 fn of_script<D: Desk>(
     alloc: Global,
     desk: &mut D,
@@ -68,7 +68,7 @@ fn of_script<D: Desk>(
     }
 }
 
-#[tactic(auto, using(crate::proofs::Found::log_stops))]
+#[tactic(auto, using(crate::proofs::answering::Found::log_stops))]
 fn of_log<D: Desk>(
     alloc: Global,
     desk: &mut D,

@@ -5,8 +5,8 @@ use Rattle.octet_script.specs.declared.cause.ScriptFault.{ScriptFault}
 use Rattle.octet_script.specs.declared.cause.ScriptFault.TheVariants.{Refused, OutOfMemory}
 use Rattle.octet_script.specs.Spelling.{Spells, contents}
 use Rattle.octet_script.specs.Parsing.{parsed, Gives}
-use Rattle.octet_script.proofs.Complete.{spelled_judged}
-use Rattle.octet_script.proofs.Spelled.{script_says, same_script}
+use Rattle.octet_script.proofs.judging.Complete.{spelled_judged}
+use Rattle.octet_script.proofs.spelling.Spelled.{script_says, same_script}
 
 -- a text says what the script says that it spells
 pub spells_parsed : (text : List ℕ) (s : Script) → Spells text s → parsed text ≡ Ok (contents s)

@@ -1,4 +1,4 @@
-use Rattle.octet_script.proofs.BrokenRules.{unknown_word, wrong_count, misplaced, bad_argument, bad_fuel, many_objects, bad_end, open_thread, many_threads, fuel_of_all}
+use Rattle.octet_script.proofs.judging.BrokenRules.{unknown_word, wrong_count, misplaced, bad_argument, bad_fuel, many_objects, bad_end, open_thread, many_threads, fuel_of_all}
 use Rattle.octet_script.proofs.laws.broken_rule_is_refused.Goals as goal
 
 pub returns : goal.returns

@@ -1,5 +1,5 @@
 use Rattle.std.proofs.Common.{◌∙◌, sym, arith}
-use Rattle.octet_script.proofs.Numbers.{number_too_long, number_without_digits, number_read, digits_are_utf8}
+use Rattle.octet_script.proofs.spelling.Numbers.{number_too_long, number_without_digits, number_read, digits_are_utf8}
 use Rattle.octet_script.proofs.line.number_of.Goals as goal
 
 pub returns-then-word-gt-MAX_DIGITS : goal.returns-then-word-gt-MAX_DIGITS

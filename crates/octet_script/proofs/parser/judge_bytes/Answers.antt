@@ -1,4 +1,4 @@
-use Rattle.octet_script.proofs.Judged.{valid_bytes}
+use Rattle.octet_script.proofs.judging.Judged.{valid_bytes}
 use Rattle.octet_script.proofs.parser.judge_bytes.Goals as goal
 
 pub returns-in-Ok : goal.returns-in-Ok

@@ -1,4 +1,4 @@
-use Rattle.octet_script.proofs.Spelled.{read_spells}
+use Rattle.octet_script.proofs.spelling.Spelled.{read_spells}
 use Rattle.octet_script.proofs.lemmas.Grammar.{spelled_read}
 use Rattle.octet_script.proofs.parser.parse.Goals as goal
 

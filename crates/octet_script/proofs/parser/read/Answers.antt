@@ -1,7 +1,7 @@
 use Rattle.std.proofs.Common.{sym, subst}
 use Rattle.octet_script.specs.Words.{lines}
 use Rattle.octet_script.specs.Building.{IsValidSoFar, draft}
-use Rattle.octet_script.proofs.Valid.{start_valid, lines_valid}
+use Rattle.octet_script.proofs.judging.Valid.{start_valid, lines_valid}
 use Rattle.octet_script.proofs.parser.read.Goals as goal
 
 pub finish-requires : goal.finish-requires

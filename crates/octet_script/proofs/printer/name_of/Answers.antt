@@ -1,6 +1,6 @@
 use Rattle.std.proofs.Common.{◌∙◌, sym}
 use Rattle.std.proofs.lemmas.Bool.{ltb-true}
-use Rattle.octet_script.proofs.Printed.{names_at}
+use Rattle.octet_script.proofs.spelling.Printed.{names_at}
 use Rattle.octet_script.proofs.printer.name_of.Goals as goal
 
 pub returns-in-Some : goal.returns-in-Some

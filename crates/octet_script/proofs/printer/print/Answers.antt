@@ -1,8 +1,8 @@
 use Rattle.std.proofs.Common.{rules, ◌≡◌, refl, arith}
 use Rattle.std.proofs.lemmas.Grind.{common_steps}
 use Rattle.octet_script.specs.Spelling.{canonical_text}
-use Rattle.octet_script.proofs.Canonical.{printed_spells}
-use Rattle.octet_script.proofs.Printed.{first_line_written}
+use Rattle.octet_script.proofs.spelling.Canonical.{printed_spells}
+use Rattle.octet_script.proofs.spelling.Printed.{first_line_written}
 use Rattle.octet_script.proofs.printer.print.Goals as goal
 
 pub loop-object-init : goal.loop-object-init

@@ -3,7 +3,7 @@ use Rattle.std.specs.List.{list_all}
 use Rattle.octet_model.specs.declared.object.Object.{Object}
 use Rattle.octet_model.specs.Name.{is_name}
 use Rattle.octet_script.specs.Spelling.{object_names, canonical_text}
-use Rattle.octet_script.proofs.Printed.{object_lines, thread_lines}
+use Rattle.octet_script.proofs.spelling.Printed.{object_lines, thread_lines}
 use Rattle.octet_script.proofs.printer.print.Given as goal
 
 abbrev pub invariant-loop-object : goal.invariant-loop-object

@@ -1,5 +1,5 @@
 use Rattle.std.proofs.Common.{◌∙◌, sym}
-use Rattle.octet_script.proofs.Judged.{line_cut, line_last}
+use Rattle.octet_script.proofs.judging.Judged.{line_cut, line_last}
 use Rattle.octet_script.proofs.words.cut_line.Goals as goal
 
 pub returns-in-Some-clause-line : goal.returns-in-Some-clause-line

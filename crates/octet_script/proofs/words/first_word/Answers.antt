@@ -1,5 +1,5 @@
 use Rattle.std.proofs.Common.{sym, ◌∙◌}
-use Rattle.octet_script.proofs.Cut.{no_word, one_word, word_then, word_shorter}
+use Rattle.octet_script.proofs.spelling.Cut.{no_word, one_word, word_then, word_shorter}
 use Rattle.octet_script.proofs.words.first_word.Goals as goal
 
 pub returns-in_default-clause-word : goal.returns-in_default-clause-word

@@ -3,7 +3,7 @@ use Rattle.std.proofs.lemmas.Result.{IfOk-weaker}
 use Rattle.sha2.specs.Sha256.{sha256}
 use Rattle.octet_top.specs.Answer.{answer_of, writes_file}
 use Rattle.octet_top.specs.Commands.{Converts}
-use Rattle.octet_top.proofs.Lengths.{is_second, second_file}
+use Rattle.octet_top.proofs.writing.Lengths.{is_second, second_file}
 use Rattle.octet_top.proofs.convert.convert.Goals as goal
 
 pub returns : goal.returns

@@ -4,7 +4,7 @@ use Rattle.octet_top.specs.declared.inputs.Source.{Source}
 use Rattle.octet_top.specs.Answer.{Answer}
 use Rattle.octet_top.specs.Request.{name_in}
 use Rattle.octet_top.specs.Inputs.{◌>>=◌, IsChosen, IsScriptRead}
-use Rattle.octet_top.proofs.Steps.{comes_stop, ends_then, as_short}
+use Rattle.octet_top.proofs.answering.Steps.{comes_stop, ends_then, as_short}
 use Rattle.octet_top.proofs.inputs.read_chosen.Goals as goal
 
 pub returns-in-Err-choose-clause-ends : goal.returns-in-Err-choose-clause-ends

@@ -6,7 +6,7 @@ use Rattle.octet_top.specs.declared.inputs.Pair.{Pair}
 use Rattle.octet_top.specs.Answer.{Answer}
 use Rattle.octet_top.specs.Request.{name_in}
 use Rattle.octet_top.specs.Inputs.{◌>>=◌, IsLogRead, IsScriptChosen}
-use Rattle.octet_top.proofs.Steps.{ends_stop, ends_next, log_ends_before, was_taken}
+use Rattle.octet_top.proofs.answering.Steps.{ends_stop, ends_next, log_ends_before, was_taken}
 use Rattle.octet_top.proofs.inputs.read_pair.Goals as goal
 
 pub returns-in-Ok-read_log-clause-ends : goal.returns-in-Ok-read_log-clause-ends

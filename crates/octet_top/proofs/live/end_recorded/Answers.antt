@@ -4,8 +4,8 @@ use Rattle.octet_log.specs.v2.Pieces.{tail_bytes}
 use Rattle.octet_top.specs.Request.{AsTheyCome}
 use Rattle.octet_top.specs.Delivery.{Add, Finish, Say}
 use Rattle.octet_base.specs.Desk.{Says}
-use Rattle.octet_top.proofs.LiveMade.{some_then, one_some}
-use Rattle.octet_top.proofs.Recorded.{recorded_whole}
+use Rattle.octet_top.proofs.writing.LiveMade.{some_then, one_some}
+use Rattle.octet_top.proofs.answering.Recorded.{recorded_whole}
 use Rattle.octet_top.proofs.live.end_recorded.Goals as goal
 
 pub outcome_text-requires-clause-ends : goal.outcome_text-requires-clause-ends

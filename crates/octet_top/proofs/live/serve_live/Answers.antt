@@ -2,9 +2,9 @@ use Rattle.std.proofs.Common.{Ok, inl, inr}
 use Rattle.octet_model.specs.declared.limits.TheConstants.{MAX_SCRIPT_FILE}
 use Rattle.octet_top.specs.Inputs.{IsScriptRead}
 use Rattle.octet_top.specs.Request.{AsTheyCome}
-use Rattle.octet_top.proofs.Found.{run_stops, is_short}
-use Rattle.octet_top.proofs.Rows.{script_refused}
-use Rattle.octet_top.proofs.Steps.{was_taken}
+use Rattle.octet_top.proofs.answering.Found.{run_stops, is_short}
+use Rattle.octet_top.proofs.answering.Rows.{script_refused}
+use Rattle.octet_top.proofs.answering.Steps.{was_taken}
 use Rattle.octet_top.proofs.live.serve_live.Goals as goal
 
 pub returns-in-Ok : goal.returns-in-Ok

@@ -1,6 +1,6 @@
 use Rattle.std.proofs.Common.{None}
 use Rattle.octet_top.specs.declared.request.PairTask.TheVariants.{Parallel}
-use Rattle.octet_top.proofs.Found.{both_read, both_stop}
+use Rattle.octet_top.proofs.answering.Found.{both_read, both_stop}
 use Rattle.octet_top.proofs.parallel.replay_on_threads.Goals as goal
 
 pub returns-in-Ok : goal.returns-in-Ok

@@ -5,7 +5,7 @@ use Rattle.octet_model.specs.declared.script.Script.{Script}
 use Rattle.octet_replay.specs.ReplayState.{ReplayState, plain_state}
 use Rattle.octet_replay.proofs.lemmas.Collecting.{fewer_left}
 use Rattle.octet_top.specs.Profile.{class_of, counts}
-use Rattle.octet_top.proofs.Counted.{counts_none, counts_step, length_counts}
+use Rattle.octet_top.proofs.profiling.Counted.{counts_none, counts_step, length_counts}
 use Rattle.octet_top.proofs.profile.count_steps.Goals as goal
 
 pub loop-event-init : goal.loop-event-init

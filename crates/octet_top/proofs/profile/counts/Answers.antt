@@ -1,5 +1,5 @@
 use Rattle.std.proofs.Common.{◌∙◌}
-use Rattle.octet_top.proofs.Counted.{counts_all}
+use Rattle.octet_top.proofs.profiling.Counted.{counts_all}
 use Rattle.octet_top.proofs.profile.counts.Goals as goal
 
 pub returns-clause-counts : goal.returns-clause-counts

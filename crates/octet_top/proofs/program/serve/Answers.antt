@@ -1,10 +1,10 @@
 use Rattle.octet_top.specs.Request.{texts}
-use Rattle.octet_top.proofs.Causes.{has_cause}
-use Rattle.octet_top.proofs.Promises as promise
-use Rattle.octet_top.proofs.PairPromises as of_pair
-use Rattle.octet_top.proofs.Due.{one_due, comes_as_due}
-use Rattle.octet_top.proofs.Cut.{cuts}
-use Rattle.octet_top.proofs.Effects as effect
+use Rattle.octet_top.proofs.serving.Causes.{has_cause}
+use Rattle.octet_top.proofs.serving.Promises as promise
+use Rattle.octet_top.proofs.serving.PairPromises as of_pair
+use Rattle.octet_top.proofs.serving.Due.{one_due, comes_as_due}
+use Rattle.octet_top.proofs.writing.Cut.{cuts}
+use Rattle.octet_top.proofs.serving.Effects as effect
 use Rattle.octet_top.proofs.program.serve.Goals as goal
 
 pub returns : goal.returns

@@ -1,4 +1,4 @@
-use Rattle.octet_top.proofs.Checking.{serial_answered}
+use Rattle.octet_top.proofs.answering.Checking.{serial_answered}
 use Rattle.octet_top.proofs.regions.say_regions.Goals as goal
 
 pub returns : goal.returns

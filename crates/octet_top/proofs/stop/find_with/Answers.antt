@@ -1,7 +1,7 @@
 use Rattle.std.proofs.Common.{ap, ◌∙◌}
 use Rattle.octet_model.specs.Traces.{trace_of}
 use Rattle.octet_top.specs.Slices.{is_match}
-use Rattle.octet_top.proofs.Matches.{result_by}
+use Rattle.octet_top.proofs.answering.Matches.{result_by}
 use Rattle.octet_top.proofs.stop.find_with.Goals as goal
 
 pub returns-clause-found : goal.returns-clause-found

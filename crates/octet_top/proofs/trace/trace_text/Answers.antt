@@ -6,7 +6,7 @@ use Rattle.octet_replay.specs.TracerState.{TracerState, TellsNext}
 use Rattle.octet_replay.proofs.lemmas.Traces.{take_told}
 use Rattle.octet_top.specs.Answer.{place_text}
 use Rattle.octet_top.specs.EventTexts.{event_text, trace_text}
-use Rattle.octet_top.proofs.Tracing.{one_more_told}
+use Rattle.octet_top.proofs.answering.Tracing.{one_more_told}
 use Rattle.octet_top.proofs.trace.trace_text.Goals as goal
 
 pub loop-place-preserved : goal.loop-place-preserved

@@ -1,5 +1,5 @@
 use Rattle.octet_top.specs.Request.{shown_task}
-use Rattle.octet_top.proofs.Found.{run_read}
+use Rattle.octet_top.proofs.answering.Found.{run_read}
 use Rattle.octet_top.proofs.with_runtime.run_script.Goals as goal
 
 pub returns-in-Ok : goal.returns-in-Ok

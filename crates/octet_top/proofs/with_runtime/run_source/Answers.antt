@@ -3,8 +3,8 @@ use Rattle.std.proofs.lemmas.Result.{IfOk-weaker}
 use Rattle.octet_top.specs.Answer.{answer_of, writes_file}
 use Rattle.octet_top.specs.Request.{shown_task}
 use Rattle.octet_top.specs.Commands.{RunAnswers}
-use Rattle.octet_top.proofs.Lengths.{first_file}
-use Rattle.octet_top.proofs.Recorded.{recorded_short, recorded_whole}
+use Rattle.octet_top.proofs.writing.Lengths.{first_file}
+use Rattle.octet_top.proofs.answering.Recorded.{recorded_short, recorded_whole}
 use Rattle.octet_top.proofs.with_runtime.run_source.Goals as goal
 
 pub outcome_text-requires-clause-ends : goal.outcome_text-requires-clause-ends

@@ -2,7 +2,7 @@ use Rattle.std.proofs.Common.{Some, sym, subst}
 use Rattle.octet_top.specs.declared.request.Request.{Request}
 use Rattle.octet_top.specs.Request.{shown}
 use Rattle.octet_top.specs.Serving.{IsServed}
-use Rattle.octet_top.proofs.Found.{generated_reply}
+use Rattle.octet_top.proofs.answering.Found.{generated_reply}
 use Rattle.octet_top.proofs.with_runtime.serve_request.Goals as goal
 
 pub returns-in-Live : goal.returns-in-Live

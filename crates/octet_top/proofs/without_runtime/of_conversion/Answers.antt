@@ -1,4 +1,4 @@
-use Rattle.octet_top.proofs.Found.{conversion_read, conversion_stop}
+use Rattle.octet_top.proofs.answering.Found.{conversion_read, conversion_stop}
 use Rattle.octet_top.proofs.without_runtime.of_conversion.Goals as goal
 
 pub returns-in-Ok : goal.returns-in-Ok

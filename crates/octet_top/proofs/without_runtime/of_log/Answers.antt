@@ -1,4 +1,4 @@
-use Rattle.octet_top.proofs.Found.{log_read}
+use Rattle.octet_top.proofs.answering.Found.{log_read}
 use Rattle.octet_top.proofs.without_runtime.of_log.Goals as goal
 
 pub returns-in-Ok : goal.returns-in-Ok

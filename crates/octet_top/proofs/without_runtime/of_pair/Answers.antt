@@ -1,5 +1,5 @@
 use Rattle.octet_top.specs.Request.{name_in}
-use Rattle.octet_top.proofs.Found.{both_read, both_stop}
+use Rattle.octet_top.proofs.answering.Found.{both_read, both_stop}
 use Rattle.octet_top.proofs.without_runtime.of_pair.Goals as goal
 
 pub returns-in-Ok : goal.returns-in-Ok

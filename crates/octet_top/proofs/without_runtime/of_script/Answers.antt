@@ -1,4 +1,4 @@
-use Rattle.octet_top.proofs.Found.{script_read}
+use Rattle.octet_top.proofs.answering.Found.{script_read}
 use Rattle.octet_top.proofs.without_runtime.of_script.Goals as goal
 
 pub returns-in-Ok : goal.returns-in-Ok

@@ -1,8 +1,8 @@
 use Rattle.std.proofs.Common.{◌∙◌, ap}
 use Rattle.octet_script.specs.Parsing.{Draft, fuel_of}
 use Rattle.octet_script.specs.Building.{draft}
-use Rattle.octet_script.proofs.Steps.{closed_ok}
-use Rattle.octet_script.proofs.Valid.{script_valid}
+use Rattle.octet_script.proofs.judging.Steps.{closed_ok}
+use Rattle.octet_script.proofs.judging.Valid.{script_valid}
 use Rattle.octet_script.proofs.builder.Builder.finish.Goals as goal
 
 pub invariant_of-result : goal.invariant_of-result

@@ -1,5 +1,5 @@
 use Rattle.std.proofs.Common.{sym, arith}
-use Rattle.octet_script.proofs.Keywords.{is_object, is_pause, is_region, is_thread, is_while}
+use Rattle.octet_script.proofs.spelling.Keywords.{is_object, is_pause, is_region, is_thread, is_while}
 use Rattle.octet_script.proofs.keyword.Keyword.of.Goals as goal
 
 pub returns-in-object : goal.returns-in-object

@@ -2,7 +2,7 @@ use Rattle.std.proofs.Common.{◌∙◌, sym, ap}
 use Rattle.std.specs.Option.{is_some}
 use Rattle.octet_script.specs.Spelling.{declared_names}
 use Rattle.octet_script.specs.Parsing.{judged_name}
-use Rattle.octet_script.proofs.Judged.{name_twice}
+use Rattle.octet_script.proofs.judging.Judged.{name_twice}
 use Rattle.octet_script.proofs.line.Line.name_at.Goals as goal
 
 pub returns-then-is_some-clause-value : goal.returns-then-is_some-clause-value

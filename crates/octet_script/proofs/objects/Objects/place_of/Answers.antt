@@ -1,6 +1,6 @@
 use Rattle.std.proofs.Common.{◌∙◌, List, ap}
 use Rattle.octet_script.specs.Spelling.{Declaration, declared_names, object_named}
-use Rattle.octet_script.proofs.Declared.{place_is}
+use Rattle.octet_script.proofs.spelling.Declared.{place_is}
 use Rattle.octet_script.proofs.objects.Objects.place_of.Goals as goal
 
 pub returns : goal.returns

@@ -7,7 +7,7 @@ use Rattle.std.proofs.lemmas.List.Folds.{list_all-append}
 use Rattle.indexmap.proofs.CallerLemmas.{insert_entry-new}
 use Rattle.octet_model.specs.Name.{is_name}
 use Rattle.octet_script.specs.Spelling.{Declaration, declared_names, object_named}
-use Rattle.octet_script.proofs.Declared.{Entry, shown, no_key}
+use Rattle.octet_script.proofs.spelling.Declared.{Entry, shown, no_key}
 use Rattle.octet_script.proofs.objects.Objects.push.Goals as goal
 
 pub invariant_of-self-2 : goal.invariant_of-self-2

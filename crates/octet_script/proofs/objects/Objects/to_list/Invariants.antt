@@ -2,7 +2,7 @@ use Rattle.std.proofs.Common.{◌≡◌, ◌++◌, map, true}
 use Rattle.std.specs.List.{list_all}
 use Rattle.octet_model.specs.Name.{is_name}
 use Rattle.octet_script.specs.Spelling.{declaration}
-use Rattle.octet_script.proofs.Declared.{Entry, shown}
+use Rattle.octet_script.proofs.spelling.Declared.{Entry, shown}
 use Rattle.octet_script.proofs.objects.Objects.to_list.Given as goal
 
 abbrev pub invariant-loop-name : goal.invariant-loop-name

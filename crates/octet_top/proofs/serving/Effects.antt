@@ -16,10 +16,10 @@ use Rattle.octet_top.specs.Serving.{IsServed}
 use Rattle.octet_top.specs.Outputs.{written, ArePartlyWritten}
 use Rattle.octet_top.specs.Causes.{NoneFailed}
 use Rattle.octet_top.specs.Effects.{IsStatus, CountsFailures, IsUntouched, IsCut, IsDelivered, IsGivenAnswer, Leaves, LeavesLog, IsOneOf, KeepsOthers, KeepsFiles, HasFiles, MayLack, MayEndWith, IsCompleted, IsWellMet}
-use Rattle.octet_top.proofs.Causes.{Ending, Whole, CutShort, Lacking, IsFound, IsShort, ended}
-use Rattle.octet_top.proofs.Rows.{AllDone, NotOrdered, NotSerial, NotThere, HasItsEvent, JudgesRegions, IsDone, Refuses, is_refusal, answers_row, request_row, script_row, log_row, pair_row, run_row}
-use Rattle.octet_top.proofs.Due.{script_single, log_single, pair_single, not_of_another, comes}
-use Rattle.octet_top.proofs.Left.{get-other}
+use Rattle.octet_top.proofs.serving.Causes.{Ending, Whole, CutShort, Lacking, IsFound, IsShort, ended}
+use Rattle.octet_top.proofs.answering.Rows.{AllDone, NotOrdered, NotSerial, NotThere, HasItsEvent, JudgesRegions, IsDone, Refuses, is_refusal, answers_row, request_row, script_row, log_row, pair_row, run_row}
+use Rattle.octet_top.proofs.serving.Due.{script_single, log_single, pair_single, not_of_another, comes}
+use Rattle.octet_top.proofs.writing.Left.{get-other}
 
 -- files of other names stay
 other_of_written : (files : List (List ℕ × List ℕ)) (base : Files) (name : List ℕ) → ¬ IsOneOf name (map (λ file. file.0) files) → get (written files base) name ≡ get base name

@@ -17,8 +17,8 @@ use Rattle.octet_script.specs.Words.{lines, words_of_line}
 use Rattle.octet_script.specs.Spelling.{number_of, register_of, object_named}
 use Rattle.octet_script.specs.Parsing.{◌>>=◌, Draft, start, parsed, judged_lines, judged_line, judged_keyword, judged_arguments, keyword, word_count, is_misplaced, names_of, fuel_of, threads_of, command_of, arithmetic_command, number_at, with_command, with_object, with_fuel, with_thread}
 use Rattle.octet_script.specs.BrokenRules.{IsReached, IsRefused, IsLineOf, kinds, unless_some, or_else, first_fault}
-use Rattle.octet_script.proofs.Judged.{valid_bytes}
-use Rattle.octet_script.proofs.Steps.{bind_ok}
+use Rattle.octet_script.proofs.judging.Judged.{valid_bytes}
+use Rattle.octet_script.proofs.judging.Steps.{bind_ok}
 
 cond_yes : {A : Type 0} (b : Bool) (x y : A) → b ≡ true → cond b x y ≡ x
 cond_yes true x y is = refl

@@ -22,8 +22,8 @@ use Rattle.octet_threads.specs.Live.{AddsPieces, IsWritten, IsPartlyWritten}
 use Rattle.octet_top.specs.declared.inputs.Source.{Source}
 use Rattle.octet_top.specs.Delivery.{Act, Begin, Add, Finish, Say, Does, IsRefused}
 use Rattle.octet_top.specs.Live.{MakesThen, MakesSome, MakesPieces, RefusesPiece, MakesUnless, opening_acts, WritesLog, IsToldLive, IsCutLive, IsWrittenLive}
-use Rattle.octet_top.proofs.Parts.{log_parts, parts_acts}
-use Rattle.octet_top.proofs.Recorded.{faithful_few}
+use Rattle.octet_top.proofs.writing.Parts.{log_parts, parts_acts}
+use Rattle.octet_top.proofs.answering.Recorded.{faithful_few}
 
 -- calls that are made one after the other
 pub some_then : (acts more : List Act) (before mid after : DeskState) (result : Result (Unit {0}) DeskFault) → MakesSome acts before (Ok tt) mid → MakesSome more mid result after → MakesSome (acts ++ more) before result after

@@ -13,7 +13,7 @@ use Rattle.octet_script.specs.declared.cause.ScriptCause.TheVariants.{BadName, N
 use Rattle.octet_script.specs.Spelling.{number_of, is_number, register_of, register_words, object_named}
 use Rattle.octet_script.specs.Parsing.{◌>>=◌, Draft, keyword, word_count, is_misplaced, judged_line, judged_keyword, judged_arguments, judged_name, all_closed}
 use Rattle.octet_script.specs.declared.keyword.Keyword.{Keyword}
-use Rattle.octet_script.proofs.Cut.{position_some}
+use Rattle.octet_script.proofs.spelling.Cut.{position_some}
 
 pub bind_ok : {A B : Type 0} (r : Result A ScriptFault) (f : A → Result B ScriptFault) (y : B) → (r >>= f) ≡ Ok y → (x : A) × (r ≡ Ok x) × (f x ≡ Ok y)
 bind_ok (Ok x) f y is = (x, refl, is)

@@ -15,7 +15,7 @@ use Rattle.octet_script.specs.declared.cause.ScriptCause.TheVariants.{NameTwice}
 use Rattle.octet_script.specs.declared.cause.ScriptFault.TheVariants.{Refused}
 use Rattle.octet_script.specs.Words.{lines, is_line_end}
 use Rattle.octet_script.specs.Parsing.{judged_bytes, judged_name}
-use Rattle.octet_script.proofs.Cut.{position_some, position_none, split_none}
+use Rattle.octet_script.proofs.spelling.Cut.{position_some, position_none, split_none}
 
 pub valid_bytes : (text : List ℕ) → IsUtf8 text → judged_bytes text ≡ Ok tt
 valid_bytes text valid =

@@ -5,7 +5,7 @@ use Rattle.std.specs.List.{position, position_or_len}
 use Rattle.std.specs.Str.{bytes_eq}
 use Rattle.std.specs.Map.{lookup, keys_of}
 use Rattle.octet_script.specs.Spelling.{Declaration, declared_names, object_named}
-use Rattle.octet_script.proofs.Cut.{position_of_map, position_none}
+use Rattle.octet_script.proofs.spelling.Cut.{position_of_map, position_none}
 
 -- a name and the value that its object starts with, as they are kept
 abbrev pub Entry : Type 0

@@ -19,8 +19,8 @@ use Rattle.octet_top.specs.Inputs.{IsScriptRead, IsLogRead, IsPairRead, Refusal,
 use Rattle.octet_top.specs.Checked.{IsPairTaken, IsFittingTaken}
 use Rattle.octet_top.specs.Commands.{Answering, Answers, ScriptAnswers, LogAnswers, RunAnswers, RequestAnswers, Matching, PairReplays, Converts, IsGeneration}
 use Rattle.octet_top.specs.Replies.{Finds, Replies, IsNoSuccess, TakesFiles}
-use Rattle.octet_top.proofs.Steps.{as_short, both_as_short, one_keeps, both_keep}
-use Rattle.octet_top.proofs.Rows.{Refuses, not_done, script_refused, log_refused, pair_refused}
+use Rattle.octet_top.proofs.answering.Steps.{as_short, both_as_short, one_keeps, both_keep}
+use Rattle.octet_top.proofs.answering.Rows.{Refuses, not_done, script_refused, log_refused, pair_refused}
 
 found_done : {T : Type 0} (Reading : Result T Answer → Type 0) (Reply' : T → Answer → Type 0) (input : T) (before after : ℕ) (result : Result Reply NoMemory)
     → Reading (Ok input) → after ≡ before → IfOk result (λ reply. Reply' input (answer_of reply)) → Finds (Answering Reading Reply') before result after

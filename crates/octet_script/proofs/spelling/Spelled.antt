@@ -13,10 +13,10 @@ use Rattle.octet_model.specs.Script.{is_script, is_thread, is_command, is_nested
 use Rattle.octet_script.specs.declared.cause.ScriptFault.{ScriptFault}
 use Rattle.octet_script.specs.Spelling.{Spells, Contents, Declaration, declaration, contents}
 use Rattle.octet_script.specs.Parsing.{parsed, Gives}
-use Rattle.octet_script.proofs.Steps.{both_true}
-use Rattle.octet_script.proofs.Valid.{same_names}
-use Rattle.octet_script.proofs.Sound.{judged_spells}
-use Rattle.octet_script.proofs.Complete.{IsValidContents}
+use Rattle.octet_script.proofs.judging.Steps.{both_true}
+use Rattle.octet_script.proofs.judging.Valid.{same_names}
+use Rattle.octet_script.proofs.judging.Sound.{judged_spells}
+use Rattle.octet_script.proofs.judging.Complete.{IsValidContents}
 
 pub read_spells : (text : List ℕ) (r : Result Script ScriptFault) → Gives contents r (parsed text) → IfOk r (λ script. Spells text script)
 read_spells text (Ok script) given = judged_spells text (contents script) given

@@ -25,8 +25,8 @@ use Rattle.octet_script.specs.Words.{lines, words_of_line, is_filled}
 use Rattle.octet_script.specs.Spelling.{Word, Register, IsPart, Head, FuelHead, ObjectHead, head_form, command_form, thread_forms, script_forms, fuels, declared, Declaration, declared_names, IsFuel, Contents, AreForms, SpellsContents, number_of, register_of, object_named}
 use Rattle.octet_script.specs.Parsing.{◌>>=◌, Draft, start, keywords, named_in, keyword, word_count, is_misplaced, parsed, judged_bytes, judged_end, judged_lines, judged_line, judged_arguments, number_at, register_at, object_at, name_at, word_at, with_fuel, with_object, with_command, begun, added, closed, all_closed, command_of, arithmetic_command, threads_of, contents_of, fuel_of, names_of}
 use Rattle.octet_script.specs.Building.{IsValidSoFar}
-use Rattle.octet_script.proofs.Steps.{bind_ok, guard_ok, ok_or_ok, not_false, none_of, either_false, same_bytes, name_new, keyword_ok}
-use Rattle.octet_script.proofs.Valid.{start_valid, line_valid, none_yet, is_plain, with_plain}
+use Rattle.octet_script.proofs.judging.Steps.{bind_ok, guard_ok, ok_or_ok, not_false, none_of, either_false, same_bytes, name_new, keyword_ok}
+use Rattle.octet_script.proofs.judging.Valid.{start_valid, line_valid, none_yet, is_plain, with_plain}
 
 -- the word of a keyword
 abbrev pub arithmetic_word : Arithmetic → List ℕ

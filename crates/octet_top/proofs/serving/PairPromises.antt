@@ -23,11 +23,11 @@ use Rattle.octet_top.specs.Commands.{Answers, RequestAnswers, PairSays}
 use Rattle.octet_top.specs.Serving.{IsServed}
 use Rattle.octet_top.specs.Outputs.{IsWhole}
 use Rattle.octet_top.specs.Promises.{IsOrderedPair, VerifiesOrdered, IsReplayedOnThreads, ReplaysOnThreads, IsFoundRegions, FindsRegions, RepeatsRecordings, IsSlicedPair, SlicesPasts, StopsAtFirst, TracesOrders, IsTracedMisfit, TracesMisfits}
-use Rattle.octet_top.proofs.Causes.{has_cause}
-use Rattle.octet_top.proofs.Due.{pair_single, not_of_another}
-use Rattle.octet_top.proofs.Effects.{leaves}
-use Rattle.octet_top.proofs.Promises.{Gives, at_status, at_success}
-use Rattle.octet_top.proofs.Rows.{is_of_reading, not_of_reading, pair_unread}
+use Rattle.octet_top.proofs.serving.Causes.{has_cause}
+use Rattle.octet_top.proofs.serving.Due.{pair_single, not_of_another}
+use Rattle.octet_top.proofs.serving.Effects.{leaves}
+use Rattle.octet_top.proofs.serving.Promises.{Gives, at_status, at_success}
+use Rattle.octet_top.proofs.answering.Rows.{is_of_reading, not_of_reading, pair_unread}
 
 -- script and log were taken, and are of each other, and this is what the task says of them
 record IsTold (task : PairTask) (script log : List ℕ) (object : Option (List ℕ)) (contents : Option Contents) (answer : Answer) : Type 0 where

@@ -19,10 +19,10 @@ use Rattle.octet_model.specs.Name.{is_name, is_name_start, is_name_byte}
 use Rattle.octet_model.specs.Script.{is_command, is_thread, are_distinct}
 use Rattle.octet_script.specs.Words.{lines, is_line_end, is_comment_start, is_blank, is_filled, words, words_of_line, lines_with_words}
 use Rattle.octet_script.specs.Spelling.{Part, Word, Number, Register, Known, New, IsPart, FuelHead, ObjectHead, head_form, command_form, thread_forms, fuels, declared, Declaration, declaration, object_names, contents, AreForms, Spells, number_of, register_of, object_named, register_word, object_word, canonical_word, canonical_words, canonical_line, canonical_forms, canonical_text}
-use Rattle.octet_script.proofs.Cut.{filled}
-use Rattle.octet_script.proofs.Numbers.{numerals, read}
-use Rattle.octet_script.proofs.Steps.{apart, bytes_same, both_true, either_false}
-use Rattle.octet_script.proofs.Spelled.{script_says, script_threads}
+use Rattle.octet_script.proofs.spelling.Cut.{filled}
+use Rattle.octet_script.proofs.spelling.Numbers.{numerals, read}
+use Rattle.octet_script.proofs.judging.Steps.{apart, bytes_same, both_true, either_false}
+use Rattle.octet_script.proofs.spelling.Spelled.{script_says, script_threads}
 
 -- digits, letters and _ are between these
 abbrev within : ℕ → Bool

@@ -11,7 +11,7 @@ use Rattle.octet_model.specs.Orders.{IsFaithful}
 use Rattle.octet_model.proofs.lemmas.LogLength.{faithful_log_is_short}
 use Rattle.octet_log.specs.declared.limits.TheConstants.{MAX_MARKS}
 use Rattle.octet_log.specs.v2.Pieces.{marks_in}
-use Rattle.octet_top.proofs.Lengths.{first_has_few}
+use Rattle.octet_top.proofs.writing.Lengths.{first_has_few}
 use Rattle.octet_machine.specs.Turns.{IsPlayed}
 use Rattle.octet_replay.specs.Laws.{IsWholeOutcome}
 use Rattle.octet_replay.proofs.lemmas.WholeOutcomes.{whole}

@@ -10,9 +10,9 @@ use Rattle.octet_top.specs.Commands.{Answers, RequestAnswers}
 use Rattle.octet_top.specs.Effects.{IsGivenAnswer, LeavesLog, LeavesText, LeavesLine, CutsRun}
 use Rattle.octet_top.specs.Outputs.{written, IsCutShort, ArePartlyWritten}
 use Rattle.octet_top.specs.Serving.{IsServed}
-use Rattle.octet_top.proofs.Causes.{same_status}
-use Rattle.octet_top.proofs.Effects.{leaves, names_given}
-use Rattle.octet_top.proofs.Rows.{Refuses, is_refusal, not_done, script_refused}
+use Rattle.octet_top.proofs.serving.Causes.{same_status}
+use Rattle.octet_top.proofs.serving.Effects.{leaves, names_given}
+use Rattle.octet_top.proofs.answering.Rows.{Refuses, is_refusal, not_done, script_refused}
 
 -- an answer that is given whole has another status
 never_cut : (status : Status) → (status ≡ exit.Done) ⊎ (is_refusal status ≡ true) → ¬ ((code_of status ≡ code_of exit.Write) ⊎ (code_of status ≡ code_of exit.Memory))

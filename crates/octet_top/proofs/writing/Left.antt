@@ -22,7 +22,7 @@ use Rattle.octet_top.specs.Inputs.{TakesOne, TakesBoth}
 use Rattle.octet_top.specs.Replies.{TakesFiles}
 use Rattle.octet_top.specs.Delivery.{Act, Add, Finish, Say, Makes, IsRefused, pieces, pieces_within, file_acts, acts_of}
 use Rattle.octet_top.specs.Live.{MakesSome}
-use Rattle.octet_top.proofs.Parts.{parts_acts}
+use Rattle.octet_top.proofs.writing.Parts.{parts_acts}
 use Rattle.octet_top.specs.Outputs.{written, IsPartlyWritten, ArePartlyWritten, IsWhole, IsCutShort}
 
 -- what the calls of an answer leave, by how the last of them ended

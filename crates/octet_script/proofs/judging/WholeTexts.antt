@@ -23,11 +23,11 @@ use Rattle.octet_script.specs.Words.{lines, is_line_end, words_of_line}
 use Rattle.octet_script.specs.Parsing.{◌>>=◌, Draft, start, parsed, judged_lines, judged_line, judged_arguments, judged_end, keyword, word_count, names_of, fuel_of, threads_of, number_at, register_at, object_at, name_at, with_fuel, with_command, begun, added, closed, all_closed, command_of, arithmetic_command}
 use Rattle.octet_script.specs.BrokenRules.{IsReached, IsRefused}
 use Rattle.octet_script.specs.WholeTexts.{IsAccepted, IsThreadLine, IsEndLine, first_of, IsOpener, Body, Nothing, Plain, Nested, lines_of, IsBody, IsBodyAfter, LeaveOpen, LeaveNothingOpen}
-use Rattle.octet_script.proofs.Judged.{valid_bytes}
-use Rattle.octet_script.proofs.Steps.{bind_ok, closed_ok, keyword_ok}
-use Rattle.octet_script.proofs.Valid.{start_valid, lines_valid, is_plain, with_plain}
-use Rattle.octet_script.proofs.Sound.{keyword_word, word_of_keyword}
-use Rattle.octet_script.proofs.BrokenRules.{open_thread, bad_end}
+use Rattle.octet_script.proofs.judging.Judged.{valid_bytes}
+use Rattle.octet_script.proofs.judging.Steps.{bind_ok, closed_ok, keyword_ok}
+use Rattle.octet_script.proofs.judging.Valid.{start_valid, lines_valid, is_plain, with_plain}
+use Rattle.octet_script.proofs.judging.Sound.{keyword_word, word_of_keyword}
+use Rattle.octet_script.proofs.judging.BrokenRules.{open_thread, bad_end}
 
 pub not_utf8 : (text : List ℕ) (bytes : ℕ) → IsValidUpTo text bytes → parsed text ≡ Err (Refused (length (lines (take bytes text))) NotUtf8)
 not_utf8 text bytes valid =

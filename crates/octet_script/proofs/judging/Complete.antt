@@ -17,10 +17,10 @@ use Rattle.octet_script.specs.declared.cause.ScriptCause.TheVariants.{NoThread}
 use Rattle.octet_script.specs.Words.{lines, words_of_line, is_filled}
 use Rattle.octet_script.specs.Spelling.{Word, IsPart, Head, FuelHead, ObjectHead, head_form, command_form, thread_forms, fuels, declared, Declaration, declared_names, IsFuel, Contents, AreForms, SpellsContents, object_named}
 use Rattle.octet_script.specs.Parsing.{◌>>=◌, Draft, start, parsed, judged_end, judged_lines, judged_line, with_fuel, with_command, with_thread, added, all_closed, threads_of, contents_of, fuel_of, names_of}
-use Rattle.octet_script.proofs.Judged.{valid_bytes}
-use Rattle.octet_script.proofs.Steps.{apart, both_true, either_false}
-use Rattle.octet_script.proofs.Sound.{started_threads}
-use Rattle.octet_script.proofs.Valid.{none_yet, is_plain, with_plain, plain_nested, loop_nested, branch_nested}
+use Rattle.octet_script.proofs.judging.Judged.{valid_bytes}
+use Rattle.octet_script.proofs.judging.Steps.{apart, both_true, either_false}
+use Rattle.octet_script.proofs.judging.Sound.{started_threads}
+use Rattle.octet_script.proofs.judging.Valid.{none_yet, is_plain, with_plain, plain_nested, loop_nested, branch_nested}
 
 -- a command's line is judged to be that command
 command_judged : (p : Draft) (line : ℕ) (c : Command) (first : List ℕ) (others : List (List ℕ)) → p.started ≡ true → AllZip (IsPart (names_of p)) (command_form c) (first ∷ others) → judged_line p line (first ∷ others) ≡ with_command p line c

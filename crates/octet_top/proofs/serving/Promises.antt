@@ -15,15 +15,15 @@ use Rattle.octet_top.specs.Commands.{Answers, Records, RequestAnswers, second_by
 use Rattle.octet_top.specs.Serving.{IsServed}
 use Rattle.octet_top.specs.Outputs.{IsWhole}
 use Rattle.octet_top.specs.Promises.{RunsAsPicked, RunsWithExactTotals, IsConversion, ConvertsLogs, IsGeneratedRun, GeneratesFaithfully}
-use Rattle.octet_top.proofs.Recorded.{recorded_faithfully}
-use Rattle.octet_top.proofs.Causes.{same_status}
-use Rattle.octet_top.proofs.Effects.{leaves}
+use Rattle.octet_top.proofs.answering.Recorded.{recorded_faithfully}
+use Rattle.octet_top.proofs.serving.Causes.{same_status}
+use Rattle.octet_top.proofs.serving.Effects.{leaves}
 use Rattle.octet_top.specs.Effects.{Leaves}
 use Rattle.octet_model.specs.declared.outcome.Outcome.{Outcome}
 use Rattle.octet_model.specs.Orders.{IsFaithful, journals_after}
 use Rattle.octet_replay.proofs.lemmas.OneAnswer.{faithful}
-use Rattle.octet_top.proofs.Rows.{not_done, script_refused, pair_refused}
-use Rattle.octet_top.proofs.Left.{get-inserted, get-other}
+use Rattle.octet_top.proofs.answering.Rows.{not_done, script_refused, pair_refused}
+use Rattle.octet_top.proofs.writing.Left.{get-inserted, get-other}
 use Rattle.octet_script.specs.Spelling.{canonical_text}
 use Rattle.std.specs.List.{sum_by}
 use Rattle.std.proofs.lemmas.List.{length-map}

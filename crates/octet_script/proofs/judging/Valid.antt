@@ -24,8 +24,8 @@ use Rattle.octet_script.specs.Words.{words_of_line}
 use Rattle.octet_script.specs.Spelling.{Declaration, declaration, declared_names, object_named, number_of, register_of}
 use Rattle.octet_script.specs.Parsing.{◌>>=◌, Draft, start, is_misplaced, judged_lines, judged_line, judged_arguments, number_at, register_at, object_at, name_at, word_at, with_fuel, with_object, with_command, with_thread, begun, added, closed, all_closed, command_of, arithmetic_command, threads_of, fuel_of, names_of}
 use Rattle.octet_script.specs.Building.{IsValidSoFar}
-use Rattle.octet_script.proofs.Cut.{position_none}
-use Rattle.octet_script.proofs.Steps.{apart, bind_ok, guard_ok, ok_or_ok, closed_ok, not_false, either_false, name_new, number_small, register_small, object_there, keyword_ok}
+use Rattle.octet_script.proofs.spelling.Cut.{position_none}
+use Rattle.octet_script.proofs.judging.Steps.{apart, bind_ok, guard_ok, ok_or_ok, closed_ok, not_false, either_false, name_new, number_small, register_small, object_there, keyword_ok}
 
 pub start_valid : IsValidSoFar start
 start_valid = record {

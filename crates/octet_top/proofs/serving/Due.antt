@@ -26,8 +26,8 @@ use Rattle.octet_top.specs.Request.{Request, OfScript, OfLog, OfPair, Convert, R
 use Rattle.octet_top.specs.Inputs.{◌>>=◌, IsTaken, IsParsed, IsDecoded, IsChosen, IsScriptRead, IsLogRead, IsScriptChosen, IsPairRead}
 use Rattle.octet_top.specs.Serving.{IsServed}
 use Rattle.octet_top.specs.Causes.{IsDue, NoneFailed}
-use Rattle.octet_top.proofs.Causes.{Ending, Whole, CutShort, Lacking, ended}
-use Rattle.octet_top.proofs.Rows.{PairRow, AllDone, NotOrdered, NotSerial, NotThere, has_event, script_row, log_row, pair_row, run_row}
+use Rattle.octet_top.proofs.serving.Causes.{Ending, Whole, CutShort, Lacking, ended}
+use Rattle.octet_top.proofs.answering.Rows.{PairRow, AllDone, NotOrdered, NotSerial, NotThere, has_event, script_row, log_row, pair_row, run_row}
 use Rattle.octet_top.specs.Commands.{Answering, Answers, RequestAnswers, IsAnswer, ScriptAnswers, LogAnswers, Matching, PairReplays, PairAnswers, Converts, ConvertAnswers, RunAnswers}
 
 -- a step ends in one way

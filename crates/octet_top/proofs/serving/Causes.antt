@@ -17,16 +17,16 @@ use Rattle.octet_top.specs.Commands.{Answers, IsAnswer}
 use Rattle.octet_top.specs.Replies.{Replies}
 use Rattle.octet_top.specs.Delivery.{Act, Begin, Add, Finish, Say, Does, Makes, IsRefused, acts_of, code_given, IsGiven}
 use Rattle.octet_top.specs.Live.{MakesSome, IsToldLive, IsWrittenLive, IsRunLive}
-use Rattle.octet_top.proofs.Parts.{log_parts, parts_acts}
-use Rattle.octet_top.proofs.LiveMade.{log_some, refused_log}
+use Rattle.octet_top.proofs.writing.Parts.{log_parts, parts_acts}
+use Rattle.octet_top.proofs.writing.LiveMade.{log_some, refused_log}
 use Rattle.octet_top.specs.Serving.{IsReplied, IsServed}
 use Rattle.octet_top.specs.Effects.{AsksRun, LeavesLog}
 use Rattle.octet_top.specs.Inputs.{IsScriptRead}
 use Rattle.octet_top.specs.Causes.{IsCause}
 use Rattle.octet_top.specs.Outputs.{IsPartlyWritten, IsWhole, IsCutShort}
-use Rattle.octet_top.proofs.Left.{IsLeft, Holds, some_is, some_of, joined, held_called, taken_held, answer_left, told_left, cut_left}
-use Rattle.octet_top.proofs.LiveFiles.{parts_joined, live_file}
-use Rattle.octet_top.proofs.Rows.{is_refusal, answers_row}
+use Rattle.octet_top.proofs.writing.Left.{IsLeft, Holds, some_is, some_of, joined, held_called, taken_held, answer_left, told_left, cut_left}
+use Rattle.octet_top.proofs.writing.LiveFiles.{parts_joined, live_file}
+use Rattle.octet_top.proofs.answering.Rows.{is_refusal, answers_row}
 
 -- the status of a code
 abbrev pub of_code : ℕ → Status

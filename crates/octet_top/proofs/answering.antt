@@ -1,0 +1,7 @@
+pub mod Rows
+pub mod Found
+pub mod Checking
+pub mod Recorded
+pub mod Tracing
+pub mod Steps
+pub mod Matches

@@ -1,0 +1,5 @@
+pub mod Causes
+pub mod Due
+pub mod Effects
+pub mod Promises
+pub mod PairPromises

@@ -1,0 +1,7 @@
+pub mod Made
+pub mod Left
+pub mod Cut
+pub mod Lengths
+pub mod LiveFiles
+pub mod LiveMade
+pub mod Parts
