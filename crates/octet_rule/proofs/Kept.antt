@@ -1,23 +1,14 @@
 -- A step that is lawful in each state that the seat's view allows keeps the rule.
-use Rattle.std.proofs.Common.{◌≡◌, ◌≢◌, ℕ, ◌≤◌, ⊎_elim, Bool, true, List, [], ◌∷◌, length, get_or, set, sym, refl, ap, ◌∙◌, subst, arith}
-use mathlib.Core.Option.{some}
-use lib.ListN.{get_elem?}
+use Rattle.std.proofs.Common.{◌≡◌, ◌≢◌, ℕ, true, List, length, get_or, set, sym, refl, ap, ◌∙◌, arith}
 use Rattle.atomic_table.specs.Table.{State, Me, keeps, Allows}
-use Rattle.atomic_table.proofs.Lists.{at_set}
-use Rattle.octet_model.specs.declared.event.Event.{Event}
 use Rattle.octet_model.specs.Machine.{journal_of}
 use Rattle.octet_state.specs.State.{Thread, ProtocolState, thread_of, words}
 use Rattle.octet_state.specs.Steps.{Kind, found, told, after, made, ended_by, step}
 use Rattle.octet_state.specs.Laws.{IsLawful}
-use Rattle.octet_rule.specs.Views.{SeatView, stepped_by}
-use Rattle.octet_rule.specs.Rule.{IsSeenBy, AreJoined, IsSeated, IsRuled, IsRuledStep, KeepsRule, Steps}
-
--- threads that joined back, while these stay as they are
-pub joined_same : (s next : ProtocolState) (has_joined : ℕ → Bool) → ((u : ℕ) → has_joined u ≡ true → (thread_of next u ≡ thread_of s u) × (journal_of next.journals u ≡ journal_of s.journals u))
-    → (seats : List (ℕ × List Event)) → AreJoined s has_joined seats → AreJoined next has_joined seats
-joined_same s next has_joined same [] those = tt
-joined_same s next has_joined same (x ∷ xs) those = let e = same x.0 those.0 in
-    (those.0, ap (λ (y : Thread). y.phase) e.0 ∙ those.1, e.1 ∙ those.2, joined_same s next has_joined same xs those.3)
+use Rattle.octet_seats.specs.Seats.{Stay}
+use Rattle.octet_seats.proofs.lemmas.Seats.{seats_stepped}
+use Rattle.octet_rule.specs.Views.{SeatView, facts_of, stepped_by}
+use Rattle.octet_rule.specs.Rule.{IsSeenBy, HasLeft, IsUnmade, IsRuled, IsRuledStep, KeepsRule, Steps}
 
 module _ (k : Kind) (t place : ℕ) (operation : ℕ → ℕ) (s : ProtocolState) (law : IsLawful k t place operation s) where
   -- the thread that steps is where its seat then knows it to be
@@ -55,16 +46,10 @@ Plays k me told next = (next.1 ≡ me.1) × Steps k me.0 told next.0
 abbrev as_known : (threads : ℕ) (starts : List ℕ) (table : State (Unit {0}) SeatView) (r : IsRuled threads starts table) (v : SeatView) → IsSeenBy v r.state → IsRuled v.threads v.starts table
 as_known threads starts table r v seen = record {
   state = r.state;
-  seat_of = r.seat_of;
-  seats_made = r.seats_made;
-  has_joined = r.has_joined;
   lie = r.lie;
   sound = r.sound;
   as_many = seen.as_many;
   began = seen.began;
-  few = let a = r.few in let b = r.as_many in let c = seen.as_many in omega arith;
-  not_joined = r.not_joined;
-  not_made = r.not_made;
   seats = r.seats;
 }
 
@@ -78,56 +63,33 @@ pub tells : (threads : ℕ) (starts : List ℕ) (slots id : ℕ) (me : Me (Unit 
     → IsLawful k me.0.number place operation s × (tell (found k me.0.number s) ≡ told k me.0.number s))
     → Allows (IsRuled threads starts) slots id me place operation (λ word. Plays k me (tell word))
 tells threads starts slots id me place operation tell k live lawful table r _ at _ =
-    let v : SeatView = me.0 in let t : ℕ = v.number in let s : ProtocolState = r.state in let mine = r.seats id v at live in
+    let v : SeatView = me.0 in let t : ℕ = v.number in let s : ProtocolState = r.state in let mine = r.seats.seated id v at live in
     let both = lawful s mine.seen r.as_many (as_many_cells threads starts table r) in let law : IsLawful k t place operation s = both.0 in let next : ProtocolState = step k t s in
     let at_place : ℕ = get_or table.words place 0 in
     let word : at_place ≡ found k t s = ap (λ (z : List ℕ). get_or z place 0) r.lie ∙ law.does.finds in
     let is_told : tell at_place ≡ told k t s = ap tell word ∙ both.1 in
     let w : SeatView = stepped_by k (tell at_place) v in
     let seen_after : IsSeenBy w next = seen_by_stepper k t place operation s law v (tell at_place) refl is_told mine.seen in
-    let not_me : (u : ℕ) → r.has_joined u ≡ true → u ≢ t = λ u has_joined e. let a = mine.here in let b : r.has_joined t ≡ true = subst (λ (z : ℕ). r.has_joined z ≡ true) e has_joined in cc in
-    let kept : (u : ℕ) → r.has_joined u ≡ true → (thread_of next u ≡ thread_of s u) × (journal_of next.journals u ≡ journal_of s.journals u) =
-    λ u has_joined. (law.does.others u (not_me u has_joined), law.does.their_journals u (not_me u has_joined)) in
-    let within = mine.within in
-    let rule_after : (n : ℕ) (l ws : List ℕ) → r.seats_made ≤ n → length next.threads ≡ n → next.starts ≡ l → ws ≡ words next
-    → IsRuled n l record { words = ws; homes = table.homes; views = set table.views id w } = λ n l ws few as_many began lie. record {
+    let stay : Stay facts_of (λ y. IsSeenBy y s) (λ y. IsSeenBy y next) (HasLeft s) (HasLeft next) (IsUnmade s) (IsUnmade next) t = record {
+      seen = seen_by_other k t place operation s law;
+      left = λ u journal ne had. (ap (λ (y : Thread). y.phase) (law.does.others u ne) ∙ had.0, law.does.their_journals u ne ∙ had.1);
+      unmade = λ u ne had. (law.does.others u ne ∙ had.0, law.does.their_journals u ne ∙ had.1);
+    } in
+    let rule_after : (n : ℕ) (l ws : List ℕ) → length next.threads ≡ n → next.starts ≡ l → ws ≡ words next
+    → IsRuled n l record { words = ws; homes = table.homes; views = set table.views id w } = λ n l ws as_many began lie. record {
       state = next;
-      seat_of = r.seat_of;
-      seats_made = r.seats_made;
-      has_joined = r.has_joined;
       lie = lie;
       sound = law.sound;
       as_many = as_many;
       began = began;
-      few = few;
-      not_joined = r.not_joined;
-      not_made = λ u h. let ne : u ≢ t = λ e. omega arith in (law.does.others u ne ∙ (r.not_made u h).0, law.does.their_journals u ne ∙ (r.not_made u h).1);
-      seats = λ j y e live'. ⊎_elim
-          (λ (p : (j ≡ id) × (w ≡ y)). subst (λ (z : ℕ × SeatView). IsSeated next r.seat_of r.seats_made r.has_joined z.0 z.1) (λ i. (sym p.0 i, p.1 i)) record {
-            within = mine.within;
-            own = mine.own;
-            here = mine.here;
-            seen = seen_after;
-            counted = mine.counted;
-            are_joined = λ z. joined_same s next r.has_joined kept v.joined (mine.are_joined z);
-            apart = mine.apart;
-          })
-          (λ (p : (j ≢ id) × (get_elem? table.views j ≡ some y)). let its = r.seats j y p.1 live' in record {
-            within = its.within;
-            own = its.own;
-            here = its.here;
-            seen = seen_by_other k t place operation s law y (λ e. p.0 (sym its.own ∙ (ap r.seat_of e ∙ mine.own))) its.seen;
-            counted = its.counted;
-            are_joined = λ z. joined_same s next r.has_joined kept y.joined (its.are_joined z);
-            apart = its.apart;
-          })
-          (at_set table.views id j w y e);
+      seats = seats_stepped facts_of (λ y. IsSeenBy y s) (HasLeft s) (IsUnmade s) (length s.threads) table.views r.seats id v at live
+          (λ y. IsSeenBy y next) (HasLeft next) (IsUnmade next) w (length next.threads) law.does.threads refl seen_after stay;
     } in
     let known = as_known threads starts table r v mine.seen in (
       w,
       keeps,
       tt,
-      rule_after threads starts (set table.words place (operation at_place)) r.few (law.does.threads ∙ r.as_many) (law.does.starts ∙ r.began)
+      rule_after threads starts (set table.words place (operation at_place)) (law.does.threads ∙ r.as_many) (law.does.starts ∙ r.began)
           (ap (λ (z : List ℕ). set z place (operation at_place)) r.lie ∙ (ap (λ (z : ℕ). set (words s) place (operation z)) word ∙ law.does.leaves)),
       (
         refl,
@@ -144,7 +106,7 @@ tells threads starts slots id me place operation tell k live lawful table r _ at
             has = at;
             rule = known;
             is_before = refl;
-            rule_after = rule_after v.threads v.starts (words next) known.few (law.does.threads ∙ mine.seen.as_many) (law.does.starts ∙ mine.seen.began) refl;
+            rule_after = rule_after v.threads v.starts (words next) (law.does.threads ∙ mine.seen.as_many) (law.does.starts ∙ mine.seen.began) refl;
             is_after = refl;
           };
         },

@@ -1,15 +1,15 @@
 -- The words as they are laid out at first.
-use Rattle.std.proofs.Common.{◌≡◌, ℕ, zero, suc, ◌+◌, ◌*◌, ◌<◌, ◌≤◌, false, List, [], ◌∷◌, ◌++◌, map, length, get_or, take, replicate, sym, refl, ap, ◌∙◌, subst, arith, length-append}
-use mathlib.Core.Option.{some, some-injective, some-ne-none}
-use lib.ListN.{get_elem?}
+use Rattle.std.proofs.Common.{◌≡◌, ℕ, zero, suc, ◌+◌, ◌*◌, ◌<◌, ◌≤◌, List, [], ◌∷◌, ◌++◌, map, length, get_or, take, replicate, sym, refl, ap, ◌∙◌, arith, length-append}
 use Rattle.std.proofs.lemmas.List.{length-replicate, length-map}
 use Rattle.atomic_table.specs.Table as table
 use Rattle.octet_state.specs.declared.state_word.StateWord.TheVariants.{WrEx}
 use Rattle.octet_state.specs.State.{Line, laid_out, alone, status_line, object_lines, resting, unstarted, words, opening}
 use Rattle.octet_state.proofs.lemmas.Laws.{opening_is_sound}
 use Rattle.octet_model.proofs.lemmas.Fronts.{no_journal}
-use Rattle.octet_rule.specs.Views.{SeatView}
-use Rattle.octet_rule.specs.Rule.{IsSeated, IsRuled, first_view}
+use Rattle.octet_seats.proofs.lemmas.Rows.{take_whole}
+use Rattle.octet_seats.proofs.lemmas.Seats.{first_seat}
+use Rattle.octet_rule.specs.Views.{facts_of}
+use Rattle.octet_rule.specs.Rule.{IsSeenBy, HasLeft, IsUnmade, IsRuled, first_view}
 
 -- the lines of so many threads that have not started, and of objects that thread 0 owns
 abbrev pub thread_lines : ℕ → List Line
@@ -62,49 +62,22 @@ state_lines : (starts : List ℕ) → object_lines (replicate (length starts) (W
 state_lines [] = refl
 state_lines (start ∷ starts) = ap (λ l. (0, start) ∷ l) (state_lines starts)
 
-take_whole : {A : Type 0} (xs : List A) → take (length xs) xs ≡ xs
-take_whole [] = refl
-take_whole (x ∷ xs) = ap (λ l. x ∷ l) (take_whole xs)
-
 -- all lines are laid out
 pub all_laid : (ws starts : List ℕ) (threads objects : ℕ) → objects ≡ length starts → ws ≡ laid_out (alone 0 ∷ (thread_lines threads ++ free_lines (take objects starts))) → ws ≡ words (opening threads starts)
 all_laid ws starts threads objects e is = is ∙ ((λ i. laid_out (alone 0 ∷ (sym (status_lines threads) i ++ free_lines ((ap (λ (n : ℕ). take n starts) e ∙ take_whole starts) i))))
     ∙ ap (λ l. laid_out (alone 0 ∷ (map status_line (replicate threads resting) ++ l))) (sym (state_lines starts)))
 
-at_first : (threads : ℕ) (starts : List ℕ) → 0 < threads → threads ≤ 16 → (seat : ℕ) (v : SeatView) → get_elem? (first_view threads starts ∷ []) seat ≡ some v → IsSeated (opening threads starts) (λ t. 0) 1 (λ t. false) seat v
-at_first threads starts more few zero v e = subst (IsSeated (opening threads starts) (λ t. 0) 1 (λ t. false) 0) (some-injective (first_view threads starts) v e) record {
-  within = omega arith;
-  own = refl;
-  here = refl;
-  seen = record {
-    sound = opening_is_sound threads starts more few;
-    as_many = length-replicate threads unstarted;
-    began = refl;
-    inside = let e = length-replicate threads unstarted in omega arith;
-    stands = all_same threads 0 unstarted;
-    has_made = no_journal (replicate threads unstarted) 0;
-  };
-  counted = λ z. refl;
-  are_joined = λ z. tt;
-  apart = λ z. tt;
-}
-at_first threads starts more few (suc seat) v e = absurd (some-ne-none v (sym e))
-
 -- the rule holds at first
 pub opens : (threads : ℕ) (starts ws : List ℕ) → 0 < threads → threads ≤ 16 → ws ≡ words (opening threads starts) → IsRuled threads starts (table.opening ws [] (first_view threads starts))
-opens threads starts ws more few is = record {
-  state = opening threads starts;
-  seat_of = λ t. 0;
-  seats_made = 1;
-  has_joined = λ t. false;
+opens threads starts ws more few is = let s = opening threads starts in let sound = opening_is_sound threads starts more few in let many : length s.threads ≡ threads = length-replicate threads unstarted in record {
+  state = s;
   lie = is;
-  sound = opening_is_sound threads starts more few;
-  as_many = length-replicate threads unstarted;
+  sound = sound;
+  as_many = many;
   began = refl;
-  few = omega arith;
-  not_joined = λ t h. refl;
-  not_made = λ t h. (all_same threads t unstarted, no_journal (replicate threads unstarted) t);
-  seats = λ seat v e live. at_first threads starts more few seat v e;
+  seats = first_seat facts_of (λ y. IsSeenBy y s) (HasLeft s) (IsUnmade s) (length s.threads) (first_view threads starts) refl
+      (record { sound = sound; as_many = many; began = refl; inside = omega arith; stands = all_same threads 0 unstarted; has_made = no_journal (replicate threads unstarted) 0 })
+      (omega arith) (λ t h. (all_same threads t unstarted, no_journal (replicate threads unstarted) t));
 }
 
 -- as many words as there are lines of eight

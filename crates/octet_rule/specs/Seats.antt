@@ -1,9 +1,10 @@
 -- What a clause says of words and seats.
-use Rattle.std.specs.Prelude.{◌≡◌, ℕ, ◌+◌, ◌<◌, List, [], ◌∷◌, map, length, slice_index_or}
+use Rattle.std.specs.Prelude.{◌≡◌, ℕ, ◌<◌, List, [], map, length, slice_index_or}
 use Rattle.octet_model.specs.declared.event.Event.{Event}
 use Rattle.octet_state.specs.declared.phase.Phase.TheVariants.{Off}
 use Rattle.octet_state.specs.State.{ProtocolState, thread_of, unstarted}
 use Rattle.octet_state.specs.Soundness.{IsSound}
+use Rattle.octet_seats.specs.Rows.{AreInRow}
 use Rattle.octet_rule.specs.Views.{SeatView}
 use Rattle.octet_rule.specs.Conditions.{IsResting}
 use Rattle.octet_rule.specs.declared.words.Seat.{Seat}
@@ -46,10 +47,12 @@ EachFresh words seats = (thread : ℕ) (none : Seat) → thread < length seats �
 abbrev pub EachRests : Words → List Seat → Type 0
 EachRests words seats = (thread : ℕ) (none : Seat) → thread < length seats → IsSeatOf words (slice_index_or seats thread none) × RestsAs thread (slice_index_or seats thread none)
 
+abbrev pub IsRestingSeat : Words → ℕ → Seat → Type 0
+IsRestingSeat words thread seat = BelongsTo words seat × RestsAs thread seat
+
 -- while seats join: those of the threads from this one on, in order
 abbrev pub AreResting : Words → ℕ → List Seat → Type 0
-AreResting words thread [] = Unit {0}
-AreResting words thread (seat ∷ seats) = BelongsTo words seat × RestsAs thread seat × AreResting words (thread + 1) seats
+AreResting words thread seats = AreInRow (IsRestingSeat words) thread seats
 
 -- what a seat leaves that joins thread 0's
 abbrev pub journal_left : Seat → ℕ × List Event

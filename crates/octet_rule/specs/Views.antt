@@ -3,6 +3,7 @@ use Rattle.std.specs.Prelude.{ℕ, suc, List, [], ◌∷◌, ◌++◌, Bool, tru
 use Rattle.octet_model.specs.declared.event.Event.{Event}
 use Rattle.octet_state.specs.State.{Thread, unstarted}
 use Rattle.octet_state.specs.Steps.{Kind, after, made, ended_by}
+use Rattle.octet_seats.specs.Seats.{SeatFacts}
 
 -- a step that was taken, and the word that it was told
 pub record Taken : Type 0 where
@@ -20,6 +21,10 @@ pub record SeatView : Type 0 where
   pub starts : List ℕ
   pub seats_made : ℕ
   pub joined : List (ℕ × List Event)
+
+-- what it tells of its seat
+abbrev pub facts_of : SeatView → SeatFacts (List Event)
+facts_of v = record { is_live = v.is_live; number = v.number; seats_made = v.seats_made; joined = v.joined }
 
 -- a seat whose thread has not started
 abbrev pub new_view : ℕ → ℕ → List ℕ → ℕ → SeatView

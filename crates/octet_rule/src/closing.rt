@@ -1,15 +1,13 @@
 //! The seats join into one, and the cells' values are read.
 ghost use Rattle.std.specs.Prelude.{◌≡◌, ◌+◌, ◌*◌, [], length, map, IfOk};
-ghost use Rattle.std.specs.Mem.Slots.{slots_items, slots_len, IsFull};
-ghost use Rattle.octet_rule.specs.Cells.{cells_in};
 ghost use Rattle.octet_rule.specs.Conditions.{IsResting};
 ghost use Rattle.octet_rule.specs.Views.{after_join};
 ghost use Rattle.octet_rule.specs.Seats.{view, threads_of, starts_of, BelongsTo, RestsAs, EachRests, AreResting, journal_left, Closes};
 
 use crate::plays;
 use crate::words::{Seat, Words};
-use atomic_table::Closed;
 use octet_model::{List, OutOfMemory};
+use octet_seats::read_cells;
 use std::alloc::{AllocError, Global};
 
 impl Words {
@@ -36,7 +34,8 @@ impl Words {
         } = self;
         let Seat { inner, .. } = first;
         let closed = table.close_with(inner);
-        let values = read_cells(alloc, &closed, threads, objects);
+        let first_cell = 8 * (1 + threads as usize) + 1;
+        let values = read_cells(alloc, &closed, first_cell, objects);
         closed.free();
         values
     }
@@ -67,22 +66,4 @@ impl Words {
             .shared
             .join_seat::<plays::JoinSeat>(&mut first.inner, inner);
     }
-}
-
-// The cells of `objects` objects, after the lines of `threads` threads.
-fn read_cells(
-    alloc: Global,
-    closed: &Closed<(), Global>,
-    threads: u8,
-    objects: u16,
-) -> Result<Vec<u64>, AllocError>
-    requires { IsFull closed.now.words × (slots_len closed.now.words ≡ 8 * (1 + (threads + objects))) }
-    ensures { IfOk result (λ values. values.items ≡ cells_in (slots_items closed.now.words) threads objects) }
-{
-    let mut values = Vec::new(alloc);
-    for object in 0..objects {
-        let place = 8 * (1 + (threads as usize + object as usize)) + 1;
-        values.push(closed.word(place))?;
-    }
-    Ok(values)
 }

@@ -1,6 +1,8 @@
 use Rattle.std.proofs.Common.{rules, ◌≡◌, ◌∙◌, ◌++◌, ◌∷◌, [], sym, ap, subst}
 use Rattle.octet_rule.specs.Views.{SeatView}
-use Rattle.octet_rule.proofs.Ending.{AreFresh, each_fresh, fresh_more}
+use Rattle.octet_rule.specs.Seats.{BelongsTo, IsFresh}
+use Rattle.octet_seats.proofs.lemmas.Rows.{row_more}
+use Rattle.octet_rule.proofs.Ending.{AreFresh, each_fresh}
 use Rattle.octet_rule.proofs.words.Words.split_all.Goals as goal
 
 pub loop-thread-preserved : goal.loop-thread-preserved
@@ -9,8 +11,10 @@ loop-thread-preserved c = let i = c.loop-thread.invariant in let f = c.split.ens
   (ap (λ (v : SeatView). v.number) f ∙ i.1.0, ap (λ (v : SeatView). v.thread) f ∙ i.1.1, ap (λ (v : SeatView). v.journal) f ∙ i.1.2, ap (λ (v : SeatView). v.trail) f ∙ i.1.3),
   ap (λ (v : SeatView). v.seats_made) f ∙ search rules,
   ap (λ (v : SeatView). v.joined) f ∙ i.3,
-  subst (AreFresh c.args.self.now 1) (sym e) (fresh_more c.args.self.now 1 c.loop-thread.thread c.loop-thread.seats.items c.split.result i.4 (search rules) g.0
-      (ap (λ (v : SeatView). v.number) g.1 ∙ i.2, ap (λ (v : SeatView). v.thread) g.1, ap (λ (v : SeatView). v.journal) g.1, ap (λ (v : SeatView). v.trail) g.1)),
+  subst (AreFresh c.args.self.now 1) (sym e) (row_more (λ t seat. BelongsTo c.args.self.now seat × IsFresh t seat) 1 c.loop-thread.thread c.loop-thread.seats.items c.split.result i.4 (search rules) (
+    g.0,
+    (ap (λ (v : SeatView). v.number) g.1 ∙ i.2, ap (λ (v : SeatView). v.thread) g.1, ap (λ (v : SeatView). v.journal) g.1, ap (λ (v : SeatView). v.trail) g.1),
+  )),
   search rules,
 )
 
