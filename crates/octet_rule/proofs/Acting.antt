@@ -1,5 +1,5 @@
 -- Each call acts by the operation of its step.
-use Rattle.std.proofs.Common.{◌≡◌, ℕ, ◌+◌, ◌-◌, ◌*◌, ◌/◌, ◌^◌, ◌<◌, ⊎_elim, true, false, List, length, IsTrue, ◌≢◌, sym, refl, ap, ◌∙◌, arith}
+use Rattle.std.proofs.Common.{◌≡◌, ℕ, ◌+◌, ◌-◌, ◌/◌, ◌^◌, ◌<◌, ⊎_elim, true, false, List, length, IsTrue, ◌≢◌, sym, refl, ap, ◌∙◌, arith}
 use Rattle.atomic_table.specs.Table.{State, Me, Step as TableStep, Allows}
 use Rattle.std.specs.Prelude.{bit_or, ◌==◌, ◌%◌}
 use prog.Atomic.{either}
@@ -11,7 +11,7 @@ use Rattle.octet_state.specs.declared.act.Mode.TheVariants.{Read, Write, Update}
 use Rattle.octet_state.specs.declared.phase.Phase.{Phase}
 use Rattle.octet_state.specs.declared.state_word.StateWord.TheVariants.{WrEx, ShInt}
 use Rattle.octet_state.specs.Words.{packed_state, packed_status}
-use Rattle.octet_state.specs.State.{status_place}
+use Rattle.octet_state.specs.State.{status_place, object_place}
 use Rattle.octet_state.specs.NextStep.{word_seen}
 use Rattle.octet_state.specs.Steps.{Kind, ToGlance, ToAnswer, ToBlock, ToUnblock, ToAsk, ToLook, ToLoad, ToRead, ToWrite, ToBump, ToClaim, ToSettle, ToDraw, ToFence, ToRaise, ToShare, shown, target, mode_of, claiming, settling, is_safe_point}
 use Rattle.octet_rule.specs.Views.{SeatView}
@@ -98,11 +98,11 @@ module _ (v : SeatView) (slots place : ℕ) where
   }
 
 module _ (threads : ℕ) (starts : List ℕ) (slots id : ℕ) (me : Me (Unit {0}) SeatView) (live : me.0.is_live ≡ true) where
-  at_state : (place object : ℕ) → me.0.threads ≡ threads → place ≡ 8 * (1 + (threads + object)) → place ≡ state_place me.0 object
-  at_state place object known is = is ∙ ap (λ (n : ℕ). 8 * (1 + (n + object))) (sym known)
+  at_state : (place object : ℕ) → me.0.threads ≡ threads → place ≡ object_place threads object → place ≡ state_place me.0 object
+  at_state place object known is = is ∙ ap (λ (n : ℕ). object_place n object) (sym known)
 
-  at_cell : (place object : ℕ) → me.0.threads ≡ threads → place ≡ 8 * (1 + (threads + object)) + 1 → place ≡ cell_place me.0 object
-  at_cell place object known is = is ∙ ap (λ (n : ℕ). 8 * (1 + (n + object)) + 1) (sym known)
+  at_cell : (place object : ℕ) → me.0.threads ≡ threads → place ≡ object_place threads object + 1 → place ≡ cell_place me.0 object
+  at_cell place object known is = is ∙ ap (λ (n : ℕ). object_place n object + 1) (sym known)
 
   pub glances : (place : ℕ) → me.0.thread.due ≢ Answer → IsTrue (is_safe_point me.0.thread.phase) → place ≡ status_place me.0.number
       → Allows (IsRuled threads starts) slots id me place (λ word. word) (Acts ToGlance (operation_on slots place 0 0) me)
@@ -140,37 +140,37 @@ module _ (threads : ℕ) (starts : List ℕ) (slots id : ℕ) (me : Me (Unit {0}
       acting (IsRuled threads starts) slots id me place (λ word. word) (ToLook (place / 8 - 1)) (operation_on slots place 0 0) (by_look me.0 slots place whom is)
       (allowed.looks threads starts slots id me live place whom due next is)
 
-  pub loads : (place object : ℕ) (mode : Mode) → me.0.thread.due ≡ Nothing → MayLoad object mode me.0.journal me.0.thread.phase → me.0.threads ≡ threads → object < length starts → place ≡ 8 * (1 + (threads + object))
+  pub loads : (place object : ℕ) (mode : Mode) → me.0.thread.due ≡ Nothing → MayLoad object mode me.0.journal me.0.thread.phase → me.0.threads ≡ threads → object < length starts → place ≡ object_place threads object
       → Allows (IsRuled threads starts) slots id me place (λ word. word) (Acts (ToLoad (place / 8 - (1 + me.0.threads)) mode) (operation_on slots place 0 0) me)
   loads place object mode due may known there is =
       acting (IsRuled threads starts) slots id me place (λ word. word) (ToLoad (place / 8 - (1 + me.0.threads)) mode) (operation_on slots place 0 0) (by_load me.0 slots place object mode (at_state place object known is))
       (allowed.loads threads starts slots id me live place object mode due may known there is)
 
-  pub reads : (place object : ℕ) → me.0.thread.due ≡ Nothing → MayPass object Read me.0.thread.phase → me.0.threads ≡ threads → place ≡ 8 * (1 + (threads + object)) + 1
+  pub reads : (place object : ℕ) → me.0.thread.due ≡ Nothing → MayPass object Read me.0.thread.phase → me.0.threads ≡ threads → place ≡ object_place threads object + 1
       → Allows (IsRuled threads starts) slots id me place (λ word. word) (Acts ToRead (operation_on slots place 0 0) me)
   reads place object due may known is =
       acting (IsRuled threads starts) slots id me place (λ word. word) ToRead (operation_on slots place 0 0) (by_read me.0 slots place object may (at_cell place object known is))
       (allowed.reads threads starts slots id me live place object due may is)
 
-  pub writes : (place object value : ℕ) → me.0.thread.due ≡ Nothing → MayPass object Write me.0.thread.phase → me.0.threads ≡ threads → place ≡ 8 * (1 + (threads + object)) + 1
+  pub writes : (place object value : ℕ) → me.0.thread.due ≡ Nothing → MayPass object Write me.0.thread.phase → me.0.threads ≡ threads → place ≡ object_place threads object + 1
       → Allows (IsRuled threads starts) slots id me place (λ word. value) (λ word. Acts (ToWrite value) (operation_on slots place value 0) me value)
   writes place object value due may known is =
       storing (IsRuled threads starts) slots id me place (λ word. value) (ToWrite value) (operation_on slots place value 0) value (by_write me.0 slots place object value may (at_cell place object known is))
       (allowed.writes threads starts slots id me live place object value due may is)
 
-  pub bumps : (place object amount : ℕ) → me.0.thread.due ≡ Nothing → MayPass object Update me.0.thread.phase → me.0.threads ≡ threads → place ≡ 8 * (1 + (threads + object)) + 1
+  pub bumps : (place object amount : ℕ) → me.0.thread.due ≡ Nothing → MayPass object Update me.0.thread.phase → me.0.threads ≡ threads → place ≡ object_place threads object + 1
       → Allows (IsRuled threads starts) slots id me place (λ word. (word + amount) % 2 ^ 64) (Acts (ToBump amount) (operation_on slots place amount 0) me)
   bumps place object amount due may known is =
       acting (IsRuled threads starts) slots id me place (λ word. (word + amount) % 2 ^ 64) (ToBump amount) (operation_on slots place amount 0) (by_bump me.0 slots place object amount may (at_cell place object known is))
       (allowed.bumps threads starts slots id me live place object amount due may is)
 
-  pub claims : (place old new object : ℕ) (mode : Mode) → me.0.thread.due ≡ Nothing → HoldsWord object mode old me.0.thread.phase → IsTrue (is_take (decision me.0)) → me.0.threads ≡ threads → place ≡ 8 * (1 + (threads + object)) → new ≡ packed_state (claiming me.0.number mode)
+  pub claims : (place old new object : ℕ) (mode : Mode) → me.0.thread.due ≡ Nothing → HoldsWord object mode old me.0.thread.phase → IsTrue (is_take (decision me.0)) → me.0.threads ≡ threads → place ≡ object_place threads object → new ≡ packed_state (claiming me.0.number mode)
       → Allows (IsRuled threads starts) slots id me place (λ word. either (word == old) new word) (Acts ToClaim (operation_on slots place old new) me)
   claims place old new object mode due holds takes known is stored =
       acting (IsRuled threads starts) slots id me place (λ word. either (word == old) new word) ToClaim (operation_on slots place old new) (by_claim me.0 slots place old new object mode holds (at_state place object known is) stored)
       (allowed.claims threads starts slots id me live place old new object mode due holds takes is stored)
 
-  pub settles : (place new object : ℕ) → me.0.thread.due ≡ Nothing → MaySettle me.0.threads object me.0.thread.phase → me.0.threads ≡ threads → place ≡ 8 * (1 + (threads + object)) → new ≡ packed_state (settling me.0.number (length me.0.journal) me.0.thread.phase)
+  pub settles : (place new object : ℕ) → me.0.thread.due ≡ Nothing → MaySettle me.0.threads object me.0.thread.phase → me.0.threads ≡ threads → place ≡ object_place threads object → new ≡ packed_state (settling me.0.number (length me.0.journal) me.0.thread.phase)
       → Allows (IsRuled threads starts) slots id me place (λ word. new) (λ word. Acts ToSettle (operation_on slots place new 0) me new)
   settles place new object due may known is stored =
       storing (IsRuled threads starts) slots id me place (λ word. new) ToSettle (operation_on slots place new 0) new (by_settle me.0 slots place new object may (at_state place object known is) stored)
@@ -184,13 +184,13 @@ module _ (threads : ℕ) (starts : List ℕ) (slots id : ℕ) (me : Me (Unit {0}
   fences due may =
       acting (IsRuled threads starts) slots id me 0 (λ word. word) ToFence (operation_on slots 0 0 0) (record { place = refl; first = refl; second = refl }) (allowed.fences threads starts slots id me live due may)
 
-  pub raises : (place old new object : ℕ) (mode : Mode) → me.0.thread.due ≡ Nothing → HoldsWord object mode old me.0.thread.phase → decision me.0 ≡ Raise → me.0.threads ≡ threads → place ≡ 8 * (1 + (threads + object)) → new ≡ packed_state (WrEx me.0.number)
+  pub raises : (place old new object : ℕ) (mode : Mode) → me.0.thread.due ≡ Nothing → HoldsWord object mode old me.0.thread.phase → decision me.0 ≡ Raise → me.0.threads ≡ threads → place ≡ object_place threads object → new ≡ packed_state (WrEx me.0.number)
       → Allows (IsRuled threads starts) slots id me place (λ word. either (word == old) new word) (Acts ToRaise (operation_on slots place old new) me)
   raises place old new object mode due holds says known is stored =
       acting (IsRuled threads starts) slots id me place (λ word. either (word == old) new word) ToRaise (operation_on slots place old new) (by_raise me.0 slots place old new object mode holds (at_state place object known is) stored)
       (allowed.raises threads starts slots id me live place old new object mode due holds says is stored)
 
-  pub shares : (place old new object : ℕ) → me.0.thread.due ≡ Nothing → HoldsWord object Read old me.0.thread.phase → IsTrue (is_share (decision me.0)) → me.0.threads ≡ threads → place ≡ 8 * (1 + (threads + object)) → new ≡ packed_state (ShInt me.0.number)
+  pub shares : (place old new object : ℕ) → me.0.thread.due ≡ Nothing → HoldsWord object Read old me.0.thread.phase → IsTrue (is_share (decision me.0)) → me.0.threads ≡ threads → place ≡ object_place threads object → new ≡ packed_state (ShInt me.0.number)
       → Allows (IsRuled threads starts) slots id me place (λ word. either (word == old) new word) (Acts ToShare (operation_on slots place old new) me)
   shares place old new object due holds says known is stored =
       acting (IsRuled threads starts) slots id me place (λ word. either (word == old) new word) ToShare (operation_on slots place old new) (by_share me.0 slots place old new object holds (at_state place object known is) stored)

@@ -3,7 +3,7 @@ use Rattle.std.proofs.Common.{◌≡◌, ℕ, zero, suc, ◌+◌, ◌*◌, ◌<�
 use Rattle.std.proofs.lemmas.List.{length-replicate, length-map}
 use Rattle.atomic_table.specs.Table as table
 use Rattle.octet_state.specs.declared.state_word.StateWord.TheVariants.{WrEx}
-use Rattle.octet_state.specs.State.{Line, laid_out, alone, status_line, object_lines, resting, unstarted, words, opening}
+use Rattle.octet_state.specs.State.{Line, laid_out, alone, status_line, object_lines, resting, unstarted, words, opening, object_place}
 use Rattle.octet_state.proofs.lemmas.Laws.{opening_is_sound}
 use Rattle.octet_model.proofs.lemmas.Fronts.{no_journal}
 use Rattle.octet_seats.proofs.lemmas.Rows.{take_whole}
@@ -85,7 +85,7 @@ laid_length : (lines : List Line) → length (laid_out lines) ≡ 8 * length lin
 laid_length [] = refl
 laid_length (line ∷ lines) = let e = laid_length lines in omega arith
 
-pub as_many_words : (ws starts : List ℕ) (threads : ℕ) → ws ≡ words (opening threads starts) → length ws ≡ 8 * (1 + (threads + length starts))
+pub as_many_words : (ws starts : List ℕ) (threads : ℕ) → ws ≡ words (opening threads starts) → length ws ≡ object_place threads (length starts)
 as_many_words ws starts threads is = ap (λ (l : List ℕ). length l) (is ∙ ((λ i. laid_out (alone 0 ∷ (status_lines threads i ++ state_lines starts i)))))
     ∙ (laid_length (alone 0 ∷ (thread_lines threads ++ free_lines starts))
     ∙ (let a = length-append (thread_lines threads) (free_lines starts) in let b : length (thread_lines threads) ≡ threads = length-replicate threads (9223372036854775808, 0) in let c : length (free_lines starts) ≡ length starts = length-map starts (λ start. (0, start)) in omega arith))

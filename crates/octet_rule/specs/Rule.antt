@@ -1,5 +1,5 @@
 -- The rule: between any two steps the words and the views of all seats are one sound state of the protocol.
-use Rattle.std.specs.Prelude.{◌≡◌, ℕ, ◌+◌, ◌*◌, ◌^◌, ◌<◌, List, [], true, false, length, slice_set}
+use Rattle.std.specs.Prelude.{◌≡◌, ℕ, ◌+◌, ◌^◌, ◌<◌, List, [], true, false, length, slice_set}
 use mathlib.Core.Option.{some, none}
 use lib.ListN.{get_elem?}
 use Rattle.atomic_table.specs.Table.{State, Me, Step as TableStep, step as table_step}
@@ -8,7 +8,7 @@ use Rattle.octet_model.specs.Machine.{journal_of}
 use Rattle.octet_state.specs.declared.phase.Phase.TheVariants.{Off}
 use Rattle.octet_state.specs.declared.state_word.StateWord.TheVariants.{WrEx, ShInt}
 use Rattle.octet_state.specs.Words.{packed_state, packed_status}
-use Rattle.octet_state.specs.State.{ProtocolState, thread_of, unstarted, words, counter_place, status_place}
+use Rattle.octet_state.specs.State.{ProtocolState, thread_of, unstarted, words, counter_place, status_place, object_place}
 use Rattle.octet_state.specs.Steps as steps
 use Rattle.octet_state.specs.NextStep.{word_seen}
 use Rattle.octet_state.specs.Steps.{Kind, May, step, ToAnswer, ToBlock, ToUnblock, ToAsk, ToLook, ToLoad, ToRead, ToWrite, ToBump, ToClaim, ToSettle, ToDraw, ToFence, ToRaise, ToShare, target, shown, mode_of, claiming, settling}
@@ -71,7 +71,7 @@ pub record Steps (k : Kind) (v : SeatView) (told : ℕ) (w : SeatView) : Type 0 
 
 -- where the state of an object lies, and its cell beside it
 abbrev pub state_place : SeatView → ℕ → ℕ
-state_place v object = 8 * (1 + (v.threads + object))
+state_place v object = object_place v.threads object
 
 abbrev pub cell_place : SeatView → ℕ → ℕ
 cell_place v object = state_place v object + 1
