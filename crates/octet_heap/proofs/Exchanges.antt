@@ -17,7 +17,7 @@ use Rattle.octet_state.specs.Steps.{ToClaim, ToRaise, ToShare, wins}
 use Rattle.octet_state.specs.NextStep.{changed, word_seen, exchange_of}
 use Rattle.octet_rule.specs.Views.{SeatView}
 use Rattle.octet_rule.specs.Rule.{Steps}
-use Rattle.octet_heap.specs.declared.wish.Wish.{Wish}
+use Rattle.octet_heap.specs.declared.pending_access.PendingAccess.{PendingAccess}
 use Rattle.octet_heap.specs.declared.poll.Poll.{Poll}
 use Rattle.octet_heap.specs.declared.poll.Poll.TheVariants.{Pending}
 use Rattle.octet_heap.specs.Polls.{next_step, answer_by, Comes}
@@ -39,34 +39,34 @@ is_changed object mode state seen found p is word other = ap (λ (b : Bool). if 
     ∙ ap (λ (n : ℕ). Some (Changed n found)) (ap word_seen is ∙ word)
 
 -- what a thread does that wants this access of an object in this state
-abbrev Says : Wish → StateWord → SeatView → Act → Type 0
-Says wish state v act = decided state v.number wish.mode v.thread.count ≡ act
+abbrev Says : PendingAccess → StateWord → SeatView → Act → Type 0
+Says access state v act = decided state v.number access.mode v.thread.count ≡ act
 
-exchange_next : (wish : Wish) (state : StateWord) (v : SeatView) (act : Act) → StandsIn (Want wish.object wish.mode (Some state)) v → Says wish state v act → next_step wish v ≡ exchange_of act
-exchange_next wish state v act stands says = next_in wish v (Want wish.object wish.mode (Some state)) stands ∙ ap exchange_of says
+exchange_next : (access : PendingAccess) (state : StateWord) (v : SeatView) (act : Act) → StandsIn (Want access.object access.mode (Some state)) v → Says access state v act → next_step access v ≡ exchange_of act
+exchange_next access state v act stands says = next_in access v (Want access.object access.mode (Some state)) stands ∙ ap exchange_of says
 
-module _ (wish : Wish) (state : StateWord) (seen : ℕ) (v u : SeatView) (stands : StandsIn (Want wish.object wish.mode (Some state)) v) (word : packed_state state ≡ seen) where
-  pub raise_comes : (w : SeatView) (n : ℕ) (answer : Poll) → Says wish state v Raise → Steps ToRaise v seen u → Comes wish u answer n w → Comes wish v answer (suc n) w
-  raise_comes w n answer says took c = comes_next wish v u w ToRaise seen n answer took (sym (exchange_next wish state v Raise stands says))
-      (ap (λ (o : Option Why). answer_by o ToRaise seen) (no_change wish.object wish.mode state seen v.thread.phase stands.1 word)) c
+module _ (access : PendingAccess) (state : StateWord) (seen : ℕ) (v u : SeatView) (stands : StandsIn (Want access.object access.mode (Some state)) v) (word : packed_state state ≡ seen) where
+  pub raise_comes : (w : SeatView) (n : ℕ) (answer : Poll) → Says access state v Raise → Steps ToRaise v seen u → Comes access u answer n w → Comes access v answer (suc n) w
+  raise_comes w n answer says took c = comes_next access v u w ToRaise seen n answer took (sym (exchange_next access state v Raise stands says))
+      (ap (λ (o : Option Why). answer_by o ToRaise seen) (no_change access.object access.mode state seen v.thread.phase stands.1 word)) c
 
-  pub share_comes : (w : SeatView) (n from upto : ℕ) (answer : Poll) → Says wish state v (Share from upto) → Steps ToShare v seen u → Comes wish u answer n w → Comes wish v answer (suc n) w
-  share_comes w n from upto answer says took c = comes_next wish v u w ToShare seen n answer took (sym (exchange_next wish state v (Share from upto) stands says))
-      (ap (λ (o : Option Why). answer_by o ToShare seen) (no_change wish.object wish.mode state seen v.thread.phase stands.1 word)) c
+  pub share_comes : (w : SeatView) (n from upto : ℕ) (answer : Poll) → Says access state v (Share from upto) → Steps ToShare v seen u → Comes access u answer n w → Comes access v answer (suc n) w
+  share_comes w n from upto answer says took c = comes_next access v u w ToShare seen n answer took (sym (exchange_next access state v (Share from upto) stands says))
+      (ap (λ (o : Option Why). answer_by o ToShare seen) (no_change access.object access.mode state seen v.thread.phase stands.1 word)) c
 
-  pub claim_comes : (w : SeatView) (n : ℕ) (whom : Whom) (answer : Poll) → Says wish state v (Take whom) → Steps ToClaim v seen u → Comes wish u answer n w → Comes wish v answer (suc n) w
-  claim_comes w n whom answer says took c = comes_next wish v u w ToClaim seen n answer took (sym (exchange_next wish state v (Take whom) stands says))
-      (ap (λ (o : Option Why). answer_by o ToClaim seen) (no_change wish.object wish.mode state seen v.thread.phase stands.1 word)) c
+  pub claim_comes : (w : SeatView) (n : ℕ) (whom : Whom) (answer : Poll) → Says access state v (Take whom) → Steps ToClaim v seen u → Comes access u answer n w → Comes access v answer (suc n) w
+  claim_comes w n whom answer says took c = comes_next access v u w ToClaim seen n answer took (sym (exchange_next access state v (Take whom) stands says))
+      (ap (λ (o : Option Why). answer_by o ToClaim seen) (no_change access.object access.mode state seen v.thread.phase stands.1 word)) c
 
   module _ (found : ℕ) (other : found ≢ seen) where
-    pub raise_lost : (n : ℕ) → Says wish state v Raise → Steps ToRaise v found u → 2 < n → Comes wish v (Pending (Changed seen found)) n u
-    raise_lost n says took few = comes_by wish v u ToRaise found (Pending (Changed seen found)) n took (sym (exchange_next wish state v Raise stands says))
-        (ap (λ (o : Option Why). answer_by o ToRaise found) (is_changed wish.object wish.mode state seen found v.thread.phase stands.1 word other)) few
+    pub raise_lost : (n : ℕ) → Says access state v Raise → Steps ToRaise v found u → 2 < n → Comes access v (Pending (Changed seen found)) n u
+    raise_lost n says took few = comes_by access v u ToRaise found (Pending (Changed seen found)) n took (sym (exchange_next access state v Raise stands says))
+        (ap (λ (o : Option Why). answer_by o ToRaise found) (is_changed access.object access.mode state seen found v.thread.phase stands.1 word other)) few
 
-    pub share_lost : (n from upto : ℕ) → Says wish state v (Share from upto) → Steps ToShare v found u → 2 < n → Comes wish v (Pending (Changed seen found)) n u
-    share_lost n from upto says took few = comes_by wish v u ToShare found (Pending (Changed seen found)) n took (sym (exchange_next wish state v (Share from upto) stands says))
-        (ap (λ (o : Option Why). answer_by o ToShare found) (is_changed wish.object wish.mode state seen found v.thread.phase stands.1 word other)) few
+    pub share_lost : (n from upto : ℕ) → Says access state v (Share from upto) → Steps ToShare v found u → 2 < n → Comes access v (Pending (Changed seen found)) n u
+    share_lost n from upto says took few = comes_by access v u ToShare found (Pending (Changed seen found)) n took (sym (exchange_next access state v (Share from upto) stands says))
+        (ap (λ (o : Option Why). answer_by o ToShare found) (is_changed access.object access.mode state seen found v.thread.phase stands.1 word other)) few
 
-    pub claim_lost : (n : ℕ) (whom : Whom) → Says wish state v (Take whom) → Steps ToClaim v found u → 2 < n → Comes wish v (Pending (Changed seen found)) n u
-    claim_lost n whom says took few = comes_by wish v u ToClaim found (Pending (Changed seen found)) n took (sym (exchange_next wish state v (Take whom) stands says))
-        (ap (λ (o : Option Why). answer_by o ToClaim found) (is_changed wish.object wish.mode state seen found v.thread.phase stands.1 word other)) few
+    pub claim_lost : (n : ℕ) (whom : Whom) → Says access state v (Take whom) → Steps ToClaim v found u → 2 < n → Comes access v (Pending (Changed seen found)) n u
+    claim_lost n whom says took few = comes_by access v u ToClaim found (Pending (Changed seen found)) n took (sym (exchange_next access state v (Take whom) stands says))
+        (ap (λ (o : Option Why). answer_by o ToClaim found) (is_changed access.object access.mode state seen found v.thread.phase stands.1 word other)) few

@@ -24,7 +24,7 @@ use Rattle.octet_state.specs.NextStep.{kind_by_due, kind_in_phase, pursuit_of, w
 use Rattle.octet_rule.specs.Views.{SeatView, Taken, stepped_by}
 use Rattle.octet_rule.specs.Rule.{Steps}
 use Rattle.octet_rule.proofs.Known.{state_found, is_not_mine}
-use Rattle.octet_heap.specs.declared.wish.Wish.{Wish}
+use Rattle.octet_heap.specs.declared.pending_access.PendingAccess.{PendingAccess}
 use Rattle.octet_heap.specs.declared.poll.Poll.{Poll}
 use Rattle.octet_heap.specs.declared.poll.Poll.TheVariants.{Pending}
 use Rattle.octet_heap.specs.Polls.{answer_by, answer_to, after_steps, IsNext, GoesBy, PaysBy}
@@ -178,17 +178,17 @@ not_pursuit true asked whom e = cc
 not_pursuit false true whom e = cc
 not_pursuit false false whom e = cc
 
-exchange_in : (threads me count : ℕ) (wish : Wish) (due : Due) (p : Phase) → is_exchange (next threads me wish (at p due count)) ≡ true → WantsState p
-exchange_in threads me count wish Glance p e = absurd cc
-exchange_in threads me count wish Answer p e = absurd cc
-exchange_in threads me count wish Nothing (Want object mode (Some state)) e = record { object = object; mode = mode; state = state; is = refl }
-exchange_in threads me count wish Nothing (Pass object Read) e = absurd cc
-exchange_in threads me count wish Nothing (Pass object Write) e = absurd cc
-exchange_in threads me count wish Nothing (Pass object Update) e = absurd cc
-exchange_in threads me count wish Nothing (Claimed object mode prior done asked) e = absurd (not_pursuit (done == number_to_ask (whom_to_ask prior) threads) asked (next_to_ask (whom_to_ask prior) me done) e)
-exchange_in threads me count wish Nothing (Sharing object None) e = absurd cc
-exchange_in threads me count wish Nothing (Sharing object (Some number)) e = absurd cc
-exchange_in threads me count wish Nothing _ e = absurd cc
+exchange_in : (threads me count : ℕ) (access : PendingAccess) (due : Due) (p : Phase) → is_exchange (next threads me access (at p due count)) ≡ true → WantsState p
+exchange_in threads me count access Glance p e = absurd cc
+exchange_in threads me count access Answer p e = absurd cc
+exchange_in threads me count access Nothing (Want object mode (Some state)) e = record { object = object; mode = mode; state = state; is = refl }
+exchange_in threads me count access Nothing (Pass object Read) e = absurd cc
+exchange_in threads me count access Nothing (Pass object Write) e = absurd cc
+exchange_in threads me count access Nothing (Pass object Update) e = absurd cc
+exchange_in threads me count access Nothing (Claimed object mode prior done asked) e = absurd (not_pursuit (done == number_to_ask (whom_to_ask prior) threads) asked (next_to_ask (whom_to_ask prior) me done) e)
+exchange_in threads me count access Nothing (Sharing object None) e = absurd cc
+exchange_in threads me count access Nothing (Sharing object (Some number)) e = absurd cc
+exchange_in threads me count access Nothing _ e = absurd cc
 
 exchange_waits : (k : Kind) (me told : ℕ) (x : Thread) → is_exchange k ≡ true → waits k me told x ≡ changed x.phase told
 exchange_waits ToClaim me told x e = refl
@@ -286,25 +286,25 @@ own_kind f Glance k word g h ne = g
 own_kind f Answer k word g h ne = h
 
 paid_none : {A : Type 0} (f : Kind → ℕ → Option A) → ((word : ℕ) → f ToGlance word ≡ None) → ((word : ℕ) → f ToAnswer word ≡ None)
-    → (wish : Wish) (v : SeatView) (paid : List Taken) → PaysBy wish v paid → last_of f paid ≡ None
-paid_none f g h wish v [] pays = refl
-paid_none f g h wish v (t ∷ more) pays =
-    ap (λ (o : Option _). later o (f t.kind t.word)) (paid_none f g h wish (stepped_by t.kind t.word v) more pays.2)
+    → (access : PendingAccess) (v : SeatView) (paid : List Taken) → PaysBy access v paid → last_of f paid ≡ None
+paid_none f g h access v [] pays = refl
+paid_none f g h access v (t ∷ more) pays =
+    ap (λ (o : Option _). later o (f t.kind t.word)) (paid_none f g h access (stepped_by t.kind t.word v) more pays.2)
     ∙ (ap (λ (k : Kind). f k t.word) pays.1.in_order
-    ∙ own_kind f v.thread.due (kind_in_phase v.threads v.number v.thread.count (ToLoad wish.object wish.mode) wish.value v.thread.phase) t.word (g t.word) (h t.word) pays.0)
+    ∙ own_kind f v.thread.due (kind_in_phase v.threads v.number v.thread.count (ToLoad access.object access.mode) access.value v.thread.phase) t.word (g t.word) (h t.word) pays.0)
 
 paid_exchange : (due : Due) (k : Kind) → due ≢ Nothing → is_exchange (kind_by_due due k) ≡ false
 paid_exchange Nothing k ne = absurd (ne refl)
 paid_exchange Glance k ne = refl
 paid_exchange Answer k ne = refl
 
-no_exchange : (wish : Wish) (v : SeatView) (paid before after : List Taken) (x : Taken) → PaysBy wish v paid → paid ≡ before ++ x ∷ after → is_exchange x.kind ≡ true → ⊥
-no_exchange wish v [] [] after x pays are is = absurd cc
-no_exchange wish v [] (b ∷ before) after x pays are is = absurd cc
-no_exchange wish v (t ∷ more) [] after x pays are is =
-    let e : is_exchange t.kind ≡ false = ap is_exchange pays.1.in_order ∙ paid_exchange v.thread.due (kind_in_phase v.threads v.number v.thread.count (ToLoad wish.object wish.mode) wish.value v.thread.phase) pays.0 in
+no_exchange : (access : PendingAccess) (v : SeatView) (paid before after : List Taken) (x : Taken) → PaysBy access v paid → paid ≡ before ++ x ∷ after → is_exchange x.kind ≡ true → ⊥
+no_exchange access v [] [] after x pays are is = absurd cc
+no_exchange access v [] (b ∷ before) after x pays are is = absurd cc
+no_exchange access v (t ∷ more) [] after x pays are is =
+    let e : is_exchange t.kind ≡ false = ap is_exchange pays.1.in_order ∙ paid_exchange v.thread.due (kind_in_phase v.threads v.number v.thread.count (ToLoad access.object access.mode) access.value v.thread.phase) pays.0 in
     let f : is_exchange x.kind ≡ false = ap (λ (l : List Taken). is_exchange (first_of t l).kind) (sym are) ∙ e in cc
-no_exchange wish v (t ∷ more) (b ∷ before) after x pays are is = no_exchange wish (stepped_by t.kind t.word v) more before after x pays.2 (ap rest_of are) is
+no_exchange access v (t ∷ more) (b ∷ before) after x pays are is = no_exchange access (stepped_by t.kind t.word v) more before after x pays.2 (ap rest_of are) is
 
 -- what the thread holds is what it has loaded
 abbrev Sees : List Taken → Phase → Type 0
@@ -373,17 +373,17 @@ packs_load : (k : Kind) (v : SeatView) (told : ℕ) (w : SeatView) → Steps k v
 packs_load k v told w took object mode is = let load = subst (λ (z : Kind). Steps z v told w) is took in
     ap (λ (o : Option StateWord). packed_state (state_in o)) (state_found object mode v told w load) ∙ sym load.word
 
-module _ (wish : Wish) where
-  sees_next : (steps : List Taken) (v : SeatView) (t : Taken) → IsNext wish v t → Sees steps v.thread.phase → Sees (steps ++ t ∷ []) (stepped_by t.kind t.word v).thread.phase
+module _ (access : PendingAccess) where
+  sees_next : (steps : List Taken) (v : SeatView) (t : Taken) → IsNext access v t → Sees steps v.thread.phase → Sees (steps ++ t ∷ []) (stepped_by t.kind t.word v).thread.phase
   sees_next steps v t is h = sees_by steps (steps ++ t ∷ []) v.number t.word v.thread h t.kind (last_more state_loaded steps (t ∷ [])) (packs_load t.kind v t.word (stepped_by t.kind t.word v) is.took)
 
-  sees_going : (steps going : List Taken) (v : SeatView) → GoesBy wish v going → Sees steps v.thread.phase → Sees (steps ++ going) (after_steps going v).thread.phase
+  sees_going : (steps going : List Taken) (v : SeatView) → GoesBy access v going → Sees steps v.thread.phase → Sees (steps ++ going) (after_steps going v).thread.phase
   sees_going steps [] v goes h = subst (λ (l : List Taken). Sees l v.thread.phase) (sym (append-nil steps)) h
   sees_going steps (t ∷ more) v goes h = let u = stepped_by t.kind t.word v in
       subst (λ (l : List Taken). Sees l (after_steps more u).thread.phase) (append_assoc steps (t ∷ []) more) (sees_going (steps ++ t ∷ []) more u goes.2 (sees_next steps v t goes.0 h))
 
   -- a step that would wait is not one by which the poll goes on
-  goes_unheld : (v : SeatView) (going : List Taken) (by word : ℕ) → GoesBy wish v going → last_of state_loaded going ≡ Some word → IsTrue (is_changed_by (state_in (unpacked_state word)) by) → ⊥
+  goes_unheld : (v : SeatView) (going : List Taken) (by word : ℕ) → GoesBy access v going → last_of state_loaded going ≡ Some word → IsTrue (is_changed_by (state_in (unpacked_state word)) by) → ⊥
   goes_unheld v [] by word goes last changes = cc
   goes_unheld v (t ∷ more) by word goes last changes = ⊎_elim
       (λ (e : last_of state_loaded more ≡ Some word). goes_unheld (stepped_by t.kind t.word v) more by word goes.2 e changes)
@@ -393,7 +393,7 @@ module _ (wish : Wish) where
       ∙ held_by_state (state_in (unpacked_state word)) v.number by v.thread.count word l.1 changes)))
       (split_later (last_of state_loaded more) (state_loaded t.kind t.word) word last)
 
-  goes_answered : (v : SeatView) (going : List Taken) (by word : ℕ) (last : Taken) → GoesBy wish v going → last_of status_met going ≡ Some last → IsNoAnswer v.number by word last.kind last.word → ⊥
+  goes_answered : (v : SeatView) (going : List Taken) (by word : ℕ) (last : Taken) → GoesBy access v going → last_of status_met going ≡ Some last → IsNoAnswer v.number by word last.kind last.word → ⊥
   goes_answered v [] by word last goes is no_answer = cc
   goes_answered v (t ∷ more) by word last goes is no_answer = ⊎_elim
       (λ (e : last_of status_met more ≡ Some last). goes_answered (stepped_by t.kind t.word v) more by word last goes.2 e no_answer)
@@ -403,10 +403,10 @@ module _ (wish : Wish) where
       (split_later (last_of status_met more) (status_met t.kind t.word) last is)
 
   -- an exchange in its order that finds another word than was loaded waits
-  exchange_is_lost : (v : SeatView) (steps : List Taken) (t : Taken) (seen : ℕ) → IsNext wish v t → Sees steps v.thread.phase → is_exchange t.kind ≡ true → last_of state_loaded steps ≡ Some seen → t.word ≢ seen
+  exchange_is_lost : (v : SeatView) (steps : List Taken) (t : Taken) (seen : ℕ) → IsNext access v t → Sees steps v.thread.phase → is_exchange t.kind ≡ true → last_of state_loaded steps ≡ Some seen → t.word ≢ seen
       → waits t.kind v.number t.word v.thread ≡ Some (why.Changed seen t.word)
   exchange_is_lost v steps t seen is h exchanges last other =
-      let want = exchange_in v.threads v.number v.thread.count wish v.thread.due v.thread.phase (ap is_exchange (sym is.in_order) ∙ exchanges) in
+      let want = exchange_in v.threads v.number v.thread.count access v.thread.due v.thread.phase (ap is_exchange (sym is.in_order) ∙ exchanges) in
       let holds : last_of state_loaded steps ≡ Some (packed_state want.state) = subst (Sees steps) want.is h in
       exchange_waits t.kind v.number t.word v.thread exchanges ∙ lost_waits v.thread.phase t.word seen want (in_some (sym holds ∙ last)) other
     where
@@ -419,15 +419,15 @@ module _ (wish : Wish) where
 
   -- among the steps of a poll only the last one is such an exchange
   changed_last : (v : SeatView) (steps going : List Taken) (last : Taken) (paid before after : List Taken) (x : Taken) (seen : ℕ) (answer : Poll)
-      → GoesBy wish v going → Sees steps v.thread.phase → IsNext wish (after_steps going v) last → answer_to (after_steps going v) last ≡ Some answer
-      → PaysBy wish (stepped_by last.kind last.word (after_steps going v)) paid
+      → GoesBy access v going → Sees steps v.thread.phase → IsNext access (after_steps going v) last → answer_to (after_steps going v) last ≡ Some answer
+      → PaysBy access (stepped_by last.kind last.word (after_steps going v)) paid
       → going ++ last ∷ paid ≡ before ++ x ∷ after → is_exchange x.kind ≡ true → last_of state_loaded (steps ++ before) ≡ Some seen → x.word ≢ seen → answer ≡ Pending (why.Changed seen x.word)
   changed_last v steps [] last paid [] after x seen answer goes h is answers pays are exchanges loads other =
       let same : last ≡ x = ap (first_of last) are in
       let lost = exchange_is_lost v steps last seen is h (ap (λ (t : Taken). is_exchange t.kind) same ∙ exchanges) (ap (last_of state_loaded) (sym (append-nil steps)) ∙ loads) (λ e. other (ap (λ (t : Taken). t.word) (sym same) ∙ e)) in
       ap (poll_in answer) (sym answers ∙ ap (λ (o : Option Why). answer_by o last.kind last.word) lost) ∙ ap (λ (t : Taken). Pending (why.Changed seen t.word)) same
   changed_last v steps [] last paid (b ∷ before) after x seen answer goes h is answers pays are exchanges loads other =
-      absurd (no_exchange wish (stepped_by last.kind last.word v) paid before after x pays (ap rest_of are) exchanges)
+      absurd (no_exchange access (stepped_by last.kind last.word v) paid before after x pays (ap rest_of are) exchanges)
   changed_last v steps (t ∷ going) last paid [] after x seen answer goes h is answers pays are exchanges loads other =
       let same : t ≡ x = ap (first_of t) are in
       let lost = exchange_is_lost v steps t seen goes.0 h (ap (λ (z : Taken). is_exchange z.kind) same ∙ exchanges) (ap (last_of state_loaded) (sym (append-nil steps)) ∙ loads) (λ e. other (ap (λ (z : Taken). z.word) (sym same) ∙ e)) in
@@ -438,11 +438,11 @@ module _ (wish : Wish) where
       (ap (last_of state_loaded) (append_assoc steps (t ∷ []) before ∙ ap (λ (z : Taken). steps ++ z ∷ before) same) ∙ loads) other
 
 -- at first the thread holds no state
-begins_unseen : (threads : ℕ) (wish : Wish) (p : Phase) → HasBegun threads wish p → Sees [] p
-begins_unseen threads wish (Want object mode (Some seen)) h = absurd h
-begins_unseen threads wish _ h = tt
+begins_unseen : (threads : ℕ) (access : PendingAccess) (p : Phase) → HasBegun threads access p → Sees [] p
+begins_unseen threads access (Want object mode (Some seen)) h = absurd h
+begins_unseen threads access _ h = tt
 
-module _ (wish : Wish) (v w : SeatView) (answer : Poll) (begins : Sees [] v.thread.phase) (p : IsPoll wish v answer w) where
+module _ (access : PendingAccess) (v w : SeatView) (answer : Poll) (begins : Sees [] v.thread.phase) (p : IsPoll access v answer w) where
   abbrev u : SeatView
   u = after_steps p.going v
 
@@ -460,7 +460,7 @@ module _ (wish : Wish) (v w : SeatView) (answer : Poll) (begins : Sees [] v.thre
 
   last_in : {A : Type 0} (f : Kind → ℕ → Option A) → ((word : ℕ) → f ToGlance word ≡ None) → ((word : ℕ) → f ToAnswer word ≡ None) → last_of f all ≡ later (f p.last.kind p.last.word) (last_of f p.going)
   last_in f g h = last_more f p.going (p.last ∷ p.at_safe_point)
-      ∙ ap (λ (o : Option _). later (later o (f p.last.kind p.last.word)) (last_of f p.going)) (paid_none f g h wish (stepped_by p.last.kind p.last.word u) p.at_safe_point p.pays)
+      ∙ ap (λ (o : Option _). later (later o (f p.last.kind p.last.word)) (last_of f p.going)) (paid_none f g h access (stepped_by p.last.kind p.last.word u) p.at_safe_point p.pays)
 
   held : (by word : ℕ) → answer ≡ Pending (why.Held by word) → IsHeld v.number all by word
   held by word is = let h = held_so p.last.kind u.number p.last.word u.thread by word (waits_by (why.Held by word) is) in
@@ -478,7 +478,7 @@ module _ (wish : Wish) (v w : SeatView) (answer : Poll) (begins : Sees [] v.thre
       (λ (e : state_loaded p.last.kind p.last.word ≡ Some word). let l = loaded_back p.last.kind p.last.word word e in
       answers_by (why.Held by word) (ap (λ (k : Kind). waits k u.number p.last.word u.thread) l.2 ∙ (ap (λ (n : ℕ). waits (ToLoad l.0 l.1) u.number n u.thread) l.3
       ∙ held_by_state (state_in (unpacked_state word)) u.number by u.thread.count word l.1 h.changes)))
-      (λ e. absurd (goes_unheld wish v p.going by word p.goes e.1 h.changes))
+      (λ e. absurd (goes_unheld access v p.going by word p.goes e.1 h.changes))
       (split_later (state_loaded p.last.kind p.last.word) (last_of state_loaded p.going) word (sym (last_in state_loaded (λ n. refl) (λ n. refl)) ∙ h.last))
 
   unanswered : (by word : ℕ) → answer ≡ Pending (why.Unanswered by word) → IsUnanswered v.number all by word
@@ -494,13 +494,13 @@ module _ (wish : Wish) (v w : SeatView) (answer : Poll) (begins : Sees [] v.thre
       (λ (e : status_met p.last.kind p.last.word ≡ Some h.last). let l = met_back p.last.kind p.last.word h.last e in
       answers_by (why.Unanswered by word) (no_answer_waits p.last.kind u.number p.last.word u.thread by word
       (subst (λ (me : ℕ). IsNoAnswer me by word p.last.kind p.last.word) (sym same) (subst (λ (z : Kind × ℕ). IsNoAnswer v.number by word z.0 z.1) (λ i. (sym l.0 i, sym l.1 i)) h.no_answer))))
-      (λ e. absurd (goes_answered wish v p.going by word h.last p.goes e.1 h.no_answer))
+      (λ e. absurd (goes_answered access v p.going by word h.last p.goes e.1 h.no_answer))
       (split_later (status_met p.last.kind p.last.word) (last_of status_met p.going) h.last (sym (last_in status_met (λ n. refl) (λ n. refl)) ∙ h.is_last))
 
   change : (seen found : ℕ) → answer ≡ Pending (why.Changed seen found) → IsChanged all seen found
   change seen found is = let h = changed_so p.last.kind u.number p.last.word u.thread seen found (waits_by (why.Changed seen found) is) in
-      let want = exchange_in u.threads u.number u.thread.count wish u.thread.due u.thread.phase (ap is_exchange (sym p.is_next.in_order) ∙ h.exchanges) in
-      let holds : last_of state_loaded p.going ≡ Some (packed_state want.state) = subst (Sees p.going) want.is (sees_going wish [] p.going v p.goes begins) in
+      let want = exchange_in u.threads u.number u.thread.count access u.thread.due u.thread.phase (ap is_exchange (sym p.is_next.in_order) ∙ h.exchanges) in
+      let holds : last_of state_loaded p.going ≡ Some (packed_state want.state) = subst (Sees p.going) want.is (sees_going access [] p.going v p.goes begins) in
       let is_seen : packed_state want.state ≡ seen = sym (ap word_seen want.is) ∙ h.is_seen in record {
         before = p.going;
         exchange = p.last.kind;
@@ -512,7 +512,7 @@ module _ (wish : Wish) (v w : SeatView) (answer : Poll) (begins : Sees [] v.thre
       }
 
   by_change : (seen found : ℕ) → IsChanged all seen found → answer ≡ Pending (why.Changed seen found)
-  by_change seen found h = changed_last wish v [] p.going p.last p.at_safe_point h.before h.after (record { kind = h.exchange; word = found }) seen answer p.goes begins p.is_next p.answers p.pays h.are h.exchanges h.had_loaded h.differs
+  by_change seen found h = changed_last access v [] p.going p.last p.at_safe_point h.before h.after (record { kind = h.exchange; word = found }) seen answer p.goes begins p.is_next p.answers p.pays h.are h.exchanges h.had_loaded h.differs
 
   since : steps_since v w ≡ all
   since = ap (λ (l : List Taken). drop (length v.trail) l) p.trail ∙ dropped v.trail all
@@ -521,5 +521,5 @@ module _ (wish : Wish) (v w : SeatView) (answer : Poll) (begins : Sees [] v.thre
   has_cause = subst (λ (l : List Taken). HasCause v.number l answer) (sym since)
       (record { held = held; changed = change; unanswered = unanswered; by_held = by_held; by_changed = by_change; by_unanswered = by_unanswered })
 
-pub poll_has_cause : (wish : Wish) (begun : Option Wish) (v w : SeatView) (answer : Poll) → IsAbout v.threads begun v.thread.phase → begun ≡ Some wish → IsPoll wish v answer w → HasCause v.number (steps_since v w) answer
-poll_has_cause wish begun v w answer about is p = has_cause wish v w answer (begins_unseen v.threads wish v.thread.phase (subst (λ (o : Option Wish). IsAbout v.threads o v.thread.phase) is about)) p
+pub poll_has_cause : (access : PendingAccess) (begun : Option PendingAccess) (v w : SeatView) (answer : Poll) → IsAbout v.threads begun v.thread.phase → begun ≡ Some access → IsPoll access v answer w → HasCause v.number (steps_since v w) answer
+poll_has_cause access begun v w answer about is p = has_cause access v w answer (begins_unseen v.threads access v.thread.phase (subst (λ (o : Option PendingAccess). IsAbout v.threads o v.thread.phase) is about)) p

@@ -22,14 +22,14 @@ use Rattle.octet_rule.specs.Entering.{IsMadeAtOnce, IsLoaded}
 use Rattle.octet_rule.proofs.Known.{load_moves}
 use Rattle.octet_rule.proofs.MadeAtOnce.{made_thread}
 use Rattle.octet_heap.specs.declared.running_log.RunningLog.{RunningLog}
-use Rattle.octet_heap.specs.declared.wish.Wish.{Wish}
+use Rattle.octet_heap.specs.declared.pending_access.PendingAccess.{PendingAccess}
 use Rattle.octet_heap.specs.declared.poll.Poll.TheVariants.{Ready, Pending}
 use Rattle.octet_heap.specs.Logs.{IsLogOf}
 use Rattle.octet_heap.specs.OwnersPath.{value_by}
-use Rattle.octet_heap.specs.Polls.{Goes, Comes}
+use Rattle.octet_heap.specs.Polls.{Comes}
 use Rattle.octet_heap.specs.Waiting.{IsToLoad, Leaves}
 use Rattle.octet_heap.proofs.Entries.{keeps, follows}
-use Rattle.octet_heap.proofs.Going.{comes_after}
+use Rattle.octet_heap.proofs.Going.{Goes, comes_after}
 use Rattle.octet_heap.proofs.Loads.{load_goes, load_held}
 use Rattle.octet_heap.proofs.Stretches.{access_comes}
 
@@ -54,26 +54,26 @@ module _ (object : ℕ) (mode : Mode) (value : ℕ) (v : SeatView) (told : ℕ) 
   follows_other (inl is) logs = follows_write is logs
   follows_other (inr is) logs = follows_update is logs
 
-module _ (wish : Wish) (v : SeatView) (told : ℕ) (w : SeatView) (at_once : IsMadeAtOnce wish.object wish.mode wish.value v told w) where
-  passes_on : at_once.between.thread ≡ moved (Pass wish.object wish.mode) Nothing v.thread
-  passes_on = load_moves wish.object wish.mode v at_once.word at_once.between (state_in (unpacked_state at_once.word)) Pass at_once.loads refl (sym at_once.says)
+module _ (access : PendingAccess) (v : SeatView) (told : ℕ) (w : SeatView) (at_once : IsMadeAtOnce access.object access.mode access.value v told w) where
+  passes_on : at_once.between.thread ≡ moved (Pass access.object access.mode) Nothing v.thread
+  passes_on = load_moves access.object access.mode v at_once.word at_once.between (state_in (unpacked_state at_once.word)) Pass at_once.loads refl (sym at_once.says)
 
-  pub made_comes : v.thread.due ≡ Nothing → IsToLoad wish v.thread.phase → Comes wish v (Ready (value_by wish.mode wish.value told)) 19 w
+  pub made_comes : v.thread.due ≡ Nothing → IsToLoad access v.thread.phase → Comes access v (Ready (value_by access.mode access.value told)) 19 w
   made_comes due loads =
-      let goes = load_goes wish v at_once.between at_once.word (state_in (unpacked_state at_once.word)) Pass at_once.loads refl (sym at_once.says) due loads Pass refl refl in
-      comes_after wish v at_once.between w 2 1 19 (Ready (value_by wish.mode wish.value told)) goes
-      (access_comes wish at_once.between w wish.mode told (ap (λ (x : Thread). x.due) passes_on, ap (λ (x : Thread). x.phase) passes_on) refl at_once.accesses) (omega arith)
+      let goes = load_goes access v at_once.between at_once.word (state_in (unpacked_state at_once.word)) Pass at_once.loads refl (sym at_once.says) due loads Pass refl refl in
+      comes_after access v at_once.between w 2 1 19 (Ready (value_by access.mode access.value told)) goes
+      (access_comes access at_once.between w access.mode told (ap (λ (x : Thread). x.due) passes_on, ap (λ (x : Thread). x.phase) passes_on) refl at_once.accesses) (omega arith)
 
-  pub made_leaves : Leaves wish (Ready (value_by wish.mode wish.value told)) w
-  made_leaves = let is = made_thread wish.mode wish.value at_once.between told w at_once.accesses in (ap (λ (x : Thread). x.due) is, ap (λ (x : Thread). x.phase) is)
+  pub made_leaves : Leaves access (Ready (value_by access.mode access.value told)) w
+  made_leaves = let is = made_thread access.mode access.value at_once.between told w at_once.accesses in (ap (λ (x : Thread). x.due) is, ap (λ (x : Thread). x.phase) is)
 
 -- the load alone
-module _ (wish : Wish) (v w : SeatView) (word : ℕ) (state : StateWord) (act : Act) (alone : IsLoaded wish.object wish.mode v word state act w) where
+module _ (access : PendingAccess) (v w : SeatView) (word : ℕ) (state : StateWord) (act : Act) (alone : IsLoaded access.object access.mode v word state act w) where
   holds : state ≡ state_in (unpacked_state word)
   holds = sym (ap state_in alone.holds)
 
-  pub loaded_goes : v.thread.due ≡ Nothing → IsToLoad wish v.thread.phase → (a : Act) → act ≡ a → held_by a word ≡ None → Goes wish v 2 w
-  loaded_goes due loads = load_goes wish v w word state act alone.loads holds alone.says due loads
+  pub loaded_goes : v.thread.due ≡ Nothing → IsToLoad access v.thread.phase → (a : Act) → act ≡ a → held_by a word ≡ None → Goes access v 2 w
+  loaded_goes due loads = load_goes access v w word state act alone.loads holds alone.says due loads
 
-  pub loaded_held : v.thread.due ≡ Nothing → IsToLoad wish v.thread.phase → (by : ℕ) → act ≡ Held by → Comes wish v (Pending (why.Held by word)) 3 w × Leaves wish (Pending (why.Held by word)) w
-  loaded_held due loads = load_held wish v w word state act alone.loads holds alone.says due loads
+  pub loaded_held : v.thread.due ≡ Nothing → IsToLoad access v.thread.phase → (by : ℕ) → act ≡ Held by → Comes access v (Pending (why.Held by word)) 3 w × Leaves access (Pending (why.Held by word)) w
+  loaded_held due loads = load_held access v w word state act alone.loads holds alone.says due loads

@@ -9,7 +9,7 @@ use Rattle.octet_state.specs.Steps.{ToLoad, ToGlance, ToAnswer}
 use Rattle.octet_state.specs.NextStep.{kind_in_phase, kind_by_due}
 use Rattle.octet_rule.specs.Views.{SeatView, Taken, stepped_by}
 use Rattle.octet_safe.specs.Replies.{AnswersOr, PassesSafePoint}
-use Rattle.octet_heap.specs.declared.wish.Wish.{Wish}
+use Rattle.octet_heap.specs.declared.pending_access.PendingAccess.{PendingAccess}
 use Rattle.octet_heap.specs.declared.poll.Poll.{Poll}
 use Rattle.octet_heap.specs.declared.poll.Poll.TheVariants.{Ready, Pending}
 use Rattle.octet_heap.specs.Polls.{next_step, after_steps, PaysBy, Comes}
@@ -25,35 +25,35 @@ after_both [] more v = refl
 after_both (taken ∷ going) more v = after_both going more (stepped_by taken.kind taken.word v)
 
 -- what is due after the answer
-ends : (wish : Wish) (v u w : SeatView) (answer : Poll) (at_safe_point : List Taken) → (c : Comes wish v answer 19 u) → PaysBy wish u at_safe_point → length c.going + 1 + length at_safe_point ≤ 19 → w ≡ after_steps at_safe_point u → IsPoll wish v answer w
-ends wish v u w answer at_safe_point c pays few is = let all : w ≡ after_steps (c.going ++ c.last ∷ at_safe_point) v = is ∙ (ap (after_steps at_safe_point) c.after ∙ sym (after_both c.going (c.last ∷ at_safe_point) v)) in record {
+ends : (access : PendingAccess) (v u w : SeatView) (answer : Poll) (at_safe_point : List Taken) → (c : Comes access v answer 19 u) → PaysBy access u at_safe_point → length c.going + 1 + length at_safe_point ≤ 19 → w ≡ after_steps at_safe_point u → IsPoll access v answer w
+ends access v u w answer at_safe_point c pays few is = let all : w ≡ after_steps (c.going ++ c.last ∷ at_safe_point) v = is ∙ (ap (after_steps at_safe_point) c.after ∙ sym (after_both c.going (c.last ∷ at_safe_point) v)) in record {
   going = c.going;
   last = c.last;
   at_safe_point = at_safe_point;
   goes = c.goes;
   is_next = c.is_next;
   answers = c.answers;
-  pays = subst (λ (x : SeatView). PaysBy wish x at_safe_point) c.after pays;
+  pays = subst (λ (x : SeatView). PaysBy access x at_safe_point) c.after pays;
   few = few;
   after = all;
   trail = ap (λ (x : SeatView). x.trail) all ∙ trail_after (c.going ++ c.last ∷ at_safe_point) v;
 }
 
-pub poll_ready : (wish : Wish) (v w : SeatView) (value : ℕ) → Comes wish v (Ready value) 19 w → w.thread.due ≡ Nothing → IsPoll wish v (Ready value) w
-poll_ready wish v w value c due = ends wish v w w (Ready value) [] c due (let few = c.few in omega arith) refl
+pub poll_ready : (access : PendingAccess) (v w : SeatView) (value : ℕ) → Comes access v (Ready value) 19 w → w.thread.due ≡ Nothing → IsPoll access v (Ready value) w
+poll_ready access v w value c due = ends access v w w (Ready value) [] c due (let few = c.few in omega arith) refl
 
-next_due : (wish : Wish) (v : SeatView) (due : Due) → v.thread.due ≡ due → next_step wish v ≡ kind_by_due due (kind_in_phase v.threads v.number v.thread.count (ToLoad wish.object wish.mode) wish.value v.thread.phase)
-next_due wish v due is = ap (λ (d : Due). kind_by_due d (kind_in_phase v.threads v.number v.thread.count (ToLoad wish.object wish.mode) wish.value v.thread.phase)) is
+next_due : (access : PendingAccess) (v : SeatView) (due : Due) → v.thread.due ≡ due → next_step access v ≡ kind_by_due due (kind_in_phase v.threads v.number v.thread.count (ToLoad access.object access.mode) access.value v.thread.phase)
+next_due access v due is = ap (λ (d : Due). kind_by_due d (kind_in_phase v.threads v.number v.thread.count (ToLoad access.object access.mode) access.value v.thread.phase)) is
 
 abbrev is_owed : Due → Bool
 is_owed Nothing = false
 is_owed _ = true
 
 owes : (v : SeatView) (due : Due) → is_owed due ≡ true → v.thread.due ≡ due → v.thread.due ≢ Nothing
-owes v due owed is none = let e : is_owed due ≡ false = ap is_owed (sym is ∙ none) in cc
+owes v due steps_owed is none = let e : is_owed due ≡ false = ap is_owed (sym is ∙ none) in cc
 
-pub poll_pending : (wish : Wish) (v u w : SeatView) (why : Why) (answered : Bool) → Comes wish v (Pending why) 19 u → u.thread.due ≡ Glance → PassesSafePoint u answered w → IsPoll wish v (Pending why) w
-poll_pending wish v u w why answered c due point = go answered point.by_bits point.answers
+pub poll_pending : (access : PendingAccess) (v u w : SeatView) (why : Why) (answered : Bool) → Comes access v (Pending why) 19 u → u.thread.due ≡ Glance → PassesSafePoint u answered w → IsPoll access v (Pending why) w
+poll_pending access v u w why answered c due point = go answered point.by_bits point.answers
   where
     glance : Taken
     glance = record { kind = ToGlance; word = point.found }
@@ -70,22 +70,22 @@ poll_pending wish v u w why answered c due point = go answered point.by_bits poi
         flip false true e = refl
         flip false false e = absurd cc
 
-    go : (b : Bool) → b ≡ not ((unpacked_status point.found).asked == 0) → AnswersOr b point.between w → IsPoll wish v (Pending why) w
-    go false by_bits is = ends wish v u w (Pending why) (glance ∷ []) c
-        (owes u Glance refl due, next_by wish u point.between ToGlance point.found point.glances (sym (next_due wish u Glance due)), subst (λ (x : SeatView). x.thread.due ≡ Nothing) (sym looks) (left false by_bits))
+    go : (b : Bool) → b ≡ not ((unpacked_status point.found).asked == 0) → AnswersOr b point.between w → IsPoll access v (Pending why) w
+    go false by_bits is = ends access v u w (Pending why) (glance ∷ []) c
+        (owes u Glance refl due, next_by access u point.between ToGlance point.found point.glances (sym (next_due access u Glance due)), subst (λ (x : SeatView). x.thread.due ≡ Nothing) (sym looks) (left false by_bits))
         (let few = c.few in omega arith) (is ∙ sym looks)
     go true by_bits answer = let replies : Taken = record { kind = ToAnswer; word = answer.0 } in let asked = left true by_bits in
-        ends wish v u w (Pending why) (glance ∷ replies ∷ []) c (
+        ends access v u w (Pending why) (glance ∷ replies ∷ []) c (
           owes u Glance refl due,
-          next_by wish u point.between ToGlance point.found point.glances (sym (next_due wish u Glance due)),
-          subst (λ (x : SeatView). PaysBy wish x (replies ∷ [])) (sym looks)
-              (owes point.between Answer refl asked, next_by wish point.between w ToAnswer answer.0 answer.1 (sym (next_due wish point.between Answer asked)), refl),
+          next_by access u point.between ToGlance point.found point.glances (sym (next_due access u Glance due)),
+          subst (λ (x : SeatView). PaysBy access x (replies ∷ [])) (sym looks)
+              (owes point.between Answer refl asked, next_by access point.between w ToAnswer answer.0 answer.1 (sym (next_due access point.between Answer asked)), refl),
         )
         (let few = c.few in omega arith) (answer.1.moves ∙ ap (stepped_by ToAnswer answer.0) (sym looks))
 
-pub same_wish : (a b : Wish) (o : Option Wish) → o ≡ Some a → o ≡ Some b → a ≡ b
-same_wish a b o is was = ap (λ (w : Option Wish). wish_in w) (sym is ∙ was)
+pub same_access : (a b : PendingAccess) (o : Option PendingAccess) → o ≡ Some a → o ≡ Some b → a ≡ b
+same_access a b o is was = ap (λ (w : Option PendingAccess). access_in w) (sym is ∙ was)
   where
-    wish_in : Option Wish → Wish
-    wish_in (Some w) = w
-    wish_in None = a
+    access_in : Option PendingAccess → PendingAccess
+    access_in (Some w) = w
+    access_in None = a

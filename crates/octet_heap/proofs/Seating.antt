@@ -13,19 +13,19 @@ use Rattle.octet_rule.specs.Seats.{view, threads_of, starts_of, objects_of, Clos
 use Rattle.octet_rule.specs.Seats as rule
 use Rattle.octet_heap.specs.declared.heap.Heap.{Heap}
 use Rattle.octet_heap.specs.declared.closed.Closed.{Closed}
-use Rattle.octet_heap.specs.declared.wish.Wish.{Wish}
+use Rattle.octet_heap.specs.declared.pending_access.PendingAccess.{PendingAccess}
 use Rattle.octet_heap.specs.declared.worker.Worker.{Worker}
 use Rattle.octet_heap.specs.Standing.{IsAbout, IsAtRest, HasFuel, IsWithin}
 use Rattle.octet_heap.specs.Workers.{seat_of, IsWorkerOf}
 use Rattle.octet_heap.specs.Seated.{seats_in, journals_of, ArePlain, EachNew, EachRests}
 use Rattle.octet_heap.specs.Closings.{IsClosed}
 
-plain_more : (fuel : ℕ) (workers : List Worker) (worker : Worker) → ArePlain fuel workers → worker.recorder.fuel ≡ fuel → worker.wish ≡ None → worker.slow ≡ 0 → ArePlain fuel (workers ++ worker ∷ [])
+plain_more : (fuel : ℕ) (workers : List Worker) (worker : Worker) → ArePlain fuel workers → worker.recorder.fuel ≡ fuel → worker.pending ≡ None → worker.slow ≡ 0 → ArePlain fuel (workers ++ worker ∷ [])
 plain_more fuel [] worker plain is none none_slow = ((is, none, none_slow), tt)
 plain_more fuel (w ∷ workers) worker plain is none none_slow = (plain.0, plain_more fuel workers worker plain.1 is none none_slow)
 
 plain_at : (fuel : ℕ) (workers : List Worker) (thread : ℕ) (none : Worker) → ArePlain fuel workers → thread < length workers
-    → ((slice_index_or workers thread none).recorder.fuel ≡ fuel) × ((slice_index_or workers thread none).wish ≡ None) × ((slice_index_or workers thread none).slow ≡ 0)
+    → ((slice_index_or workers thread none).recorder.fuel ≡ fuel) × ((slice_index_or workers thread none).pending ≡ None) × ((slice_index_or workers thread none).slow ≡ 0)
 plain_at fuel [] thread none plain there = absurd (omega (arith, there))
 plain_at fuel (w ∷ workers) zero none plain there = plain.0
 plain_at fuel (w ∷ workers) (suc thread) none plain there = plain_at fuel workers thread none plain.1 (omega (arith, there))
@@ -39,7 +39,7 @@ map_length f [] = refl
 map_length f (x ∷ xs) = ap suc (map_length f xs)
 
 pub seated_more : (fuel : ℕ) (seats : List Seat) (workers : List Worker) (worker : Worker) (seat : Seat) → seats_in workers ≡ seats → ArePlain fuel workers
-    → worker.recorder.seat ≡ seat → worker.recorder.fuel ≡ fuel → worker.wish ≡ None → worker.slow ≡ 0 → (seats_in (workers ++ worker ∷ []) ≡ seats ++ seat ∷ []) × ArePlain fuel (workers ++ worker ∷ [])
+    → worker.recorder.seat ≡ seat → worker.recorder.fuel ≡ fuel → worker.pending ≡ None → worker.slow ≡ 0 → (seats_in (workers ++ worker ∷ []) ≡ seats ++ seat ∷ []) × ArePlain fuel (workers ++ worker ∷ [])
 seated_more fuel seats workers worker seat are plain is same none none_slow = (
   map_more (λ (w : Worker). w.recorder.seat) workers worker ∙ (λ i. are i ++ is i ∷ []),
   plain_more fuel workers worker plain same none none_slow,
@@ -65,8 +65,8 @@ each_new heap seats workers are plain fresh thread none there =
         own = own.0;
         same_fuel = p.0;
         owes_nothing = ap (λ (x : Thread). x.due) own.1.1;
-        about = subst (λ (o : Option Wish). IsAbout (seat_of w).threads o (seat_of w).thread.phase) (sym p.1) (subst IsAtRest (sym off) tt);
-        fuelled = subst (λ (o : Option Wish). HasFuel o w.recorder.log.accesses w.recorder.fuel) (sym p.1) tt;
+        about = subst (λ (o : Option PendingAccess). IsAbout (seat_of w).threads o (seat_of w).thread.phase) (sym p.1) (subst IsAtRest (sym off) tt);
+        fuelled = subst (λ (o : Option PendingAccess). HasFuel o w.recorder.log.accesses w.recorder.fuel) (sym p.1) tt;
         within = subst (IsWithin (objects_of heap.words)) (sym p.1) tt;
       },
       own.1.0,

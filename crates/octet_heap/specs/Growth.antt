@@ -7,30 +7,30 @@ use Rattle.octet_model.specs.Thread.{added}
 use Rattle.octet_state.specs.declared.act.Mode.{Mode}
 use Rattle.octet_state.specs.declared.act.Mode.TheVariants.{Read, Write, Update}
 use Rattle.octet_rule.specs.Views.{SeatView}
-use Rattle.octet_heap.specs.declared.wish.Wish.{Wish}
+use Rattle.octet_heap.specs.declared.pending_access.PendingAccess.{PendingAccess}
 use Rattle.octet_heap.specs.declared.poll.Poll.{Poll}
 use Rattle.octet_heap.specs.declared.poll.Poll.TheVariants.{Ready, Pending}
 use Rattle.octet_heap.specs.OwnersPath.{value_by}
 
--- the access of a wish, whose step is told this word: a read is told the value that it reads, and an update its value before
+-- the event of an access whose step is told this word: a read is told the value that it reads, and an update its value before
 abbrev pub access_event : Mode → ℕ → ℕ → ℕ → Event
 access_event Read object value told = event.Read object told
 access_event Write object value told = event.Write object value
 access_event Update object amount told = event.Update object told (added amount told)
 
 -- the access that a poll has made, if it has made it
-abbrev pub access_made : Wish → ℕ → Poll → List Event
-access_made wish told (Ready value) = access_event wish.mode wish.object wish.value told ∷ []
-access_made wish told (Pending why) = []
+abbrev pub access_made : PendingAccess → ℕ → Poll → List Event
+access_made access told (Ready value) = access_event access.mode access.object access.value told ∷ []
+access_made access told (Pending why) = []
 
 -- it answers the value of that access
-abbrev pub AnswersValue : Wish → ℕ → Poll → Type 0
-AnswersValue wish told (Ready value) = value ≡ value_by wish.mode wish.value told
-AnswersValue wish told (Pending why) = Unit {0}
+abbrev pub AnswersValue : PendingAccess → ℕ → Poll → Type 0
+AnswersValue access told (Ready value) = value ≡ value_by access.mode access.value told
+AnswersValue access told (Pending why) = Unit {0}
 
 -- the journal grows by marks and then, once it is made, by the access
-pub record AddsAccess (wish : Wish) (v : SeatView) (answer : Poll) (w : SeatView) : Type 0 where
+pub record AddsAccess (access : PendingAccess) (v : SeatView) (answer : Poll) (w : SeatView) : Type 0 where
   pub marks : List Mark
   pub told : ℕ
-  pub grown : w.journal ≡ v.journal ++ (map (λ mark. event.Marked mark) marks ++ access_made wish told answer)
-  pub value : AnswersValue wish told answer
+  pub grown : w.journal ≡ v.journal ++ (map (λ mark. event.Marked mark) marks ++ access_made access told answer)
+  pub value : AnswersValue access told answer

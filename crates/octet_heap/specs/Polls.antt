@@ -7,13 +7,13 @@ use Rattle.octet_state.specs.Steps.{Kind, ToLoad, ToRead, ToWrite, ToBump}
 use Rattle.octet_state.specs.NextStep.{next_kind, waits}
 use Rattle.octet_rule.specs.Views.{SeatView, Taken, stepped_by}
 use Rattle.octet_rule.specs.Rule.{Steps}
-use Rattle.octet_heap.specs.declared.wish.Wish.{Wish}
+use Rattle.octet_heap.specs.declared.pending_access.PendingAccess.{PendingAccess}
 use Rattle.octet_heap.specs.declared.poll.Poll.{Poll}
 use Rattle.octet_heap.specs.declared.poll.Poll.TheVariants.{Ready, Pending}
 
 -- the next step of a seat's thread that wants this access
-abbrev pub next_step : Wish → SeatView → Kind
-next_step wish v = next_kind v.threads v.number (ToLoad wish.object wish.mode) wish.value v.thread
+abbrev pub next_step : PendingAccess → SeatView → Kind
+next_step access v = next_kind v.threads v.number (ToLoad access.object access.mode) access.value v.thread
 
 -- what a poll answers by a step that waits, or that makes the access. By any other it goes on
 abbrev pub answer_by : Option Why → Kind → ℕ → Option Poll
@@ -32,38 +32,31 @@ after_steps [] v = v
 after_steps (taken ∷ more) v = after_steps more (stepped_by taken.kind taken.word v)
 
 -- the thread takes this step: it is the next one, and one of the protocol, from a sound state in which the thread is where its seat knows it to be
-pub record IsNext (wish : Wish) (v : SeatView) (taken : Taken) : Type 0 where
-  pub in_order : taken.kind ≡ next_step wish v
+pub record IsNext (access : PendingAccess) (v : SeatView) (taken : Taken) : Type 0 where
+  pub in_order : taken.kind ≡ next_step access v
   pub took : Steps taken.kind v taken.word (stepped_by taken.kind taken.word v)
 
 -- these are the thread's steps in their order, by each of which the poll goes on
-abbrev pub GoesBy : Wish → SeatView → List Taken → Type 0
-GoesBy wish v [] = Unit {0}
-GoesBy wish v (taken ∷ more) = IsNext wish v taken × (answer_to v taken ≡ None) × GoesBy wish (stepped_by taken.kind taken.word v) more
+abbrev pub GoesBy : PendingAccess → SeatView → List Taken → Type 0
+GoesBy access v [] = Unit {0}
+GoesBy access v (taken ∷ more) = IsNext access v taken × (answer_to v taken ≡ None) × GoesBy access (stepped_by taken.kind taken.word v) more
 
 -- a thread that owes a glance or an answer takes the next step, and so on, until it owes nothing
-abbrev pub PaysBy : Wish → SeatView → List Taken → Type 0
-PaysBy wish v [] = v.thread.due ≡ Nothing
-PaysBy wish v (taken ∷ more) = (v.thread.due ≢ Nothing) × IsNext wish v taken × PaysBy wish (stepped_by taken.kind taken.word v) more
-
--- fewer than `steps` steps by which the poll goes on
-pub record Goes (wish : Wish) (v : SeatView) (steps : ℕ) (w : SeatView) : Type 0 where
-  pub going : List Taken
-  pub goes : GoesBy wish v going
-  pub few : length going < steps
-  pub after : w ≡ after_steps going v
+abbrev pub PaysBy : PendingAccess → SeatView → List Taken → Type 0
+PaysBy access v [] = v.thread.due ≡ Nothing
+PaysBy access v (taken ∷ more) = (v.thread.due ≢ Nothing) × IsNext access v taken × PaysBy access (stepped_by taken.kind taken.word v) more
 
 -- the steps that are still due after an answer, at most
-abbrev pub owed : Poll → ℕ
-owed (Ready value) = 0
-owed (Pending why) = 2
+abbrev pub steps_owed : Poll → ℕ
+steps_owed (Ready value) = 0
+steps_owed (Pending why) = 2
 
 -- steps by which the poll goes on, and one more, by which it answers; with those that are due then at most `steps`
-pub record Comes (wish : Wish) (v : SeatView) (answer : Poll) (steps : ℕ) (w : SeatView) : Type 0 where
+pub record Comes (access : PendingAccess) (v : SeatView) (answer : Poll) (steps : ℕ) (w : SeatView) : Type 0 where
   pub going : List Taken
   pub last : Taken
-  pub goes : GoesBy wish v going
-  pub is_next : IsNext wish (after_steps going v) last
+  pub goes : GoesBy access v going
+  pub is_next : IsNext access (after_steps going v) last
   pub answers : answer_to (after_steps going v) last ≡ Some answer
-  pub few : length going + owed answer < steps
+  pub few : length going + steps_owed answer < steps
   pub after : w ≡ stepped_by last.kind last.word (after_steps going v)

@@ -17,11 +17,11 @@ journals_of workers = map (λ worker. (seat_of worker).journal) workers
 -- each has this fuel, and has begun no access and made none
 abbrev pub ArePlain : ℕ → List Worker → Type 0
 ArePlain fuel [] = Unit {0}
-ArePlain fuel (worker ∷ workers) = ((worker.recorder.fuel ≡ fuel) × (worker.wish ≡ None) × (worker.slow ≡ 0)) × ArePlain fuel workers
+ArePlain fuel (worker ∷ workers) = ((worker.recorder.fuel ≡ fuel) × (worker.pending ≡ None) × (worker.slow ≡ 0)) × ArePlain fuel workers
 
 -- the worker of this thread, which has taken no step
 abbrev pub IsNew : Heap → ℕ → Worker → Type 0
-IsNew heap thread worker = IsWorkerOf heap worker × ((seat_of worker).number ≡ thread) × ((seat_of worker).thread ≡ unstarted) × ((seat_of worker).journal ≡ []) × ((seat_of worker).trail ≡ []) × (worker.wish ≡ None) × (worker.slow ≡ 0)
+IsNew heap thread worker = IsWorkerOf heap worker × ((seat_of worker).number ≡ thread) × ((seat_of worker).thread ≡ unstarted) × ((seat_of worker).journal ≡ []) × ((seat_of worker).trail ≡ []) × (worker.pending ≡ None) × (worker.slow ≡ 0)
 
 -- the worker of this thread, which is off or blocked
 abbrev pub RestsAs : Heap → ℕ → Worker → Type 0

@@ -8,7 +8,7 @@ use Rattle.octet_state.specs.Words.{unpacked_state}
 use Rattle.octet_state.specs.Table.{decided}
 use Rattle.octet_state.specs.Steps.{state_in}
 use Rattle.octet_rule.specs.Views.{SeatView, Taken}
-use Rattle.octet_heap.specs.declared.wish.Wish.{Wish}
+use Rattle.octet_heap.specs.declared.pending_access.PendingAccess.{PendingAccess}
 use Rattle.octet_heap.specs.declared.poll.Poll.{Poll}
 use Rattle.octet_heap.specs.declared.poll.Poll.TheVariants.{Ready, Pending}
 
@@ -21,13 +21,13 @@ is_pass Pass = true
 is_pass _ = false
 
 -- the first of these steps, a load, has found a state that lets the thread make the access
-abbrev pub passes_by : Wish → SeatView → List Taken → Bool
-passes_by wish v [] = false
-passes_by wish v (load ∷ more) = is_pass (decided (state_in (unpacked_state load.word)) v.number wish.mode v.thread.count)
+abbrev pub passes_by : PendingAccess → SeatView → List Taken → Bool
+passes_by access v [] = false
+passes_by access v (load ∷ more) = is_pass (decided (state_in (unpacked_state load.word)) v.number access.mode v.thread.count)
 
 -- an access takes the fast path where it has not loaded the state before, and the state that it loads lets the thread make it
-abbrev pub is_fast : Wish → SeatView → List Taken → Bool
-is_fast wish v steps = is_idle v.thread.phase && passes_by wish v steps
+abbrev pub is_fast : PendingAccess → SeatView → List Taken → Bool
+is_fast access v steps = is_idle v.thread.phase && passes_by access v steps
 
 -- the accesses that took the slow path, after another one that is made
 abbrev pub slow_by : Bool → ℕ → ℕ

@@ -4,7 +4,7 @@ use Rattle.octet_state.specs.declared.phase.Phase.TheVariants.{Idle}
 use Rattle.octet_state.specs.declared.phase.Due.TheVariants.{Nothing}
 use Rattle.octet_rule.specs.Views.{SeatView, Taken, stepped_by}
 use Rattle.octet_rule.specs.Seats.{view, IsSeatOf, objects_of}
-use Rattle.octet_heap.specs.declared.wish.Wish.{Wish}
+use Rattle.octet_heap.specs.declared.pending_access.PendingAccess.{PendingAccess}
 use Rattle.octet_heap.specs.declared.poll.Poll.{Poll}
 use Rattle.octet_heap.specs.declared.poll.Poll.TheVariants.{Ready, Pending}
 use Rattle.octet_heap.specs.declared.heap.Heap.{Heap}
@@ -21,13 +21,13 @@ pub record IsWorkerOf (heap : Heap) (worker : Worker) : Type 0 where
   pub own : IsSeatOf heap.words worker.recorder.seat
   pub same_fuel : worker.recorder.fuel ≡ heap.fuel
   pub owes_nothing : (seat_of worker).thread.due ≡ Nothing
-  pub about : IsAbout (seat_of worker).threads worker.wish (seat_of worker).thread.phase
-  pub fuelled : HasFuel worker.wish worker.recorder.log.accesses worker.recorder.fuel
-  pub within : IsWithin (objects_of heap.words) worker.wish
+  pub about : IsAbout (seat_of worker).threads worker.pending (seat_of worker).thread.phase
+  pub fuelled : HasFuel worker.pending worker.recorder.log.accesses worker.recorder.fuel
+  pub within : IsWithin (objects_of heap.words) worker.pending
 
 -- it runs, and has begun no access
 abbrev pub IsIdle : Worker → Type 0
-IsIdle worker = ((seat_of worker).thread.phase ≡ Idle) × (worker.wish ≡ None)
+IsIdle worker = ((seat_of worker).thread.phase ≡ Idle) × (worker.pending ≡ None)
 
 -- once its access is made it has begun none
 abbrev pub IsIdleIfMade : Poll → Worker → Type 0
@@ -35,19 +35,19 @@ IsIdleIfMade (Ready value) worker = IsIdle worker
 IsIdleIfMade (Pending why) worker = Unit {0}
 
 -- an access stays begun until it is made
-abbrev pub left_by : Poll → Option Wish → Option Wish
-left_by (Ready value) wish = None
-left_by (Pending why) wish = wish
+abbrev pub pending_after : Poll → Option PendingAccess → Option PendingAccess
+pending_after (Ready value) access = None
+pending_after (Pending why) access = access
 
 -- the steps of a poll, in the order of its thread's steps: some by which it goes on, one by which it answers, and, where it is pending, the safe point after that one. There are at most nineteen
-pub record IsPoll (wish : Wish) (v : SeatView) (answer : Poll) (w : SeatView) : Type 0 where
+pub record IsPoll (access : PendingAccess) (v : SeatView) (answer : Poll) (w : SeatView) : Type 0 where
   pub going : List Taken
   pub last : Taken
   pub at_safe_point : List Taken
-  pub goes : GoesBy wish v going
-  pub is_next : IsNext wish (after_steps going v) last
+  pub goes : GoesBy access v going
+  pub is_next : IsNext access (after_steps going v) last
   pub answers : answer_to (after_steps going v) last ≡ Some answer
-  pub pays : PaysBy wish (stepped_by last.kind last.word (after_steps going v)) at_safe_point
+  pub pays : PaysBy access (stepped_by last.kind last.word (after_steps going v)) at_safe_point
   pub few : length going + 1 + length at_safe_point ≤ 19
   pub after : w ≡ after_steps (going ++ last ∷ at_safe_point) v
   pub trail : w.trail ≡ v.trail ++ (going ++ last ∷ at_safe_point)

@@ -9,17 +9,17 @@ ghost use Rattle.octet_rule.specs.Seats.{view, IsSeatOf, objects_of};
 ghost use Rattle.octet_state.specs.declared.why.Why.TheVariants.{Changed};
 ghost use Rattle.octet_heap.specs.declared.poll.Poll.TheVariants.{Pending};
 ghost use Rattle.octet_heap.specs.Polls.{Comes};
-ghost use Rattle.octet_heap.specs.Waiting.{StandsIn, Leaves, counted};
+ghost use Rattle.octet_heap.specs.Waiting.{StandsIn, Leaves, accesses_after};
 
 use crate::heap::Heap;
+use crate::pending_access::PendingAccess;
 use crate::poll::Poll;
 use crate::recorder::Recorder;
-use crate::wish::Wish;
 use octet_rule::Tried;
 use octet_state::{StateWord, Whom, Why};
 
 // The state is another one than was loaded.
-fn changed(seen: u64, found: u64) -> Poll
+fn pending_changed(seen: u64, found: u64) -> Poll
     ensures { result ≡ Pending (Changed seen found) }
 {
     Poll::Pending {
@@ -32,24 +32,24 @@ impl Heap {
     pub(crate) fn raise(
         &self,
         recorder: &mut Recorder,
-        wish: Wish,
+        access: PendingAccess,
         state: StateWord,
         seen: u64,
     ) -> Poll
         requires own { IsSeatOf self.now.words recorder.old.seat }
-        requires object { wish.object < objects_of self.now.words }
+        requires object { access.object < objects_of self.now.words }
         requires more { recorder.old.log.accesses < recorder.old.fuel }
-        requires stands { StandsIn (Want wish.object wish.mode (Some state)) (view recorder.old.seat) }
+        requires stands { StandsIn (Want access.object access.mode (Some state)) (view recorder.old.seat) }
         requires word { packed_state state ≡ seen }
-        requires says { decided state (view recorder.old.seat).number wish.mode (view recorder.old.seat).thread.count ≡ RaiseIt }
+        requires says { decided state (view recorder.old.seat).number access.mode (view recorder.old.seat).thread.count ≡ RaiseIt }
         ensures own { IsSeatOf self.now.words recorder.new.seat × (recorder.new.fuel ≡ recorder.old.fuel) }
-        ensures counts { recorder.new.log.accesses ≡ counted result recorder.old.log.accesses }
-        ensures comes { Comes wish (view recorder.old.seat) result 3 (view recorder.new.seat) }
-        ensures leaves { Leaves wish result (view recorder.new.seat) }
+        ensures counts { recorder.new.log.accesses ≡ accesses_after result recorder.old.log.accesses }
+        ensures comes { Comes access (view recorder.old.seat) result 3 (view recorder.new.seat) }
+        ensures leaves { Leaves access result (view recorder.new.seat) }
     {
-        match recorder.raise(&self.words, wish.object, seen) {
-            Tried::Won => self.access(recorder, wish),
-            Tried::Lost { found } => changed(seen, found),
+        match recorder.raise(&self.words, access.object, seen) {
+            Tried::Won => self.access(recorder, access),
+            Tried::Lost { found } => pending_changed(seen, found),
         }
     }
 
@@ -57,27 +57,27 @@ impl Heap {
     pub(crate) fn share(
         &self,
         recorder: &mut Recorder,
-        wish: Wish,
+        access: PendingAccess,
         state: StateWord,
         seen: u64,
         from: u8,
         upto: u64,
     ) -> Poll
         requires own { IsSeatOf self.now.words recorder.old.seat }
-        requires object { wish.object < objects_of self.now.words }
+        requires object { access.object < objects_of self.now.words }
         requires more { recorder.old.log.accesses < recorder.old.fuel }
-        requires stands { StandsIn (Want wish.object wish.mode (Some state)) (view recorder.old.seat) }
+        requires stands { StandsIn (Want access.object access.mode (Some state)) (view recorder.old.seat) }
         requires word { packed_state state ≡ seen }
-        requires mode { ForRead ≡ wish.mode }
-        requires says { decided state (view recorder.old.seat).number wish.mode (view recorder.old.seat).thread.count ≡ ShareIt from upto }
+        requires mode { ForRead ≡ access.mode }
+        requires says { decided state (view recorder.old.seat).number access.mode (view recorder.old.seat).thread.count ≡ ShareIt from upto }
         ensures own { IsSeatOf self.now.words recorder.new.seat × (recorder.new.fuel ≡ recorder.old.fuel) }
-        ensures counts { recorder.new.log.accesses ≡ counted result recorder.old.log.accesses }
-        ensures comes { Comes wish (view recorder.old.seat) result 4 (view recorder.new.seat) }
-        ensures leaves { Leaves wish result (view recorder.new.seat) }
+        ensures counts { recorder.new.log.accesses ≡ accesses_after result recorder.old.log.accesses }
+        ensures comes { Comes access (view recorder.old.seat) result 4 (view recorder.new.seat) }
+        ensures leaves { Leaves access result (view recorder.new.seat) }
     {
-        match recorder.share(&self.words, wish.object, seen, from, upto) {
-            Tried::Won => self.draw(recorder, wish),
-            Tried::Lost { found } => changed(seen, found),
+        match recorder.share(&self.words, access.object, seen, from, upto) {
+            Tried::Won => self.draw(recorder, access),
+            Tried::Lost { found } => pending_changed(seen, found),
         }
     }
 
@@ -85,25 +85,25 @@ impl Heap {
     pub(crate) fn claim(
         &self,
         recorder: &mut Recorder,
-        wish: Wish,
+        access: PendingAccess,
         state: StateWord,
         seen: u64,
         whom: Whom,
     ) -> Poll
         requires own { IsSeatOf self.now.words recorder.old.seat }
-        requires object { wish.object < objects_of self.now.words }
+        requires object { access.object < objects_of self.now.words }
         requires more { recorder.old.log.accesses < recorder.old.fuel }
-        requires stands { StandsIn (Want wish.object wish.mode (Some state)) (view recorder.old.seat) }
+        requires stands { StandsIn (Want access.object access.mode (Some state)) (view recorder.old.seat) }
         requires word { packed_state state ≡ seen }
-        requires says { decided state (view recorder.old.seat).number wish.mode (view recorder.old.seat).thread.count ≡ TakeIt whom }
+        requires says { decided state (view recorder.old.seat).number access.mode (view recorder.old.seat).thread.count ≡ TakeIt whom }
         ensures own { IsSeatOf self.now.words recorder.new.seat × (recorder.new.fuel ≡ recorder.old.fuel) }
-        ensures counts { recorder.new.log.accesses ≡ counted result recorder.old.log.accesses }
-        ensures comes { Comes wish (view recorder.old.seat) result 18 (view recorder.new.seat) }
-        ensures leaves { Leaves wish result (view recorder.new.seat) }
+        ensures counts { recorder.new.log.accesses ≡ accesses_after result recorder.old.log.accesses }
+        ensures comes { Comes access (view recorder.old.seat) result 18 (view recorder.new.seat) }
+        ensures leaves { Leaves access result (view recorder.new.seat) }
     {
-        match recorder.claim(&self.words, wish.object, wish.mode, seen) {
-            Tried::Won => self.ask_on(recorder, wish, state, 0),
-            Tried::Lost { found } => changed(seen, found),
+        match recorder.claim(&self.words, access.object, access.mode, seen) {
+            Tried::Won => self.ask_on(recorder, access, state, 0),
+            Tried::Lost { found } => pending_changed(seen, found),
         }
     }
 }

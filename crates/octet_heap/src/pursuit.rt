@@ -7,17 +7,17 @@ ghost use Rattle.octet_state.specs.Positions.{NamesThread};
 ghost use Rattle.octet_rule.specs.Seats.{view, IsSeatOf, objects_of};
 ghost use Rattle.octet_heap.specs.declared.poll.Poll.TheVariants.{Pending};
 ghost use Rattle.octet_heap.specs.Polls.{Comes};
-ghost use Rattle.octet_heap.specs.Waiting.{StandsIn, Leaves, counted};
+ghost use Rattle.octet_heap.specs.Waiting.{StandsIn, Leaves, accesses_after};
 
 use crate::heap::Heap;
+use crate::pending_access::PendingAccess;
 use crate::poll::Poll;
 use crate::recorder::Recorder;
-use crate::wish::Wish;
 use octet_safe::Reply;
 use octet_state::{StateWord, Why};
 
 // A thread has not answered.
-fn unanswered(by: u8, word: u64) -> Poll
+fn pending_unanswered(by: u8, word: u64) -> Poll
     ensures { result ≡ Pending (NoAnswer by word) }
 {
     Poll::Pending {
@@ -30,20 +30,20 @@ impl Heap {
     pub(crate) fn ask_on(
         &self,
         recorder: &mut Recorder,
-        wish: Wish,
+        access: PendingAccess,
         prior: StateWord,
         from: u8,
     ) -> Poll
         requires own { IsSeatOf self.now.words recorder.old.seat }
-        requires object { wish.object < objects_of self.now.words }
+        requires object { access.object < objects_of self.now.words }
         requires more { recorder.old.log.accesses < recorder.old.fuel }
-        requires stands { StandsIn (Claimed wish.object wish.mode prior from false) (view recorder.old.seat) }
+        requires stands { StandsIn (Claimed access.object access.mode prior from false) (view recorder.old.seat) }
         requires named { NamesThread (view recorder.old.seat).threads prior }
         requires left { from ≤ number_to_ask (whom_to_ask prior) (view recorder.old.seat).threads }
         ensures own { IsSeatOf self.now.words recorder.new.seat × (recorder.new.fuel ≡ recorder.old.fuel) }
-        ensures counts { recorder.new.log.accesses ≡ counted result recorder.old.log.accesses }
-        ensures comes { Comes wish (view recorder.old.seat) result 17 (view recorder.new.seat) }
-        ensures leaves { Leaves wish result (view recorder.new.seat) }
+        ensures counts { recorder.new.log.accesses ≡ accesses_after result recorder.old.log.accesses }
+        ensures comes { Comes access (view recorder.old.seat) result 17 (view recorder.new.seat) }
+        ensures leaves { Leaves access result (view recorder.new.seat) }
     {
         let whom = prior.whom_to_ask();
         let me = recorder.seat.thread();
@@ -51,35 +51,35 @@ impl Heap {
             let next = whom.next(me, done);
             match recorder.ask(&self.words, next) {
                 Reply::Given { .. } => {}
-                Reply::Unanswered { word } => return unanswered(next, word),
+                Reply::Unanswered { word } => return pending_unanswered(next, word),
             }
         }
-        self.settle(recorder, wish)
+        self.settle(recorder, access)
     }
 
     // Looks at the one that was asked, and asks those that come after it.
     pub(crate) fn look_on(
         &self,
         recorder: &mut Recorder,
-        wish: Wish,
+        access: PendingAccess,
         prior: StateWord,
         done: u8,
     ) -> Poll
         requires own { IsSeatOf self.now.words recorder.old.seat }
-        requires object { wish.object < objects_of self.now.words }
+        requires object { access.object < objects_of self.now.words }
         requires more { recorder.old.log.accesses < recorder.old.fuel }
-        requires stands { StandsIn (Claimed wish.object wish.mode prior done true) (view recorder.old.seat) }
+        requires stands { StandsIn (Claimed access.object access.mode prior done true) (view recorder.old.seat) }
         requires named { NamesThread (view recorder.old.seat).threads prior }
         requires left { done < number_to_ask (whom_to_ask prior) (view recorder.old.seat).threads }
         ensures own { IsSeatOf self.now.words recorder.new.seat × (recorder.new.fuel ≡ recorder.old.fuel) }
-        ensures counts { recorder.new.log.accesses ≡ counted result recorder.old.log.accesses }
-        ensures comes { Comes wish (view recorder.old.seat) result 18 (view recorder.new.seat) }
-        ensures leaves { Leaves wish result (view recorder.new.seat) }
+        ensures counts { recorder.new.log.accesses ≡ accesses_after result recorder.old.log.accesses }
+        ensures comes { Comes access (view recorder.old.seat) result 18 (view recorder.new.seat) }
+        ensures leaves { Leaves access result (view recorder.new.seat) }
     {
         let next = prior.whom_to_ask().next(recorder.seat.thread(), done);
         match recorder.look(&self.words, next) {
-            Reply::Given { .. } => self.ask_on(recorder, wish, prior, done + 1),
-            Reply::Unanswered { word } => unanswered(next, word),
+            Reply::Given { .. } => self.ask_on(recorder, access, prior, done + 1),
+            Reply::Unanswered { word } => pending_unanswered(next, word),
         }
     }
 }

@@ -8,13 +8,13 @@ ghost use Rattle.octet_state.specs.Steps.{state_in, ToLoad, ToRead, ToWrite, ToB
 ghost use Rattle.octet_state.specs.Words.{packed_state};
 ghost use Rattle.octet_rule.specs.Conditions.{MayLoad, MayPass, HoldsWord, MaySettle, MayDraw, MayFence, AsksNext, HasAsked, decision, is_take, found_by, IsLost};
 ghost use Rattle.octet_rule.specs.Entering.{Enters};
-ghost use Rattle.octet_heap.specs.Waiting.{counted_by};
+ghost use Rattle.octet_heap.specs.Waiting.{accesses_after_load};
 ghost use Rattle.octet_rule.specs.Rule.{Steps};
 ghost use Rattle.octet_rule.specs.Seats.{view, IsSeatOf, threads_of, objects_of};
 ghost use Rattle.octet_safe.specs.Replies.{Asks, Looks};
 
+use crate::pending_access::PendingAccess;
 use crate::recorder::Recorder;
-use crate::wish::Wish;
 use octet_model::Mark;
 use octet_rule::{Entered, Tried, Words};
 use octet_safe::Reply;
@@ -23,19 +23,19 @@ use octet_state::Mode;
 impl Recorder {
     /// Loads the state of the object, and makes the access where that lets the thread pass.
     #[inline(always)]
-    pub(crate) fn enter(&mut self, words: &Words, wish: Wish) -> Entered
+    pub(crate) fn enter(&mut self, words: &Words, access: PendingAccess) -> Entered
         requires own { IsSeatOf words.now self.old.seat }
-        requires object { wish.object < objects_of words.now }
+        requires object { access.object < objects_of words.now }
         requires due { (view self.old.seat).thread.due ≡ Nothing }
-        requires phase { MayLoad wish.object wish.mode (view self.old.seat).journal (view self.old.seat).thread.phase }
+        requires phase { MayLoad access.object access.mode (view self.old.seat).journal (view self.old.seat).thread.phase }
         requires more { self.old.log.accesses < self.old.fuel }
         ensures own { IsSeatOf words.now self.new.seat × (self.new.fuel ≡ self.old.fuel) }
-        ensures counts { self.new.log.accesses ≡ counted_by result self.old.log.accesses }
-        ensures steps { Enters wish.object wish.mode wish.value (view self.old.seat) result (view self.new.seat) }
+        ensures counts { self.new.log.accesses ≡ accesses_after_load result self.old.log.accesses }
+        ensures steps { Enters access.object access.mode access.value (view self.old.seat) result (view self.new.seat) }
     {
-        let entered = words.enter(&mut self.seat, wish.object, &wish.mode, wish.value);
+        let entered = words.enter(&mut self.seat, access.object, &access.mode, access.value);
         if let Entered::Made { told } = entered {
-            match wish.mode {
+            match access.mode {
                 Mode::Read => self.log.add_read(told),
                 Mode::Write | Mode::Update => self.log.add_write(),
             }

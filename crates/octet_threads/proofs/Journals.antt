@@ -16,7 +16,7 @@ use Rattle.octet_interp.proofs.Agreement.{agrees}
 use Rattle.octet_interp.proofs.Journaled.{keep_up, take_marks}
 use Rattle.octet_state.specs.declared.act.Mode.TheVariants as mode
 use Rattle.octet_rule.specs.Views.{SeatView}
-use Rattle.octet_heap.specs.declared.wish.Wish.{Wish}
+use Rattle.octet_heap.specs.declared.pending_access.PendingAccess.{PendingAccess}
 use Rattle.octet_heap.specs.declared.poll.Poll.TheVariants.{Ready}
 use Rattle.octet_heap.specs.Growth.{access_event, AddsAccess}
 use Rattle.octet_threads.specs.Carrying.{TellsAgain}
@@ -33,16 +33,16 @@ module _ (start : Configuration) (s : ThreadState) where
   past d journal is kept = subst (λ (x : Demand). IsJournalPast start journal x (after_demand s)) is (keep_up start journal s kept)
 
   -- the journal that has grown by an access
-  grown_by : (wish : Wish) (v w : SeatView) (value : ℕ) (a : AddsAccess wish v (Ready value) w)
-      → w.journal ≡ (v.journal ++ map (λ mark. event.Marked mark) a.marks) ++ access_event wish.mode wish.object wish.value a.told ∷ []
-  grown_by wish v w value a = a.grown ∙ sym (append_assoc v.journal (map (λ mark. event.Marked mark) a.marks) (access_event wish.mode wish.object wish.value a.told ∷ []))
+  grown_by : (access : PendingAccess) (v w : SeatView) (value : ℕ) (a : AddsAccess access v (Ready value) w)
+      → w.journal ≡ (v.journal ++ map (λ mark. event.Marked mark) a.marks) ++ access_event access.mode access.object access.value a.told ∷ []
+  grown_by access v w value a = a.grown ∙ sym (append_assoc v.journal (map (λ mark. event.Marked mark) a.marks) (access_event access.mode access.object access.value a.told ∷ []))
 
   -- past a read, with its value
   pub read_kept : (object value : ℕ) (v w : SeatView) → next_demand s ≡ demand.Read object → AddsAccess (record { object = object; mode = mode.Read; value = 0 }) v (Ready value) w
       → IsJournalOf start v.journal s → IsJournalOf start w.journal (given (after_demand s) value)
   read_kept object value v w is a kept =
-      let wish : Wish = record { object = object; mode = mode.Read; value = 0 } in
-      subst (λ (j : List Event). IsJournalOf start j (given (after_demand s) value)) (sym (grown_by wish v w value a))
+      let access : PendingAccess = record { object = object; mode = mode.Read; value = 0 } in
+      subst (λ (j : List Event). IsJournalOf start j (given (after_demand s) value)) (sym (grown_by access v w value a))
       (subst (λ (n : ℕ). IsJournalOf start ((v.journal ++ map (λ mark. event.Marked mark) a.marks) ++ event.Read object a.told ∷ []) (given (after_demand s) n)) (sym a.value)
       (past (demand.Read object) (v.journal ++ map (λ mark. event.Marked mark) a.marks) is (marks_kept start s a.marks v.journal kept) a.told))
 
@@ -50,16 +50,16 @@ module _ (start : Configuration) (s : ThreadState) where
   pub write_kept : (object value told : ℕ) (v w : SeatView) → next_demand s ≡ demand.Write object value → AddsAccess (record { object = object; mode = mode.Write; value = value }) v (Ready told) w
       → IsJournalOf start v.journal s → IsJournalOf start w.journal (after_demand s)
   write_kept object value told v w is a kept =
-      let wish : Wish = record { object = object; mode = mode.Write; value = value } in
-      subst (λ (j : List Event). IsJournalOf start j (after_demand s)) (sym (grown_by wish v w told a))
+      let access : PendingAccess = record { object = object; mode = mode.Write; value = value } in
+      subst (λ (j : List Event). IsJournalOf start j (after_demand s)) (sym (grown_by access v w told a))
       (past (demand.Write object value) (v.journal ++ map (λ mark. event.Marked mark) a.marks) is (marks_kept start s a.marks v.journal kept))
 
   -- past an update
   pub bump_kept : (object amount after : ℕ) (v w : SeatView) → next_demand s ≡ demand.Bump object amount → AddsAccess (record { object = object; mode = mode.Update; value = amount }) v (Ready after) w
       → IsJournalOf start v.journal s → IsJournalOf start w.journal (after_demand s)
   bump_kept object amount after v w is a kept =
-      let wish : Wish = record { object = object; mode = mode.Update; value = amount } in
-      subst (λ (j : List Event). IsJournalOf start j (after_demand s)) (sym (grown_by wish v w after a))
+      let access : PendingAccess = record { object = object; mode = mode.Update; value = amount } in
+      subst (λ (j : List Event). IsJournalOf start j (after_demand s)) (sym (grown_by access v w after a))
       (past (demand.Bump object amount) (v.journal ++ map (λ mark. event.Marked mark) a.marks) is (marks_kept start s a.marks v.journal kept) a.told)
 
   -- past a safe point or a pause

@@ -9,7 +9,7 @@ use Rattle.octet_state.specs.declared.why.Why.{Why}
 use Rattle.octet_state.specs.Steps.{Kind, ToLoad, ToRead, ToWrite, ToBump}
 use Rattle.octet_state.specs.NextStep.{kind_by_due, kind_in_phase, waits}
 use Rattle.octet_rule.specs.Views.{SeatView, Taken, stepped_by}
-use Rattle.octet_heap.specs.declared.wish.Wish.{Wish}
+use Rattle.octet_heap.specs.declared.pending_access.PendingAccess.{PendingAccess}
 use Rattle.octet_heap.specs.declared.poll.Poll.{Poll}
 use Rattle.octet_heap.specs.declared.poll.Poll.TheVariants.{Ready, Pending}
 use Rattle.octet_heap.specs.Polls as heap
@@ -55,47 +55,47 @@ pays_off_cell Nothing k kind word owes e = absurd (owes refl)
 pays_off_cell Glance k kind word owes e = ap (λ (z : Kind). is_on_cell z word) e
 pays_off_cell Answer k kind word owes e = ap (λ (z : Kind). is_on_cell z word) e
 
-as_next : (wish : Wish) (v : SeatView) (taken : Taken) → heap.IsNext wish v taken → IsNext (access_task wish) v taken
-as_next wish v taken is = record { in_order = is.in_order; took = is.took }
+as_next : (access : PendingAccess) (v : SeatView) (taken : Taken) → heap.IsNext access v taken → IsNext (access_task access) v taken
+as_next access v taken is = record { in_order = is.in_order; took = is.took }
 
-going_as : (wish : Wish) (v : SeatView) (going : List Taken) → heap.GoesBy wish v going → GoesBy (access_task wish) v going
-going_as wish v [] goes = tt
-going_as wish v (t ∷ more) goes =
-    (as_next wish v t goes.0, goes_off_cell (waits t.kind v.number t.word v.thread) t.kind t.word goes.1, going_as wish (stepped_by t.kind t.word v) more goes.2)
+going_as : (access : PendingAccess) (v : SeatView) (going : List Taken) → heap.GoesBy access v going → GoesBy (access_task access) v going
+going_as access v [] goes = tt
+going_as access v (t ∷ more) goes =
+    (as_next access v t goes.0, goes_off_cell (waits t.kind v.number t.word v.thread) t.kind t.word goes.1, going_as access (stepped_by t.kind t.word v) more goes.2)
 
-paying_as : (wish : Wish) (v : SeatView) (paid : List Taken) → PaysBy wish v paid → GoesBy (access_task wish) v paid
-paying_as wish v [] pays = tt
-paying_as wish v (t ∷ more) pays =
-    let kind = kind_in_phase v.threads v.number v.thread.count (ToLoad wish.object wish.mode) wish.value v.thread.phase in
-    (as_next wish v t pays.1, pays_off_cell v.thread.due t.kind kind t.word pays.0 pays.1.in_order, paying_as wish (stepped_by t.kind t.word v) more pays.2)
+paying_as : (access : PendingAccess) (v : SeatView) (paid : List Taken) → PaysBy access v paid → GoesBy (access_task access) v paid
+paying_as access v [] pays = tt
+paying_as access v (t ∷ more) pays =
+    let kind = kind_in_phase v.threads v.number v.thread.count (ToLoad access.object access.mode) access.value v.thread.phase in
+    (as_next access v t pays.1, pays_off_cell v.thread.due t.kind kind t.word pays.0 pays.1.in_order, paying_as access (stepped_by t.kind t.word v) more pays.2)
 
-pays_nothing : (wish : Wish) (v : SeatView) (paid : List Taken) → v.thread.due ≡ Nothing → PaysBy wish v paid → paid ≡ []
-pays_nothing wish v [] none pays = refl
-pays_nothing wish v (t ∷ more) none pays = absurd (pays.0 none)
+pays_nothing : (access : PendingAccess) (v : SeatView) (paid : List Taken) → v.thread.due ≡ Nothing → PaysBy access v paid → paid ≡ []
+pays_nothing access v [] none pays = refl
+pays_nothing access v (t ∷ more) none pays = absurd (pays.0 none)
 
 -- a poll that is pending has gone on
-pub pending_goes : (wish : Wish) (v w : SeatView) (why : Why) → IsPoll wish v (Pending why) w → HasGone (access_task wish) v w
-pending_goes wish v w why p =
-    let task = access_task wish in
+pub pending_goes : (access : PendingAccess) (v w : SeatView) (why : Why) → IsPoll access v (Pending why) w → HasGone (access_task access) v w
+pending_goes access v w why p =
+    let task = access_task access in
     let u = after_steps p.going v in
-    let last : IsNext task u p.last = as_next wish u p.last p.is_next in
+    let last : IsNext task u p.last = as_next access u p.last p.is_next in
     let off : is_on_cell p.last.kind p.last.word ≡ false = waits_off_cell p.last.kind u.number p.last.word u why p.answers in record {
       going = p.going ++ p.last ∷ p.at_safe_point;
-      goes = goes_more task v p.going (p.last ∷ p.at_safe_point) (going_as wish v p.going p.goes) (last, off, paying_as wish (stepped_by p.last.kind p.last.word u) p.at_safe_point p.pays);
+      goes = goes_more task v p.going (p.last ∷ p.at_safe_point) (going_as access v p.going p.goes) (last, off, paying_as access (stepped_by p.last.kind p.last.word u) p.at_safe_point p.pays);
       after = p.after;
       trail = p.trail;
     }
 
 -- one that is ready has made the access
-pub ready_does : (wish : Wish) (v w : SeatView) (value : ℕ) → IsPoll wish v (Ready value) w → Does (access_task wish) v w
-ready_does wish v w value p =
+pub ready_does : (access : PendingAccess) (v w : SeatView) (value : ℕ) → IsPoll access v (Ready value) w → Does (access_task access) v w
+ready_does access v w value p =
     let u = after_steps p.going v in
     let on : is_on_cell p.last.kind p.last.word ≡ true = makes_on_cell (waits p.last.kind u.number p.last.word u.thread) p.last.kind p.last.word value p.answers in
-    let none : p.at_safe_point ≡ [] = pays_nothing wish (stepped_by p.last.kind p.last.word u) p.at_safe_point (leaves_nothing p.last.kind p.last.word u on) p.pays in record {
+    let none : p.at_safe_point ≡ [] = pays_nothing access (stepped_by p.last.kind p.last.word u) p.at_safe_point (leaves_nothing p.last.kind p.last.word u on) p.pays in record {
       going = p.going;
       last = p.last;
-      goes = going_as wish v p.going p.goes;
-      is_next = as_next wish u p.last p.is_next;
+      goes = going_as access v p.going p.goes;
+      is_next = as_next access u p.last p.is_next;
       does = on;
       after = p.after ∙ ap (λ (l : List Taken). after_steps (p.going ++ p.last ∷ l) v) none;
       trail = p.trail ∙ ap (λ (l : List Taken). v.trail ++ (p.going ++ p.last ∷ l)) none;
@@ -120,14 +120,14 @@ adds_then u v w ms ns made first second =
     let b : List Event = map (λ mark. Marked mark) ns in
     second ∙ (ap (λ (l : List Event). l ++ (b ++ made)) first ∙ (append_assoc u a (b ++ made) ∙ ap (λ (l : List Event). u ++ l) (sym (append_assoc a b made) ∙ ap (λ (l : List Event). l ++ made) (both_marked ms ns))))
 
-pub adds_more : (wish : Wish) (u v w : SeatView) (why : Why) → AddsMarks u v → AddsAccess wish v (Pending why) w → AddsMarks u w
-adds_more wish u v w why a b =
+pub adds_more : (access : PendingAccess) (u v w : SeatView) (why : Why) → AddsMarks u v → AddsAccess access v (Pending why) w → AddsMarks u w
+adds_more access u v w why a b =
     (a.0 ++ b.marks, adds_then u.journal v.journal w.journal a.0 b.marks [] a.1 b.grown ∙ ap (λ (l : List Event). u.journal ++ l) (append-nil (map (λ mark. Marked mark) (a.0 ++ b.marks))))
 
-pub adds_last : (wish : Wish) (u v w : SeatView) (answer : Poll) → AddsMarks u v → AddsAccess wish v answer w → AddsAccess wish u answer w
-adds_last wish u v w answer a b = record {
+pub adds_last : (access : PendingAccess) (u v w : SeatView) (answer : Poll) → AddsMarks u v → AddsAccess access v answer w → AddsAccess access u answer w
+adds_last access u v w answer a b = record {
   marks = a.0 ++ b.marks;
   told = b.told;
-  grown = adds_then u.journal v.journal w.journal a.0 b.marks (access_made wish b.told answer) a.1 b.grown;
+  grown = adds_then u.journal v.journal w.journal a.0 b.marks (access_made access b.told answer) a.1 b.grown;
   value = b.value;
 }

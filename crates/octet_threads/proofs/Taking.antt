@@ -8,7 +8,7 @@ use Rattle.octet_machine.specs.declared.turned.Turned.{Turned}
 use Rattle.octet_machine.specs.declared.turned.Turned.TheVariants.{Moved, Waits, Ended}
 use Rattle.octet_machine.specs.Machine.{MachineState, runner_of, next_waits, turned_by, state_of_turn, answer_of_turn, after_step, turned, after_turn}
 use Rattle.octet_machine.specs.Turns.{after_turns}
-use Rattle.octet_threads.specs.Step.{at_gate, found_by, after_by, found, after_found}
+use Rattle.octet_threads.specs.Step.{at_gate, step_result_by, after_step_by, step_result, after_step}
 use Rattle.octet_threads.specs.declared.step.Found.{Found}
 use Rattle.octet_threads.specs.declared.step.Found.TheVariants.{AtGate, Took}
 use Rattle.octet_threads.specs.Turns.{due_at_gate, MayGo, MayHelp, MayTurn, own_turns, Helps, TakesTurns, Finds}
@@ -75,17 +75,17 @@ ended_stays m thread ended = go (runner_of m thread).end (next_waits m thread) e
     go None (Some why) ended = absurd (cc ended)
 
 is_at_gate : (due : Option ℕ) (turn : Turned) (before turned after : MachineState) (access : ℕ)
-    → AtGate access ≡ found_by due turn → after ≡ after_by due before turned → (due ≡ Some access) × (after ≡ before)
+    → AtGate access ≡ step_result_by due turn → after ≡ after_step_by due before turned → (due ≡ Some access) × (after ≡ before)
 is_at_gate None turn before turned after access is comes = absurd cc
 is_at_gate (Some number) turn before turned after access is comes = ((let same : number ≡ access = cc in ap Some same), comes)
 
 has_taken : (due : Option ℕ) (turn answer : Turned) (before turned after : MachineState)
-    → Took answer ≡ found_by due turn → after ≡ after_by due before turned → (due ≡ None) × ((answer ≡ turn) × (after ≡ turned))
+    → Took answer ≡ step_result_by due turn → after ≡ after_step_by due before turned → (due ≡ None) × ((answer ≡ turn) × (after ≡ turned))
 has_taken None turn answer before turned after is comes = (refl, (cc, comes))
 has_taken (Some number) turn answer before turned after is comes = absurd cc
 
 pub finds_gate : (is_open : Bool) (own : ℕ) (passed now : Option ℕ) (m after : MachineState) (access : ℕ)
-    → at_gate m own now ≡ due_at_gate is_open m own passed → AtGate access ≡ found m own now → after ≡ after_found m own now
+    → at_gate m own now ≡ due_at_gate is_open m own passed → AtGate access ≡ step_result m own now → after ≡ after_step m own now
     → Finds is_open own passed 1 m (AtGate access) after
 finds_gate is_open own passed now m after access due is comes =
     let is_at = is_at_gate (at_gate m own now) (turned m own) m (after_turn m own) after access is comes in
@@ -98,7 +98,7 @@ pub record HasTaken (is_open : Bool) (own : ℕ) (passed : Option ℕ) (m : Mach
   pub comes : after ≡ after_turn m own
 
 pub taken : (is_open : Bool) (own : ℕ) (passed now : Option ℕ) (m after : MachineState) (answer : Turned)
-    → at_gate m own now ≡ due_at_gate is_open m own passed → Took answer ≡ found m own now → after ≡ after_found m own now
+    → at_gate m own now ≡ due_at_gate is_open m own passed → Took answer ≡ step_result m own now → after ≡ after_step m own now
     → HasTaken is_open own passed m answer after
 taken is_open own passed now m after answer due is comes =
     let has = has_taken (at_gate m own now) (turned m own) answer m (after_turn m own) after is comes in

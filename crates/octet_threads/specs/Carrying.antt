@@ -23,7 +23,7 @@ HasAccessLeft heap worker state = is_access (next_demand state) ≡ true → acc
 
 -- after its end the worker is blocked, after any other demand idle
 abbrev pub IsLeftBy : Demand → Worker → Type 0
-IsLeftBy (Ended end) worker = ((seat_of worker).thread.phase ≡ Blocked) × (worker.wish ≡ None)
+IsLeftBy (Ended end) worker = ((seat_of worker).thread.phase ≡ Blocked) × (worker.pending ≡ None)
 IsLeftBy _ worker = IsIdle worker
 
 -- the same thread of a script

@@ -14,17 +14,17 @@ not_passed wanted _ = wanted
 abbrev pub at_gate : MachineState → ℕ → Option ℕ → Option ℕ
 at_gate m thread passed = not_passed (wanted m thread) passed
 
-abbrev pub found_by : Option ℕ → Turned → Found
-found_by (Some access) turned = AtGate access
-found_by None turned = Took turned
+abbrev pub step_result_by : Option ℕ → Turned → Found
+step_result_by (Some access) turned = AtGate access
+step_result_by None turned = Took turned
 
-abbrev pub found : MachineState → ℕ → Option ℕ → Found
-found m thread passed = found_by (at_gate m thread passed) (turned m thread)
+abbrev pub step_result : MachineState → ℕ → Option ℕ → Found
+step_result m thread passed = step_result_by (at_gate m thread passed) (turned m thread)
 
-abbrev pub after_by : Option ℕ → MachineState → MachineState → MachineState
-after_by (Some access) before after = before
-after_by None before after = after
+abbrev pub after_step_by : Option ℕ → MachineState → MachineState → MachineState
+after_step_by (Some access) before after = before
+after_step_by None before after = after
 
 -- nothing changes before the gate; else the thread takes its turn
-abbrev pub after_found : MachineState → ℕ → Option ℕ → MachineState
-after_found m thread passed = after_by (at_gate m thread passed) m (after_turn m thread)
+abbrev pub after_step : MachineState → ℕ → Option ℕ → MachineState
+after_step m thread passed = after_step_by (at_gate m thread passed) m (after_turn m thread)

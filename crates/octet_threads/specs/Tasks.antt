@@ -8,7 +8,7 @@ use Rattle.octet_state.specs.Steps.{Kind, ToGlance, ToAnswer, ToBlock, ToUnblock
 use Rattle.octet_state.specs.NextStep.{next_kind}
 use Rattle.octet_rule.specs.Views.{SeatView, Taken, stepped_by}
 use Rattle.octet_rule.specs.Rule.{Steps}
-use Rattle.octet_heap.specs.declared.wish.Wish.{Wish}
+use Rattle.octet_heap.specs.declared.pending_access.PendingAccess.{PendingAccess}
 use Rattle.octet_heap.specs.Polls.{after_steps}
 
 -- what an idle thread is to do: the first step of it, the value that a write stores or an update adds, and the step that does it, by the word that it is told
@@ -39,8 +39,8 @@ is_block (ToBlock ends) word = true
 is_block _ word = false
 
 -- an access
-abbrev pub access_task : Wish → Task
-access_task wish = record { first = ToLoad wish.object wish.mode; value = wish.value; is_done_by = is_on_cell }
+abbrev pub access_task : PendingAccess → Task
+access_task access = record { first = ToLoad access.object access.mode; value = access.value; is_done_by = is_on_cell }
 
 -- what a demand is for its worker: an access; a safe point; a block and an unblock; or a block for good
 abbrev pub task_of : Demand → Task

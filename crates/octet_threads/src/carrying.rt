@@ -4,15 +4,15 @@ ghost use Rattle.std.specs.Option.{is_some};
 ghost use Rattle.octet_model.specs.Journals.{access_count};
 ghost use Rattle.octet_interp.specs.Demands.{next_demand};
 ghost use Rattle.octet_rule.specs.Seats.{objects_of};
-ghost use Rattle.octet_heap.specs.declared.wish.Wish.{Wish as TheWish};
+ghost use Rattle.octet_heap.specs.declared.pending_access.PendingAccess.{PendingAccess as ThePendingAccess};
 ghost use Rattle.octet_heap.specs.declared.poll.Poll.TheVariants.{Ready};
 ghost use Rattle.octet_heap.specs.Growth.{AddsAccess};
 ghost use Rattle.octet_heap.specs.Workers.{seat_of, IsWorkerOf, IsIdle};
 ghost use Rattle.octet_threads.specs.Tasks.{access_task, task_of, Does};
 ghost use Rattle.octet_threads.specs.Carrying.{HasAccessLeft, IsLeftBy, IsSameThread, TellsAgain, KeepsUp};
 
+use crate::access_backoff::AccessBackoff;
 use crate::gate::HeapGate;
-use crate::patience::Patience;
 use octet_heap::{Heap, Poll, Worker};
 use octet_interp::{Config, Demand};
 use octet_state::Mode;
@@ -20,19 +20,19 @@ use std::sync::Wait;
 use std::thread::Threads;
 
 // Polls the access that was begun until it is made, and answers its value.
-fn make<R: Wait>(rt: &R, heap: &Heap, worker: &mut Worker, patience: &mut Patience) -> u64
+fn make<R: Wait>(rt: &R, heap: &Heap, worker: &mut Worker, backoff: &mut AccessBackoff) -> u64
     requires own { IsWorkerOf heap.now worker.old }
-    requires begun { is_some worker.old.wish ≡ true }
+    requires begun { is_some worker.old.pending ≡ true }
     ensures own { IsWorkerOf heap.now worker.new }
     ensures idle { IsIdle worker.new }
     ensures number { (seat_of worker.new).number ≡ (seat_of worker.old).number }
-    ensures steps { (wish : TheWish) → worker.old.wish ≡ Some wish → Does (access_task wish) (seat_of worker.old) (seat_of worker.new) }
-    ensures journal { (wish : TheWish) → worker.old.wish ≡ Some wish → AddsAccess wish (seat_of worker.old) (Ready result) (seat_of worker.new) }
+    ensures steps { (access : ThePendingAccess) → worker.old.pending ≡ Some access → Does (access_task access) (seat_of worker.old) (seat_of worker.new) }
+    ensures journal { (access : ThePendingAccess) → worker.old.pending ≡ Some access → AddsAccess access (seat_of worker.old) (Ready result) (seat_of worker.new) }
 {
     for _ in rt.forever() {
         match heap.poll(worker) {
             Poll::Ready { value } => return value,
-            Poll::Pending { why } => patience.wait(rt, why, worker.accesses()),
+            Poll::Pending { why } => backoff.wait(rt, why, worker.accesses()),
         }
     }
     unreachable!()
@@ -45,7 +45,7 @@ fn access<R: Threads + Wait + Sync, G: HeapGate>(
     heap: &Heap,
     worker: &mut Worker,
     gate: &G,
-    patience: &mut Patience,
+    backoff: &mut AccessBackoff,
     object: u16,
     mode: Mode,
     value: u64,
@@ -66,20 +66,20 @@ fn access<R: Threads + Wait + Sync, G: HeapGate>(
     match heap.access_or_begin(worker, object, mode, value) {
         Poll::Ready { value } => value,
         Poll::Pending { why } => {
-            patience.wait(rt, why, worker.accesses());
-            make(rt, heap, worker, patience)
+            backoff.wait(rt, why, worker.accesses());
+            make(rt, heap, worker, backoff)
         }
     }
 }
 
-/// `carry`, by a worker that keeps its patience from one demand to the next.
-pub(crate) fn carry_patiently<R: Threads + Wait + Sync, G: HeapGate>(
+/// `carry`, by a worker that keeps its backoff from one demand to the next.
+pub(crate) fn carry_with_backoff<R: Threads + Wait + Sync, G: HeapGate>(
     rt: &R,
     heap: &Heap,
     worker: &mut Worker,
     config: &mut Config,
     gate: &G,
-    patience: &mut Patience,
+    backoff: &mut AccessBackoff,
 ) -> Demand
     requires own { IsWorkerOf heap.now worker.old }
     requires idle { IsIdle worker.old }
@@ -99,11 +99,11 @@ pub(crate) fn carry_patiently<R: Threads + Wait + Sync, G: HeapGate>(
     let demand = config.next();
     match demand {
         Demand::Read { object } => {
-            let value = access(rt, heap, worker, gate, patience, object, Mode::Read, 0);
+            let value = access(rt, heap, worker, gate, backoff, object, Mode::Read, 0);
             config.give(value);
         }
         Demand::Write { object, value } => {
-            access(rt, heap, worker, gate, patience, object, Mode::Write, value);
+            access(rt, heap, worker, gate, backoff, object, Mode::Write, value);
         }
         Demand::Bump { object, amount } => {
             access(
@@ -111,7 +111,7 @@ pub(crate) fn carry_patiently<R: Threads + Wait + Sync, G: HeapGate>(
                 heap,
                 worker,
                 gate,
-                patience,
+                backoff,
                 object,
                 Mode::Update,
                 amount,
@@ -155,5 +155,5 @@ pub fn carry<R: Threads + Wait + Sync, G: HeapGate>(
     ensures steps { Does (task_of result) (seat_of worker.old) (seat_of worker.new) }
     ensures journal { KeepsUp worker.old config.old worker.new config.new }
 {
-    carry_patiently(rt, heap, worker, config, gate, &mut Patience::new())
+    carry_with_backoff(rt, heap, worker, config, gate, &mut AccessBackoff::new())
 }

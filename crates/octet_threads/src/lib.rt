@@ -4,6 +4,7 @@
 //! thread.
 #![tactic(auto)]
 
+mod access_backoff;
 mod carrying;
 mod crew;
 mod drainer;
@@ -16,7 +17,6 @@ mod live_tests;
 mod locked;
 #[cfg(test)]
 mod loop_tests;
-mod patience;
 mod recording;
 mod runner;
 mod running;

@@ -20,7 +20,7 @@ use crate::drainer::{PIECE, drain_all};
 use crate::feed::Feed;
 use crate::gate::HeapGate;
 use crate::left::add_all_left;
-use crate::recording::recorded;
+use crate::recording::finish_run;
 use crate::runner::Runner;
 use crate::running::runners;
 use crate::runs::run_all;
@@ -201,7 +201,7 @@ pub fn run_live<R: Threads + Wait + Sync, G: HeapGate, D: Desk>(
         &mut marks,
         runners.as_mut_slice(),
     );
-    match recorded(alloc, script, heap, runners) {
+    match finish_run(alloc, script, heap, runners) {
         Ok(recorded) => Ok(Live { recorded, kept }),
         Err(_) => Err(OutOfMemory),
     }

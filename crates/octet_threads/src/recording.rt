@@ -69,7 +69,7 @@ fn recording(script: &Script, closed: Closed, ends: List<End>) -> Recorded
 }
 
 /// Ends the run, and answers its log and its outcome.
-pub(crate) fn recorded(
+pub(crate) fn finish_run(
     alloc: Global,
     script: &Script,
     heap: Heap,

@@ -14,7 +14,7 @@ use octet_interp::Config;
 
 /// How many words lie between what two threads write: two cache lines, since processors fetch them in
 /// pairs. Without them four threads with an object each took twice as long.
-pub(crate) const APART: usize = 16;
+pub(crate) const CACHE_PADDING: usize = 16;
 
 /// A worker with the configuration of its thread. The worker's journal fits the thread from its
 /// start, the configuration stands where the journal leaves it, and no read waits for its value. Where
@@ -24,7 +24,7 @@ pub(crate) struct Runner {
     pub(crate) worker: Worker,
     pub(crate) config: Config,
     pub(crate) feed: Option<Feed>,
-    pub(crate) apart: [u64; APART],
+    pub(crate) padding: [u64; CACHE_PADDING],
     ghost fits: { ∥ IsJournalOf (start_of worker) (seat_of worker).journal config ∥₁ },
     ghost idle: { config.waits ≡ false },
     ghost fed: { ForSome feed (λ feed. HasSent feed.sender feed.sent (gapped_marks 0 (seat_of worker).journal)) },

@@ -6,8 +6,8 @@ ghost use Rattle.octet_threads.specs.Runners.{AreOf, IsAtRest, IsHeapOf, IsOf};
 
 use crate::crew::Crew;
 use crate::gate::HeapGate;
-use crate::recording::recorded;
-use crate::runner::{APART, Runner};
+use crate::recording::finish_run;
+use crate::runner::{CACHE_PADDING, Runner};
 use crate::runs::run_all;
 use octet_heap::{Heap, Worker};
 use octet_interp::Config;
@@ -34,7 +34,7 @@ fn runner(
         worker,
         config: Config::new(alloc, script, thread)?,
         feed: None,
-        apart: [0; APART],
+        padding: [0; CACHE_PADDING],
     })
 }
 
@@ -80,5 +80,5 @@ pub fn run<R: Threads + Wait + Sync, G: HeapGate>(
     let mut runners = runners(alloc, script, &heap, workers.into_vec())?;
     let crew = Crew::new();
     run_all(rt, &heap, gate, &crew, runners.as_mut_slice());
-    recorded(alloc, script, heap, runners)
+    finish_run(alloc, script, heap, runners)
 }

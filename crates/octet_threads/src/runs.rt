@@ -7,11 +7,11 @@ ghost use Rattle.octet_heap.specs.Workers.{IsWorkerOf, IsIdle};
 ghost use Rattle.octet_threads.specs.Carrying.{IsLeftBy, TellsAgain};
 ghost use Rattle.octet_threads.specs.Runners.{IsAtRest, HasEnded, HasRested, IsSame, IsSeen};
 
-use crate::carrying::carry_patiently;
+use crate::access_backoff::AccessBackoff;
+use crate::carrying::carry_with_backoff;
 use crate::crew::Crew;
 use crate::feed::send_new;
 use crate::gate::HeapGate;
-use crate::patience::Patience;
 use crate::runner::Runner;
 use octet_heap::Heap;
 use octet_interp::Demand;
@@ -45,7 +45,7 @@ impl Runner {
         rt: &R,
         heap: &Heap,
         gate: &G,
-        patience: &mut Patience,
+        backoff: &mut AccessBackoff,
     ) -> Demand
         requires own { IsWorkerOf heap.now self.old.worker }
         requires idle { IsIdle self.old.worker }
@@ -57,7 +57,14 @@ impl Runner {
         ensures seen { IsSeen self.new.worker }
         ensures same { IsSame self.old self.new }
     {
-        let demand = carry_patiently(rt, heap, &mut self.worker, &mut self.config, gate, patience);
+        let demand = carry_with_backoff(
+            rt,
+            heap,
+            &mut self.worker,
+            &mut self.config,
+            gate,
+            backoff,
+        );
         send_new(&mut self.feed, self.worker.marks());
         demand
     }
@@ -80,7 +87,7 @@ impl Runner {
     // else never rest.
     #[cold]
     #[inline(never)]
-    fn rest<R: Wait>(&mut self, rt: &R, heap: &Heap, patience: &mut Patience, crew: &Crew)
+    fn rest<R: Wait>(&mut self, rt: &R, heap: &Heap, backoff: &mut AccessBackoff, crew: &Crew)
         requires own { IsWorkerOf heap.now self.old.worker }
         requires idle { IsIdle self.old.worker }
         ensures own { IsWorkerOf heap.now self.new.worker }
@@ -91,7 +98,7 @@ impl Runner {
         if !is_access(self.config.peek()) {
             return;
         }
-        let time = patience.recover();
+        let time = backoff.recover();
         if let Some(rung) = crew.stop() {
             self.stay_away(rt, heap, crew, rung, time);
         }
@@ -111,14 +118,14 @@ impl Runner {
     {
         crew.begin();
         self.start(heap);
-        let mut patience = Patience::new();
+        let mut backoff = AccessBackoff::new();
         for _ in rt.forever() {
-            if let Demand::Ended { .. } = self.step(rt, heap, gate, &mut patience) {
+            if let Demand::Ended { .. } = self.step(rt, heap, gate, &mut backoff) {
                 crew.end();
                 return;
             }
-            if patience.is_worn() {
-                self.rest(rt, heap, &mut patience, crew);
+            if backoff.is_worn() {
+                self.rest(rt, heap, &mut backoff, crew);
             }
         }
         unreachable!()

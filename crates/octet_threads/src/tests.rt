@@ -33,7 +33,7 @@ impl InOrder {
         }
     }
 
-    fn passed(&self, thread: u8) -> &AtomicU32 {
+    fn pass_count(&self, thread: u8) -> &AtomicU32 {
         if thread == 0 {
             &self.first
         } else {
@@ -52,13 +52,13 @@ impl InOrder {
 
 impl Gate for InOrder {
     fn pass<R: Threads + Wait + Sync>(&self, _rt: &R, thread: u8, access: u32) {
-        self.count(self.passed(thread), access);
+        self.count(self.pass_count(thread), access);
     }
 }
 
 impl HeapGate for InOrder {
     fn note(&self, thread: u8, worker: &Worker) {
-        let passed = self.passed(thread).load(Ordering::SeqCst);
+        let passed = self.pass_count(thread).load(Ordering::SeqCst);
         if worker.accesses().saturating_add(1) != passed {
             self.went_wrong.store(true, Ordering::SeqCst);
         }

@@ -8,7 +8,7 @@ ghost use Rattle.octet_threads.specs.declared.tuning.TheConstants.{TURNS};
 ghost use Rattle.octet_threads.specs.Step.{at_gate};
 ghost use Rattle.octet_threads.specs.Turns.{due_at_gate, waited_for, IsFree, Helps, Finds, FindsSome};
 
-use crate::patience::Patience;
+use crate::access_backoff::AccessBackoff;
 use crate::step::{Found, step};
 use crate::tuning::TURNS;
 use octet_base::Gate;
@@ -145,7 +145,7 @@ fn take_turns(
 // that is open.
 fn work<R: Threads + Wait + Sync, G: Gate>(rt: &R, shared: &Mutex<Machine>, gate: &G, thread: u8) {
     let is_open = gate.is_open();
-    let mut patience = Patience::new();
+    let mut backoff = AccessBackoff::new();
     let mut passed = None;
     let mut moves = 0u32;
     for _ in rt.forever() {
@@ -165,7 +165,7 @@ fn work<R: Threads + Wait + Sync, G: Gate>(rt: &R, shared: &Mutex<Machine>, gate
                 Found::Took {
                     turned: Turned::Waits { why },
                 },
-            ) => patience.wait(rt, why, moves),
+            ) => backoff.wait(rt, why, moves),
             Some(
                 Found::Took {
                     turned: Turned::Ended,

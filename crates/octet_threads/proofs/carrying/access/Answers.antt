@@ -1,4 +1,4 @@
-use Rattle.octet_heap.specs.declared.wish.Wish.{Wish}
+use Rattle.octet_heap.specs.declared.pending_access.PendingAccess.{PendingAccess}
 use Rattle.octet_heap.specs.declared.poll.Poll.TheVariants.{Ready}
 use Rattle.octet_heap.specs.Workers.{seat_of}
 use Rattle.octet_threads.specs.Tasks.{access_task}
@@ -7,15 +7,15 @@ use Rattle.octet_threads.proofs.Polling.{pending_goes, ready_does, adds_none, ad
 use Rattle.octet_threads.proofs.carrying.access.Goals as goal
 
 pub returns-in-Ready-clause-steps : goal.returns-in-Ready-clause-steps
-returns-in-Ready-clause-steps g c = let wish : Wish = record { object = c.args.object; mode = c.args.mode; value = c.args.value } in
-    ready_does wish (seat_of c.args.worker.now) (seat_of c.access_or_begin.new.worker) c.in-Ready.value c.in-Ready.ensures.steps
+returns-in-Ready-clause-steps g c = let access : PendingAccess = record { object = c.args.object; mode = c.args.mode; value = c.args.value } in
+    ready_does access (seat_of c.args.worker.now) (seat_of c.access_or_begin.new.worker) c.in-Ready.value c.in-Ready.ensures.steps
 
 pub returns-in-Pending-clause-steps : goal.returns-in-Pending-clause-steps
-returns-in-Pending-clause-steps g c = let wish : Wish = record { object = c.args.object; mode = c.args.mode; value = c.args.value } in
+returns-in-Pending-clause-steps g c = let access : PendingAccess = record { object = c.args.object; mode = c.args.mode; value = c.args.value } in
     let v = seat_of c.args.worker.now in let u = seat_of c.access_or_begin.new.worker in
-    gone_and_done (access_task wish) v u (seat_of c.make.new.worker) (pending_goes wish v u c.in-Pending.why c.in-Pending.ensures.steps) (c.make.ensures.steps wish c.in-Pending.ensures.wish)
+    gone_and_done (access_task access) v u (seat_of c.make.new.worker) (pending_goes access v u c.in-Pending.why c.in-Pending.ensures.steps) (c.make.ensures.steps access c.in-Pending.ensures.pending)
 
 pub returns-in-Pending-clause-journal : goal.returns-in-Pending-clause-journal
-returns-in-Pending-clause-journal g c = let wish : Wish = record { object = c.args.object; mode = c.args.mode; value = c.args.value } in
+returns-in-Pending-clause-journal g c = let access : PendingAccess = record { object = c.args.object; mode = c.args.mode; value = c.args.value } in
     let v = seat_of c.args.worker.now in let u = seat_of c.access_or_begin.new.worker in
-    adds_last wish v u (seat_of c.make.new.worker) (Ready c.make.result) (adds_more wish v v u c.in-Pending.why (adds_none v) c.in-Pending.ensures.journal) (c.make.ensures.journal wish c.in-Pending.ensures.wish)
+    adds_last access v u (seat_of c.make.new.worker) (Ready c.make.result) (adds_more access v v u c.in-Pending.why (adds_none v) c.in-Pending.ensures.journal) (c.make.ensures.journal access c.in-Pending.ensures.pending)

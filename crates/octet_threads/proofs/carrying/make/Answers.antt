@@ -7,26 +7,26 @@ use Rattle.octet_threads.proofs.Polling.{pending_goes, ready_does, adds_more, ad
 use Rattle.octet_threads.proofs.carrying.make.Goals as goal
 
 pub returns-in-Ready-clause-steps : goal.returns-in-Ready-clause-steps
-returns-in-Ready-clause-steps g c = λ wish begun.
+returns-in-Ready-clause-steps g c = λ access begun.
     let before = seat_of c.loop.worker in
-    let made = ready_does wish before (seat_of c.poll.new.worker) c.in-Ready.value (c.in-Ready.ensures.steps wish (c.loop.invariant.wish ∙ begun)) in
-    gone_and_done (access_task wish) (seat_of c.args.worker.now) before (seat_of c.poll.new.worker) (c.loop.invariant.goes wish begun) made
+    let made = ready_does access before (seat_of c.poll.new.worker) c.in-Ready.value (c.in-Ready.ensures.steps access (c.loop.invariant.pending ∙ begun)) in
+    gone_and_done (access_task access) (seat_of c.args.worker.now) before (seat_of c.poll.new.worker) (c.loop.invariant.goes access begun) made
 
 pub returns-in-Ready-clause-journal : goal.returns-in-Ready-clause-journal
-returns-in-Ready-clause-journal g c = λ wish begun.
-    adds_last wish (seat_of c.args.worker.now) (seat_of c.loop.worker) (seat_of c.poll.new.worker) (Ready c.in-Ready.value) (c.loop.invariant.adds wish begun)
-    (c.in-Ready.ensures.journal wish (c.loop.invariant.wish ∙ begun))
+returns-in-Ready-clause-journal g c = λ access begun.
+    adds_last access (seat_of c.args.worker.now) (seat_of c.loop.worker) (seat_of c.poll.new.worker) (Ready c.in-Ready.value) (c.loop.invariant.adds access begun)
+    (c.in-Ready.ensures.journal access (c.loop.invariant.pending ∙ begun))
 
 pub loop-preserved : goal.loop-preserved
 loop-preserved g c = record {
   own = search rules;
   begun = search rules;
-  wish = search rules;
+  pending = search rules;
   number = search rules;
-  goes = λ wish begun.
-      gone_on (access_task wish) (seat_of c.args.worker.now) (seat_of c.loop.worker) (seat_of c.poll.new.worker) (c.loop.invariant.goes wish begun)
-      (pending_goes wish (seat_of c.loop.worker) (seat_of c.poll.new.worker) c.in-Pending.why (c.in-Pending.ensures.steps wish (c.loop.invariant.wish ∙ begun)));
-  adds = λ wish begun.
-      adds_more wish (seat_of c.args.worker.now) (seat_of c.loop.worker) (seat_of c.poll.new.worker) c.in-Pending.why (c.loop.invariant.adds wish begun)
-      (c.in-Pending.ensures.journal wish (c.loop.invariant.wish ∙ begun));
+  goes = λ access begun.
+      gone_on (access_task access) (seat_of c.args.worker.now) (seat_of c.loop.worker) (seat_of c.poll.new.worker) (c.loop.invariant.goes access begun)
+      (pending_goes access (seat_of c.loop.worker) (seat_of c.poll.new.worker) c.in-Pending.why (c.in-Pending.ensures.steps access (c.loop.invariant.pending ∙ begun)));
+  adds = λ access begun.
+      adds_more access (seat_of c.args.worker.now) (seat_of c.loop.worker) (seat_of c.poll.new.worker) c.in-Pending.why (c.loop.invariant.adds access begun)
+      (c.in-Pending.ensures.journal access (c.loop.invariant.pending ∙ begun));
 }

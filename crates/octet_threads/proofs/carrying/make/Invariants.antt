@@ -1,6 +1,6 @@
 use Rattle.std.proofs.Common.{◌≡◌, true, Some}
 use Rattle.std.specs.Option.{is_some}
-use Rattle.octet_heap.specs.declared.wish.Wish.{Wish}
+use Rattle.octet_heap.specs.declared.pending_access.PendingAccess.{PendingAccess}
 use Rattle.octet_heap.specs.Workers.{seat_of, IsWorkerOf}
 use Rattle.octet_threads.specs.Tasks.{access_task}
 use Rattle.octet_threads.proofs.Doing.{HasGone}
@@ -10,9 +10,9 @@ use Rattle.octet_threads.proofs.carrying.make.Given as goal
 abbrev pub invariant-loop : goal.invariant-loop
 invariant-loop g l = record {
   own : IsWorkerOf l.heap l.worker;
-  begun : is_some l.worker.wish ≡ true;
-  wish : l.worker.wish ≡ l.initial.worker.wish;
+  begun : is_some l.worker.pending ≡ true;
+  pending : l.worker.pending ≡ l.initial.worker.pending;
   number : (seat_of l.worker).number ≡ (seat_of l.initial.worker).number;
-  goes : (wish : Wish) → l.initial.worker.wish ≡ Some wish → HasGone (access_task wish) (seat_of l.initial.worker) (seat_of l.worker);
-  adds : (wish : Wish) → l.initial.worker.wish ≡ Some wish → AddsMarks (seat_of l.initial.worker) (seat_of l.worker);
+  goes : (access : PendingAccess) → l.initial.worker.pending ≡ Some access → HasGone (access_task access) (seat_of l.initial.worker) (seat_of l.worker);
+  adds : (access : PendingAccess) → l.initial.worker.pending ≡ Some access → AddsMarks (seat_of l.initial.worker) (seat_of l.worker);
 }

@@ -9,8 +9,8 @@ use Rattle.octet_threads.proofs.Opening.{still_of}
 use Rattle.octet_threads.proofs.Places.{same_threads}
 use Rattle.octet_threads.proofs.running.run.Goals as goal
 
-pub recorded-requires-clause-runners : goal.recorded-requires-clause-runners
-recorded-requires-clause-runners g c =
+pub finish_run-requires-clause-runners : goal.finish_run-requires-clause-runners
+finish_run-requires-clause-runners g c =
     let made = c.in_ok-runners.runners.items in
     let ran = c.run_all.new.runners in
     let zip : AllZip IsSame made ran = search rules in
@@ -19,8 +19,8 @@ recorded-requires-clause-runners g c =
     subst (λ (l : List Runner). AreOf c.args.script.now l) (sym (take_at ran (drop (length ran) made) c.in_ok-runners.runners.len many))
     (still_of c.args.script.now made ran c.in_ok-runners.ensures.of (same_threads made ran zip))
 
-pub recorded-requires-clause-ended : goal.recorded-requires-clause-ended
-recorded-requires-clause-ended g c =
+pub finish_run-requires-clause-ended : goal.finish_run-requires-clause-ended
+finish_run-requires-clause-ended g c =
     let made = c.in_ok-runners.runners.items in
     let ran = c.run_all.new.runners in
     let zip : AllZip IsSame made ran = search rules in

@@ -7,7 +7,7 @@ use Rattle.octet_top.proofs.tool_tests.access.Given as goal
 abbrev pub invariant-loop : goal.invariant-loop
 invariant-loop g l = record {
   own : IsWorkerOf l.heap l.worker;
-  begun : is_some l.worker.wish ≡ true;
+  begun : is_some l.worker.pending ≡ true;
   number : (seat_of l.worker).number ≡ (seat_of l.initial.worker).number;
   count : access_count (seat_of l.worker).journal ≡ access_count (seat_of l.initial.worker).journal;
 }

@@ -1,7 +1,7 @@
 use Rattle.std.proofs.Common.{Bool, ◌∙◌, Some, refl, sym, ap, subst}
 use Rattle.octet_state.specs.declared.phase.Phase.{Phase}
 use Rattle.octet_heap.specs.declared.poll.Poll.{Poll}
-use Rattle.octet_heap.specs.declared.wish.Wish.{Wish}
+use Rattle.octet_heap.specs.declared.pending_access.PendingAccess.{PendingAccess}
 use Rattle.octet_heap.specs.Workers.{seat_of, IsPoll}
 use Rattle.octet_heap.specs.Standing.{IsAbout}
 use Rattle.octet_heap.specs.Polls.{Comes}
@@ -17,16 +17,16 @@ use Rattle.octet_heap.proofs.Growing.{poll_adds, same_number}
 use Rattle.octet_heap.proofs.heap.Heap.access_or_begin.Goals as goal
 
 pub returns-in-Ready-clause-steps : goal.returns-in-Ready-clause-steps
-returns-in-Ready-clause-steps c = let wish : Wish = record { object = c.args.object; mode = c.args.mode; value = c.args.value } in
+returns-in-Ready-clause-steps c = let access : PendingAccess = record { object = c.args.object; mode = c.args.mode; value = c.args.value } in
     let v = seat_of c.args.worker.now in let w = view c.load-poll.new.recorder.seat in
-    subst (λ (a : Poll). IsPoll wish v a w) (sym c.in-Ready.is)
-    (poll_ready wish v w c.in-Ready.value (subst (λ (a : Poll). Comes wish v a 19 w) c.in-Ready.is c.load-poll.ensures.comes) (subst (λ (a : Poll). Leaves wish a w) c.in-Ready.is c.load-poll.ensures.leaves).0)
+    subst (λ (a : Poll). IsPoll access v a w) (sym c.in-Ready.is)
+    (poll_ready access v w c.in-Ready.value (subst (λ (a : Poll). Comes access v a 19 w) c.in-Ready.is c.load-poll.ensures.comes) (subst (λ (a : Poll). Leaves access a w) c.in-Ready.is c.load-poll.ensures.leaves).0)
 
 pub returns-in-Pending-clause-steps : goal.returns-in-Pending-clause-steps
-returns-in-Pending-clause-steps c = let wish : Wish = record { object = c.args.object; mode = c.args.mode; value = c.args.value } in
+returns-in-Pending-clause-steps c = let access : PendingAccess = record { object = c.args.object; mode = c.args.mode; value = c.args.value } in
     let v = seat_of c.args.worker.now in let u = view c.load-poll.new.recorder.seat in let w = view c.safe_point.new.self.seat in
-    subst (λ (a : Poll). IsPoll wish v a w) (sym c.in-Pending.is)
-    (poll_pending wish v u w c.in-Pending.why c.safe_point.result (subst (λ (a : Poll). Comes wish v a 19 u) c.in-Pending.is c.load-poll.ensures.comes) (subst (λ (a : Poll). Leaves wish a u) c.in-Pending.is c.load-poll.ensures.leaves).0 c.safe_point.ensures.step)
+    subst (λ (a : Poll). IsPoll access v a w) (sym c.in-Pending.is)
+    (poll_pending access v u w c.in-Pending.why c.safe_point.result (subst (λ (a : Poll). Comes access v a 19 u) c.in-Pending.is c.load-poll.ensures.comes) (subst (λ (a : Poll). Leaves access a u) c.in-Pending.is c.load-poll.ensures.leaves).0 c.safe_point.ensures.step)
 
 pub returns-in-Ready-clause-path : goal.returns-in-Ready-clause-path
 returns-in-Ready-clause-path c = owners_path _ (seat_of c.args.worker.now) _ c.load-poll.result.0 (returns-in-Ready-clause-steps c)
@@ -35,34 +35,34 @@ pub returns-in-Pending-clause-path : goal.returns-in-Pending-clause-path
 returns-in-Pending-clause-path c = owners_path _ (seat_of c.args.worker.now) _ c.load-poll.result.0 (returns-in-Pending-clause-steps c)
 
 pub returns-in-Ready-clause-journal : goal.returns-in-Ready-clause-journal
-returns-in-Ready-clause-journal c = let wish : Wish = record { object = c.args.object; mode = c.args.mode; value = c.args.value } in let v = seat_of c.args.worker.now in
-    poll_adds wish (Some wish) v _ c.load-poll.result.0 (subst (λ (p : Phase). IsAbout v.threads (Some wish) p) (sym c.requires.idle.0) tt) refl (returns-in-Ready-clause-steps c)
+returns-in-Ready-clause-journal c = let access : PendingAccess = record { object = c.args.object; mode = c.args.mode; value = c.args.value } in let v = seat_of c.args.worker.now in
+    poll_adds access (Some access) v _ c.load-poll.result.0 (subst (λ (p : Phase). IsAbout v.threads (Some access) p) (sym c.requires.idle.0) tt) refl (returns-in-Ready-clause-steps c)
 
 pub returns-in-Ready-clause-number : goal.returns-in-Ready-clause-number
 returns-in-Ready-clause-number c = same_number _ (seat_of c.args.worker.now) _ c.load-poll.result.0 (returns-in-Ready-clause-steps c)
 
 pub returns-in-Pending-clause-journal : goal.returns-in-Pending-clause-journal
-returns-in-Pending-clause-journal c = let wish : Wish = record { object = c.args.object; mode = c.args.mode; value = c.args.value } in let v = seat_of c.args.worker.now in
-    poll_adds wish (Some wish) v _ c.load-poll.result.0 (subst (λ (p : Phase). IsAbout v.threads (Some wish) p) (sym c.requires.idle.0) tt) refl (returns-in-Pending-clause-steps c)
+returns-in-Pending-clause-journal c = let access : PendingAccess = record { object = c.args.object; mode = c.args.mode; value = c.args.value } in let v = seat_of c.args.worker.now in
+    poll_adds access (Some access) v _ c.load-poll.result.0 (subst (λ (p : Phase). IsAbout v.threads (Some access) p) (sym c.requires.idle.0) tt) refl (returns-in-Pending-clause-steps c)
 
 pub returns-in-Pending-clause-number : goal.returns-in-Pending-clause-number
 returns-in-Pending-clause-number c = same_number _ (seat_of c.args.worker.now) _ c.load-poll.result.0 (returns-in-Pending-clause-steps c)
 
 pub returns-in-Ready-clause-cause : goal.returns-in-Ready-clause-cause
-returns-in-Ready-clause-cause c = let wish : Wish = record { object = c.args.object; mode = c.args.mode; value = c.args.value } in let v = seat_of c.args.worker.now in
-    poll_has_cause wish (Some wish) v _ c.load-poll.result.0 (subst (λ (p : Phase). IsAbout v.threads (Some wish) p) (sym c.requires.idle.0) tt) refl (returns-in-Ready-clause-steps c)
+returns-in-Ready-clause-cause c = let access : PendingAccess = record { object = c.args.object; mode = c.args.mode; value = c.args.value } in let v = seat_of c.args.worker.now in
+    poll_has_cause access (Some access) v _ c.load-poll.result.0 (subst (λ (p : Phase). IsAbout v.threads (Some access) p) (sym c.requires.idle.0) tt) refl (returns-in-Ready-clause-steps c)
 
 pub returns-in-Pending-clause-cause : goal.returns-in-Pending-clause-cause
-returns-in-Pending-clause-cause c = let wish : Wish = record { object = c.args.object; mode = c.args.mode; value = c.args.value } in let v = seat_of c.args.worker.now in
-    poll_has_cause wish (Some wish) v _ c.load-poll.result.0 (subst (λ (p : Phase). IsAbout v.threads (Some wish) p) (sym c.requires.idle.0) tt) refl (returns-in-Pending-clause-steps c)
+returns-in-Pending-clause-cause c = let access : PendingAccess = record { object = c.args.object; mode = c.args.mode; value = c.args.value } in let v = seat_of c.args.worker.now in
+    poll_has_cause access (Some access) v _ c.load-poll.result.0 (subst (λ (p : Phase). IsAbout v.threads (Some access) p) (sym c.requires.idle.0) tt) refl (returns-in-Pending-clause-steps c)
 
 pub returns-in-Ready-clause-slow : goal.returns-in-Ready-clause-slow
-returns-in-Ready-clause-slow c = let wish : Wish = record { object = c.args.object; mode = c.args.mode; value = c.args.value } in
+returns-in-Ready-clause-slow c = let access : PendingAccess = record { object = c.args.object; mode = c.args.mode; value = c.args.value } in
     let v = seat_of c.args.worker.now in let steps = steps_since v (view c.load-poll.new.recorder.seat) in let slow = c.args.worker.now.slow in
-    let fast = c.load-poll.ensures.passes ∙ sym (idle_fast wish v steps (ap is_idle c.requires.idle.0)) in
-    c.slow_by-worker.ensures ∙ (ap (λ (b : Bool). slow_by b slow) fast ∙ ap (λ (a : Poll). slow_after a (is_fast wish v steps) slow) (sym c.in-Ready.is))
+    let fast = c.load-poll.ensures.passes ∙ sym (idle_fast access v steps (ap is_idle c.requires.idle.0)) in
+    c.slow_by-worker.ensures ∙ (ap (λ (b : Bool). slow_by b slow) fast ∙ ap (λ (a : Poll). slow_after a (is_fast access v steps) slow) (sym c.in-Ready.is))
 
 pub returns-in-Pending-clause-slow : goal.returns-in-Pending-clause-slow
-returns-in-Pending-clause-slow c = let wish : Wish = record { object = c.args.object; mode = c.args.mode; value = c.args.value } in
+returns-in-Pending-clause-slow c = let access : PendingAccess = record { object = c.args.object; mode = c.args.mode; value = c.args.value } in
     let v = seat_of c.args.worker.now in
-    ap (λ (a : Poll). slow_after a (is_fast wish v (steps_since v (view c.safe_point.new.self.seat))) c.args.worker.now.slow) (sym c.in-Pending.is)
+    ap (λ (a : Poll). slow_after a (is_fast access v (steps_since v (view c.safe_point.new.self.seat))) c.args.worker.now.slow) (sym c.in-Pending.is)

@@ -10,11 +10,11 @@ use Rattle.octet_heap.proofs.heap.Heap.look_on.Goals as goal
 pub returns-in-Given-clause-comes : goal.returns-in-Given-clause-comes
 returns-in-Given-clause-comes c = let v = view c.args.recorder.now.seat in let u = view c.look.new.self.seat in
     let next : c.next-next.result ≡ next_to_ask (whom_to_ask c.args.prior) v.number c.args.done = search rules in
-    let given = look_given c.args.wish c.args.prior c.args.done c.next-next.result v u c.requires.left next c.requires.stands c.look.result c.in-Given.upto c.look.ensures.step (sym c.in-Given.is) in
-    comes_after c.args.wish v u _ 2 17 18 _ given.1 c.ask_on.ensures.comes (omega arith)
+    let given = look_given c.args.access c.args.prior c.args.done c.next-next.result v u c.requires.left next c.requires.stands c.look.result c.in-Given.upto c.look.ensures.step (sym c.in-Given.is) in
+    comes_after c.args.access v u _ 2 17 18 _ given.1 c.ask_on.ensures.comes (omega arith)
 
 pub returns-in-Unanswered-clause-comes : goal.returns-in-Unanswered-clause-comes
 returns-in-Unanswered-clause-comes c = let v = view c.args.recorder.now.seat in let u = view c.look.new.self.seat in
     let next : c.next-next.result ≡ next_to_ask (whom_to_ask c.args.prior) v.number c.args.done = search rules in
-    let waits = look_waits c.args.wish c.args.prior c.args.done c.next-next.result v u c.requires.left next c.requires.stands c.look.result c.in-Unanswered.word c.look.ensures.step (sym c.in-Unanswered.is) c.requires.named in
-    subst (λ (a : Poll). Comes c.args.wish v a 18 u) (sym c.unanswered.ensures) (comes_sooner c.args.wish v u 3 18 _ waits.0 (omega arith))
+    let waits = look_waits c.args.access c.args.prior c.args.done c.next-next.result v u c.requires.left next c.requires.stands c.look.result c.in-Unanswered.word c.look.ensures.step (sym c.in-Unanswered.is) c.requires.named in
+    subst (λ (a : Poll). Comes c.args.access v a 18 u) (sym c.pending_unanswered.ensures) (comes_sooner c.args.access v u 3 18 _ waits.0 (omega arith))

@@ -16,14 +16,14 @@ add_write-requires c = let r = c.args.self.now in let more = c.requires.more in 
 
 pub invariant_of-self : goal.invariant_of-self
 invariant_of-self c = let r = c.args.self.now in let v = view r.seat in let e = c.add_read.ensures in record {
-  logged = follows_read c.args.wish.object c.args.wish.mode c.args.wish.value v c.in-Made.told _ c.add_read.new.self c.in-Made.ensures.steps c.in-Read.is (λ o. e.log v.journal o r.logged);
+  logged = follows_read c.args.access.object c.args.access.mode c.args.access.value v c.in-Made.told _ c.add_read.new.self c.in-Made.ensures.steps c.in-Read.is (λ o. e.log v.journal o r.logged);
   room = same_room r.fuel r.log c.add_read.new.self e.room r.room;
   few = (let more = c.requires.more in let counts = e.counts in omega arith, r.few.1);
 }
 
 pub invariant_of-self-in-Write : goal.invariant_of-self-in-Write
 invariant_of-self-in-Write c = let r = c.args.self.now in let v = view r.seat in let e = c.add_write.ensures in record {
-  logged = follows_other c.args.wish.object c.args.wish.mode c.args.wish.value v c.in-Made.told _ c.add_write.new.self c.in-Made.ensures.steps c.in-Write.is (λ event writes. e.log v.journal event writes r.logged);
+  logged = follows_other c.args.access.object c.args.access.mode c.args.access.value v c.in-Made.told _ c.add_write.new.self c.in-Made.ensures.steps c.in-Write.is (λ event writes. e.log v.journal event writes r.logged);
   room = same_room r.fuel r.log c.add_write.new.self e.room r.room;
   few = (let more = c.requires.more in let counts = e.counts in omega arith, r.few.1);
 }

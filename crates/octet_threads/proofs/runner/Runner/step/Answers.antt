@@ -14,8 +14,8 @@ use Rattle.octet_threads.proofs.Growing.{task_grows, task_seen, feed_still_sent}
 use Rattle.octet_threads.proofs.Props.{journal_prop}
 use Rattle.octet_threads.proofs.runner.Runner.step.Goals as goal
 
-pub carry_patiently-demand-requires-clause-more : goal.carry_patiently-demand-requires-clause-more
-carry_patiently-demand-requires-clause-more g c κs within = λ wants.
+pub carry_with_backoff-demand-requires-clause-more : goal.carry_with_backoff-demand-requires-clause-more
+carry_with_backoff-demand-requires-clause-more g c κs within = λ wants.
     let self = c.args.self.now in
     let kept : IsJournalOf (start_of self.worker) (seat_of self.worker).journal self.config = ∥∥₁_elim self.fits (journal_prop (start_of self.worker) (seat_of self.worker).journal self.config) (λ k. k) in
     subst (λ (fuel : ℕ). access_count (seat_of self.worker).journal < fuel) c.requires.own.same_fuel
@@ -24,18 +24,18 @@ carry_patiently-demand-requires-clause-more g c κs within = λ wants.
 pub invariant_of-self-clause-fits : goal.invariant_of-self-clause-fits
 invariant_of-self-clause-fits g c =
     let self = c.args.self.now in
-    let same : c.carry_patiently-demand.new.worker.recorder.fuel ≡ self.worker.recorder.fuel = c.carry_patiently-demand.ensures.own.same_fuel ∙ sym c.requires.own.same_fuel in
+    let same : c.carry_with_backoff-demand.new.worker.recorder.fuel ≡ self.worker.recorder.fuel = c.carry_with_backoff-demand.ensures.own.same_fuel ∙ sym c.requires.own.same_fuel in
     ∥∥₁_elim self.fits ∥∥₁_prop (λ kept.
-    ∣ subst (λ (fuel : ℕ). IsJournalOf (starting_configuration fuel) (seat_of c.carry_patiently-demand.new.worker).journal c.carry_patiently-demand.new.config) (sym same) (c.carry_patiently-demand.ensures.journal (start_of self.worker) kept) ∣₁)
+    ∣ subst (λ (fuel : ℕ). IsJournalOf (starting_configuration fuel) (seat_of c.carry_with_backoff-demand.new.worker).journal c.carry_with_backoff-demand.new.config) (sym same) (c.carry_with_backoff-demand.ensures.journal (start_of self.worker) kept) ∣₁)
 
 pub send_new-requires : goal.send_new-requires
 send_new-requires g c =
     let self = c.args.self.now in
     subst (λ (marks : List Gapped). ForSome self.feed (λ feed. HasSent feed.sender feed.sent marks)) (sym c.marks.ensures)
-    (feed_still_sent self.feed (seat_of self.worker).journal (seat_of c.carry_patiently-demand.new.worker).journal (task_grows (task_of c.carry_patiently-demand.result) _ _ c.carry_patiently-demand.ensures.steps) self.fed)
+    (feed_still_sent self.feed (seat_of self.worker).journal (seat_of c.carry_with_backoff-demand.new.worker).journal (task_grows (task_of c.carry_with_backoff-demand.result) _ _ c.carry_with_backoff-demand.ensures.steps) self.fed)
 
 pub invariant_of-self-clause-fed : goal.invariant_of-self-clause-fed
 invariant_of-self-clause-fed g c = subst (λ (marks : List Gapped). ForSome c.send_new.new.feed (λ feed. HasSent feed.sender feed.sent marks)) c.marks.ensures c.send_new.ensures.sent
 
 pub returns-clause-seen : goal.returns-clause-seen
-returns-clause-seen g c = let seen = task_seen (task_of c.carry_patiently-demand.result) _ _ c.carry_patiently-demand.ensures.steps in record { state = seen.0; seen = seen.1 }
+returns-clause-seen g c = let seen = task_seen (task_of c.carry_with_backoff-demand.result) _ _ c.carry_with_backoff-demand.ensures.steps in record { state = seen.0; seen = seen.1 }

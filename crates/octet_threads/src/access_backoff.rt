@@ -19,7 +19,7 @@ use std::time::Duration;
 /// polls, and a processor that is given up by a yield may come back only after all others that want
 /// it: so then the worker sleeps, and not for long, since it answers nobody meanwhile.
 #[derive(Drop)]
-pub(crate) struct Patience {
+pub(crate) struct AccessBackoff {
     accesses: u32,
     asked: Option<u8>,
     backoff: Backoff,
@@ -32,12 +32,12 @@ pub(crate) struct Patience {
     ghost rests: { (SHORTEST_REST ≤ rest) × (rest ≤ LONGEST_REST) },
 }
 
-impl Patience {
-    pub(crate) fn new() -> Patience
+impl AccessBackoff {
+    pub(crate) fn new() -> AccessBackoff
         ensures cool { result.heat ≡ 0 }
         ensures rest { result.rest ≡ SHORTEST_REST }
     {
-        Patience {
+        AccessBackoff {
             accesses: 0,
             asked: None,
             backoff: Backoff::new(),
