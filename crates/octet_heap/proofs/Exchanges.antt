@@ -20,7 +20,8 @@ use Rattle.octet_rule.specs.Rule.{Steps}
 use Rattle.octet_heap.specs.declared.pending_access.PendingAccess.{PendingAccess}
 use Rattle.octet_heap.specs.declared.poll.Poll.{Poll}
 use Rattle.octet_heap.specs.declared.poll.Poll.TheVariants.{Pending}
-use Rattle.octet_heap.specs.Polls.{next_step, answer_by, Comes}
+use Rattle.octet_heap.specs.Walks.{access_task, next_step}
+use Rattle.octet_heap.specs.Polls.{answer_by, Comes}
 use Rattle.octet_heap.specs.Waiting.{StandsIn}
 use Rattle.octet_heap.proofs.Going.{next_in, comes_by, comes_next}
 
@@ -42,7 +43,7 @@ is_changed object mode state seen found p is word other = ap (λ (b : Bool). if 
 abbrev Says : PendingAccess → StateWord → SeatView → Act → Type 0
 Says access state v act = decided state v.number access.mode v.thread.count ≡ act
 
-exchange_next : (access : PendingAccess) (state : StateWord) (v : SeatView) (act : Act) → StandsIn (Want access.object access.mode (Some state)) v → Says access state v act → next_step access v ≡ exchange_of act
+exchange_next : (access : PendingAccess) (state : StateWord) (v : SeatView) (act : Act) → StandsIn (Want access.object access.mode (Some state)) v → Says access state v act → next_step (access_task access) v ≡ exchange_of act
 exchange_next access state v act stands says = next_in access v (Want access.object access.mode (Some state)) stands ∙ ap exchange_of says
 
 module _ (access : PendingAccess) (state : StateWord) (seen : ℕ) (v u : SeatView) (stands : StandsIn (Want access.object access.mode (Some state)) v) (word : packed_state state ≡ seen) where

@@ -1,4 +1,4 @@
--- Which path an on_cell takes, by the steps of its poll.
+-- Which path an access takes, by the steps of its poll.
 use Rattle.std.proofs.Common.{◌≡◌, ◌≢◌, ◌∙◌, ℕ, Bool, true, false, ◌&&◌, List, [], ◌∷◌, ◌++◌, drop, length, sym, refl, ap, append_assoc}
 use Rattle.octet_state.specs.declared.act.Act.{Act}
 use Rattle.octet_state.specs.declared.act.Act.TheVariants.{Pass}
@@ -15,7 +15,8 @@ use Rattle.octet_heap.specs.OwnersPath.{steps_since}
 use Rattle.octet_heap.specs.Polls.{Comes}
 use Rattle.octet_heap.specs.SlowPath.{is_idle, is_pass, passes_by, is_fast}
 use Rattle.octet_heap.proofs.Paths.{dropped}
-use Rattle.octet_heap.proofs.Polled.{trail_after, after_both}
+use Rattle.octet_heap.proofs.lemmas.Walks.{after_more}
+use Rattle.octet_heap.proofs.Polled.{trail_after}
 
 -- what the state of a load decides
 abbrev decides : PendingAccess → SeatView → ℕ → Bool
@@ -54,7 +55,7 @@ module _ (access : PendingAccess) (v u : SeatView) (word : ℕ) (state : StateWo
   pub more_waits : (w : SeatView) (answer : Poll) (n : ℕ) → Comes access u answer n w → false ≡ passes_by access v (steps_since v w)
   more_waits w answer n c = let more = c.going ++ c.last ∷ [] in
       sym (by_first access v w load more
-      (ap (λ (x : SeatView). x.trail) (c.after ∙ sym (after_both c.going (c.last ∷ []) u)) ∙ (trail_after more u ∙ (ap (λ (l : List Taken). l ++ more) trail ∙ append_assoc v.trail (load ∷ []) more)))
+      (ap (λ (x : SeatView). x.trail) (c.after ∙ sym (after_more c.going (c.last ∷ []) u)) ∙ (trail_after more u ∙ (ap (λ (l : List Taken). l ++ more) trail ∙ append_assoc v.trail (load ∷ []) more)))
       ∙ waits)
 
 -- an on_cell that was loaded before is a slow one

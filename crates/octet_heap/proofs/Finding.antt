@@ -27,7 +27,8 @@ use Rattle.octet_rule.proofs.Known.{state_found, is_not_mine}
 use Rattle.octet_heap.specs.declared.pending_access.PendingAccess.{PendingAccess}
 use Rattle.octet_heap.specs.declared.poll.Poll.{Poll}
 use Rattle.octet_heap.specs.declared.poll.Poll.TheVariants.{Pending}
-use Rattle.octet_heap.specs.Polls.{answer_by, answer_to, after_steps, IsNext, GoesBy, PaysBy}
+use Rattle.octet_heap.specs.Walks.{access_task, after_steps, IsNext}
+use Rattle.octet_heap.specs.Polls.{answer_by, answer_to, GoesBy, OwesBy, PaysBy}
 use Rattle.octet_heap.specs.Waiting.{HasBegun}
 use Rattle.octet_heap.specs.Standing.{IsAbout}
 use Rattle.octet_heap.specs.Workers.{IsPoll}
@@ -286,23 +287,23 @@ own_kind f Glance k word g h ne = g
 own_kind f Answer k word g h ne = h
 
 paid_none : {A : Type 0} (f : Kind → ℕ → Option A) → ((word : ℕ) → f ToGlance word ≡ None) → ((word : ℕ) → f ToAnswer word ≡ None)
-    → (access : PendingAccess) (v : SeatView) (paid : List Taken) → PaysBy access v paid → last_of f paid ≡ None
+    → (access : PendingAccess) (v : SeatView) (paid : List Taken) → OwesBy access v paid → last_of f paid ≡ None
 paid_none f g h access v [] pays = refl
 paid_none f g h access v (t ∷ more) pays =
     ap (λ (o : Option _). later o (f t.kind t.word)) (paid_none f g h access (stepped_by t.kind t.word v) more pays.2)
-    ∙ (ap (λ (k : Kind). f k t.word) pays.1.in_order
-    ∙ own_kind f v.thread.due (kind_in_phase v.threads v.number v.thread.count (ToLoad access.object access.mode) access.value v.thread.phase) t.word (g t.word) (h t.word) pays.0)
+    ∙ (ap (λ (k : Kind). f k t.word) pays.0.in_order
+    ∙ own_kind f v.thread.due (kind_in_phase v.threads v.number v.thread.count (ToLoad access.object access.mode) access.value v.thread.phase) t.word (g t.word) (h t.word) pays.1)
 
 paid_exchange : (due : Due) (k : Kind) → due ≢ Nothing → is_exchange (kind_by_due due k) ≡ false
 paid_exchange Nothing k ne = absurd (ne refl)
 paid_exchange Glance k ne = refl
 paid_exchange Answer k ne = refl
 
-no_exchange : (access : PendingAccess) (v : SeatView) (paid before after : List Taken) (x : Taken) → PaysBy access v paid → paid ≡ before ++ x ∷ after → is_exchange x.kind ≡ true → ⊥
+no_exchange : (access : PendingAccess) (v : SeatView) (paid before after : List Taken) (x : Taken) → OwesBy access v paid → paid ≡ before ++ x ∷ after → is_exchange x.kind ≡ true → ⊥
 no_exchange access v [] [] after x pays are is = absurd cc
 no_exchange access v [] (b ∷ before) after x pays are is = absurd cc
 no_exchange access v (t ∷ more) [] after x pays are is =
-    let e : is_exchange t.kind ≡ false = ap is_exchange pays.1.in_order ∙ paid_exchange v.thread.due (kind_in_phase v.threads v.number v.thread.count (ToLoad access.object access.mode) access.value v.thread.phase) pays.0 in
+    let e : is_exchange t.kind ≡ false = ap is_exchange pays.0.in_order ∙ paid_exchange v.thread.due (kind_in_phase v.threads v.number v.thread.count (ToLoad access.object access.mode) access.value v.thread.phase) pays.1 in
     let f : is_exchange x.kind ≡ false = ap (λ (l : List Taken). is_exchange (first_of t l).kind) (sym are) ∙ e in cc
 no_exchange access v (t ∷ more) (b ∷ before) after x pays are is = no_exchange access (stepped_by t.kind t.word v) more before after x pays.2 (ap rest_of are) is
 
@@ -374,7 +375,7 @@ packs_load k v told w took object mode is = let load = subst (λ (z : Kind). Ste
     ap (λ (o : Option StateWord). packed_state (state_in o)) (state_found object mode v told w load) ∙ sym load.word
 
 module _ (access : PendingAccess) where
-  sees_next : (steps : List Taken) (v : SeatView) (t : Taken) → IsNext access v t → Sees steps v.thread.phase → Sees (steps ++ t ∷ []) (stepped_by t.kind t.word v).thread.phase
+  sees_next : (steps : List Taken) (v : SeatView) (t : Taken) → IsNext (access_task access) v t → Sees steps v.thread.phase → Sees (steps ++ t ∷ []) (stepped_by t.kind t.word v).thread.phase
   sees_next steps v t is h = sees_by steps (steps ++ t ∷ []) v.number t.word v.thread h t.kind (last_more state_loaded steps (t ∷ [])) (packs_load t.kind v t.word (stepped_by t.kind t.word v) is.took)
 
   sees_going : (steps going : List Taken) (v : SeatView) → GoesBy access v going → Sees steps v.thread.phase → Sees (steps ++ going) (after_steps going v).thread.phase
@@ -403,7 +404,7 @@ module _ (access : PendingAccess) where
       (split_later (last_of status_met more) (status_met t.kind t.word) last is)
 
   -- an exchange in its order that finds another word than was loaded waits
-  exchange_is_lost : (v : SeatView) (steps : List Taken) (t : Taken) (seen : ℕ) → IsNext access v t → Sees steps v.thread.phase → is_exchange t.kind ≡ true → last_of state_loaded steps ≡ Some seen → t.word ≢ seen
+  exchange_is_lost : (v : SeatView) (steps : List Taken) (t : Taken) (seen : ℕ) → IsNext (access_task access) v t → Sees steps v.thread.phase → is_exchange t.kind ≡ true → last_of state_loaded steps ≡ Some seen → t.word ≢ seen
       → waits t.kind v.number t.word v.thread ≡ Some (why.Changed seen t.word)
   exchange_is_lost v steps t seen is h exchanges last other =
       let want = exchange_in v.threads v.number v.thread.count access v.thread.due v.thread.phase (ap is_exchange (sym is.in_order) ∙ exchanges) in
@@ -419,7 +420,7 @@ module _ (access : PendingAccess) where
 
   -- among the steps of a poll only the last one is such an exchange
   changed_last : (v : SeatView) (steps going : List Taken) (last : Taken) (paid before after : List Taken) (x : Taken) (seen : ℕ) (answer : Poll)
-      → GoesBy access v going → Sees steps v.thread.phase → IsNext access (after_steps going v) last → answer_to (after_steps going v) last ≡ Some answer
+      → GoesBy access v going → Sees steps v.thread.phase → IsNext (access_task access) (after_steps going v) last → answer_to (after_steps going v) last ≡ Some answer
       → PaysBy access (stepped_by last.kind last.word (after_steps going v)) paid
       → going ++ last ∷ paid ≡ before ++ x ∷ after → is_exchange x.kind ≡ true → last_of state_loaded (steps ++ before) ≡ Some seen → x.word ≢ seen → answer ≡ Pending (why.Changed seen x.word)
   changed_last v steps [] last paid [] after x seen answer goes h is answers pays are exchanges loads other =
@@ -427,7 +428,7 @@ module _ (access : PendingAccess) where
       let lost = exchange_is_lost v steps last seen is h (ap (λ (t : Taken). is_exchange t.kind) same ∙ exchanges) (ap (last_of state_loaded) (sym (append-nil steps)) ∙ loads) (λ e. other (ap (λ (t : Taken). t.word) (sym same) ∙ e)) in
       ap (poll_in answer) (sym answers ∙ ap (λ (o : Option Why). answer_by o last.kind last.word) lost) ∙ ap (λ (t : Taken). Pending (why.Changed seen t.word)) same
   changed_last v steps [] last paid (b ∷ before) after x seen answer goes h is answers pays are exchanges loads other =
-      absurd (no_exchange access (stepped_by last.kind last.word v) paid before after x pays (ap rest_of are) exchanges)
+      absurd (no_exchange access (stepped_by last.kind last.word v) paid before after x pays.0 (ap rest_of are) exchanges)
   changed_last v steps (t ∷ going) last paid [] after x seen answer goes h is answers pays are exchanges loads other =
       let same : t ≡ x = ap (first_of t) are in
       let lost = exchange_is_lost v steps t seen goes.0 h (ap (λ (z : Taken). is_exchange z.kind) same ∙ exchanges) (ap (last_of state_loaded) (sym (append-nil steps)) ∙ loads) (λ e. other (ap (λ (z : Taken). z.word) (sym same) ∙ e)) in
@@ -460,7 +461,7 @@ module _ (access : PendingAccess) (v w : SeatView) (answer : Poll) (begins : See
 
   last_in : {A : Type 0} (f : Kind → ℕ → Option A) → ((word : ℕ) → f ToGlance word ≡ None) → ((word : ℕ) → f ToAnswer word ≡ None) → last_of f all ≡ later (f p.last.kind p.last.word) (last_of f p.going)
   last_in f g h = last_more f p.going (p.last ∷ p.at_safe_point)
-      ∙ ap (λ (o : Option _). later (later o (f p.last.kind p.last.word)) (last_of f p.going)) (paid_none f g h access (stepped_by p.last.kind p.last.word u) p.at_safe_point p.pays)
+      ∙ ap (λ (o : Option _). later (later o (f p.last.kind p.last.word)) (last_of f p.going)) (paid_none f g h access (stepped_by p.last.kind p.last.word u) p.at_safe_point p.pays.0)
 
   held : (by word : ℕ) → answer ≡ Pending (why.Held by word) → IsHeld v.number all by word
   held by word is = let h = held_so p.last.kind u.number p.last.word u.thread by word (waits_by (why.Held by word) is) in

@@ -1,14 +1,18 @@
 -- A poll goes on step by step.
-use Rattle.std.proofs.Common.{◌≡◌, ◌∙◌, ℕ, suc, ◌+◌, ◌<◌, ◌≤◌, List, [], ◌∷◌, ◌++◌, Some, None, sym, refl, ap, arith, length, length-append, subst}
+use Rattle.std.proofs.Common.{◌≡◌, ◌∙◌, ℕ, suc, ◌+◌, ◌<◌, ◌≤◌, List, [], ◌∷◌, ◌++◌, Some, None, sym, ap, arith, length, length-append, subst}
 use Rattle.octet_state.specs.declared.phase.Phase.{Phase}
+use Rattle.octet_state.specs.declared.phase.Due.TheVariants.{Nothing}
 use Rattle.octet_state.specs.Steps.{Kind, ToLoad}
-use Rattle.octet_state.specs.NextStep.{kind_in_phase, kind_by_due}
+use Rattle.octet_state.specs.NextStep.{kind_in_phase}
 use Rattle.octet_rule.specs.Views.{SeatView, Taken, stepped_by}
 use Rattle.octet_rule.specs.Rule.{Steps}
 use Rattle.octet_heap.specs.declared.pending_access.PendingAccess.{PendingAccess}
 use Rattle.octet_heap.specs.declared.poll.Poll.{Poll}
-use Rattle.octet_heap.specs.Polls.{next_step, answer_to, after_steps, steps_owed, IsNext, GoesBy, Comes}
+use Rattle.octet_heap.specs.Walks.{access_task, next_step, after_steps, IsNext}
+use Rattle.octet_heap.specs.Polls.{answer_to, steps_owed, GoesBy, Comes}
 use Rattle.octet_heap.specs.Waiting.{StandsIn}
+use Rattle.octet_heap.proofs.lemmas.Walks as walks
+use Rattle.octet_heap.proofs.lemmas.Walks.{after_more, next_by, walks_more}
 
 -- fewer than `steps` steps by which the poll goes on
 pub record Goes (access : PendingAccess) (v : SeatView) (steps : ℕ) (w : SeatView) : Type 0 where
@@ -18,47 +22,38 @@ pub record Goes (access : PendingAccess) (v : SeatView) (steps : ℕ) (w : SeatV
   pub after : w ≡ after_steps going v
 
 -- the next step of a thread that owes nothing, by its phase
-pub next_in : (access : PendingAccess) (v : SeatView) (p : Phase) → StandsIn p v → next_step access v ≡ kind_in_phase v.threads v.number v.thread.count (ToLoad access.object access.mode) access.value p
-next_in access v p stands = λ i. kind_by_due (stands.0 i) (kind_in_phase v.threads v.number v.thread.count (ToLoad access.object access.mode) access.value (stands.1 i))
+pub next_in : (access : PendingAccess) (v : SeatView) (p : Phase) → StandsIn p v → next_step (access_task access) v ≡ kind_in_phase v.threads v.number v.thread.count (ToLoad access.object access.mode) access.value p
+next_in access v p stands = walks.next_in (access_task access) v Nothing p stands.0 stands.1
 
--- a step that is taken, in its order
-pub next_by : (access : PendingAccess) (v w : SeatView) (k : Kind) (told : ℕ) → Steps k v told w → k ≡ next_step access v → IsNext access v (record { kind = k; word = told })
-next_by access v w k told took next = record { in_order = next; took = subst (Steps k v told) took.moves took }
+abbrev GoesOn : SeatView → Taken → Type 0
+GoesOn v taken = answer_to v taken ≡ None
 
-goes_more : (access : PendingAccess) (v : SeatView) (going more : List Taken) → GoesBy access v going → GoesBy access (after_steps going v) more → GoesBy access v (going ++ more)
-goes_more access v [] more g h = h
-goes_more access v (taken ∷ going) more g h = (g.0, g.1, goes_more access (stepped_by taken.kind taken.word v) going more g.2 h)
-
-after_more : (going more : List Taken) (v : SeatView) → after_steps (going ++ more) v ≡ after_steps more (after_steps going v)
-after_more [] more v = refl
-after_more (taken ∷ going) more v = after_more going more (stepped_by taken.kind taken.word v)
-
-pub goes_one : (access : PendingAccess) (v w : SeatView) (k : Kind) (told : ℕ) → Steps k v told w → k ≡ next_step access v → answer_to v (record { kind = k; word = told }) ≡ None → Goes access v 2 w
-goes_one access v w k told took next none = record { going = record { kind = k; word = told } ∷ []; goes = (next_by access v w k told took next, none, tt); few = omega arith; after = took.moves }
+pub goes_one : (access : PendingAccess) (v w : SeatView) (k : Kind) (told : ℕ) → Steps k v told w → k ≡ next_step (access_task access) v → answer_to v (record { kind = k; word = told }) ≡ None → Goes access v 2 w
+goes_one access v w k told took next none = record { going = record { kind = k; word = told } ∷ []; goes = (next_by (access_task access) v w k told took next, none, tt); few = omega arith; after = took.moves }
 
 pub goes_on : (access : PendingAccess) (u v w : SeatView) (m n k : ℕ) → Goes access u m v → Goes access v n w → m + n ≤ suc k → Goes access u k w
 goes_on access u v w m n k g h fits = record {
   going = g.going ++ h.going;
-  goes = goes_more access u g.going h.going g.goes (subst (λ (x : SeatView). GoesBy access x h.going) g.after h.goes);
+  goes = walks_more GoesOn (access_task access) u g.going h.going g.goes (subst (λ (x : SeatView). GoesBy access x h.going) g.after h.goes);
   few = let a = length-append g.going h.going in let b = g.few in let d = h.few in omega arith;
   after = h.after ∙ (ap (after_steps h.going) g.after ∙ sym (after_more g.going h.going u));
 }
 
-pub comes_by : (access : PendingAccess) (v w : SeatView) (k : Kind) (told : ℕ) (answer : Poll) (n : ℕ) → Steps k v told w → k ≡ next_step access v → answer_to v (record { kind = k; word = told }) ≡ Some answer → steps_owed answer < n → Comes access v answer n w
-comes_by access v w k told answer n took next is few = record { going = []; last = record { kind = k; word = told }; goes = tt; is_next = next_by access v w k told took next; answers = is; few = omega (arith, few); after = took.moves }
+pub comes_by : (access : PendingAccess) (v w : SeatView) (k : Kind) (told : ℕ) (answer : Poll) (n : ℕ) → Steps k v told w → k ≡ next_step (access_task access) v → answer_to v (record { kind = k; word = told }) ≡ Some answer → steps_owed answer < n → Comes access v answer n w
+comes_by access v w k told answer n took next is few = record { going = []; last = record { kind = k; word = told }; goes = tt; is_next = next_by (access_task access) v w k told took next; answers = is; few = omega (arith, few); after = took.moves }
 
 pub comes_after : (access : PendingAccess) (u v w : SeatView) (m n k : ℕ) (answer : Poll) → Goes access u m v → Comes access v answer n w → m + n ≤ suc k → Comes access u answer k w
 comes_after access u v w m n k answer g c fits = let same = sym (after_more g.going c.going u) in let there = ap (after_steps c.going) g.after in record {
   going = g.going ++ c.going;
   last = c.last;
-  goes = goes_more access u g.going c.going g.goes (subst (λ (x : SeatView). GoesBy access x c.going) g.after c.goes);
-  is_next = subst (λ (x : SeatView). IsNext access x c.last) (there ∙ same) c.is_next;
+  goes = walks_more GoesOn (access_task access) u g.going c.going g.goes (subst (λ (x : SeatView). GoesBy access x c.going) g.after c.goes);
+  is_next = subst (λ (x : SeatView). IsNext (access_task access) x c.last) (there ∙ same) c.is_next;
   answers = ap (λ (x : SeatView). answer_to x c.last) (sym (there ∙ same)) ∙ c.answers;
   few = let a = length-append g.going c.going in let b = g.few in let d = c.few in omega arith;
   after = c.after ∙ ap (stepped_by c.last.kind c.last.word) (there ∙ same);
 }
 
-pub comes_next : (access : PendingAccess) (u v w : SeatView) (k : Kind) (told n : ℕ) (answer : Poll) → Steps k u told v → k ≡ next_step access u → answer_to u (record { kind = k; word = told }) ≡ None → Comes access v answer n w → Comes access u answer (suc n) w
+pub comes_next : (access : PendingAccess) (u v w : SeatView) (k : Kind) (told n : ℕ) (answer : Poll) → Steps k u told v → k ≡ next_step (access_task access) u → answer_to u (record { kind = k; word = told }) ≡ None → Comes access v answer n w → Comes access u answer (suc n) w
 comes_next access u v w k told n answer took next none c = comes_after access u v w 2 n (suc n) answer (goes_one access u v k told took next none) c (omega arith)
 
 pub comes_sooner : (access : PendingAccess) (v w : SeatView) (m n : ℕ) (answer : Poll) → Comes access v answer m w → m ≤ n → Comes access v answer n w

@@ -27,13 +27,14 @@ use Rattle.octet_rule.specs.Views.{SeatView, Taken, stepped_by}
 use Rattle.octet_heap.specs.declared.pending_access.PendingAccess.{PendingAccess}
 use Rattle.octet_heap.specs.declared.poll.Poll.{Poll}
 use Rattle.octet_heap.specs.declared.poll.Poll.TheVariants.{Ready, Pending}
-use Rattle.octet_heap.specs.Polls.{answer_by, after_steps, GoesBy, PaysBy}
+use Rattle.octet_heap.specs.Walks.{after_steps}
+use Rattle.octet_heap.specs.Polls.{answer_by, GoesBy, OwesBy}
 use Rattle.octet_heap.specs.Waiting.{HasBegun}
 use Rattle.octet_heap.specs.Standing.{IsAbout}
 use Rattle.octet_heap.specs.Workers.{IsPoll}
 use Rattle.octet_heap.specs.OwnersPath.{value_by}
 use Rattle.octet_heap.specs.Growth.{access_event, access_made, AnswersValue, AddsAccess}
-use Rattle.octet_heap.proofs.Polled.{after_both}
+use Rattle.octet_heap.proofs.lemmas.Walks.{after_more}
 use Rattle.octet_heap.proofs.Paths.{nothing_after}
 
 -- a phase that is about this access
@@ -282,10 +283,10 @@ paid_kind Nothing k ne = absurd (ne refl)
 paid_kind Glance k ne = refl
 paid_kind Answer k ne = refl
 
-paying_adds : (access : PendingAccess) (v : SeatView) (paid : List Taken) → PaysBy access v paid → AddsMarks v.journal (after_steps paid v).journal
+paying_adds : (access : PendingAccess) (v : SeatView) (paid : List Taken) → OwesBy access v paid → AddsMarks v.journal (after_steps paid v).journal
 paying_adds access v [] pays = none_added v.journal
 paying_adds access v (taken ∷ more) pays = let u = stepped_by taken.kind taken.word v in
-    let is : is_access taken.kind ≡ false = ap is_access pays.1.in_order ∙ paid_kind v.thread.due (kind_in_phase v.threads v.number v.thread.count (ToLoad access.object access.mode) access.value v.thread.phase) pays.0 in
+    let is : is_access taken.kind ≡ false = ap is_access pays.0.in_order ∙ paid_kind v.thread.due (kind_in_phase v.threads v.number v.thread.count (ToLoad access.object access.mode) access.value v.thread.phase) pays.1 in
     both_added v.journal u.journal (after_steps more u).journal (adds_marks taken.kind v.number taken.word v.thread v.journal is) (paying_adds access u more pays.2)
 
 module _ (access : PendingAccess) (v w : SeatView) (about : IsFor access v.thread.phase) where
@@ -294,8 +295,8 @@ module _ (access : PendingAccess) (v w : SeatView) (about : IsFor access v.threa
       let g = going_adds access v p.going p.goes about in let u = after_steps p.going v in
       let last = adds_marks p.last.kind u.number p.last.word u.thread u.journal (not_pending p.last.kind u.number p.last.word u.thread why p.answers) in
       let x = stepped_by p.last.kind p.last.word u in
-      let all = both_added v.journal x.journal (after_steps p.at_safe_point x).journal (both_added v.journal u.journal x.journal g.1 last) (paying_adds access x p.at_safe_point p.pays) in
-      let is : w.journal ≡ (after_steps p.at_safe_point x).journal = ap (λ (y : SeatView). y.journal) (p.after ∙ after_both p.going (p.last ∷ p.at_safe_point) v) in record {
+      let all = both_added v.journal x.journal (after_steps p.at_safe_point x).journal (both_added v.journal u.journal x.journal g.1 last) (paying_adds access x p.at_safe_point p.pays.0) in
+      let is : w.journal ≡ (after_steps p.at_safe_point x).journal = ap (λ (y : SeatView). y.journal) (p.after ∙ after_more p.going (p.last ∷ p.at_safe_point) v) in record {
         marks = all.0;
         told = 0;
         grown = is ∙ (all.1 ∙ ap (λ (l : List Event). v.journal ++ l) (sym (append-nil (marked all.0))));
@@ -307,7 +308,7 @@ module _ (access : PendingAccess) (v w : SeatView) (about : IsFor access v.threa
       let m = subst (λ (k : Kind). Makes access k u.number p.last.word u.thread value) (sym p.is_next.in_order) (makes access u.threads u.number p.last.word u.thread.count u.thread.due u.thread.phase value g.0 answers) in
       let x = stepped_by p.last.kind p.last.word u in
       let none : p.at_safe_point ≡ [] = nothing_after access x p.at_safe_point p.pays m.owes_nothing in
-      let is : w.journal ≡ x.journal = ap (λ (y : SeatView). y.journal) (p.after ∙ (after_both p.going (p.last ∷ p.at_safe_point) v ∙ ap (λ (l : List Taken). after_steps l x) none)) in record {
+      let is : w.journal ≡ x.journal = ap (λ (y : SeatView). y.journal) (p.after ∙ (after_more p.going (p.last ∷ p.at_safe_point) v ∙ ap (λ (l : List Taken). after_steps l x) none)) in record {
         marks = g.1.0;
         told = p.last.word;
         grown = is ∙ (m.by_access u.journal ∙ (ap (λ (l : List Event). l ++ access_made access p.last.word (Ready value)) g.1.1 ∙ append_assoc v.journal (marked g.1.0) (access_made access p.last.word (Ready value))));

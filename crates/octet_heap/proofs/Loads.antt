@@ -17,7 +17,8 @@ use Rattle.octet_rule.specs.Rule.{Steps}
 use Rattle.octet_rule.proofs.Known.{load_moves}
 use Rattle.octet_heap.specs.declared.pending_access.PendingAccess.{PendingAccess}
 use Rattle.octet_heap.specs.declared.poll.Poll.TheVariants.{Pending}
-use Rattle.octet_heap.specs.Polls.{next_step, answer_by, Comes}
+use Rattle.octet_heap.specs.Walks.{access_task, next_step}
+use Rattle.octet_heap.specs.Polls.{answer_by, Comes}
 use Rattle.octet_heap.specs.Waiting.{HasBegun, IsToLoad, Leaves}
 use Rattle.octet_heap.proofs.Going.{Goes, next_in, goes_one, comes_by}
 
@@ -39,7 +40,7 @@ module _ (access : PendingAccess) (v u : SeatView) (word : ℕ) (state : StateWo
   decides a is = ap (λ (s : StateWord). decided s v.number access.mode v.thread.count) (sym holds) ∙ (sym says ∙ is)
 
   module _ (due : v.thread.due ≡ Nothing) (loads : IsToLoad access v.thread.phase) where
-    next : ToLoad access.object access.mode ≡ next_step access v
+    next : ToLoad access.object access.mode ≡ next_step (access_task access) v
     next = sym (next_in access v v.thread.phase (due, refl) ∙ loads_next v.threads v.number v.thread.count access v.thread.phase loads)
 
     pub load_goes : (a : Act) → act ≡ a → held_by a word ≡ None → Goes access v 2 u

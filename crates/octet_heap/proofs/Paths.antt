@@ -15,7 +15,8 @@ use Rattle.octet_rule.specs.Views.{SeatView, Taken, stepped_by}
 use Rattle.octet_heap.specs.declared.pending_access.PendingAccess.{PendingAccess}
 use Rattle.octet_heap.specs.declared.poll.Poll.{Poll}
 use Rattle.octet_heap.specs.declared.poll.Poll.TheVariants.{Ready}
-use Rattle.octet_heap.specs.Polls.{next_step, answer_by, answer_to, after_steps, GoesBy, PaysBy}
+use Rattle.octet_heap.specs.Walks.{access_task, next_step, after_steps}
+use Rattle.octet_heap.specs.Polls.{answer_by, answer_to, GoesBy, PaysBy}
 use Rattle.octet_heap.specs.Workers.{IsPoll}
 use Rattle.octet_heap.specs.OwnersPath.{value_by, TakesOwnersPath}
 use Rattle.octet_heap.proofs.Going.{next_in}
@@ -40,7 +41,7 @@ access_owes_nothing Update value v taken is = ap (λ (k : Kind). (after k v.numb
 
 pub nothing_after : (access : PendingAccess) (v : SeatView) (at_safe_point : List Taken) → PaysBy access v at_safe_point → v.thread.due ≡ Nothing → at_safe_point ≡ []
 nothing_after access v [] pays due = refl
-nothing_after access v (taken ∷ more) pays due = absurd (pays.0 due)
+nothing_after access v (taken ∷ more) pays due = absurd (pays.0.1 due)
 
 only : (a b : Poll) → Some a ≡ Some b → a ≡ b
 only a b is = ap (λ (o : Option Poll). poll_in o) is
@@ -59,16 +60,16 @@ module _ (access : PendingAccess) (v : SeatView) (answer : Poll) (word : ℕ) (m
   load_goes_on : answer_to v load ≡ None
   load_goes_on = ap (λ (a : Act). answer_by (held_by a word) (ToLoad access.object access.mode) word) passes
 
-  access_next : next_step access (stepped_by (ToLoad access.object access.mode) word v) ≡ access_of access.mode access.value
+  access_next : next_step (access_task access) (stepped_by (ToLoad access.object access.mode) word v) ≡ access_of access.mode access.value
   access_next = let u = stepped_by (ToLoad access.object access.mode) word v in
       let is : u.thread ≡ moved (Pass access.object access.mode) Nothing v.thread = ap (λ (a : Act). loaded a access.object access.mode (state_in (unpacked_state word)) v.thread) passes in
       next_in access u (Pass access.object access.mode) (ap (λ (x : Thread). x.due) is, ap (λ (x : Thread). x.phase) is)
 
   -- the step after the load is the access
-  access_kind : (first taken : Taken) → first ≡ load → taken.kind ≡ next_step access (stepped_by first.kind first.word v) → taken.kind ≡ access_of access.mode access.value
-  access_kind first taken is next = next ∙ (ap (λ (t : Taken). next_step access (stepped_by t.kind t.word v)) is ∙ access_next)
+  access_kind : (first taken : Taken) → first ≡ load → taken.kind ≡ next_step (access_task access) (stepped_by first.kind first.word v) → taken.kind ≡ access_of access.mode access.value
+  access_kind first taken is next = next ∙ (ap (λ (t : Taken). next_step (access_task access) (stepped_by t.kind t.word v)) is ∙ access_next)
 
-  path : (going : List Taken) (last : Taken) (at_safe_point : List Taken) → GoesBy access v going → last.kind ≡ next_step access (after_steps going v) → answer_to (after_steps going v) last ≡ Some answer
+  path : (going : List Taken) (last : Taken) (at_safe_point : List Taken) → GoesBy access v going → last.kind ≡ next_step (access_task access) (after_steps going v) → answer_to (after_steps going v) last ≡ Some answer
       → PaysBy access (stepped_by last.kind last.word (after_steps going v)) at_safe_point → going ++ last ∷ at_safe_point ≡ load ∷ more → IsPath
   path [] last at_safe_point goes next answers pays is = let same : last ≡ load = ap (head_or load) is in
       absurd (let none : answer_to v last ≡ None = ap (answer_to v) same ∙ load_goes_on in let never : None ≡ Some answer = sym none ∙ answers in cc)

@@ -1,19 +1,15 @@
 -- The steps of a poll.
-use Rattle.std.specs.Prelude.{◌≡◌, ◌≢◌, ℕ, ◌+◌, ◌<◌, List, [], ◌∷◌, length, Option, Some, None}
+use Rattle.std.specs.Prelude.{◌≡◌, ◌≢◌, ℕ, ◌+◌, ◌<◌, List, length, Option, Some, None}
 use Rattle.octet_model.specs.Thread.{added}
 use Rattle.octet_state.specs.declared.phase.Due.TheVariants.{Nothing}
 use Rattle.octet_state.specs.declared.why.Why.{Why}
-use Rattle.octet_state.specs.Steps.{Kind, ToLoad, ToRead, ToWrite, ToBump}
-use Rattle.octet_state.specs.NextStep.{next_kind, waits}
+use Rattle.octet_state.specs.Steps.{Kind, ToRead, ToWrite, ToBump}
+use Rattle.octet_state.specs.NextStep.{waits}
 use Rattle.octet_rule.specs.Views.{SeatView, Taken, stepped_by}
-use Rattle.octet_rule.specs.Rule.{Steps}
 use Rattle.octet_heap.specs.declared.pending_access.PendingAccess.{PendingAccess}
 use Rattle.octet_heap.specs.declared.poll.Poll.{Poll}
 use Rattle.octet_heap.specs.declared.poll.Poll.TheVariants.{Ready, Pending}
-
--- the next step of a seat's thread that wants this access
-abbrev pub next_step : PendingAccess → SeatView → Kind
-next_step access v = next_kind v.threads v.number (ToLoad access.object access.mode) access.value v.thread
+use Rattle.octet_heap.specs.Walks.{access_task, after_steps, IsNext, WalksBy}
 
 -- what a poll answers by a step that waits, or that makes the access. By any other it goes on
 abbrev pub answer_by : Option Why → Kind → ℕ → Option Poll
@@ -26,25 +22,16 @@ answer_by None _ word = None
 abbrev pub answer_to : SeatView → Taken → Option Poll
 answer_to v taken = answer_by (waits taken.kind v.number taken.word v.thread) taken.kind taken.word
 
--- after these steps
-abbrev pub after_steps : List Taken → SeatView → SeatView
-after_steps [] v = v
-after_steps (taken ∷ more) v = after_steps more (stepped_by taken.kind taken.word v)
-
--- the thread takes this step: it is the next one, and one of the protocol, from a sound state in which the thread is where its seat knows it to be
-pub record IsNext (access : PendingAccess) (v : SeatView) (taken : Taken) : Type 0 where
-  pub in_order : taken.kind ≡ next_step access v
-  pub took : Steps taken.kind v taken.word (stepped_by taken.kind taken.word v)
-
--- these are the thread's steps in their order, by each of which the poll goes on
+-- the thread takes these steps, by each of which the poll goes on
 abbrev pub GoesBy : PendingAccess → SeatView → List Taken → Type 0
-GoesBy access v [] = Unit {0}
-GoesBy access v (taken ∷ more) = IsNext access v taken × (answer_to v taken ≡ None) × GoesBy access (stepped_by taken.kind taken.word v) more
+GoesBy access v going = WalksBy (λ v taken. answer_to v taken ≡ None) (access_task access) v going
 
 -- a thread that owes a glance or an answer takes the next step, and so on, until it owes nothing
+abbrev pub OwesBy : PendingAccess → SeatView → List Taken → Type 0
+OwesBy access v paid = WalksBy (λ v taken. v.thread.due ≢ Nothing) (access_task access) v paid
+
 abbrev pub PaysBy : PendingAccess → SeatView → List Taken → Type 0
-PaysBy access v [] = v.thread.due ≡ Nothing
-PaysBy access v (taken ∷ more) = (v.thread.due ≢ Nothing) × IsNext access v taken × PaysBy access (stepped_by taken.kind taken.word v) more
+PaysBy access v paid = OwesBy access v paid × ((after_steps paid v).thread.due ≡ Nothing)
 
 -- the steps that are still due after an answer, at most
 abbrev pub steps_owed : Poll → ℕ
@@ -56,7 +43,7 @@ pub record Comes (access : PendingAccess) (v : SeatView) (answer : Poll) (steps 
   pub going : List Taken
   pub last : Taken
   pub goes : GoesBy access v going
-  pub is_next : IsNext access (after_steps going v) last
+  pub is_next : IsNext (access_task access) (after_steps going v) last
   pub answers : answer_to (after_steps going v) last ≡ Some answer
   pub few : length going + steps_owed answer < steps
   pub after : w ≡ stepped_by last.kind last.word (after_steps going v)

@@ -9,7 +9,8 @@ use Rattle.octet_heap.specs.declared.poll.Poll.{Poll}
 use Rattle.octet_heap.specs.declared.poll.Poll.TheVariants.{Ready, Pending}
 use Rattle.octet_heap.specs.declared.heap.Heap.{Heap}
 use Rattle.octet_heap.specs.declared.worker.Worker.{Worker}
-use Rattle.octet_heap.specs.Polls.{answer_to, after_steps, IsNext, GoesBy, PaysBy}
+use Rattle.octet_heap.specs.Walks.{access_task, after_steps, IsNext}
+use Rattle.octet_heap.specs.Polls.{answer_to, GoesBy, PaysBy}
 use Rattle.octet_heap.specs.Standing.{IsAbout, HasFuel, IsWithin}
 
 -- a worker is seen as its seat is
@@ -45,7 +46,7 @@ pub record IsPoll (access : PendingAccess) (v : SeatView) (answer : Poll) (w : S
   pub last : Taken
   pub at_safe_point : List Taken
   pub goes : GoesBy access v going
-  pub is_next : IsNext access (after_steps going v) last
+  pub is_next : IsNext (access_task access) (after_steps going v) last
   pub answers : answer_to (after_steps going v) last ≡ Some answer
   pub pays : PaysBy access (stepped_by last.kind last.word (after_steps going v)) at_safe_point
   pub few : length going + 1 + length at_safe_point ≤ 19

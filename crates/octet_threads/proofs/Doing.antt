@@ -1,16 +1,14 @@
 -- A worker does a task step by step.
 use Rattle.std.proofs.Common.{◌≡◌, ◌∙◌, ℕ, true, false, List, [], ◌∷◌, ◌++◌, sym, refl, ap, subst, append_assoc}
 use Rattle.octet_interp.specs.declared.demand.Demand.TheVariants as demand
-use Rattle.octet_state.specs.declared.phase.Phase.{Phase}
 use Rattle.octet_state.specs.declared.phase.Phase.TheVariants.{Idle, Blocked}
-use Rattle.octet_state.specs.declared.phase.Due.{Due}
 use Rattle.octet_state.specs.declared.phase.Due.TheVariants.{Nothing}
 use Rattle.octet_state.specs.Steps.{Kind, ToBlock, ToUnblock}
-use Rattle.octet_state.specs.NextStep.{kind_by_due, kind_in_phase}
-use Rattle.octet_rule.specs.Views.{SeatView, Taken, stepped_by}
+use Rattle.octet_rule.specs.Views.{SeatView, Taken}
 use Rattle.octet_rule.specs.Rule.{Steps}
-use Rattle.octet_heap.specs.Polls.{after_steps}
-use Rattle.octet_threads.specs.Tasks.{Task, task_of, next_step, IsNext, GoesBy, Does}
+use Rattle.octet_heap.specs.Walks.{Task, next_step, after_steps, IsNext}
+use Rattle.octet_heap.proofs.lemmas.Walks.{after_more, next_in, next_by, walks_more}
+use Rattle.octet_threads.specs.Tasks.{task_of, GoesBy, Does}
 
 -- the thread has taken its steps so far, none of which does the task
 pub record HasGone (task : Task) (v w : SeatView) : Type 0 where
@@ -19,18 +17,13 @@ pub record HasGone (task : Task) (v w : SeatView) : Type 0 where
   pub after : w ≡ after_steps going v
   pub trail : w.trail ≡ v.trail ++ going
 
-pub after_more : (going more : List Taken) (v : SeatView) → after_steps (going ++ more) v ≡ after_steps more (after_steps going v)
-after_more [] more v = refl
-after_more (taken ∷ going) more v = after_more going more (stepped_by taken.kind taken.word v)
-
-pub goes_more : (task : Task) (v : SeatView) (going more : List Taken) → GoesBy task v going → GoesBy task (after_steps going v) more → GoesBy task v (going ++ more)
-goes_more task v [] more g h = h
-goes_more task v (taken ∷ going) more g h = (g.0, g.1, goes_more task (stepped_by taken.kind taken.word v) going more g.2 h)
+abbrev GoesOn : Task → SeatView → Taken → Type 0
+GoesOn task v taken = task.is_done_by taken.kind taken.word ≡ false
 
 pub gone_on : (task : Task) (u v w : SeatView) → HasGone task u v → HasGone task v w → HasGone task u w
 gone_on task u v w g h = record {
   going = g.going ++ h.going;
-  goes = goes_more task u g.going h.going g.goes (subst (λ (x : SeatView). GoesBy task x h.going) g.after h.goes);
+  goes = walks_more (GoesOn task) task u g.going h.going g.goes (subst (λ (x : SeatView). GoesBy task x h.going) g.after h.goes);
   after = h.after ∙ (ap (after_steps h.going) g.after ∙ sym (after_more g.going h.going u));
   trail = h.trail ∙ (ap (λ (l : List Taken). l ++ h.going) g.trail ∙ append_assoc u.trail g.going h.going);
 }
@@ -42,16 +35,12 @@ gone_and_done task u v w g d =
     let joined : (l : List Taken) → l ≡ d.going ++ d.last ∷ [] → g.going ++ l ≡ (g.going ++ d.going) ++ d.last ∷ [] = λ l is. ap (λ (x : List Taken). g.going ++ x) is ∙ sym (append_assoc g.going d.going (d.last ∷ [])) in record {
       going = g.going ++ d.going;
       last = d.last;
-      goes = goes_more task u g.going d.going g.goes (subst (λ (x : SeatView). GoesBy task x d.going) g.after d.goes);
+      goes = walks_more (GoesOn task) task u g.going d.going g.goes (subst (λ (x : SeatView). GoesBy task x d.going) g.after d.goes);
       is_next = subst (λ (x : SeatView). IsNext task x d.last) there d.is_next;
       does = d.does;
       after = d.after ∙ (ap (after_steps (d.going ++ d.last ∷ [])) g.after ∙ (sym (after_more g.going (d.going ++ d.last ∷ []) u) ∙ ap (λ (l : List Taken). after_steps l u) (joined (d.going ++ d.last ∷ []) refl)));
       trail = d.trail ∙ (ap (λ (l : List Taken). l ++ (d.going ++ d.last ∷ [])) g.trail ∙ (append_assoc u.trail g.going (d.going ++ d.last ∷ []) ∙ ap (λ (l : List Taken). u.trail ++ l) (joined (d.going ++ d.last ∷ []) refl)));
     }
-
--- a step that is taken, in its order
-next_by : (task : Task) (v w : SeatView) (k : Kind) (told : ℕ) → Steps k v told w → k ≡ next_step task v → IsNext task v (record { kind = k; word = told })
-next_by task v w k told took next = record { in_order = next; took = subst (Steps k v told) took.moves took }
 
 trail_of : (v w : SeatView) (k : Kind) (told : ℕ) → Steps k v told w → w.trail ≡ v.trail ++ record { kind = k; word = told } ∷ []
 trail_of v w k told took = ap (λ (x : SeatView). x.trail) took.moves
@@ -75,15 +64,11 @@ done_by task v w k told took next is = record {
   trail = trail_of v w k told took;
 }
 
--- the next step by where the thread stands
-pub next_in : (task : Task) (v : SeatView) (due : Due) (p : Phase) → v.thread.due ≡ due → v.thread.phase ≡ p → kind_by_due due (kind_in_phase v.threads v.number v.thread.count task.first task.value p) ≡ next_step task v
-next_in task v due p owes stands = λ i. kind_by_due (sym owes i) (kind_in_phase v.threads v.number v.thread.count task.first task.value (sym stands i))
-
 -- a block and an unblock
 pub pauses : (u v w : SeatView) (found there : ℕ) → u.thread.due ≡ Nothing → u.thread.phase ≡ Idle → Steps (ToBlock false) u found v → Steps ToUnblock v there w → Does (task_of demand.Pause) u w
 pauses u v w found there due phase blocks unblocks =
     let task = task_of demand.Pause in
     let owes : v.thread.due ≡ Nothing = ap (λ (x : SeatView). x.thread.due) blocks.moves in
     let stands : v.thread.phase ≡ Blocked = ap (λ (x : SeatView). x.thread.phase) blocks.moves in
-    gone_and_done task u v w (gone_one task u v (ToBlock false) found blocks (next_in task u Nothing Idle due phase) refl)
-    (done_by task v w ToUnblock there unblocks (next_in task v Nothing Blocked owes stands) refl)
+    gone_and_done task u v w (gone_one task u v (ToBlock false) found blocks (sym (next_in task u Nothing Idle due phase)) refl)
+    (done_by task v w ToUnblock there unblocks (sym (next_in task v Nothing Blocked owes stands)) refl)

@@ -11,11 +11,11 @@ use Rattle.octet_state.specs.Steps.{made, ended_by, step}
 use Rattle.octet_ring.specs.Views.{SenderView}
 use Rattle.octet_rule.specs.Rule.{IsSeenBy}
 use Rattle.octet_rule.specs.Views.{SeatView, Taken, stepped_by}
-use Rattle.octet_heap.specs.Polls.{after_steps}
+use Rattle.octet_heap.specs.Walks.{Task, after_steps}
+use Rattle.octet_heap.proofs.lemmas.Walks.{after_more}
 use Rattle.octet_threads.specs.declared.feed.Feed.{Feed}
 use Rattle.octet_threads.specs.Feeds.{HasSent}
-use Rattle.octet_threads.specs.Tasks.{Task, Does}
-use Rattle.octet_threads.proofs.Doing.{after_more}
+use Rattle.octet_threads.specs.Tasks.{Does}
 
 -- a list that begins with another
 abbrev pub Grows : List Event → List Event → Type 0

@@ -13,11 +13,13 @@ use Rattle.octet_heap.specs.declared.pending_access.PendingAccess.{PendingAccess
 use Rattle.octet_heap.specs.declared.poll.Poll.{Poll}
 use Rattle.octet_heap.specs.declared.poll.Poll.TheVariants.{Ready, Pending}
 use Rattle.octet_heap.specs.Polls as heap
-use Rattle.octet_heap.specs.Polls.{answer_by, after_steps, PaysBy}
+use Rattle.octet_heap.specs.Polls.{answer_by, answer_to, OwesBy}
+use Rattle.octet_heap.specs.Walks.{access_task, after_steps, is_on_cell}
+use Rattle.octet_heap.proofs.lemmas.Walks.{walks_as, walks_more}
 use Rattle.octet_heap.specs.Workers.{IsPoll}
 use Rattle.octet_heap.specs.Growth.{access_made, AddsAccess}
-use Rattle.octet_threads.specs.Tasks.{access_task, is_on_cell, IsNext, GoesBy, Does}
-use Rattle.octet_threads.proofs.Doing.{HasGone, goes_more}
+use Rattle.octet_threads.specs.Tasks.{GoesBy, Does}
+use Rattle.octet_threads.proofs.Doing.{HasGone}
 
 -- a step by which a poll goes on is none on the cell
 goes_off_cell : (why : Option Why) (k : Kind) (word : ℕ) → answer_by why k word ≡ None → is_on_cell k word ≡ false
@@ -55,33 +57,30 @@ pays_off_cell Nothing k kind word owes e = absurd (owes refl)
 pays_off_cell Glance k kind word owes e = ap (λ (z : Kind). is_on_cell z word) e
 pays_off_cell Answer k kind word owes e = ap (λ (z : Kind). is_on_cell z word) e
 
-as_next : (access : PendingAccess) (v : SeatView) (taken : Taken) → heap.IsNext access v taken → IsNext (access_task access) v taken
-as_next access v taken is = record { in_order = is.in_order; took = is.took }
+abbrev OffCell : SeatView → Taken → Type 0
+OffCell v taken = is_on_cell taken.kind taken.word ≡ false
 
 going_as : (access : PendingAccess) (v : SeatView) (going : List Taken) → heap.GoesBy access v going → GoesBy (access_task access) v going
-going_as access v [] goes = tt
-going_as access v (t ∷ more) goes =
-    (as_next access v t goes.0, goes_off_cell (waits t.kind v.number t.word v.thread) t.kind t.word goes.1, going_as access (stepped_by t.kind t.word v) more goes.2)
+going_as access v going goes =
+    walks_as (λ v taken. answer_to v taken ≡ None) OffCell (access_task access) (λ v taken next none. goes_off_cell (waits taken.kind v.number taken.word v.thread) taken.kind taken.word none) v going goes
 
-paying_as : (access : PendingAccess) (v : SeatView) (paid : List Taken) → PaysBy access v paid → GoesBy (access_task access) v paid
-paying_as access v [] pays = tt
-paying_as access v (t ∷ more) pays =
+paying_as : (access : PendingAccess) (v : SeatView) (paid : List Taken) → OwesBy access v paid → GoesBy (access_task access) v paid
+paying_as access v paid pays = walks_as (λ v taken. v.thread.due ≢ Nothing) OffCell (access_task access) (λ v taken next owes.
     let kind = kind_in_phase v.threads v.number v.thread.count (ToLoad access.object access.mode) access.value v.thread.phase in
-    (as_next access v t pays.1, pays_off_cell v.thread.due t.kind kind t.word pays.0 pays.1.in_order, paying_as access (stepped_by t.kind t.word v) more pays.2)
+    pays_off_cell v.thread.due taken.kind kind taken.word owes next.in_order) v paid pays
 
-pays_nothing : (access : PendingAccess) (v : SeatView) (paid : List Taken) → v.thread.due ≡ Nothing → PaysBy access v paid → paid ≡ []
+pays_nothing : (access : PendingAccess) (v : SeatView) (paid : List Taken) → v.thread.due ≡ Nothing → OwesBy access v paid → paid ≡ []
 pays_nothing access v [] none pays = refl
-pays_nothing access v (t ∷ more) none pays = absurd (pays.0 none)
+pays_nothing access v (t ∷ more) none pays = absurd (pays.1 none)
 
 -- a poll that is pending has gone on
 pub pending_goes : (access : PendingAccess) (v w : SeatView) (why : Why) → IsPoll access v (Pending why) w → HasGone (access_task access) v w
 pending_goes access v w why p =
     let task = access_task access in
     let u = after_steps p.going v in
-    let last : IsNext task u p.last = as_next access u p.last p.is_next in
     let off : is_on_cell p.last.kind p.last.word ≡ false = waits_off_cell p.last.kind u.number p.last.word u why p.answers in record {
       going = p.going ++ p.last ∷ p.at_safe_point;
-      goes = goes_more task v p.going (p.last ∷ p.at_safe_point) (going_as access v p.going p.goes) (last, off, paying_as access (stepped_by p.last.kind p.last.word u) p.at_safe_point p.pays);
+      goes = walks_more OffCell task v p.going (p.last ∷ p.at_safe_point) (going_as access v p.going p.goes) (p.is_next, off, paying_as access (stepped_by p.last.kind p.last.word u) p.at_safe_point p.pays.0);
       after = p.after;
       trail = p.trail;
     }
@@ -91,11 +90,11 @@ pub ready_does : (access : PendingAccess) (v w : SeatView) (value : ℕ) → IsP
 ready_does access v w value p =
     let u = after_steps p.going v in
     let on : is_on_cell p.last.kind p.last.word ≡ true = makes_on_cell (waits p.last.kind u.number p.last.word u.thread) p.last.kind p.last.word value p.answers in
-    let none : p.at_safe_point ≡ [] = pays_nothing access (stepped_by p.last.kind p.last.word u) p.at_safe_point (leaves_nothing p.last.kind p.last.word u on) p.pays in record {
+    let none : p.at_safe_point ≡ [] = pays_nothing access (stepped_by p.last.kind p.last.word u) p.at_safe_point (leaves_nothing p.last.kind p.last.word u on) p.pays.0 in record {
       going = p.going;
       last = p.last;
       goes = going_as access v p.going p.goes;
-      is_next = as_next access u p.last p.is_next;
+      is_next = p.is_next;
       does = on;
       after = p.after ∙ ap (λ (l : List Taken). after_steps (p.going ++ p.last ∷ l) v) none;
       trail = p.trail ∙ ap (λ (l : List Taken). v.trail ++ (p.going ++ p.last ∷ l)) none;

@@ -4,25 +4,9 @@ use Rattle.octet_interp.specs.declared.demand.Demand.{Demand}
 use Rattle.octet_interp.specs.declared.demand.Demand.TheVariants as demand
 use Rattle.octet_state.specs.declared.act.Mode.TheVariants.{Read, Write, Update}
 use Rattle.octet_state.specs.Words.{unpacked_status}
-use Rattle.octet_state.specs.Steps.{Kind, ToGlance, ToAnswer, ToBlock, ToUnblock, ToLoad, ToRead, ToWrite, ToBump}
-use Rattle.octet_state.specs.NextStep.{next_kind}
-use Rattle.octet_rule.specs.Views.{SeatView, Taken, stepped_by}
-use Rattle.octet_rule.specs.Rule.{Steps}
-use Rattle.octet_heap.specs.declared.pending_access.PendingAccess.{PendingAccess}
-use Rattle.octet_heap.specs.Polls.{after_steps}
-
--- what an idle thread is to do: the first step of it, the value that a write stores or an update adds, and the step that does it, by the word that it is told
-pub record Task : Type 0 where
-  pub first : Kind
-  pub value : ℕ
-  pub is_done_by : Kind → ℕ → Bool
-
--- an access is made by the step on the cell
-abbrev pub is_on_cell : Kind → ℕ → Bool
-is_on_cell ToRead word = true
-is_on_cell (ToWrite value) word = true
-is_on_cell (ToBump amount) word = true
-is_on_cell _ word = false
+use Rattle.octet_state.specs.Steps.{Kind, ToGlance, ToAnswer, ToBlock, ToUnblock}
+use Rattle.octet_rule.specs.Views.{SeatView, Taken}
+use Rattle.octet_heap.specs.Walks.{Task, access_task, after_steps, IsNext, WalksBy}
 
 -- a safe point is over with a glance that finds no bit, else with the answer
 abbrev pub ends_safe_point : Kind → ℕ → Bool
@@ -38,10 +22,6 @@ abbrev pub is_block : Kind → ℕ → Bool
 is_block (ToBlock ends) word = true
 is_block _ word = false
 
--- an access
-abbrev pub access_task : PendingAccess → Task
-access_task access = record { first = ToLoad access.object access.mode; value = access.value; is_done_by = is_on_cell }
-
 -- what a demand is for its worker: an access; a safe point; a block and an unblock; or a block for good
 abbrev pub task_of : Demand → Task
 task_of (demand.Read object) = access_task (record { object = object; mode = Read; value = 0 })
@@ -51,19 +31,9 @@ task_of demand.Safe = record { first = ToGlance; value = 0; is_done_by = ends_sa
 task_of demand.Pause = record { first = ToBlock false; value = 0; is_done_by = is_unblock }
 task_of (demand.Ended end) = record { first = ToBlock false; value = 0; is_done_by = is_block }
 
--- the next step of a seat's thread that has this task
-abbrev pub next_step : Task → SeatView → Kind
-next_step task v = next_kind v.threads v.number task.first task.value v.thread
-
--- the thread takes this step, which is its next one and one of the protocol
-pub record IsNext (task : Task) (v : SeatView) (taken : Taken) : Type 0 where
-  pub in_order : taken.kind ≡ next_step task v
-  pub took : Steps taken.kind v taken.word (stepped_by taken.kind taken.word v)
-
 -- the thread takes these steps, none of which does the task
 abbrev pub GoesBy : Task → SeatView → List Taken → Type 0
-GoesBy task v [] = Unit {0}
-GoesBy task v (taken ∷ more) = IsNext task v taken × (task.is_done_by taken.kind taken.word ≡ false) × GoesBy task (stepped_by taken.kind taken.word v) more
+GoesBy task v going = WalksBy (λ v taken. task.is_done_by taken.kind taken.word ≡ false) task v going
 
 -- the thread has taken its steps up to the one that does the task, with every wait, glance and answer between, and no other
 pub record Does (task : Task) (v w : SeatView) : Type 0 where

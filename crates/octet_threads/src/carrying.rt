@@ -7,8 +7,9 @@ ghost use Rattle.octet_rule.specs.Seats.{objects_of};
 ghost use Rattle.octet_heap.specs.declared.pending_access.PendingAccess.{PendingAccess as ThePendingAccess};
 ghost use Rattle.octet_heap.specs.declared.poll.Poll.TheVariants.{Ready};
 ghost use Rattle.octet_heap.specs.Growth.{AddsAccess};
+ghost use Rattle.octet_heap.specs.Walks.{access_task};
 ghost use Rattle.octet_heap.specs.Workers.{seat_of, IsWorkerOf, IsIdle};
-ghost use Rattle.octet_threads.specs.Tasks.{access_task, task_of, Does};
+ghost use Rattle.octet_threads.specs.Tasks.{task_of, Does};
 ghost use Rattle.octet_threads.specs.Carrying.{HasAccessLeft, IsLeftBy, IsSameThread, TellsAgain, KeepsUp};
 
 use crate::access_backoff::AccessBackoff;

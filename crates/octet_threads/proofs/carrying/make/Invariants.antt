@@ -2,7 +2,7 @@ use Rattle.std.proofs.Common.{◌≡◌, true, Some}
 use Rattle.std.specs.Option.{is_some}
 use Rattle.octet_heap.specs.declared.pending_access.PendingAccess.{PendingAccess}
 use Rattle.octet_heap.specs.Workers.{seat_of, IsWorkerOf}
-use Rattle.octet_threads.specs.Tasks.{access_task}
+use Rattle.octet_heap.specs.Walks.{access_task}
 use Rattle.octet_threads.proofs.Doing.{HasGone}
 use Rattle.octet_threads.proofs.Polling.{AddsMarks}
 use Rattle.octet_threads.proofs.carrying.make.Given as goal
