@@ -1,14 +1,15 @@
 //! The exchanges of an object's state, and what comes after them.
-ghost use Rattle.std.specs.Prelude.{◌≡◌, ◌<◌, Some, None};
+ghost use Rattle.std.specs.Prelude.{◌≡◌, Some};
 ghost use Rattle.octet_state.specs.declared.act.Act.TheVariants.{Raise as RaiseIt, Share as ShareIt, Take as TakeIt};
 ghost use Rattle.octet_state.specs.declared.act.Mode.TheVariants.{Read as ForRead};
 ghost use Rattle.octet_state.specs.declared.phase.Phase.TheVariants.{Want};
 ghost use Rattle.octet_state.specs.Words.{packed_state};
 ghost use Rattle.octet_state.specs.Table.{decided};
-ghost use Rattle.octet_rule.specs.Seats.{view, IsSeatOf, objects_of};
+ghost use Rattle.octet_rule.specs.Seats.{view};
 ghost use Rattle.octet_state.specs.declared.why.Why.TheVariants.{Changed};
 ghost use Rattle.octet_heap.specs.declared.poll.Poll.TheVariants.{Pending};
 ghost use Rattle.octet_heap.specs.Polls.{Comes};
+ghost use Rattle.octet_heap.specs.Recorders.{CanAccess, KeepsSeat};
 ghost use Rattle.octet_heap.specs.Waiting.{StandsIn, Leaves, accesses_after};
 
 use crate::heap::Heap;
@@ -36,14 +37,11 @@ impl Heap {
         state: StateWord,
         seen: u64,
     ) -> Poll
-        requires own { IsSeatOf self.now.words recorder.old.seat }
-        requires object { access.object < objects_of self.now.words }
-        requires more { recorder.old.log.accesses < recorder.old.fuel }
+        requires can { CanAccess self.now access recorder.old }
         requires stands { StandsIn (Want access.object access.mode (Some state)) (view recorder.old.seat) }
         requires word { packed_state state ≡ seen }
         requires says { decided state (view recorder.old.seat).number access.mode (view recorder.old.seat).thread.count ≡ RaiseIt }
-        ensures own { IsSeatOf self.now.words recorder.new.seat × (recorder.new.fuel ≡ recorder.old.fuel) }
-        ensures counts { recorder.new.log.accesses ≡ accesses_after result recorder.old.log.accesses }
+        ensures keeps { KeepsSeat self.now.words (accesses_after result recorder.old.log.accesses) recorder.old recorder.new }
         ensures comes { Comes access (view recorder.old.seat) result 3 (view recorder.new.seat) }
         ensures leaves { Leaves access result (view recorder.new.seat) }
     {
@@ -63,15 +61,12 @@ impl Heap {
         from: u8,
         upto: u64,
     ) -> Poll
-        requires own { IsSeatOf self.now.words recorder.old.seat }
-        requires object { access.object < objects_of self.now.words }
-        requires more { recorder.old.log.accesses < recorder.old.fuel }
+        requires can { CanAccess self.now access recorder.old }
         requires stands { StandsIn (Want access.object access.mode (Some state)) (view recorder.old.seat) }
         requires word { packed_state state ≡ seen }
         requires mode { ForRead ≡ access.mode }
         requires says { decided state (view recorder.old.seat).number access.mode (view recorder.old.seat).thread.count ≡ ShareIt from upto }
-        ensures own { IsSeatOf self.now.words recorder.new.seat × (recorder.new.fuel ≡ recorder.old.fuel) }
-        ensures counts { recorder.new.log.accesses ≡ accesses_after result recorder.old.log.accesses }
+        ensures keeps { KeepsSeat self.now.words (accesses_after result recorder.old.log.accesses) recorder.old recorder.new }
         ensures comes { Comes access (view recorder.old.seat) result 4 (view recorder.new.seat) }
         ensures leaves { Leaves access result (view recorder.new.seat) }
     {
@@ -90,14 +85,11 @@ impl Heap {
         seen: u64,
         whom: Whom,
     ) -> Poll
-        requires own { IsSeatOf self.now.words recorder.old.seat }
-        requires object { access.object < objects_of self.now.words }
-        requires more { recorder.old.log.accesses < recorder.old.fuel }
+        requires can { CanAccess self.now access recorder.old }
         requires stands { StandsIn (Want access.object access.mode (Some state)) (view recorder.old.seat) }
         requires word { packed_state state ≡ seen }
         requires says { decided state (view recorder.old.seat).number access.mode (view recorder.old.seat).thread.count ≡ TakeIt whom }
-        ensures own { IsSeatOf self.now.words recorder.new.seat × (recorder.new.fuel ≡ recorder.old.fuel) }
-        ensures counts { recorder.new.log.accesses ≡ accesses_after result recorder.old.log.accesses }
+        ensures keeps { KeepsSeat self.now.words (accesses_after result recorder.old.log.accesses) recorder.old recorder.new }
         ensures comes { Comes access (view recorder.old.seat) result 18 (view recorder.new.seat) }
         ensures leaves { Leaves access result (view recorder.new.seat) }
     {

@@ -4,9 +4,10 @@ ghost use Rattle.octet_state.specs.declared.phase.Phase.TheVariants.{Claimed};
 ghost use Rattle.octet_state.specs.declared.why.Why.TheVariants.{Unanswered as NoAnswer};
 ghost use Rattle.octet_state.specs.Asking.{whom_to_ask, number_to_ask};
 ghost use Rattle.octet_state.specs.Positions.{NamesThread};
-ghost use Rattle.octet_rule.specs.Seats.{view, IsSeatOf, objects_of};
+ghost use Rattle.octet_rule.specs.Seats.{view};
 ghost use Rattle.octet_heap.specs.declared.poll.Poll.TheVariants.{Pending};
 ghost use Rattle.octet_heap.specs.Polls.{Comes};
+ghost use Rattle.octet_heap.specs.Recorders.{CanAccess, KeepsSeat};
 ghost use Rattle.octet_heap.specs.Waiting.{StandsIn, Leaves, accesses_after};
 
 use crate::heap::Heap;
@@ -34,14 +35,11 @@ impl Heap {
         prior: StateWord,
         from: u8,
     ) -> Poll
-        requires own { IsSeatOf self.now.words recorder.old.seat }
-        requires object { access.object < objects_of self.now.words }
-        requires more { recorder.old.log.accesses < recorder.old.fuel }
+        requires can { CanAccess self.now access recorder.old }
         requires stands { StandsIn (Claimed access.object access.mode prior from false) (view recorder.old.seat) }
         requires named { NamesThread (view recorder.old.seat).threads prior }
         requires left { from ≤ number_to_ask (whom_to_ask prior) (view recorder.old.seat).threads }
-        ensures own { IsSeatOf self.now.words recorder.new.seat × (recorder.new.fuel ≡ recorder.old.fuel) }
-        ensures counts { recorder.new.log.accesses ≡ accesses_after result recorder.old.log.accesses }
+        ensures keeps { KeepsSeat self.now.words (accesses_after result recorder.old.log.accesses) recorder.old recorder.new }
         ensures comes { Comes access (view recorder.old.seat) result 17 (view recorder.new.seat) }
         ensures leaves { Leaves access result (view recorder.new.seat) }
     {
@@ -65,14 +63,11 @@ impl Heap {
         prior: StateWord,
         done: u8,
     ) -> Poll
-        requires own { IsSeatOf self.now.words recorder.old.seat }
-        requires object { access.object < objects_of self.now.words }
-        requires more { recorder.old.log.accesses < recorder.old.fuel }
+        requires can { CanAccess self.now access recorder.old }
         requires stands { StandsIn (Claimed access.object access.mode prior done true) (view recorder.old.seat) }
         requires named { NamesThread (view recorder.old.seat).threads prior }
         requires left { done < number_to_ask (whom_to_ask prior) (view recorder.old.seat).threads }
-        ensures own { IsSeatOf self.now.words recorder.new.seat × (recorder.new.fuel ≡ recorder.old.fuel) }
-        ensures counts { recorder.new.log.accesses ≡ accesses_after result recorder.old.log.accesses }
+        ensures keeps { KeepsSeat self.now.words (accesses_after result recorder.old.log.accesses) recorder.old recorder.new }
         ensures comes { Comes access (view recorder.old.seat) result 18 (view recorder.new.seat) }
         ensures leaves { Leaves access result (view recorder.new.seat) }
     {

@@ -1,16 +1,14 @@
 //! Steps on the words, each with the entry that it makes in the log.
-ghost use Rattle.std.specs.Prelude.{◌≡◌, ◌+◌, ◌<◌, ℕ, IsTrue};
-ghost use Rattle.octet_state.specs.declared.act.Act.TheVariants.{Raise as RaiseIt, Share as ShareIt};
+ghost use Rattle.std.specs.Prelude.{◌≡◌, ◌+◌, ◌<◌, ℕ};
+ghost use Rattle.octet_state.specs.declared.act.Act.TheVariants.{Share as ShareIt};
 ghost use Rattle.octet_state.specs.declared.act.Mode.TheVariants.{Read as ForRead, Write as ForWrite, Update as ForUpdate};
-ghost use Rattle.octet_state.specs.declared.phase.Due.TheVariants.{Nothing};
-ghost use Rattle.octet_state.specs.Words.{unpacked_state};
-ghost use Rattle.octet_state.specs.Steps.{state_in, ToLoad, ToRead, ToWrite, ToBump, ToClaim, ToSettle, ToDraw, ToFence, ToRaise, ToShare};
-ghost use Rattle.octet_state.specs.Words.{packed_state};
-ghost use Rattle.octet_rule.specs.Conditions.{MayLoad, MayPass, HoldsWord, MaySettle, MayDraw, MayFence, AsksNext, HasAsked, decision, is_take, found_by, IsLost};
+ghost use Rattle.octet_state.specs.Steps.{ToRead, ToWrite, ToBump, ToDraw, ToFence, ToShare};
+ghost use Rattle.octet_rule.specs.Conditions.{MayLoad, MayPass, HoldsWord, MayDraw, MayFence, AsksNext, HasAsked, decision, found_by, IsLost};
 ghost use Rattle.octet_rule.specs.Entering.{Enters};
 ghost use Rattle.octet_heap.specs.Waiting.{accesses_after_load};
 ghost use Rattle.octet_rule.specs.Rule.{Steps};
-ghost use Rattle.octet_rule.specs.Seats.{view, IsSeatOf, threads_of, objects_of};
+ghost use Rattle.octet_heap.specs.Recorders.{CanStep, KeepsSeat};
+ghost use Rattle.octet_rule.specs.Seats.{view, threads_of, objects_of};
 ghost use Rattle.octet_safe.specs.Replies.{Asks, Looks};
 
 use crate::pending_access::PendingAccess;
@@ -24,13 +22,11 @@ impl Recorder {
     /// Loads the state of the object, and makes the access where that lets the thread pass.
     #[inline(always)]
     pub(crate) fn enter(&mut self, words: &Words, access: PendingAccess) -> Entered
-        requires own { IsSeatOf words.now self.old.seat }
+        requires can { CanStep words.now self.old }
         requires object { access.object < objects_of words.now }
-        requires due { (view self.old.seat).thread.due ≡ Nothing }
         requires phase { MayLoad access.object access.mode (view self.old.seat).journal (view self.old.seat).thread.phase }
         requires more { self.old.log.accesses < self.old.fuel }
-        ensures own { IsSeatOf words.now self.new.seat × (self.new.fuel ≡ self.old.fuel) }
-        ensures counts { self.new.log.accesses ≡ accesses_after_load result self.old.log.accesses }
+        ensures keeps { KeepsSeat words.now (accesses_after_load result self.old.log.accesses) self.old self.new }
         ensures steps { Enters access.object access.mode access.value (view self.old.seat) result (view self.new.seat) }
     {
         let entered = words.enter(&mut self.seat, access.object, &access.mode, access.value);
@@ -44,13 +40,11 @@ impl Recorder {
     }
 
     pub(crate) fn read(&mut self, words: &Words, object: u16) -> u64
-        requires own { IsSeatOf words.now self.old.seat }
+        requires can { CanStep words.now self.old }
         requires object { object < objects_of words.now }
-        requires due { (view self.old.seat).thread.due ≡ Nothing }
         requires phase { MayPass object ForRead (view self.old.seat).thread.phase }
         requires more { self.old.log.accesses < self.old.fuel }
-        ensures own { IsSeatOf words.now self.new.seat × (self.new.fuel ≡ self.old.fuel) }
-        ensures counts { self.new.log.accesses ≡ self.old.log.accesses + 1 }
+        ensures keeps { KeepsSeat words.now (self.old.log.accesses + 1) self.old self.new }
         ensures step { Steps ToRead (view self.old.seat) result (view self.new.seat) }
     {
         let value = words.read(&mut self.seat, object);
@@ -59,13 +53,11 @@ impl Recorder {
     }
 
     pub(crate) fn write(&mut self, words: &Words, object: u16, value: u64)
-        requires own { IsSeatOf words.now self.old.seat }
+        requires can { CanStep words.now self.old }
         requires object { object < objects_of words.now }
-        requires due { (view self.old.seat).thread.due ≡ Nothing }
         requires phase { MayPass object ForWrite (view self.old.seat).thread.phase }
         requires more { self.old.log.accesses < self.old.fuel }
-        ensures own { IsSeatOf words.now self.new.seat × (self.new.fuel ≡ self.old.fuel) }
-        ensures counts { self.new.log.accesses ≡ self.old.log.accesses + 1 }
+        ensures keeps { KeepsSeat words.now (self.old.log.accesses + 1) self.old self.new }
         ensures step { Steps (ToWrite value) (view self.old.seat) value (view self.new.seat) }
     {
         words.write(&mut self.seat, object, value);
@@ -74,13 +66,11 @@ impl Recorder {
 
     /// Answers the value before.
     pub(crate) fn bump(&mut self, words: &Words, object: u16, amount: u64) -> u64
-        requires own { IsSeatOf words.now self.old.seat }
+        requires can { CanStep words.now self.old }
         requires object { object < objects_of words.now }
-        requires due { (view self.old.seat).thread.due ≡ Nothing }
         requires phase { MayPass object ForUpdate (view self.old.seat).thread.phase }
         requires more { self.old.log.accesses < self.old.fuel }
-        ensures own { IsSeatOf words.now self.new.seat × (self.new.fuel ≡ self.old.fuel) }
-        ensures counts { self.new.log.accesses ≡ self.old.log.accesses + 1 }
+        ensures keeps { KeepsSeat words.now (self.old.log.accesses + 1) self.old self.new }
         ensures step { Steps (ToBump amount) (view self.old.seat) result (view self.new.seat) }
     {
         let before = words.bump(&mut self.seat, object, amount);
@@ -89,12 +79,10 @@ impl Recorder {
     }
 
     pub(crate) fn fence(&mut self, words: &Words)
-        requires own { IsSeatOf words.now self.old.seat }
-        requires due { (view self.old.seat).thread.due ≡ Nothing }
+        requires can { CanStep words.now self.old }
         requires phase { MayFence (view self.old.seat).thread.phase }
         requires more { self.old.log.accesses < self.old.fuel }
-        ensures own { IsSeatOf words.now self.new.seat × (self.new.fuel ≡ self.old.fuel) }
-        ensures counts { self.new.log.accesses ≡ self.old.log.accesses }
+        ensures keeps { KeepsSeat words.now self.old.log.accesses self.old self.new }
         ensures step { (number : ℕ) × Steps ToFence (view self.old.seat) number (view self.new.seat) }
     {
         let number = words.fence(&mut self.seat);
@@ -102,12 +90,10 @@ impl Recorder {
     }
 
     pub(crate) fn draw(&mut self, words: &Words)
-        requires own { IsSeatOf words.now self.old.seat }
-        requires due { (view self.old.seat).thread.due ≡ Nothing }
+        requires can { CanStep words.now self.old }
         requires phase { MayDraw (view self.old.seat).thread.phase }
         requires more { self.old.log.accesses < self.old.fuel }
-        ensures own { IsSeatOf words.now self.new.seat × (self.new.fuel ≡ self.old.fuel) }
-        ensures counts { self.new.log.accesses ≡ self.old.log.accesses }
+        ensures keeps { KeepsSeat words.now self.old.log.accesses self.old self.new }
         ensures step { (last : ℕ) × Steps ToDraw (view self.old.seat) last (view self.new.seat) }
     {
         let last = words.draw(&mut self.seat);
@@ -123,14 +109,12 @@ impl Recorder {
         from: u8,
         upto: u64,
     ) -> Tried
-        requires own { IsSeatOf words.now self.old.seat }
+        requires can { CanStep words.now self.old }
         requires object { object < objects_of words.now }
-        requires due { (view self.old.seat).thread.due ≡ Nothing }
         requires phase { HoldsWord object ForRead seen (view self.old.seat).thread.phase }
         requires shares { decision (view self.old.seat) ≡ ShareIt from upto }
         requires more { self.old.log.accesses < self.old.fuel }
-        ensures own { IsSeatOf words.now self.new.seat × (self.new.fuel ≡ self.old.fuel) }
-        ensures counts { self.new.log.accesses ≡ self.old.log.accesses }
+        ensures keeps { KeepsSeat words.now self.old.log.accesses self.old self.new }
         ensures step { Steps ToShare (view self.old.seat) (found_by seen result) (view self.new.seat) }
         ensures lost { IsLost seen result }
     {
@@ -143,13 +127,11 @@ impl Recorder {
     }
 
     pub(crate) fn ask(&mut self, words: &Words, whom: u8) -> Reply
-        requires own { IsSeatOf words.now self.old.seat }
+        requires can { CanStep words.now self.old }
         requires whom { whom < threads_of words.now }
-        requires due { (view self.old.seat).thread.due ≡ Nothing }
         requires phase { AsksNext (view self.old.seat).threads (view self.old.seat).number whom (view self.old.seat).thread.phase }
         requires more { self.old.log.accesses < self.old.fuel }
-        ensures own { IsSeatOf words.now self.new.seat × (self.new.fuel ≡ self.old.fuel) }
-        ensures counts { self.new.log.accesses ≡ self.old.log.accesses }
+        ensures keeps { KeepsSeat words.now self.old.log.accesses self.old self.new }
         ensures step { Asks whom (view self.old.seat) result (view self.new.seat) }
     {
         let reply = octet_safe::ask(words, &mut self.seat, whom);
@@ -160,13 +142,11 @@ impl Recorder {
     }
 
     pub(crate) fn look(&mut self, words: &Words, whom: u8) -> Reply
-        requires own { IsSeatOf words.now self.old.seat }
+        requires can { CanStep words.now self.old }
         requires whom { whom < threads_of words.now }
-        requires due { (view self.old.seat).thread.due ≡ Nothing }
         requires phase { HasAsked (view self.old.seat).number whom (view self.old.seat).thread.phase }
         requires more { self.old.log.accesses < self.old.fuel }
-        ensures own { IsSeatOf words.now self.new.seat × (self.new.fuel ≡ self.old.fuel) }
-        ensures counts { self.new.log.accesses ≡ self.old.log.accesses }
+        ensures keeps { KeepsSeat words.now self.old.log.accesses self.old self.new }
         ensures step { Looks whom (view self.old.seat) result (view self.new.seat) }
     {
         let reply = octet_safe::look(words, &mut self.seat, whom);

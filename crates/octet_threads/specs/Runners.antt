@@ -13,7 +13,8 @@ use Rattle.octet_rule.specs.Seats.{objects_of, threads_of, starts_of}
 use Rattle.octet_state.specs.State.{ProtocolState}
 use Rattle.octet_heap.specs.declared.heap.Heap.{Heap}
 use Rattle.octet_heap.specs.declared.worker.Worker.{Worker}
-use Rattle.octet_heap.specs.Workers.{seat_of, IsWorkerOf}
+use Rattle.octet_heap.specs.Workers.{seat_of, IsWorkerOf, IsIdle}
+use Rattle.octet_threads.specs.Carrying.{IsLeftBy, TellsAgain}
 use Rattle.octet_threads.specs.Feeds.{end_of}
 use Rattle.octet_threads.specs.Tasks.{task_of, Does}
 use Rattle.octet_threads.specs.declared.runner.Runner.{Runner}
@@ -23,6 +24,19 @@ pub record IsAtRest (heap : Heap) (runner : Runner) : Type 0 where
   pub own : IsWorkerOf heap runner.worker
   pub rests : IsResting (seat_of runner.worker).thread.phase
   pub objects : runner.config.objects ≡ objects_of heap.words
+
+-- it is at work: it runs, and has begun no access
+pub record IsAtWork (heap : Heap) (runner : Runner) : Type 0 where
+  pub own : IsWorkerOf heap runner.worker
+  pub idle : IsIdle runner.worker
+  pub objects : runner.config.objects ≡ objects_of heap.words
+
+-- it has carried out this demand, which it demands again if that is its end
+pub record HasCarried (heap : Heap) (demand : Demand) (runner : Runner) : Type 0 where
+  pub own : IsWorkerOf heap runner.worker
+  pub leaves : IsLeftBy demand runner.worker
+  pub objects : runner.config.objects ≡ objects_of heap.words
+  pub ends : TellsAgain demand runner.config
 
 abbrev pub IsEnd : Demand → Type 0
 IsEnd (Ended end) = Unit {0}

@@ -1,11 +1,8 @@
 //! Runners at work: each runs its thread to its end, all beside each other.
-ghost use Rattle.std.specs.Prelude.{◌≡◌, ◌<◌, ◌⊎◌, All};
+ghost use Rattle.std.specs.Prelude.{◌≡◌, ◌⊎◌, All};
 ghost use Rattle.std.specs.List.{AllZip};
 ghost use Rattle.std.specs.Thread.{IsSync};
-ghost use Rattle.octet_rule.specs.Seats.{objects_of};
-ghost use Rattle.octet_heap.specs.Workers.{IsWorkerOf, IsIdle};
-ghost use Rattle.octet_threads.specs.Carrying.{IsLeftBy, TellsAgain};
-ghost use Rattle.octet_threads.specs.Runners.{IsAtRest, HasEnded, HasRested, IsSame, IsSeen};
+ghost use Rattle.octet_threads.specs.Runners.{IsAtRest, IsAtWork, HasCarried, HasEnded, HasRested, IsSame, IsSeen};
 
 use crate::access_backoff::AccessBackoff;
 use crate::carrying::carry_with_backoff;
@@ -31,9 +28,7 @@ impl Runner {
     // Marks the thread as running.
     fn start(&mut self, heap: &Heap)
         requires { IsAtRest heap.now self.old }
-        ensures own { IsWorkerOf heap.now self.new.worker }
-        ensures idle { IsIdle self.new.worker }
-        ensures objects { self.new.config.objects ≡ objects_of heap.now.words }
+        ensures work { IsAtWork heap.now self.new }
         ensures same { IsSame self.old self.new }
     {
         heap.unblock(&mut self.worker);
@@ -47,13 +42,8 @@ impl Runner {
         gate: &G,
         backoff: &mut AccessBackoff,
     ) -> Demand
-        requires own { IsWorkerOf heap.now self.old.worker }
-        requires idle { IsIdle self.old.worker }
-        requires objects { self.old.config.objects ≡ objects_of heap.now.words }
-        ensures own { IsWorkerOf heap.now self.new.worker }
-        ensures left { IsLeftBy result self.new.worker }
-        ensures objects { self.new.config.objects ≡ objects_of heap.now.words }
-        ensures ends { TellsAgain result self.new.config }
+        requires work { IsAtWork heap.now self.old }
+        ensures carried { HasCarried heap.now result self.new }
         ensures seen { IsSeen self.new.worker }
         ensures same { IsSame self.old self.new }
     {
@@ -71,10 +61,8 @@ impl Runner {
 
     // Stays away from work for so long at most, marked as blocked.
     fn stay_away<R: Wait>(&mut self, rt: &R, heap: &Heap, crew: &Crew, rung: u32, time: Duration)
-        requires own { IsWorkerOf heap.now self.old.worker }
-        requires idle { IsIdle self.old.worker }
-        ensures own { IsWorkerOf heap.now self.new.worker }
-        ensures idle { IsIdle self.new.worker }
+        requires work { IsAtWork heap.now self.old }
+        ensures work { IsAtWork heap.now self.new }
         ensures rested { HasRested self.old self.new }
     {
         heap.block(&mut self.worker);
@@ -88,10 +76,8 @@ impl Runner {
     #[cold]
     #[inline(never)]
     fn rest<R: Wait>(&mut self, rt: &R, heap: &Heap, backoff: &mut AccessBackoff, crew: &Crew)
-        requires own { IsWorkerOf heap.now self.old.worker }
-        requires idle { IsIdle self.old.worker }
-        ensures own { IsWorkerOf heap.now self.new.worker }
-        ensures idle { IsIdle self.new.worker }
+        requires work { IsAtWork heap.now self.old }
+        ensures work { IsAtWork heap.now self.new }
         ensures rested { (self.new ≡ self.old) ⊎ HasRested self.old self.new }
         ensures same { IsSame self.old self.new }
     {

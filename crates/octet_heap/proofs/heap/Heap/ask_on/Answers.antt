@@ -14,9 +14,9 @@ loop-done-preserved c = let i = c.loop-done.invariant in let v = view c.loop-don
     let next : c.next-next.result ≡ next_to_ask (whom_to_ask c.args.prior) v.number c.loop-done.done = search rules in
     let given = ask_given c.args.access c.args.prior c.loop-done.done c.next-next.result v u left next i.stands c.ask.result c.in-Given.upto c.ask.ensures.step (sym c.in-Given.is) in
     let ahead : c.args.from ≤ c.loop-done.done = search rules in record {
-      own = c.ask.ensures.own.0;
-      fuel = c.ask.ensures.own.1 ∙ i.fuel;
-      counts = c.ask.ensures.counts ∙ i.counts;
+      own = c.ask.ensures.keeps.own;
+      fuel = c.ask.ensures.keeps.same_fuel ∙ i.fuel;
+      counts = c.ask.ensures.keeps.counts ∙ i.counts;
       number = ap (λ (x : SeatView). x.number) c.ask.ensures.step.step.moves ∙ i.number;
       stands = search rules;
       goes = goes_on c.args.access (view c.args.recorder.now.seat) v u (1 + (c.loop-done.done - c.args.from)) 2 (1 + (c.loop-done.done + 1 - c.args.from)) i.goes given.1 (omega arith);

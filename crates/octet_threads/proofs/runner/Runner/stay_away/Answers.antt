@@ -16,7 +16,7 @@ invariant_of-self g c =
     let self = c.args.self.now in
     let rested = c.unblock.new.worker in
     let same : (seat_of rested).journal ≡ (seat_of self.worker).journal = c.unblock.ensures.same ∙ c.block.ensures.same in
-    let fuel : rested.recorder.fuel ≡ self.worker.recorder.fuel = c.unblock.ensures.own.same_fuel ∙ sym c.requires.own.same_fuel in record {
+    let fuel : rested.recorder.fuel ≡ self.worker.recorder.fuel = c.unblock.ensures.own.same_fuel ∙ sym c.requires.work.own.same_fuel in record {
       fits = ∥∥₁_elim self.fits ∥∥₁_prop (λ kept.
           ∣ subst (λ (n : ℕ). IsJournalOf (starting_configuration n) (seat_of rested).journal self.config) (sym fuel)
           (subst (λ (journal : List Event). IsJournalOf (start_of self.worker) journal self.config) (sym same) kept) ∣₁);
@@ -27,7 +27,7 @@ invariant_of-self g c =
 pub returns-clause-rested : goal.returns-clause-rested
 returns-clause-rested g c = record {
   steps = pauses (seat_of c.args.self.now.worker) (seat_of c.block.new.worker) (seat_of c.unblock.new.worker) c.block.ensures.step.0 c.unblock.ensures.step.0
-      c.requires.own.owes_nothing c.requires.idle.0 c.block.ensures.step.1 c.unblock.ensures.step.1;
+      c.requires.work.own.owes_nothing c.requires.work.idle.0 c.block.ensures.step.1 c.unblock.ensures.step.1;
   journal = c.unblock.ensures.same ∙ c.block.ensures.same;
   number = c.unblock.ensures.number ∙ c.block.ensures.number;
   config = refl;

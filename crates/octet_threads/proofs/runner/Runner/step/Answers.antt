@@ -18,13 +18,13 @@ pub carry_with_backoff-demand-requires-clause-more : goal.carry_with_backoff-dem
 carry_with_backoff-demand-requires-clause-more g c κs within = λ wants.
     let self = c.args.self.now in
     let kept : IsJournalOf (start_of self.worker) (seat_of self.worker).journal self.config = ∥∥₁_elim self.fits (journal_prop (start_of self.worker) (seat_of self.worker).journal self.config) (λ k. k) in
-    subst (λ (fuel : ℕ). access_count (seat_of self.worker).journal < fuel) c.requires.own.same_fuel
+    subst (λ (fuel : ℕ). access_count (seat_of self.worker).journal < fuel) c.requires.work.own.same_fuel
     (access_left (start_of self.worker) (seat_of self.worker).journal self.config kept wants)
 
 pub invariant_of-self-clause-fits : goal.invariant_of-self-clause-fits
 invariant_of-self-clause-fits g c =
     let self = c.args.self.now in
-    let same : c.carry_with_backoff-demand.new.worker.recorder.fuel ≡ self.worker.recorder.fuel = c.carry_with_backoff-demand.ensures.own.same_fuel ∙ sym c.requires.own.same_fuel in
+    let same : c.carry_with_backoff-demand.new.worker.recorder.fuel ≡ self.worker.recorder.fuel = c.carry_with_backoff-demand.ensures.own.same_fuel ∙ sym c.requires.work.own.same_fuel in
     ∥∥₁_elim self.fits ∥∥₁_prop (λ kept.
     ∣ subst (λ (fuel : ℕ). IsJournalOf (starting_configuration fuel) (seat_of c.carry_with_backoff-demand.new.worker).journal c.carry_with_backoff-demand.new.config) (sym same) (c.carry_with_backoff-demand.ensures.journal (start_of self.worker) kept) ∣₁)
 

@@ -1,0 +1,25 @@
+-- What a recorder's steps need, and what they leave.
+use Rattle.std.specs.Prelude.{◌≡◌, ℕ, ◌<◌}
+use Rattle.octet_state.specs.declared.phase.Due.TheVariants.{Nothing}
+use Rattle.octet_rule.specs.Seats.{view, IsSeatOf, objects_of}
+use Rattle.octet_rule.specs.declared.words.Words.{Words}
+use Rattle.octet_heap.specs.declared.heap.Heap.{Heap}
+use Rattle.octet_heap.specs.declared.pending_access.PendingAccess.{PendingAccess}
+use Rattle.octet_heap.specs.declared.recorder.Recorder.{Recorder}
+
+-- it has one of the seats of these words, whose thread owes nothing
+pub record CanStep (words : Words) (recorder : Recorder) : Type 0 where
+  pub own : IsSeatOf words recorder.seat
+  pub owes_nothing : (view recorder.seat).thread.due ≡ Nothing
+
+-- it has one of the heap's seats, there is the object of this access, and there is room for one more
+pub record CanAccess (heap : Heap) (access : PendingAccess) (recorder : Recorder) : Type 0 where
+  pub own : IsSeatOf heap.words recorder.seat
+  pub object : access.object < objects_of heap.words
+  pub more : recorder.log.accesses < recorder.fuel
+
+-- it keeps its seat and its fuel, and has then made so many accesses
+pub record KeepsSeat (words : Words) (accesses : ℕ) (before after : Recorder) : Type 0 where
+  pub own : IsSeatOf words after.seat
+  pub same_fuel : after.fuel ≡ before.fuel
+  pub counts : after.log.accesses ≡ accesses
