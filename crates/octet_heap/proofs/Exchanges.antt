@@ -12,7 +12,6 @@ use Rattle.octet_state.specs.declared.state_word.StateWord.{StateWord}
 use Rattle.octet_state.specs.declared.why.Why.{Why}
 use Rattle.octet_state.specs.declared.why.Why.TheVariants.{Changed}
 use Rattle.octet_state.specs.Words.{packed_state}
-use Rattle.octet_state.specs.Table.{decided}
 use Rattle.octet_state.specs.Steps.{ToClaim, ToRaise, ToShare, wins}
 use Rattle.octet_state.specs.NextStep.{changed, word_seen, exchange_of}
 use Rattle.octet_rule.specs.Views.{SeatView}
@@ -22,7 +21,7 @@ use Rattle.octet_heap.specs.declared.poll.Poll.{Poll}
 use Rattle.octet_heap.specs.declared.poll.Poll.TheVariants.{Pending}
 use Rattle.octet_heap.specs.Walks.{access_task, next_step}
 use Rattle.octet_heap.specs.Polls.{answer_by, Comes}
-use Rattle.octet_heap.specs.Waiting.{StandsIn}
+use Rattle.octet_heap.specs.Waiting.{Says, StandsIn}
 use Rattle.octet_heap.proofs.Going.{next_in, comes_by, comes_next}
 
 -- an exchange of the state that was loaded, which finds this word
@@ -38,10 +37,6 @@ no_change object mode state seen p is word = ap (λ (b : Bool). if b then None e
 is_changed : (object : ℕ) (mode : Mode) (state : StateWord) (seen found : ℕ) (p : Phase) → p ≡ Want object mode (Some state) → packed_state state ≡ seen → found ≢ seen → changed p found ≡ Some (Changed seen found)
 is_changed object mode state seen found p is word other = ap (λ (b : Bool). if b then None else Some (Changed (word_seen p) found)) (not_won object mode state seen found p is word other)
     ∙ ap (λ (n : ℕ). Some (Changed n found)) (ap word_seen is ∙ word)
-
--- what a thread does that wants this access of an object in this state
-abbrev Says : PendingAccess → StateWord → SeatView → Act → Type 0
-Says access state v act = decided state v.number access.mode v.thread.count ≡ act
 
 exchange_next : (access : PendingAccess) (state : StateWord) (v : SeatView) (act : Act) → StandsIn (Want access.object access.mode (Some state)) v → Says access state v act → next_step (access_task access) v ≡ exchange_of act
 exchange_next access state v act stands says = next_in access v (Want access.object access.mode (Some state)) stands ∙ ap exchange_of says

@@ -5,7 +5,9 @@ use Rattle.octet_rule.specs.Seats.{view, IsSeatOf, objects_of}
 use Rattle.octet_rule.specs.declared.words.Words.{Words}
 use Rattle.octet_heap.specs.declared.heap.Heap.{Heap}
 use Rattle.octet_heap.specs.declared.pending_access.PendingAccess.{PendingAccess}
+use Rattle.octet_heap.specs.declared.poll.Poll.{Poll}
 use Rattle.octet_heap.specs.declared.recorder.Recorder.{Recorder}
+use Rattle.octet_heap.specs.Waiting.{accesses_after}
 
 -- it has one of the seats of these words, whose thread owes nothing
 pub record CanStep (words : Words) (recorder : Recorder) : Type 0 where
@@ -23,3 +25,7 @@ pub record KeepsSeat (words : Words) (accesses : ℕ) (before after : Recorder) 
   pub own : IsSeatOf words after.seat
   pub same_fuel : after.fuel ≡ before.fuel
   pub counts : after.log.accesses ≡ accesses
+
+-- likewise after this answer
+abbrev pub KeepsSeatAfter : Words → Poll → Recorder → Recorder → Type 0
+KeepsSeatAfter words answer before after = KeepsSeat words (accesses_after answer before.log.accesses) before after

@@ -4,13 +4,12 @@ ghost use Rattle.octet_state.specs.declared.act.Act.TheVariants.{Raise as RaiseI
 ghost use Rattle.octet_state.specs.declared.act.Mode.TheVariants.{Read as ForRead};
 ghost use Rattle.octet_state.specs.declared.phase.Phase.TheVariants.{Want};
 ghost use Rattle.octet_state.specs.Words.{packed_state};
-ghost use Rattle.octet_state.specs.Table.{decided};
 ghost use Rattle.octet_rule.specs.Seats.{view};
 ghost use Rattle.octet_state.specs.declared.why.Why.TheVariants.{Changed};
 ghost use Rattle.octet_heap.specs.declared.poll.Poll.TheVariants.{Pending};
 ghost use Rattle.octet_heap.specs.Polls.{Comes};
-ghost use Rattle.octet_heap.specs.Recorders.{CanAccess, KeepsSeat};
-ghost use Rattle.octet_heap.specs.Waiting.{StandsIn, Leaves, accesses_after};
+ghost use Rattle.octet_heap.specs.Recorders.{CanAccess, KeepsSeatAfter};
+ghost use Rattle.octet_heap.specs.Waiting.{StandsIn, Says, Leaves};
 
 use crate::heap::Heap;
 use crate::pending_access::PendingAccess;
@@ -40,8 +39,8 @@ impl Heap {
         requires can { CanAccess self.now access recorder.old }
         requires stands { StandsIn (Want access.object access.mode (Some state)) (view recorder.old.seat) }
         requires word { packed_state state ≡ seen }
-        requires says { decided state (view recorder.old.seat).number access.mode (view recorder.old.seat).thread.count ≡ RaiseIt }
-        ensures keeps { KeepsSeat self.now.words (accesses_after result recorder.old.log.accesses) recorder.old recorder.new }
+        requires says { Says access state (view recorder.old.seat) RaiseIt }
+        ensures keeps { KeepsSeatAfter self.now.words result recorder.old recorder.new }
         ensures comes { Comes access (view recorder.old.seat) result 3 (view recorder.new.seat) }
         ensures leaves { Leaves access result (view recorder.new.seat) }
     {
@@ -65,8 +64,8 @@ impl Heap {
         requires stands { StandsIn (Want access.object access.mode (Some state)) (view recorder.old.seat) }
         requires word { packed_state state ≡ seen }
         requires mode { ForRead ≡ access.mode }
-        requires says { decided state (view recorder.old.seat).number access.mode (view recorder.old.seat).thread.count ≡ ShareIt from upto }
-        ensures keeps { KeepsSeat self.now.words (accesses_after result recorder.old.log.accesses) recorder.old recorder.new }
+        requires says { Says access state (view recorder.old.seat) (ShareIt from upto) }
+        ensures keeps { KeepsSeatAfter self.now.words result recorder.old recorder.new }
         ensures comes { Comes access (view recorder.old.seat) result 4 (view recorder.new.seat) }
         ensures leaves { Leaves access result (view recorder.new.seat) }
     {
@@ -88,8 +87,8 @@ impl Heap {
         requires can { CanAccess self.now access recorder.old }
         requires stands { StandsIn (Want access.object access.mode (Some state)) (view recorder.old.seat) }
         requires word { packed_state state ≡ seen }
-        requires says { decided state (view recorder.old.seat).number access.mode (view recorder.old.seat).thread.count ≡ TakeIt whom }
-        ensures keeps { KeepsSeat self.now.words (accesses_after result recorder.old.log.accesses) recorder.old recorder.new }
+        requires says { Says access state (view recorder.old.seat) (TakeIt whom) }
+        ensures keeps { KeepsSeatAfter self.now.words result recorder.old recorder.new }
         ensures comes { Comes access (view recorder.old.seat) result 18 (view recorder.new.seat) }
         ensures leaves { Leaves access result (view recorder.new.seat) }
     {

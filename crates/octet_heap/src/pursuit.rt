@@ -7,8 +7,8 @@ ghost use Rattle.octet_state.specs.Positions.{NamesThread};
 ghost use Rattle.octet_rule.specs.Seats.{view};
 ghost use Rattle.octet_heap.specs.declared.poll.Poll.TheVariants.{Pending};
 ghost use Rattle.octet_heap.specs.Polls.{Comes};
-ghost use Rattle.octet_heap.specs.Recorders.{CanAccess, KeepsSeat};
-ghost use Rattle.octet_heap.specs.Waiting.{StandsIn, Leaves, accesses_after};
+ghost use Rattle.octet_heap.specs.Recorders.{CanAccess, KeepsSeatAfter};
+ghost use Rattle.octet_heap.specs.Waiting.{StandsIn, Leaves};
 
 use crate::heap::Heap;
 use crate::pending_access::PendingAccess;
@@ -39,7 +39,7 @@ impl Heap {
         requires stands { StandsIn (Claimed access.object access.mode prior from false) (view recorder.old.seat) }
         requires named { NamesThread (view recorder.old.seat).threads prior }
         requires left { from ≤ number_to_ask (whom_to_ask prior) (view recorder.old.seat).threads }
-        ensures keeps { KeepsSeat self.now.words (accesses_after result recorder.old.log.accesses) recorder.old recorder.new }
+        ensures keeps { KeepsSeatAfter self.now.words result recorder.old recorder.new }
         ensures comes { Comes access (view recorder.old.seat) result 17 (view recorder.new.seat) }
         ensures leaves { Leaves access result (view recorder.new.seat) }
     {
@@ -67,7 +67,7 @@ impl Heap {
         requires stands { StandsIn (Claimed access.object access.mode prior done true) (view recorder.old.seat) }
         requires named { NamesThread (view recorder.old.seat).threads prior }
         requires left { done < number_to_ask (whom_to_ask prior) (view recorder.old.seat).threads }
-        ensures keeps { KeepsSeat self.now.words (accesses_after result recorder.old.log.accesses) recorder.old recorder.new }
+        ensures keeps { KeepsSeatAfter self.now.words result recorder.old recorder.new }
         ensures comes { Comes access (view recorder.old.seat) result 18 (view recorder.new.seat) }
         ensures leaves { Leaves access result (view recorder.new.seat) }
     {

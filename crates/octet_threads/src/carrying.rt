@@ -1,11 +1,11 @@
 //! A worker carries out one demand of its thread on the heap.
-ghost use Rattle.std.specs.Prelude.{◌≡◌, ◌<◌, true, false, Some};
-ghost use Rattle.std.specs.Option.{is_some};
+ghost use Rattle.std.specs.Prelude.{◌≡◌, ◌<◌, true, false};
+ghost use Rattle.std.specs.Option.{is_some, ForSome};
 ghost use Rattle.octet_model.specs.Journals.{access_count};
 ghost use Rattle.octet_interp.specs.Demands.{next_demand};
 ghost use Rattle.octet_rule.specs.Seats.{objects_of};
-ghost use Rattle.octet_heap.specs.declared.pending_access.PendingAccess.{PendingAccess as ThePendingAccess};
 ghost use Rattle.octet_heap.specs.declared.poll.Poll.TheVariants.{Ready};
+ghost use Rattle.octet_heap.specs.Calls.{access_to};
 ghost use Rattle.octet_heap.specs.Growth.{AddsAccess};
 ghost use Rattle.octet_heap.specs.Walks.{access_task};
 ghost use Rattle.octet_heap.specs.Workers.{seat_of, IsWorkerOf, IsIdle};
@@ -27,8 +27,8 @@ fn make<R: Wait>(rt: &R, heap: &Heap, worker: &mut Worker, backoff: &mut AccessB
     ensures own { IsWorkerOf heap.now worker.new }
     ensures idle { IsIdle worker.new }
     ensures number { (seat_of worker.new).number ≡ (seat_of worker.old).number }
-    ensures steps { (access : ThePendingAccess) → worker.old.pending ≡ Some access → Does (access_task access) (seat_of worker.old) (seat_of worker.new) }
-    ensures journal { (access : ThePendingAccess) → worker.old.pending ≡ Some access → AddsAccess access (seat_of worker.old) (Ready result) (seat_of worker.new) }
+    ensures steps { ForSome worker.old.pending (λ access. Does (access_task access) (seat_of worker.old) (seat_of worker.new)) }
+    ensures journal { ForSome worker.old.pending (λ access. AddsAccess access (seat_of worker.old) (Ready result) (seat_of worker.new)) }
 {
     for _ in rt.forever() {
         match heap.poll(worker) {
@@ -58,8 +58,8 @@ fn access<R: Threads + Wait + Sync, G: HeapGate>(
     ensures own { IsWorkerOf heap.now worker.new }
     ensures idle { IsIdle worker.new }
     ensures number { (seat_of worker.new).number ≡ (seat_of worker.old).number }
-    ensures steps { Does (access_task (record { object = object; mode = mode; value = value })) (seat_of worker.old) (seat_of worker.new) }
-    ensures journal { AddsAccess (record { object = object; mode = mode; value = value }) (seat_of worker.old) (Ready result) (seat_of worker.new) }
+    ensures steps { Does (access_task (access_to object mode value)) (seat_of worker.old) (seat_of worker.new) }
+    ensures journal { AddsAccess (access_to object mode value) (seat_of worker.old) (Ready result) (seat_of worker.new) }
 {
     let thread = worker.thread();
     gate.pass(rt, thread, worker.accesses());

@@ -9,52 +9,34 @@ use Rattle.octet_heap.specs.Waiting.{Leaves}
 use Rattle.octet_rule.specs.Seats.{view}
 use Rattle.octet_heap.specs.OwnersPath.{steps_since}
 use Rattle.octet_heap.specs.SlowPath.{is_idle, is_fast, slow_by, slow_after}
+use Rattle.octet_heap.specs.Calls.{access_to}
 use Rattle.octet_heap.proofs.Fastness.{idle_fast}
 use Rattle.octet_heap.proofs.Polled.{poll_ready, poll_pending}
-use Rattle.octet_heap.proofs.Paths.{owners_path}
-use Rattle.octet_heap.proofs.Finding.{poll_has_cause}
-use Rattle.octet_heap.proofs.Growing.{poll_adds, same_number}
+use Rattle.octet_heap.proofs.Growing.{same_number}
+use Rattle.octet_heap.proofs.WholePolls.{polls_by}
 use Rattle.octet_heap.proofs.heap.Heap.access_or_begin.Goals as goal
 
-pub returns-in-Ready-clause-steps : goal.returns-in-Ready-clause-steps
-returns-in-Ready-clause-steps c = let access : PendingAccess = record { object = c.args.object; mode = c.args.mode; value = c.args.value } in
+pub returns-in-Ready-clause-polls : goal.returns-in-Ready-clause-polls
+returns-in-Ready-clause-polls c = let access = access_to c.args.object c.args.mode c.args.value in
     let v = seat_of c.args.worker.now in let w = view c.load-poll.new.recorder.seat in
-    subst (λ (a : Poll). IsPoll access v a w) (sym c.in-Ready.is)
-    (poll_ready access v w c.in-Ready.value (subst (λ (a : Poll). Comes access v a 19 w) c.in-Ready.is c.load-poll.ensures.comes) (subst (λ (a : Poll). Leaves access a w) c.in-Ready.is c.load-poll.ensures.leaves).0)
+    let about = subst (λ (p : Phase). IsAbout v.threads (Some access) p) (sym c.requires.idle.0) tt in
+    polls_by access (Some access) v w c.load-poll.result.0 about refl
+    (subst (λ (a : Poll). IsPoll access v a w) (sym c.in-Ready.is)
+    (poll_ready access v w c.in-Ready.value (subst (λ (a : Poll). Comes access v a 19 w) c.in-Ready.is c.load-poll.ensures.comes) (subst (λ (a : Poll). Leaves access a w) c.in-Ready.is c.load-poll.ensures.leaves).0))
 
-pub returns-in-Pending-clause-steps : goal.returns-in-Pending-clause-steps
-returns-in-Pending-clause-steps c = let access : PendingAccess = record { object = c.args.object; mode = c.args.mode; value = c.args.value } in
+pub returns-in-Pending-clause-polls : goal.returns-in-Pending-clause-polls
+returns-in-Pending-clause-polls c = let access = access_to c.args.object c.args.mode c.args.value in
     let v = seat_of c.args.worker.now in let u = view c.load-poll.new.recorder.seat in let w = view c.safe_point.new.self.seat in
-    subst (λ (a : Poll). IsPoll access v a w) (sym c.in-Pending.is)
-    (poll_pending access v u w c.in-Pending.why c.safe_point.result (subst (λ (a : Poll). Comes access v a 19 u) c.in-Pending.is c.load-poll.ensures.comes) (subst (λ (a : Poll). Leaves access a u) c.in-Pending.is c.load-poll.ensures.leaves).0 c.safe_point.ensures.step)
-
-pub returns-in-Ready-clause-path : goal.returns-in-Ready-clause-path
-returns-in-Ready-clause-path c = owners_path _ (seat_of c.args.worker.now) _ c.load-poll.result.0 (returns-in-Ready-clause-steps c)
-
-pub returns-in-Pending-clause-path : goal.returns-in-Pending-clause-path
-returns-in-Pending-clause-path c = owners_path _ (seat_of c.args.worker.now) _ c.load-poll.result.0 (returns-in-Pending-clause-steps c)
-
-pub returns-in-Ready-clause-journal : goal.returns-in-Ready-clause-journal
-returns-in-Ready-clause-journal c = let access : PendingAccess = record { object = c.args.object; mode = c.args.mode; value = c.args.value } in let v = seat_of c.args.worker.now in
-    poll_adds access (Some access) v _ c.load-poll.result.0 (subst (λ (p : Phase). IsAbout v.threads (Some access) p) (sym c.requires.idle.0) tt) refl (returns-in-Ready-clause-steps c)
+    let about = subst (λ (p : Phase). IsAbout v.threads (Some access) p) (sym c.requires.idle.0) tt in
+    polls_by access (Some access) v w c.load-poll.result.0 about refl
+    (subst (λ (a : Poll). IsPoll access v a w) (sym c.in-Pending.is)
+    (poll_pending access v u w c.in-Pending.why c.safe_point.result (subst (λ (a : Poll). Comes access v a 19 u) c.in-Pending.is c.load-poll.ensures.comes) (subst (λ (a : Poll). Leaves access a u) c.in-Pending.is c.load-poll.ensures.leaves).0 c.safe_point.ensures.step))
 
 pub returns-in-Ready-clause-number : goal.returns-in-Ready-clause-number
-returns-in-Ready-clause-number c = same_number _ (seat_of c.args.worker.now) _ c.load-poll.result.0 (returns-in-Ready-clause-steps c)
-
-pub returns-in-Pending-clause-journal : goal.returns-in-Pending-clause-journal
-returns-in-Pending-clause-journal c = let access : PendingAccess = record { object = c.args.object; mode = c.args.mode; value = c.args.value } in let v = seat_of c.args.worker.now in
-    poll_adds access (Some access) v _ c.load-poll.result.0 (subst (λ (p : Phase). IsAbout v.threads (Some access) p) (sym c.requires.idle.0) tt) refl (returns-in-Pending-clause-steps c)
+returns-in-Ready-clause-number c = same_number _ (seat_of c.args.worker.now) _ c.load-poll.result.0 (returns-in-Ready-clause-polls c).steps
 
 pub returns-in-Pending-clause-number : goal.returns-in-Pending-clause-number
-returns-in-Pending-clause-number c = same_number _ (seat_of c.args.worker.now) _ c.load-poll.result.0 (returns-in-Pending-clause-steps c)
-
-pub returns-in-Ready-clause-cause : goal.returns-in-Ready-clause-cause
-returns-in-Ready-clause-cause c = let access : PendingAccess = record { object = c.args.object; mode = c.args.mode; value = c.args.value } in let v = seat_of c.args.worker.now in
-    poll_has_cause access (Some access) v _ c.load-poll.result.0 (subst (λ (p : Phase). IsAbout v.threads (Some access) p) (sym c.requires.idle.0) tt) refl (returns-in-Ready-clause-steps c)
-
-pub returns-in-Pending-clause-cause : goal.returns-in-Pending-clause-cause
-returns-in-Pending-clause-cause c = let access : PendingAccess = record { object = c.args.object; mode = c.args.mode; value = c.args.value } in let v = seat_of c.args.worker.now in
-    poll_has_cause access (Some access) v _ c.load-poll.result.0 (subst (λ (p : Phase). IsAbout v.threads (Some access) p) (sym c.requires.idle.0) tt) refl (returns-in-Pending-clause-steps c)
+returns-in-Pending-clause-number c = same_number _ (seat_of c.args.worker.now) _ c.load-poll.result.0 (returns-in-Pending-clause-polls c).steps
 
 pub returns-in-Ready-clause-slow : goal.returns-in-Ready-clause-slow
 returns-in-Ready-clause-slow c = let access : PendingAccess = record { object = c.args.object; mode = c.args.mode; value = c.args.value } in
