@@ -8,16 +8,16 @@ use Rattle.std.proofs.lemmas.List.Sums.{sum_by-set}
 use Rattle.octet_regions.specs.declared.access.Access.{Access}
 use Rattle.octet_regions.specs.declared.bounds.Bounds.{Bounds}
 use Rattle.octet_regions.specs.declared.chooser.Chooser.{Chooser}
-use Rattle.octet_regions.specs.declared.lane.Lane.{Lane}
-use Rattle.octet_regions.specs.declared.lane.Node.{Node}
-use Rattle.octet_regions.specs.declared.lane.Wait.{Wait}
+use Rattle.octet_regions.specs.declared.queue.RegionQueue.{RegionQueue}
+use Rattle.octet_regions.specs.declared.queue.QueuedRegion.{QueuedRegion}
+use Rattle.octet_regions.specs.declared.queue.Wait.{Wait}
 use Rattle.octet_regions.specs.declared.region.Region.{Region}
 use Rattle.octet_regions.specs.Before.{IsRegion, RegionBefore}
-use Rattle.octet_regions.specs.Bounds.{bound_in, IsRaised}
+use Rattle.octet_regions.specs.code.Bounds.{bound_in, IsRaised}
 use Rattle.octet_regions.specs.Choice.{IsLeft, IsNext, IsFree, IsChosen, IsChoice, TakesAll}
-use Rattle.octet_regions.specs.Chooser.{AreWithin, FitLanes, FreeIs, AreLanesOf, HasPassed, IsLaneOf, KeepsTaken, KeepsChoice, IsBehind, left_of}
-use Rattle.octet_regions.specs.Earlier.{IsHeld, IsUnmet, KeepsLane, PassesWaits, TellsFree, region_of}
-use Rattle.octet_regions.proofs.Lanes.{set_cases, same_region}
+use Rattle.octet_regions.specs.code.Chooser.{AreWithin, FitQueues, FreeIs, AreQueuesOf, HasPassed, IsQueueOf, KeepsTaken, KeepsChoice, IsBehind, left_of}
+use Rattle.octet_regions.specs.code.Earlier.{IsHeld, IsUnmet, KeepsQueue, PassesWaits, TellsFree, region_of}
+use Rattle.octet_regions.proofs.Queues.{set_cases, same_region}
 
 -- what is read where there is none
 pub got : {X : Type 0} (xs : List X) (i : ℕ) → i < length xs → (x : X) × (slice_get xs i ≡ Some x)
@@ -42,28 +42,28 @@ past_end (x ∷ xs) zero is = absurd cc
 past_end (x ∷ xs) (suc i) is = omega (arith, past_end xs i is)
 
 -- before the first choice
-pub begins : (threads : ℕ) (accesses : List Access) (lanes : List Lane) (upto : Bounds) (chooser : Chooser) → chooser.lanes.items ≡ lanes → chooser.upto ≡ upto → chooser.order.items ≡ []
-    → FitLanes threads accesses → AreLanesOf threads accesses lanes → ((thread : ℕ) → bound_in upto thread ≡ 0) → KeepsChoice accesses chooser
-begins threads accesses lanes upto chooser same_lanes same_upto none fit are zeros = record {
-  few = omega (arith, fit.few, are.as_many, ap (λ (l : List Lane). length l) same_lanes);
-  lanes = λ thread lane is. (of thread lane is).keeps;
-  there = λ region r. omega (arith, fit.there r.place r.access r.is_there, ap (λ (q : Region). q.thread) r.in_region, are.as_many, ap (λ (l : List Lane). length l) same_lanes);
+pub begins : (threads : ℕ) (accesses : List Access) (queues : List RegionQueue) (upto : Bounds) (chooser : Chooser) → chooser.queues.items ≡ queues → chooser.upto ≡ upto → chooser.order.items ≡ []
+    → FitQueues threads accesses → AreQueuesOf threads accesses queues → ((thread : ℕ) → bound_in upto thread ≡ 0) → KeepsChoice accesses chooser
+begins threads accesses queues upto chooser same_queues same_upto none fit are zeros = record {
+  few = omega (arith, fit.few, are.as_many, ap (λ (l : List RegionQueue). length l) same_queues);
+  queues = λ thread queue is. (of thread queue is).keeps;
+  there = λ region r. omega (arith, fit.there r.place r.access r.is_there, ap (λ (q : Region). q.thread) r.in_region, are.as_many, ap (λ (l : List RegionQueue). length l) same_queues);
   room = λ region r. subst (λ (q : Region). q.number + 1 < 2 ^ 32) r.in_region (fit.room r.place r.access r.is_there);
-  taken = λ thread lane is. record {
-    below = λ i node at lt. absurd (omega (arith, lt, (of thread lane is).taken));
-    above = λ i node at le. omega (arith, zeros thread, ap (λ (b : Bounds). bound_in b thread) same_upto);
-    within = omega (arith, (of thread lane is).taken);
+  taken = λ thread queue is. record {
+    below = λ i item at lt. absurd (omega (arith, lt, (of thread queue is).taken));
+    above = λ i item at le. omega (arith, zeros thread, ap (λ (b : Bounds). bound_in b thread) same_upto);
+    within = omega (arith, (of thread queue is).taken);
   };
-  passed = λ thread lane is. record {
-    of_taken = λ i node at lt. absurd (omega (arith, lt, (of thread lane is).taken));
-    are_over = λ k wait at lt. absurd (omega (arith, lt, (of thread lane is).over));
+  passed = λ thread queue is. record {
+    of_taken = λ i item at lt. absurd (omega (arith, lt, (of thread queue is).taken));
+    are_over = λ k wait at lt. absurd (omega (arith, lt, (of thread queue is).over));
   };
   ordered = λ region has. absurd (no_item region (subst (λ (l : List Region). Contains l region) none has));
   bounded = λ region r lt. absurd (omega (arith, lt, zeros region.thread, ap (λ (b : Bounds). bound_in b region.thread) same_upto));
 }
   where
-    of : (thread : ℕ) (lane : Lane) → slice_get chooser.lanes.items thread ≡ Some lane → IsLaneOf accesses thread lane
-    of thread lane is = are.each thread lane (ap (λ (l : List Lane). slice_get l thread) (sym same_lanes) ∙ is)
+    of : (thread : ℕ) (queue : RegionQueue) → slice_get chooser.queues.items thread ≡ Some queue → IsQueueOf accesses thread queue
+    of thread queue is = are.each thread queue (ap (λ (l : List RegionQueue). slice_get l thread) (sym same_queues) ∙ is)
 
 module _ (accesses : List Access) (chooser : Chooser) (keeps : KeepsChoice accesses chooser) where
   abbrev order : List Region
@@ -79,67 +79,67 @@ module _ (accesses : List Access) (chooser : Chooser) (keeps : KeepsChoice acces
   pub left_from : (region : Region) → IsRegion accesses region → bound_in chooser.upto region.thread ≤ region.number → IsLeft accesses order region
   left_from region r ge = record { is_region = r; not_taken = λ has. omega (arith, keeps.ordered region has, ge) }
 
-  -- the lane of a thread
-  module _ (thread : ℕ) (lane : Lane) (is_lane : slice_get chooser.lanes.items thread ≡ Some lane) where
-    -- none is left where no node is
-    pub none_left : length lane.nodes.items ≤ lane.taken → (number : ℕ) → ¬ IsLeft accesses order (region_of thread number)
+  -- the queue of a thread
+  module _ (thread : ℕ) (queue : RegionQueue) (is_queue : slice_get chooser.queues.items thread ≡ Some queue) where
+    -- none is left where no item is
+    pub none_left : length queue.regions.items ≤ queue.taken → (number : ℕ) → ¬ IsLeft accesses order (region_of thread number)
     none_left ended number left =
-        let k = (keeps.lanes thread lane is_lane).all number left.is_region in
-        let lt = (keeps.taken thread lane is_lane).below k.0 k.1 k.2 (omega (arith, slice_get_within lane.nodes.items k.0 k.1 k.2, ended)) in
+        let k = (keeps.queues thread queue is_queue).all number left.is_region in
+        let lt = (keeps.taken thread queue is_queue).below k.0 k.1 k.2 (omega (arith, slice_get_within queue.regions.items k.0 k.1 k.2, ended)) in
         omega (arith, left_above (region_of thread number) left, lt, k.3)
 
-    -- the node at which the lane is has the thread's next region
-    pub next_is : (node : Node) → slice_get lane.nodes.items lane.taken ≡ Some node → IsNext accesses order (region_of thread node.number)
-    next_is node at = record {
-      left = left_from (region_of thread node.number) ((keeps.lanes thread lane is_lane).each lane.taken node at) ((keeps.taken thread lane is_lane).above lane.taken node at (omega arith));
+    -- the item at which the queue is has the thread's next region
+    pub next_is : (item : QueuedRegion) → slice_get queue.regions.items queue.taken ≡ Some item → IsNext accesses order (region_of thread item.number)
+    next_is item at = record {
+      left = left_from (region_of thread item.number) ((keeps.queues thread queue is_queue).each queue.taken item at) ((keeps.taken thread queue is_queue).above queue.taken item at (omega arith));
       first = λ other left same.
           let other' : IsLeft accesses order (region_of thread other.number) = subst (λ (r : Region). IsLeft accesses order r) (same_region other thread other.number same refl) left in
-          let k = (keeps.lanes thread lane is_lane).all other.number other'.is_region in
-          elim (cases_lt k.0 lane.taken) [
-            | inl lt ↦ absurd (omega (arith, (keeps.taken thread lane is_lane).below k.0 k.1 k.2 lt, left_above (region_of thread other.number) other', k.3))
-            | inr ge ↦ elim (cases_eq k.0 lane.taken) [
-              | inl here ↦ (let one : k.1 ≡ node = (let at' : slice_get lane.nodes.items lane.taken ≡ Some k.1 = ap (slice_get lane.nodes.items) (sym here) ∙ k.2 in cc) in omega (arith, ap (λ (n : Node). n.number) one, k.3))
-              | inr differ ↦ omega (arith, (keeps.lanes thread lane is_lane).rising lane.taken k.0 node k.1 (omega arith) at k.2, k.3)
+          let k = (keeps.queues thread queue is_queue).all other.number other'.is_region in
+          elim (cases_lt k.0 queue.taken) [
+            | inl lt ↦ absurd (omega (arith, (keeps.taken thread queue is_queue).below k.0 k.1 k.2 lt, left_above (region_of thread other.number) other', k.3))
+            | inr ge ↦ elim (cases_eq k.0 queue.taken) [
+              | inl here ↦ (let one : k.1 ≡ item = (let at' : slice_get queue.regions.items queue.taken ≡ Some k.1 = ap (slice_get queue.regions.items) (sym here) ∙ k.2 in cc) in omega (arith, ap (λ (n : QueuedRegion). n.number) one, k.3))
+              | inr differ ↦ omega (arith, (keeps.queues thread queue is_queue).rising queue.taken k.0 item k.1 (omega arith) at k.2, k.3)
             ]
           ];
     }
 
     -- so it is the only next region of the thread
-    pub next_only : (node : Node) (number : ℕ) → slice_get lane.nodes.items lane.taken ≡ Some node → IsNext accesses order (region_of thread number) → node.number ≡ number
-    next_only node number at next =
-        let one = (next_is node at).first (region_of thread number) next.left refl in
-        let other = next.first (region_of thread node.number) (next_is node at).left refl in
+    pub next_only : (item : QueuedRegion) (number : ℕ) → slice_get queue.regions.items queue.taken ≡ Some item → IsNext accesses order (region_of thread number) → item.number ≡ number
+    next_only item number at next =
+        let one = (next_is item at).first (region_of thread number) next.left refl in
+        let other = next.first (region_of thread item.number) (next_is item at).left refl in
         omega (arith, one, other)
 
-    -- a wait that is not gone past and not taken is for a region that is left and before the node's
-    pub held_left : (node : Node) (k : ℕ) (wait : Wait) → slice_get lane.nodes.items lane.taken ≡ Some node → slice_get lane.waits.items k ≡ Some wait → lane.over ≤ k → k < node.waits_upto → bound_in chooser.upto wait.of < wait.bound
-        → IsLeft accesses order (region_of wait.of (wait.bound - 1)) × RegionBefore accesses (region_of wait.of (wait.bound - 1)) (region_of thread node.number)
-    held_left node k wait at is from lt above =
-        let held = (keeps.lanes thread lane is_lane).held lane.taken k node wait at is lt (λ j earlier lower is_earlier. omega (arith, from, (keeps.passed thread lane is_lane).of_taken j earlier is_earlier lower)) in
+    -- a wait that is not gone past and not taken is for a region that is left and before the item's
+    pub held_left : (item : QueuedRegion) (k : ℕ) (wait : Wait) → slice_get queue.regions.items queue.taken ≡ Some item → slice_get queue.waits.items k ≡ Some wait → queue.over ≤ k → k < item.waits_upto → bound_in chooser.upto wait.of < wait.bound
+        → IsLeft accesses order (region_of wait.of (wait.bound - 1)) × RegionBefore accesses (region_of wait.of (wait.bound - 1)) (region_of thread item.number)
+    held_left item k wait at is from lt above =
+        let held = (keeps.queues thread queue is_queue).held queue.taken k item wait at is lt (λ j earlier lower is_earlier. omega (arith, from, (keeps.passed thread queue is_queue).of_taken j earlier is_earlier lower)) in
         let before = held.is_before in
         (left_from (region_of wait.of (wait.bound - 1)) (record { place = before.first; access = before.one; is_there = before.is_first; in_region = before.in_region }) (omega (arith, above)), before)
 
-    pub before_left : (node : Node) (other : ℕ) → slice_get lane.nodes.items lane.taken ≡ Some node → IsUnmet lane chooser.upto node.waits_upto other
-        → (number : ℕ) × IsLeft accesses order (region_of other number) × RegionBefore accesses (region_of other number) (region_of thread node.number)
-    before_left node other at unmet =
+    pub before_left : (item : QueuedRegion) (other : ℕ) → slice_get queue.regions.items queue.taken ≡ Some item → IsUnmet queue chooser.upto item.waits_upto other
+        → (number : ℕ) × IsLeft accesses order (region_of other number) × RegionBefore accesses (region_of other number) (region_of thread item.number)
+    before_left item other at unmet =
         let above : bound_in chooser.upto unmet.wait.of < unmet.wait.bound = subst (λ (o : ℕ). bound_in chooser.upto o < unmet.wait.bound) (sym unmet.of_thread) unmet.above in
-        let h = held_left node unmet.place unmet.wait at unmet.is_there unmet.from_here unmet.sooner above in
-        (unmet.wait.bound - 1, subst (λ (o : ℕ). IsLeft accesses order (region_of o (unmet.wait.bound - 1))) unmet.of_thread h.0, subst (λ (o : ℕ). RegionBefore accesses (region_of o (unmet.wait.bound - 1)) (region_of thread node.number)) unmet.of_thread h.1)
+        let h = held_left item unmet.place unmet.wait at unmet.is_there unmet.from_here unmet.sooner above in
+        (unmet.wait.bound - 1, subst (λ (o : ℕ). IsLeft accesses order (region_of o (unmet.wait.bound - 1))) unmet.of_thread h.0, subst (λ (o : ℕ). RegionBefore accesses (region_of o (unmet.wait.bound - 1)) (region_of thread item.number)) unmet.of_thread h.1)
 
     -- and one that is left and before it is waited for so
-    pub left_is_above : (node : Node) (region : Region) → slice_get lane.nodes.items lane.taken ≡ Some node → IsLeft accesses order region → RegionBefore accesses region (region_of thread node.number)
-        → IsUnmet lane chooser.upto node.waits_upto region.thread
-    left_is_above node region at left before =
-        let a = (keeps.lanes thread lane is_lane).awaited lane.taken node region at before in
+    pub left_is_above : (item : QueuedRegion) (region : Region) → slice_get queue.regions.items queue.taken ≡ Some item → IsLeft accesses order region → RegionBefore accesses region (region_of thread item.number)
+        → IsUnmet queue chooser.upto item.waits_upto region.thread
+    left_is_above item region at left before =
+        let a = (keeps.queues thread queue is_queue).awaited queue.taken item region at before in
         let above = left_above region left in
         record {
           place = a.place;
           wait = a.wait;
           is_there = a.is_there;
-          from_here = elim (cases_lt a.place lane.over) [
+          from_here = elim (cases_lt a.place queue.over) [
             | inr ge ↦ omega arith
             | inl lt ↦ absurd (
-                let over = (keeps.passed thread lane is_lane).are_over a.place a.wait a.is_there lt in
+                let over = (keeps.passed thread queue is_queue).are_over a.place a.wait a.is_there lt in
                 let over' : a.wait.bound ≤ bound_in chooser.upto region.thread = subst (λ (o : ℕ). a.wait.bound ≤ bound_in chooser.upto o) a.of_thread over in
                 omega (arith, over', a.above, above))
           ];
@@ -149,23 +149,23 @@ module _ (accesses : List Access) (chooser : Chooser) (keeps : KeepsChoice acces
         }
 
     -- where all waits of the next region are gone past, it is free
-    pub free_is : (node : Node) → slice_get lane.nodes.items lane.taken ≡ Some node → ((other : ℕ) → ¬ IsUnmet lane chooser.upto node.waits_upto other) → IsFree accesses order (region_of thread node.number)
-    free_is node at none = record {
-      next = next_is node at;
-      none_before = λ other left before. none other.thread (left_is_above node other at left before);
+    pub free_is : (item : QueuedRegion) → slice_get queue.regions.items queue.taken ≡ Some item → ((other : ℕ) → ¬ IsUnmet queue chooser.upto item.waits_upto other) → IsFree accesses order (region_of thread item.number)
+    free_is item at none = record {
+      next = next_is item at;
+      none_before = λ other left before. none other.thread (left_is_above item other at left before);
     }
 
-    pub over_free : (node : Node) → slice_get lane.nodes.items lane.taken ≡ Some node → node.waits_upto ≤ lane.over → IsFree accesses order (region_of thread node.number)
-    over_free node at le = free_is node at (λ other unmet. omega (arith, le, unmet.from_here, unmet.sooner))
+    pub over_free : (item : QueuedRegion) → slice_get queue.regions.items queue.taken ≡ Some item → item.waits_upto ≤ queue.over → IsFree accesses order (region_of thread item.number)
+    over_free item at le = free_is item at (λ other unmet. omega (arith, le, unmet.from_here, unmet.sooner))
 
     -- else none of the thread is
-    pub not_free : (node : Node) → IsHeld lane chooser.upto node → (number : ℕ) → ¬ IsFree accesses order (region_of thread number)
-    not_free node held number free =
-        let named = next_only node number held.is_next free.next in
-        let h = held_left node lane.over held.wait held.is_next held.is_there (omega arith) held.sooner held.above in
+    pub not_free : (item : QueuedRegion) → IsHeld queue chooser.upto item → (number : ℕ) → ¬ IsFree accesses order (region_of thread number)
+    not_free item held number free =
+        let named = next_only item number held.is_next free.next in
+        let h = held_left item queue.over held.wait held.is_next held.is_there (omega arith) held.sooner held.above in
         free.none_before (region_of held.wait.of (held.wait.bound - 1)) h.0 (subst (λ (n : ℕ). RegionBefore accesses (region_of held.wait.of (held.wait.bound - 1)) (region_of thread n)) named h.1)
 
-    pub nothing_free : length lane.nodes.items ≤ lane.taken → (number : ℕ) → ¬ IsFree accesses order (region_of thread number)
+    pub nothing_free : length queue.regions.items ≤ queue.taken → (number : ℕ) → ¬ IsFree accesses order (region_of thread number)
     nothing_free ended number free = none_left ended number free.next.left
 
   -- a free region of the lowest thread that has one is chosen
@@ -178,52 +178,52 @@ module _ (accesses : List Access) (chooser : Chooser) (keeps : KeepsChoice acces
     ];
   }
 
-  pub none_chosen : ((lower : ℕ) → lower < length chooser.lanes.items → (n : ℕ) → ¬ IsFree accesses order (region_of lower n)) → (region : Region) → ¬ IsFree accesses order region
+  pub none_chosen : ((lower : ℕ) → lower < length chooser.queues.items → (n : ℕ) → ¬ IsFree accesses order (region_of lower n)) → (region : Region) → ¬ IsFree accesses order region
   none_chosen none region free = none region.thread (keeps.there region free.next.left.is_region) region.number free
 
-  -- a chosen region is that of the node at which its lane is
-  pub chosen_node : (region : Region) → IsChosen accesses order region → (lane : Lane) × (node : Node) × (slice_get chooser.lanes.items region.thread ≡ Some lane) × (slice_get lane.nodes.items lane.taken ≡ Some node) × (node.number ≡ region.number)
+  -- a chosen region is that of the item at which its queue is
+  pub chosen_node : (region : Region) → IsChosen accesses order region → (queue : RegionQueue) × (item : QueuedRegion) × (slice_get chooser.queues.items region.thread ≡ Some queue) × (slice_get queue.regions.items queue.taken ≡ Some item) × (item.number ≡ region.number)
   chosen_node region chosen =
       let within = keeps.there region chosen.free.next.left.is_region in
-      let l = got chooser.lanes.items region.thread within in
-      let lane = l.0 in
-      let is_lane = l.1 in
-      elim (cases_lt lane.taken (length lane.nodes.items)) [
-        | inr ge ↦ absurd (none_left region.thread lane is_lane (omega arith) region.number chosen.free.next.left)
+      let l = got chooser.queues.items region.thread within in
+      let queue = l.0 in
+      let is_queue = l.1 in
+      elim (cases_lt queue.taken (length queue.regions.items)) [
+        | inr ge ↦ absurd (none_left region.thread queue is_queue (omega arith) region.number chosen.free.next.left)
         | inl lt ↦
-            let n = got lane.nodes.items lane.taken lt in
-            (lane, n.0, is_lane, n.1, next_only region.thread lane is_lane n.0 region.number n.1 chosen.free.next)
+            let n = got queue.regions.items queue.taken lt in
+            (queue, n.0, is_queue, n.1, next_only region.thread queue is_queue n.0 region.number n.1 chosen.free.next)
       ]
 
-  pub chosen_behind : (region : Region) → IsChosen accesses order region → IsBehind chooser.lanes.items region.thread
+  pub chosen_behind : (region : Region) → IsChosen accesses order region → IsBehind chooser.queues.items region.thread
   chosen_behind region chosen =
       let n = chosen_node region chosen in
-      record { lane = n.0; is_there = n.2; behind = slice_get_within n.0.nodes.items n.0.taken n.1 n.3 }
+      record { queue = n.0; is_there = n.2; behind = slice_get_within n.0.regions.items n.0.taken n.1 n.3 }
 
   -- after it was taken
-  pub keeps_taken : (region : Region) (after : Chooser) (old new : Lane) → IsChosen accesses order region → after.order.items ≡ order ++ region ∷ [] → after.lanes.items ≡ slice_set chooser.lanes.items region.thread new
-      → old ≡ get_or chooser.lanes.items region.thread old → new.nodes ≡ old.nodes → new.waits ≡ old.waits → new.taken ≡ old.taken + 1 → ((node : Node) → slice_get old.nodes.items old.taken ≡ Some node → new.over ≡ node.waits_upto) → IsRaised chooser.upto region.thread (region.number + 1) after.upto → KeepsChoice accesses after
-  keeps_taken region after old new chosen ordered set was nodes waits more over raised = record {
-    few = omega (arith, keeps.few, length-set chooser.lanes.items region.thread new, ap (λ (l : List Lane). length l) set);
-    lanes = λ thread lane is. elim (cases thread lane is) [
-      | inl here ↦ subst (λ (l : Lane). KeepsLane accesses thread l.nodes.items l.waits.items) (sym here.1)
-          (subst (λ (t : ℕ). KeepsLane accesses t new.nodes.items new.waits.items) (sym here.0)
-          (subst (λ (v : Vec Wait Global). KeepsLane accesses region.thread new.nodes.items v.items) (sym waits)
-          (subst (λ (v : Vec Node Global). KeepsLane accesses region.thread v.items old.waits.items) (sym nodes) (keeps.lanes region.thread old is_old))))
-      | inr there ↦ keeps.lanes thread lane there.1
+  pub keeps_taken : (region : Region) (after : Chooser) (old new : RegionQueue) → IsChosen accesses order region → after.order.items ≡ order ++ region ∷ [] → after.queues.items ≡ slice_set chooser.queues.items region.thread new
+      → old ≡ get_or chooser.queues.items region.thread old → new.regions ≡ old.regions → new.waits ≡ old.waits → new.taken ≡ old.taken + 1 → ((item : QueuedRegion) → slice_get old.regions.items old.taken ≡ Some item → new.over ≡ item.waits_upto) → IsRaised chooser.upto region.thread (region.number + 1) after.upto → KeepsChoice accesses after
+  keeps_taken region after old new chosen ordered set was regions waits more over raised = record {
+    few = omega (arith, keeps.few, length-set chooser.queues.items region.thread new, ap (λ (l : List RegionQueue). length l) set);
+    queues = λ thread queue is. elim (cases thread queue is) [
+      | inl here ↦ subst (λ (l : RegionQueue). KeepsQueue accesses thread l.regions.items l.waits.items) (sym here.1)
+          (subst (λ (t : ℕ). KeepsQueue accesses t new.regions.items new.waits.items) (sym here.0)
+          (subst (λ (v : Vec Wait Global). KeepsQueue accesses region.thread new.regions.items v.items) (sym waits)
+          (subst (λ (v : Vec QueuedRegion Global). KeepsQueue accesses region.thread v.items old.waits.items) (sym regions) (keeps.queues region.thread old is_old))))
+      | inr there ↦ keeps.queues thread queue there.1
     ];
-    there = λ other r. omega (arith, keeps.there other r, length-set chooser.lanes.items region.thread new, ap (λ (l : List Lane). length l) set);
+    there = λ other r. omega (arith, keeps.there other r, length-set chooser.queues.items region.thread new, ap (λ (l : List RegionQueue). length l) set);
     room = keeps.room;
-    taken = λ thread lane is. elim (cases thread lane is) [
-      | inl here ↦ subst (λ (l : Lane). KeepsTaken (bound_in after.upto thread) l) (sym here.1)
+    taken = λ thread queue is. elim (cases thread queue is) [
+      | inl here ↦ subst (λ (l : RegionQueue). KeepsTaken (bound_in after.upto thread) l) (sym here.1)
           (subst (λ (t : ℕ). KeepsTaken (bound_in after.upto t) new) (sym here.0) new_taken)
-      | inr there ↦ subst (λ (b : ℕ). KeepsTaken b lane) (sym (raised.others thread there.0)) (keeps.taken thread lane there.1)
+      | inr there ↦ subst (λ (b : ℕ). KeepsTaken b queue) (sym (raised.others thread there.0)) (keeps.taken thread queue there.1)
     ];
-    passed = λ thread lane is. elim (cases thread lane is) [
-      | inl here ↦ subst (λ (l : Lane). HasPassed after.upto l) (sym here.1) new_passed
+    passed = λ thread queue is. elim (cases thread queue is) [
+      | inl here ↦ subst (λ (l : RegionQueue). HasPassed after.upto l) (sym here.1) new_passed
       | inr there ↦ record {
-        of_taken = (keeps.passed thread lane there.1).of_taken;
-        are_over = λ k wait at lt. omega (arith, (keeps.passed thread lane there.1).are_over k wait at lt, grows wait.of);
+        of_taken = (keeps.passed thread queue there.1).of_taken;
+        are_over = λ k wait at lt. omega (arith, (keeps.passed thread queue there.1).are_over k wait at lt, grows wait.of);
       }
     ];
     ordered = λ other has. elim (Contains-append_cases order (region ∷ []) other (subst (λ (l : List Region). Contains l other) ordered has)) [
@@ -246,14 +246,14 @@ module _ (accesses : List Access) (chooser : Chooser) (keeps : KeepsChoice acces
     ]);
   }
     where
-      node : (lane : Lane) × (n : Node) × (slice_get chooser.lanes.items region.thread ≡ Some lane) × (slice_get lane.nodes.items lane.taken ≡ Some n) × (n.number ≡ region.number)
-      node = chosen_node region chosen
+      item : (queue : RegionQueue) × (n : QueuedRegion) × (slice_get chooser.queues.items region.thread ≡ Some queue) × (slice_get queue.regions.items queue.taken ≡ Some n) × (n.number ≡ region.number)
+      item = chosen_node region chosen
 
-      within : region.thread < length chooser.lanes.items
-      within = slice_get_within chooser.lanes.items region.thread node.0 node.2
+      within : region.thread < length chooser.queues.items
+      within = slice_get_within chooser.queues.items region.thread item.0 item.2
 
-      is_old : slice_get chooser.lanes.items region.thread ≡ Some old
-      is_old = slice_get_read chooser.lanes.items (length chooser.lanes.items) region.thread old refl within was
+      is_old : slice_get chooser.queues.items region.thread ≡ Some old
+      is_old = slice_get_read chooser.queues.items (length chooser.queues.items) region.thread old refl within was
 
       bound_le : bound_in chooser.upto region.thread ≤ region.number
       bound_le = left_above region chosen.free.next.left
@@ -261,28 +261,28 @@ module _ (accesses : List Access) (chooser : Chooser) (keeps : KeepsChoice acces
       upto_is : bound_in after.upto region.thread ≡ suc region.number
       upto_is = (let own = raised.own in grind (arith, own, bound_le))
 
-      cases : (thread : ℕ) (lane : Lane) → slice_get after.lanes.items thread ≡ Some lane → ((thread ≡ region.thread) × (lane ≡ new)) ⊎ ((thread ≢ region.thread) × (slice_get chooser.lanes.items thread ≡ Some lane))
-      cases thread lane is = set_cases chooser.lanes.items region.thread thread lane new within (ap (λ (l : List Lane). slice_get l thread) (sym set) ∙ is)
+      cases : (thread : ℕ) (queue : RegionQueue) → slice_get after.queues.items thread ≡ Some queue → ((thread ≡ region.thread) × (queue ≡ new)) ⊎ ((thread ≢ region.thread) × (slice_get chooser.queues.items thread ≡ Some queue))
+      cases thread queue is = set_cases chooser.queues.items region.thread thread queue new within (ap (λ (l : List RegionQueue). slice_get l thread) (sym set) ∙ is)
 
-      at_old : slice_get old.nodes.items old.taken ≡ Some node.1
-      at_old = let same : node.0 ≡ old = cc (node.2, is_old) in subst (λ (l : Lane). slice_get l.nodes.items l.taken ≡ Some node.1) same node.3
+      at_old : slice_get old.regions.items old.taken ≡ Some item.1
+      at_old = let same : item.0 ≡ old = cc (item.2, is_old) in subst (λ (l : RegionQueue). slice_get l.regions.items l.taken ≡ Some item.1) same item.3
 
       new_taken : KeepsTaken (bound_in after.upto region.thread) new
       new_taken =
           let had = keeps.taken region.thread old is_old in
-          let lane = keeps.lanes region.thread old is_old in
-          let items : new.nodes.items ≡ old.nodes.items = ap (λ (v : Vec Node Global). v.items) nodes in
+          let queue = keeps.queues region.thread old is_old in
+          let items : new.regions.items ≡ old.regions.items = ap (λ (v : Vec QueuedRegion Global). v.items) regions in
           record {
             below = λ i n at lt.
-                let at' : slice_get old.nodes.items i ≡ Some n = ap (λ (l : List Node). slice_get l i) (sym items) ∙ at in
+                let at' : slice_get old.regions.items i ≡ Some n = ap (λ (l : List QueuedRegion). slice_get l i) (sym items) ∙ at in
                 elim (cases_lt i old.taken) [
                   | inl lt' ↦ omega (arith, had.below i n at' lt', bound_le, upto_is)
-                  | inr ge ↦ (let here : i ≡ old.taken = omega (arith, lt, more, ge) in let same : n ≡ node.1 = (let a : slice_get old.nodes.items old.taken ≡ Some n = ap (slice_get old.nodes.items) (sym here) ∙ at' in let b = at_old in cc) in omega (arith, ap (λ (x : Node). x.number) same, node.4, upto_is))
+                  | inr ge ↦ (let here : i ≡ old.taken = omega (arith, lt, more, ge) in let same : n ≡ item.1 = (let a : slice_get old.regions.items old.taken ≡ Some n = ap (slice_get old.regions.items) (sym here) ∙ at' in let b = at_old in cc) in omega (arith, ap (λ (x : QueuedRegion). x.number) same, item.4, upto_is))
                 ];
             above = λ i n at ge.
-                let at' : slice_get old.nodes.items i ≡ Some n = ap (λ (l : List Node). slice_get l i) (sym items) ∙ at in
-                omega (arith, lane.rising old.taken i node.1 n (omega (arith, ge, more)) at_old at', node.4, upto_is);
-            within = omega (arith, more, slice_get_within old.nodes.items old.taken node.1 at_old, ap (λ (l : List Node). length l) items);
+                let at' : slice_get old.regions.items i ≡ Some n = ap (λ (l : List QueuedRegion). slice_get l i) (sym items) ∙ at in
+                omega (arith, queue.rising old.taken i item.1 n (omega (arith, ge, more)) at_old at', item.4, upto_is);
+            within = omega (arith, more, slice_get_within old.regions.items old.taken item.1 at_old, ap (λ (l : List QueuedRegion). length l) items);
           }
 
       grows : (other : ℕ) → bound_in chooser.upto other ≤ bound_in after.upto other
@@ -291,32 +291,32 @@ module _ (accesses : List Access) (chooser : Chooser) (keeps : KeepsChoice acces
         | inl same ↦ subst (λ (t : ℕ). bound_in chooser.upto t ≤ bound_in after.upto t) (sym same) (omega (arith, upto_is, bound_le))
       ]
 
-      over_is : new.over ≡ node.1.waits_upto
-      over_is = over node.1 at_old
+      over_is : new.over ≡ item.1.waits_upto
+      over_is = over item.1 at_old
 
       -- what a free region waited for is taken
-      are_met : (k : ℕ) (wait : Wait) → slice_get old.waits.items k ≡ Some wait → k < node.1.waits_upto → wait.bound ≤ bound_in chooser.upto wait.of
+      are_met : (k : ℕ) (wait : Wait) → slice_get old.waits.items k ≡ Some wait → k < item.1.waits_upto → wait.bound ≤ bound_in chooser.upto wait.of
       are_met k wait at lt = elim (cases_lt k old.over) [
         | inl gone ↦ (keeps.passed region.thread old is_old).are_over k wait at gone
         | inr from ↦ elim (cases_lt (bound_in chooser.upto wait.of) wait.bound) [
           | inr le ↦ omega arith
           | inl above ↦ absurd (
-              let h = held_left region.thread old is_old node.1 k wait at_old at (omega arith) lt above in
-              let own : region_of region.thread node.1.number ≡ region = sym (same_region region region.thread node.1.number refl (sym node.4)) in
+              let h = held_left region.thread old is_old item.1 k wait at_old at (omega arith) lt above in
+              let own : region_of region.thread item.1.number ≡ region = sym (same_region region region.thread item.1.number refl (sym item.4)) in
               chosen.free.none_before (region_of wait.of (wait.bound - 1)) h.0 (subst (λ (r : Region). RegionBefore accesses (region_of wait.of (wait.bound - 1)) r) own h.1))
         ]
       ]
 
       new_passed : HasPassed after.upto new
       new_passed =
-          let items : new.nodes.items ≡ old.nodes.items = ap (λ (v : Vec Node Global). v.items) nodes in
+          let items : new.regions.items ≡ old.regions.items = ap (λ (v : Vec QueuedRegion Global). v.items) regions in
           let same_waits : new.waits.items ≡ old.waits.items = ap (λ (v : Vec Wait Global). v.items) waits in
           record {
             of_taken = λ i n at lt.
-                let at' : slice_get old.nodes.items i ≡ Some n = ap (λ (l : List Node). slice_get l i) (sym items) ∙ at in
+                let at' : slice_get old.regions.items i ≡ Some n = ap (λ (l : List QueuedRegion). slice_get l i) (sym items) ∙ at in
                 elim (cases_lt i old.taken) [
-                  | inl lower ↦ omega (arith, over_is, (keeps.lanes region.thread old is_old).in_order i old.taken n node.1 lower at' at_old)
-                  | inr ge ↦ (let here : i ≡ old.taken = omega (arith, lt, more, ge) in let same : n ≡ node.1 = (let a : slice_get old.nodes.items old.taken ≡ Some n = ap (slice_get old.nodes.items) (sym here) ∙ at' in let b = at_old in cc) in omega (arith, ap (λ (x : Node). x.waits_upto) same, over_is))
+                  | inl lower ↦ omega (arith, over_is, (keeps.queues region.thread old is_old).in_order i old.taken n item.1 lower at' at_old)
+                  | inr ge ↦ (let here : i ≡ old.taken = omega (arith, lt, more, ge) in let same : n ≡ item.1 = (let a : slice_get old.regions.items old.taken ≡ Some n = ap (slice_get old.regions.items) (sym here) ∙ at' in let b = at_old in cc) in omega (arith, ap (λ (x : QueuedRegion). x.waits_upto) same, over_is))
                 ];
             are_over = λ k wait at lt.
                 let at' : slice_get old.waits.items k ≡ Some wait = ap (λ (l : List Wait). slice_get l k) (sym same_waits) ∙ at in
@@ -324,39 +324,39 @@ module _ (accesses : List Access) (chooser : Chooser) (keeps : KeepsChoice acces
           }
 
   -- after waits that are over were gone past
-  pub keeps_passed : (thread : ℕ) (after : Chooser) (old new : Lane) → thread < length chooser.lanes.items → old ≡ get_or chooser.lanes.items thread old → after.order ≡ chooser.order → after.upto ≡ chooser.upto → after.lanes.items ≡ slice_set chooser.lanes.items thread new
+  pub keeps_passed : (thread : ℕ) (after : Chooser) (old new : RegionQueue) → thread < length chooser.queues.items → old ≡ get_or chooser.queues.items thread old → after.order ≡ chooser.order → after.upto ≡ chooser.upto → after.queues.items ≡ slice_set chooser.queues.items thread new
       → PassesWaits old chooser.upto new → KeepsChoice accesses after
   keeps_passed thread after old new within was same_order same_upto set passes = record {
-    few = omega (arith, keeps.few, length-set chooser.lanes.items thread new, ap (λ (l : List Lane). length l) set);
-    lanes = λ t lane is. elim (cases t lane is) [
-      | inl here ↦ subst (λ (l : Lane). KeepsLane accesses t l.nodes.items l.waits.items) (sym here.1)
-          (subst (λ (u : ℕ). KeepsLane accesses u new.nodes.items new.waits.items) (sym here.0)
-          (subst (λ (v : Vec Wait Global). KeepsLane accesses thread new.nodes.items v.items) (sym passes.waits)
-          (subst (λ (v : Vec Node Global). KeepsLane accesses thread v.items old.waits.items) (sym passes.nodes) (keeps.lanes thread old is_old))))
-      | inr there ↦ keeps.lanes t lane there.1
+    few = omega (arith, keeps.few, length-set chooser.queues.items thread new, ap (λ (l : List RegionQueue). length l) set);
+    queues = λ t queue is. elim (cases t queue is) [
+      | inl here ↦ subst (λ (l : RegionQueue). KeepsQueue accesses t l.regions.items l.waits.items) (sym here.1)
+          (subst (λ (u : ℕ). KeepsQueue accesses u new.regions.items new.waits.items) (sym here.0)
+          (subst (λ (v : Vec Wait Global). KeepsQueue accesses thread new.regions.items v.items) (sym passes.waits)
+          (subst (λ (v : Vec QueuedRegion Global). KeepsQueue accesses thread v.items old.waits.items) (sym passes.regions) (keeps.queues thread old is_old))))
+      | inr there ↦ keeps.queues t queue there.1
     ];
-    there = λ other r. omega (arith, keeps.there other r, length-set chooser.lanes.items thread new, ap (λ (l : List Lane). length l) set);
+    there = λ other r. omega (arith, keeps.there other r, length-set chooser.queues.items thread new, ap (λ (l : List RegionQueue). length l) set);
     room = keeps.room;
-    taken = λ t lane is. subst (λ (b : Bounds). KeepsTaken (bound_in b t) lane) (sym same_upto) (elim (cases t lane is) [
-      | inl here ↦ subst (λ (l : Lane). KeepsTaken (bound_in chooser.upto t) l) (sym here.1) (subst (λ (u : ℕ). KeepsTaken (bound_in chooser.upto u) new) (sym here.0) new_taken)
-      | inr there ↦ keeps.taken t lane there.1
+    taken = λ t queue is. subst (λ (b : Bounds). KeepsTaken (bound_in b t) queue) (sym same_upto) (elim (cases t queue is) [
+      | inl here ↦ subst (λ (l : RegionQueue). KeepsTaken (bound_in chooser.upto t) l) (sym here.1) (subst (λ (u : ℕ). KeepsTaken (bound_in chooser.upto u) new) (sym here.0) new_taken)
+      | inr there ↦ keeps.taken t queue there.1
     ]);
-    passed = λ t lane is. subst (λ (b : Bounds). HasPassed b lane) (sym same_upto) (elim (cases t lane is) [
-      | inl here ↦ subst (λ (l : Lane). HasPassed chooser.upto l) (sym here.1) new_passed
-      | inr there ↦ keeps.passed t lane there.1
+    passed = λ t queue is. subst (λ (b : Bounds). HasPassed b queue) (sym same_upto) (elim (cases t queue is) [
+      | inl here ↦ subst (λ (l : RegionQueue). HasPassed chooser.upto l) (sym here.1) new_passed
+      | inr there ↦ keeps.passed t queue there.1
     ]);
     ordered = λ region has. subst (λ (b : Bounds). region.number < bound_in b region.thread) (sym same_upto) (keeps.ordered region (subst (λ (v : Vec Region Global). Contains v.items region) same_order has));
     bounded = λ region r lt. subst (λ (v : Vec Region Global). Contains v.items region) (sym same_order) (keeps.bounded region r (subst (λ (b : Bounds). region.number < bound_in b region.thread) same_upto lt));
   }
     where
-      is_old : slice_get chooser.lanes.items thread ≡ Some old
-      is_old = slice_get_read chooser.lanes.items (length chooser.lanes.items) thread old refl within was
+      is_old : slice_get chooser.queues.items thread ≡ Some old
+      is_old = slice_get_read chooser.queues.items (length chooser.queues.items) thread old refl within was
 
-      cases : (t : ℕ) (lane : Lane) → slice_get after.lanes.items t ≡ Some lane → ((t ≡ thread) × (lane ≡ new)) ⊎ ((t ≢ thread) × (slice_get chooser.lanes.items t ≡ Some lane))
-      cases t lane is = set_cases chooser.lanes.items thread t lane new within (ap (λ (l : List Lane). slice_get l t) (sym set) ∙ is)
+      cases : (t : ℕ) (queue : RegionQueue) → slice_get after.queues.items t ≡ Some queue → ((t ≡ thread) × (queue ≡ new)) ⊎ ((t ≢ thread) × (slice_get chooser.queues.items t ≡ Some queue))
+      cases t queue is = set_cases chooser.queues.items thread t queue new within (ap (λ (l : List RegionQueue). slice_get l t) (sym set) ∙ is)
 
-      items : new.nodes.items ≡ old.nodes.items
-      items = ap (λ (v : Vec Node Global). v.items) passes.nodes
+      items : new.regions.items ≡ old.regions.items
+      items = ap (λ (v : Vec QueuedRegion Global). v.items) passes.regions
 
       same_waits : new.waits.items ≡ old.waits.items
       same_waits = ap (λ (v : Vec Wait Global). v.items) passes.waits
@@ -365,16 +365,16 @@ module _ (accesses : List Access) (chooser : Chooser) (keeps : KeepsChoice acces
       new_taken =
           let had = keeps.taken thread old is_old in
           record {
-            below = λ i node at lt. had.below i node (ap (λ (l : List Node). slice_get l i) (sym items) ∙ at) (omega (arith, lt, passes.taken_is));
-            above = λ i node at ge. had.above i node (ap (λ (l : List Node). slice_get l i) (sym items) ∙ at) (omega (arith, ge, passes.taken_is));
-            within = omega (arith, had.within, passes.taken_is, ap (λ (l : List Node). length l) items);
+            below = λ i item at lt. had.below i item (ap (λ (l : List QueuedRegion). slice_get l i) (sym items) ∙ at) (omega (arith, lt, passes.taken_is));
+            above = λ i item at ge. had.above i item (ap (λ (l : List QueuedRegion). slice_get l i) (sym items) ∙ at) (omega (arith, ge, passes.taken_is));
+            within = omega (arith, had.within, passes.taken_is, ap (λ (l : List QueuedRegion). length l) items);
           }
 
       new_passed : HasPassed chooser.upto new
       new_passed =
           let had = keeps.passed thread old is_old in
           record {
-            of_taken = λ i node at lt. omega (arith, had.of_taken i node (ap (λ (l : List Node). slice_get l i) (sym items) ∙ at) (omega (arith, lt, passes.taken_is)), passes.further);
+            of_taken = λ i item at lt. omega (arith, had.of_taken i item (ap (λ (l : List QueuedRegion). slice_get l i) (sym items) ∙ at) (omega (arith, lt, passes.taken_is)), passes.further);
             are_over = λ k wait at lt.
                 let at' : slice_get old.waits.items k ≡ Some wait = ap (λ (l : List Wait). slice_get l k) (sym same_waits) ∙ at in
                 elim (cases_lt k old.over) [
@@ -383,54 +383,54 @@ module _ (accesses : List Access) (chooser : Chooser) (keeps : KeepsChoice acces
                 ];
           }
 
-  -- what a lane tells of its next region
-  pub tells_free : (thread : ℕ) (lane : Lane) → slice_get chooser.lanes.items thread ≡ Some lane → (o : Option ℕ) → TellsFree lane chooser.upto o → FreeIs accesses order thread o
-  tells_free thread lane is (Some number) told = subst (λ (n : ℕ). IsFree accesses order (region_of thread n)) told.2 (over_free thread lane is told.0 told.1 told.3)
-  tells_free thread lane is None told = elim told [
-    | inl none ↦ nothing_free thread lane is (past_end lane.nodes.items lane.taken none)
-    | inr held ↦ not_free thread lane is held.0 held.1
+  -- what a queue tells of its next region
+  pub tells_free : (thread : ℕ) (queue : RegionQueue) → slice_get chooser.queues.items thread ≡ Some queue → (o : Option ℕ) → TellsFree queue chooser.upto o → FreeIs accesses order thread o
+  tells_free thread queue is (Some number) told = subst (λ (n : ℕ). IsFree accesses order (region_of thread n)) told.2 (over_free thread queue is told.0 told.1 told.3)
+  tells_free thread queue is None told = elim told [
+    | inl none ↦ nothing_free thread queue is (past_end queue.regions.items queue.taken none)
+    | inr held ↦ not_free thread queue is held.0 held.1
   ]
 
-  -- where each lane is at its end, all were taken
-  pub all_taken : ((thread : ℕ) (lane : Lane) → slice_get chooser.lanes.items thread ≡ Some lane → length lane.nodes.items ≤ lane.taken) → TakesAll accesses order
+  -- where each queue is at its end, all were taken
+  pub all_taken : ((thread : ℕ) (queue : RegionQueue) → slice_get chooser.queues.items thread ≡ Some queue → length queue.regions.items ≤ queue.taken) → TakesAll accesses order
   all_taken ended region r =
       let within = keeps.there region r in
-      let l = got chooser.lanes.items region.thread within in
-      let lane = l.0 in
-      let is_lane = l.1 in
+      let l = got chooser.queues.items region.thread within in
+      let queue = l.0 in
+      let is_queue = l.1 in
       elim (cases_lt region.number (bound_in chooser.upto region.thread)) [
         | inl lt ↦ keeps.bounded region r lt
-        | inr ge ↦ absurd (none_left region.thread lane is_lane (ended region.thread lane is_lane) region.number (left_from region r (omega arith)))
+        | inr ge ↦ absurd (none_left region.thread queue is_queue (ended region.thread queue is_queue) region.number (left_from region r (omega arith)))
       ]
 
 -- fewer are left after one more was taken
-pub fewer_left : (lanes : List Lane) (thread : ℕ) (old new : Lane) → IsBehind lanes thread → old ≡ get_or lanes thread old → length new.nodes.items ≡ length old.nodes.items → new.taken ≡ old.taken + 1 → left_of (slice_set lanes thread new) < left_of lanes
-fewer_left lanes thread old new behind was nodes more =
-    let within = slice_get_within lanes thread behind.lane behind.is_there in
-    let is_old = slice_get_read lanes (length lanes) thread old refl within was in
-    let same : behind.lane ≡ old = (let a = behind.is_there in cc) in
-    let sum = sum_by-set (λ (l : Lane). length l.nodes.items - l.taken) lanes thread new old within in
-    omega (arith, sum, ap (λ (l : Lane). length l.nodes.items - l.taken) was, nodes, more, behind.behind, ap (λ (l : Lane). l.taken) same, ap (λ (l : Lane). length l.nodes.items) same)
+pub fewer_left : (queues : List RegionQueue) (thread : ℕ) (old new : RegionQueue) → IsBehind queues thread → old ≡ get_or queues thread old → length new.regions.items ≡ length old.regions.items → new.taken ≡ old.taken + 1 → left_of (slice_set queues thread new) < left_of queues
+fewer_left queues thread old new behind was regions more =
+    let within = slice_get_within queues thread behind.queue behind.is_there in
+    let is_old = slice_get_read queues (length queues) thread old refl within was in
+    let same : behind.queue ≡ old = (let a = behind.is_there in cc) in
+    let sum = sum_by-set (λ (l : RegionQueue). length l.regions.items - l.taken) queues thread new old within in
+    omega (arith, sum, ap (λ (l : RegionQueue). length l.regions.items - l.taken) was, regions, more, behind.behind, ap (λ (l : RegionQueue). l.taken) same, ap (λ (l : RegionQueue). length l.regions.items) same)
 
--- the lane at which a region is left
-pub behind_at : (lanes : List Lane) (thread : ℕ) (lane : Lane) → IsBehind lanes thread → lane ≡ get_or lanes thread lane → lane.taken < length lane.nodes.items
-behind_at lanes thread lane behind was =
-    let is = slice_get_read lanes (length lanes) thread lane refl (slice_get_within lanes thread behind.lane behind.is_there) was in
-    let same : behind.lane ≡ lane = (let a = behind.is_there in cc) in
-    subst (λ (l : Lane). l.taken < length l.nodes.items) same behind.behind
+-- the queue at which a region is left
+pub behind_at : (queues : List RegionQueue) (thread : ℕ) (queue : RegionQueue) → IsBehind queues thread → queue ≡ get_or queues thread queue → queue.taken < length queue.regions.items
+behind_at queues thread queue behind was =
+    let is = slice_get_read queues (length queues) thread queue refl (slice_get_within queues thread behind.queue behind.is_there) was in
+    let same : behind.queue ≡ queue = (let a = behind.is_there in cc) in
+    subst (λ (l : RegionQueue). l.taken < length l.regions.items) same behind.behind
 
 -- the waits of all regions are there
-pub are_within : (accesses : List Access) (chooser : Chooser) → KeepsChoice accesses chooser → AreWithin chooser.lanes.items
-are_within accesses chooser keeps thread i lane node is at = (keeps.lanes thread lane is).within i node at
+pub are_within : (accesses : List Access) (chooser : Chooser) → KeepsChoice accesses chooser → AreWithin chooser.queues.items
+are_within accesses chooser keeps thread i queue item is at = (keeps.queues thread queue is).within i item at
 
-pub within_set : (lanes : List Lane) (thread : ℕ) (old new : Lane) → thread < length lanes → old ≡ get_or lanes thread old → new.nodes ≡ old.nodes → new.waits ≡ old.waits → AreWithin lanes → AreWithin (slice_set lanes thread new)
-within_set lanes thread old new lt was nodes waits within t i lane node is at = elim (set_cases lanes thread t lane new lt is) [
-  | inr there ↦ within t i lane node there.1 at
+pub within_set : (queues : List RegionQueue) (thread : ℕ) (old new : RegionQueue) → thread < length queues → old ≡ get_or queues thread old → new.regions ≡ old.regions → new.waits ≡ old.waits → AreWithin queues → AreWithin (slice_set queues thread new)
+within_set queues thread old new lt was regions waits within t i queue item is at = elim (set_cases queues thread t queue new lt is) [
+  | inr there ↦ within t i queue item there.1 at
   | inl here ↦
-      let is_old = slice_get_read lanes (length lanes) thread old refl lt was in
-      let nodes_are : lane.nodes.items ≡ old.nodes.items = ap (λ (l : Lane). l.nodes.items) here.1 ∙ ap (λ (v : Vec Node Global). v.items) nodes in
-      let waits_are : lane.waits.items ≡ old.waits.items = ap (λ (l : Lane). l.waits.items) here.1 ∙ ap (λ (v : Vec Wait Global). v.items) waits in
-      omega (arith, within thread i old node is_old (ap (λ (l : List Node). slice_get l i) (sym nodes_are) ∙ at), ap (λ (l : List Wait). length l) waits_are)
+      let is_old = slice_get_read queues (length queues) thread old refl lt was in
+      let nodes_are : queue.regions.items ≡ old.regions.items = ap (λ (l : RegionQueue). l.regions.items) here.1 ∙ ap (λ (v : Vec QueuedRegion Global). v.items) regions in
+      let waits_are : queue.waits.items ≡ old.waits.items = ap (λ (l : RegionQueue). l.waits.items) here.1 ∙ ap (λ (v : Vec Wait Global). v.items) waits in
+      omega (arith, within thread i old item is_old (ap (λ (l : List QueuedRegion). slice_get l i) (sym nodes_are) ∙ at), ap (λ (l : List Wait). length l) waits_are)
 ]
 
 -- a choice so far, and a choice from there on
@@ -450,21 +450,21 @@ chose_more accesses order after region is chosen chose = record {
 pub chose_all : (accesses : List Access) (order : List Region) → Chose accesses order → ((region : Region) → ¬ IsFree accesses order region) → IsChoice accesses [] order
 chose_all accesses order chose none = subst (λ (l : List Region). IsChoice accesses [] l) (append-nil order) (chose.on [] none)
 
--- whether a region is left of a thread, by what is read at its lane
-module _ (lanes : List Lane) (thread : ℕ) (lane : Lane) (is_lane : slice_get lanes thread ≡ Some lane) where
-  pub behind_here : (o : Option Node) → o ≡ slice_get lane.nodes.items lane.taken → is_some o ≡ true → IsBehind lanes thread
+-- whether a region is left of a thread, by what is read at its queue
+module _ (queues : List RegionQueue) (thread : ℕ) (queue : RegionQueue) (is_queue : slice_get queues thread ≡ Some queue) where
+  pub behind_here : (o : Option QueuedRegion) → o ≡ slice_get queue.regions.items queue.taken → is_some o ≡ true → IsBehind queues thread
   behind_here None is some = absurd cc
-  behind_here (Some node) is some = record { lane = lane; is_there = is_lane; behind = slice_get_within lane.nodes.items lane.taken node (sym is) }
+  behind_here (Some item) is some = record { queue = queue; is_there = is_queue; behind = slice_get_within queue.regions.items queue.taken item (sym is) }
 
-  pub not_behind : (o : Option Node) → o ≡ slice_get lane.nodes.items lane.taken → is_some o ≡ false → ¬ IsBehind lanes thread
-  not_behind (Some node) is none behind = absurd cc
+  pub not_behind : (o : Option QueuedRegion) → o ≡ slice_get queue.regions.items queue.taken → is_some o ≡ false → ¬ IsBehind queues thread
+  not_behind (Some item) is none behind = absurd cc
   not_behind None is none behind =
-      let same : behind.lane ≡ lane = (let a = behind.is_there in cc) in
-      omega (arith, behind.behind, past_end lane.nodes.items lane.taken (sym is), ap (λ (l : Lane). l.taken) same, ap (λ (l : Lane). length l.nodes.items) same)
+      let same : behind.queue ≡ queue = (let a = behind.is_there in cc) in
+      omega (arith, behind.behind, past_end queue.regions.items queue.taken (sym is), ap (λ (l : RegionQueue). l.taken) same, ap (λ (l : RegionQueue). length l.regions.items) same)
 
 -- where no thread has a region left, all were taken
-pub none_behind : (accesses : List Access) (chooser : Chooser) → KeepsChoice accesses chooser → ((thread : ℕ) → ¬ IsBehind chooser.lanes.items thread) → TakesAll accesses chooser.order.items
-none_behind accesses chooser keeps none = all_taken accesses chooser keeps (λ thread lane is. elim (cases_lt lane.taken (length lane.nodes.items)) [
-  | inl lt ↦ absurd (none thread (record { lane = lane; is_there = is; behind = lt }))
+pub none_behind : (accesses : List Access) (chooser : Chooser) → KeepsChoice accesses chooser → ((thread : ℕ) → ¬ IsBehind chooser.queues.items thread) → TakesAll accesses chooser.order.items
+none_behind accesses chooser keeps none = all_taken accesses chooser keeps (λ thread queue is. elim (cases_lt queue.taken (length queue.regions.items)) [
+  | inl lt ↦ absurd (none thread (record { queue = queue; is_there = is; behind = lt }))
   | inr ge ↦ omega arith
 ])

@@ -1,6 +1,5 @@
 -- The accesses of a replay, step by step.
 use Rattle.std.proofs.Common.{◌≡◌, ℕ, zero, suc, ◌<◌, ◌≤◌, ◌⊎◌, inl, inr, true, false, List, [], ◌∷◌, ◌++◌, length, take, Some, slice_get, refl, sym, ap, ◌∙◌, subst, arith, append-nil, append_assoc}
-use Rattle.std.proofs.Math.Seq.{take-suc}
 use Rattle.std.proofs.lemmas.Bool.{cases_eq, cases_lt}
 use Rattle.std.proofs.lemmas.List.{length-map, set_past, take_all}
 use Rattle.octet_model.specs.declared.command.Command.{Command}
@@ -11,22 +10,22 @@ use Rattle.octet_model.specs.declared.log.Log.{Log}
 use Rattle.octet_model.specs.declared.log.ThreadLog.{ThreadLog}
 use Rattle.octet_model.specs.declared.script.Script.{Script}
 use Rattle.octet_model.specs.Thread.{Configuration, starting_configuration}
-use Rattle.octet_model.specs.Machine.{Journals, journal_of, PlainState, Behavior, Operation, Next, Wants, Finished, NothingFits, event_made, appended, performed, next_of, step, after}
+use Rattle.octet_model.specs.Machine.{Journals, journal_of, PlainState, Behavior, Operation, Next, Wants, Finished, NothingFits, event_made, performed, next_of, step, after}
 use Rattle.octet_model.specs.Orders.{by_log, commands_of, lowest_order, opening_state, state_after}
-use Rattle.octet_model.proofs.lemmas.Fronts.{after_on}
 use Rattle.octet_model.proofs.lemmas.LogsOfJournals.{as_many_after}
-use Rattle.octet_model.proofs.lemmas.Steps.{at, by_step, count, Makes, what_it_makes, new_event, other_journal, same_journal}
+use Rattle.octet_model.proofs.lemmas.Steps.{by_step, Makes, what_it_makes, other_journal, same_journal}
 use Rattle.octet_interp.specs.Regions.{regions_before}
 use Rattle.octet_interp.proofs.RegionsRun.{before_access, before_mark}
-use Rattle.octet_replay.specs.ReplayState.{HasHalted, ReplayState, IsNextStep, IsNextThread, plain_state, state_at}
+use Rattle.octet_replay.specs.ReplayState.{HasHalted, ReplayState, IsNextStep, IsNextThread, plain_state}
 use Rattle.octet_replay.proofs.lemmas.Halting.{all_steps_made}
+use Rattle.octet_replay.proofs.lemmas.Traces.{one_step, event_is}
 use Rattle.octet_regions.specs.declared.access.Access.{Access}
 use Rattle.octet_regions.specs.declared.region.Region.{Region}
 use Rattle.octet_regions.specs.Accesses.{access_in, access_made, accesses_along, accesses_of, region_in}
-use Rattle.octet_regions.specs.Chooser.{FitLanes}
-use Rattle.octet_regions.specs.Earlier.{RegionsRise}
-use Rattle.octet_regions.specs.Gather.{Gathered, is_access}
-use Rattle.octet_regions.proofs.Tables.{last_cases}
+use Rattle.octet_regions.specs.code.Chooser.{FitQueues}
+use Rattle.octet_regions.specs.code.Earlier.{RegionsRise}
+use Rattle.octet_regions.specs.code.Gather.{AccessesSoFar, is_access}
+use Rattle.octet_regions.proofs.LastAccesses.{last_cases}
 
 -- an event is an access in its region, or adds nothing
 pub in_cases : (region : Region) (event : Event) → ((is_access event ≡ false) × (access_in region event ≡ [])) ⊎ ((is_access event ≡ true) × (access_in region event ≡ record { region = region; event = event } ∷ []))
@@ -58,31 +57,17 @@ module _ (r : ReplayState) (t : ℕ) (e : Event) (next : IsNextStep r t e) where
   abbrev s : PlainState
   s = plain_state r
 
-  made : (o : Operation) × Makes behavior s t o
-  made = what_it_makes behavior s t next.may
+  step_made : (o : Operation) × Makes behavior s t o
+  step_made = what_it_makes behavior s t next.may
 
   pub there : t < length r.script.threads
-  there = omega (arith, made.1.within, as_many_state r.script r.log.threads (take r.steps order))
-
-  one_step : take (suc r.steps) order ≡ take r.steps order ++ t ∷ []
-  one_step = take-suc order r.steps 0 next.within ∙ ap (λ (u : ℕ). take r.steps order ++ u ∷ []) next.is_of
-
-  stepped_to : state_at r.script r.log.threads (suc r.steps) ≡ step behavior s t
-  stepped_to = ap (λ (o : List ℕ). after behavior (opening_state r.script) o) one_step ∙ after_on behavior (take r.steps order) (t ∷ []) (opening_state r.script)
-
-  event_is : event_made made.0 s.heap ≡ e
-  event_is =
-      let one = new_event s.journals t (event_made made.0 s.heap) made.1.within in
-      let other = new_event s.journals t e made.1.within in
-      let same : appended s.journals t (event_made made.0 s.heap) ≡ appended s.journals t e = sym made.1.appends ∙ ap (λ (x : PlainState). x.journals) (sym stepped_to) ∙ next.makes in
-      let alike : Some (event_made made.0 s.heap) ≡ Some e = sym one ∙ ap (λ (js : Journals). at js t (count s.journals t)) same ∙ other in
-      cc
+  there = omega (arith, step_made.1.within, as_many_state r.script r.log.threads (take r.steps order))
 
   more_accesses : accesses_along r.script r.log.threads (opening_state r.script) (take (suc r.steps) order) ≡ accesses_along r.script r.log.threads (opening_state r.script) (take r.steps order) ++ access_in (region_in r.script s t) e
   more_accesses =
       let begun = accesses_along r.script r.log.threads (opening_state r.script) (take r.steps order) in
-      ap (λ (o : List ℕ). accesses_along r.script r.log.threads (opening_state r.script) o) one_step ∙ along_more r.script r.log.threads (take r.steps order) t (opening_state r.script)
-      ∙ ap (λ (more : List Access). begun ++ more) (ap (access_made r.script s t) made.1.wanted ∙ ap (access_in (region_in r.script s t)) event_is)
+      ap (λ (o : List ℕ). accesses_along r.script r.log.threads (opening_state r.script) o) (one_step r t e next) ∙ along_more r.script r.log.threads (take r.steps order) t (opening_state r.script)
+      ∙ ap (λ (more : List Access). begun ++ more) (ap (access_made r.script s t) step_made.1.wanted ∙ ap (access_in (region_in r.script s t)) (event_is r t e next step_made.0 step_made.1))
 
   abbrev commands : List Command
   commands = commands_of r.script t
@@ -94,8 +79,8 @@ module _ (r : ReplayState) (t : ℕ) (e : Event) (next : IsNextStep r t e) where
   journal = journal_of s.journals t
 
   pub gathered_access : (after' : ReplayState) (accesses new : List Access) (number : ℕ) → after' ≡ record r { steps = suc r.steps } → is_access e ≡ true → number ≡ regions_before commands start journal → number ≤ MAX_FUEL
-      → new ≡ accesses ++ record { region = record { thread = t; number = number }; event = e } ∷ [] → Gathered r accesses → Gathered after' new
-  gathered_access after' accesses new number is access numbered few new_is gathered = subst (λ (x : ReplayState). Gathered x new) (sym is) (record {
+      → new ≡ accesses ++ record { region = record { thread = t; number = number }; event = e } ∷ [] → AccessesSoFar r accesses → AccessesSoFar after' new
+  gathered_access after' accesses new number is access numbered few new_is gathered = subst (λ (x : ReplayState). AccessesSoFar x new) (sym is) (record {
     all = new_is ∙ ap (λ (l : List Access). l ++ one ∷ []) gathered.all ∙ ap (λ (more : List Access). accesses_along r.script r.log.threads (opening_state r.script) (take r.steps order) ++ more) (sym adds) ∙ sym more_accesses;
     there = λ place a at_place. elim (last_cases accesses one place a (ap (λ (l : List Access). slice_get l place) (sym new_is) ∙ at_place)) [
       | inl old ↦ gathered.there place a old
@@ -116,8 +101,8 @@ module _ (r : ReplayState) (t : ℕ) (e : Event) (next : IsNextStep r t e) where
         | inr is_one ↦ is_one.1 ∙ ap (λ (n : ℕ). record { region = record { thread = t; number = n }; event = e } ∷ []) (sym numbered)
       ]
 
-  pub gathered_mark : (after' : ReplayState) (accesses : List Access) → after' ≡ record r { steps = suc r.steps } → is_access e ≡ false → Gathered r accesses → Gathered after' accesses
-  gathered_mark after' accesses is no_access gathered = subst (λ (x : ReplayState). Gathered x accesses) (sym is) (record {
+  pub gathered_mark : (after' : ReplayState) (accesses : List Access) → after' ≡ record r { steps = suc r.steps } → is_access e ≡ false → AccessesSoFar r accesses → AccessesSoFar after' accesses
+  gathered_mark after' accesses is no_access gathered = subst (λ (x : ReplayState). AccessesSoFar x accesses) (sym is) (record {
     all = gathered.all ∙ sym (append-nil (accesses_along r.script r.log.threads (opening_state r.script) (take r.steps order)))
         ∙ ap (λ (more : List Access). accesses_along r.script r.log.threads (opening_state r.script) (take r.steps order) ++ more) (sym none) ∙ sym more_accesses;
     there = gathered.there;
@@ -131,7 +116,7 @@ module _ (r : ReplayState) (t : ℕ) (e : Event) (next : IsNextStep r t e) where
       ]
 
 -- before the first step
-pub gathered_none : (r : ReplayState) (accesses : List Access) → r.steps ≡ 0 → accesses ≡ [] → Gathered r accesses
+pub gathered_none : (r : ReplayState) (accesses : List Access) → r.steps ≡ 0 → accesses ≡ [] → AccessesSoFar r accesses
 gathered_none r accesses begins none = record {
   all = none ∙ ap (λ (n : ℕ). accesses_along r.script r.log.threads (opening_state r.script) (take n (lowest_order r.script r.log.threads))) (sym begins);
   there = λ place a at_place. absurd (let is : slice_get [] place ≡ Some a = ap (λ (l : List Access). slice_get l place) (sym none) ∙ at_place in cc);
@@ -139,10 +124,10 @@ gathered_none r accesses begins none = record {
 }
 
 -- after the last step
-pub gathered_all : (r : ReplayState) (script : Script) (log : Log) (accesses : List Access) → r.script ≡ script → r.log ≡ log → length script.threads ≡ length log.threads → HasHalted r → Gathered r accesses → accesses ≡ accesses_of script log.threads
+pub gathered_all : (r : ReplayState) (script : Script) (log : Log) (accesses : List Access) → r.script ≡ script → r.log ≡ log → length script.threads ≡ length log.threads → HasHalted r → AccessesSoFar r accesses → accesses ≡ accesses_of script log.threads
 gathered_all r script log accesses same_script same_log agree halted gathered =
     let r_is : r ≡ record { script = script; log = log; steps = r.steps } = λ i. record { script = same_script i; log = same_log i; steps = r.steps } in
-    let g = subst (λ (x : ReplayState). Gathered x accesses) r_is gathered in
+    let g = subst (λ (x : ReplayState). AccessesSoFar x accesses) r_is gathered in
     let ended = all_steps_made (record { script = script; log = log; steps = r.steps }) agree (subst (λ (x : ReplayState). HasHalted x) r_is halted) in
     g.all ∙ ap (λ (o : List ℕ). accesses_along script log.threads (opening_state script) o) (take_all r.steps (lowest_order script log.threads) ended)
 
@@ -222,7 +207,7 @@ module _ (script : Script) (log : List ThreadLog) where
 pub rises_in_order : (script : Script) (log : List ThreadLog) → RegionsRise (accesses_of script log)
 rises_in_order script log = rises script log (lowest_order script log) (opening_state script)
 
-pub rises_so_far : (r : ReplayState) (accesses : List Access) → Gathered r accesses → RegionsRise accesses
+pub rises_so_far : (r : ReplayState) (accesses : List Access) → AccessesSoFar r accesses → RegionsRise accesses
 rises_so_far r accesses gathered = subst RegionsRise (sym gathered.all) (rises r.script r.log.threads (take r.steps (lowest_order r.script r.log.threads)) (opening_state r.script))
 
 -- the step is that of the thread that is next
@@ -242,7 +227,7 @@ made_within r first t e next same_script same_log steps is =
     subst (λ (s : Script). steps ≤ length (lowest_order s first.log.threads)) same_script (subst (λ (l : Log). steps ≤ length (lowest_order r.script l.threads)) same_log (omega (arith, next.within, is)))
 
 -- accesses that were gathered are of threads that are there, in regions that have a number above
-pub fit_of : (r : ReplayState) (threads : ℕ) (seen : List Access) → threads ≤ MAX_THREADS → threads ≡ length r.script.threads → Gathered r seen → FitLanes threads seen
+pub fit_of : (r : ReplayState) (threads : ℕ) (seen : List Access) → threads ≤ MAX_THREADS → threads ≡ length r.script.threads → AccessesSoFar r seen → FitQueues threads seen
 fit_of r threads seen few many gathered = record {
   few = few;
   there = λ place access is. omega (arith, gathered.there place access is, many);

@@ -1,7 +1,7 @@
-pub mod Tables
-pub mod Lanes
+pub mod LastAccesses
+pub mod Queues
 pub mod Waiting
-pub mod Laning
+pub mod QueuesByAccess
 pub mod Choosing
 pub mod Walking
 pub mod Gathering

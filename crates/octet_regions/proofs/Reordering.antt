@@ -7,7 +7,7 @@ use Rattle.octet_model.specs.Machine.{event_made, heap_after}
 use Rattle.octet_model.specs.Plays.{operation_of}
 use Rattle.octet_model.proofs.lemmas.Fronts.{Apart}
 use Rattle.octet_regions.specs.declared.access.Access.{Access}
-use Rattle.octet_regions.specs.Gather.{is_access}
+use Rattle.octet_regions.specs.code.Gather.{is_access}
 
 -- what the accesses make of a heap
 abbrev pub heap_past : List Access → List ℕ → List ℕ

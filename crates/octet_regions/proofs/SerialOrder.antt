@@ -12,10 +12,10 @@ use Rattle.octet_regions.specs.declared.access.Access.{Access}
 use Rattle.octet_regions.specs.declared.region.Region.{Region}
 use Rattle.octet_regions.specs.Before.{InConflict}
 use Rattle.octet_regions.specs.Choice.{IsLeft, IsChosen, IsChoice, TakesAll}
-use Rattle.octet_regions.specs.Earlier.{RegionsRise}
+use Rattle.octet_regions.specs.code.Earlier.{RegionsRise}
 use Rattle.octet_regions.specs.Runs.{is_in}
 use Rattle.octet_regions.proofs.Choosing.{no_item}
-use Rattle.octet_regions.proofs.Lanes.{same_region}
+use Rattle.octet_regions.proofs.Queues.{same_region}
 use Rattle.octet_regions.proofs.Reordering.{Reorders, Swap, behind_all, filter_all, filter_both, filter_none, filter_same, pairs_filter, pairs_from, parted, same_order, then_order}
 
 object_made : (event : Event) (heap : List ℕ) → object_of (event_made (operation_of event) heap) ≡ object_of event

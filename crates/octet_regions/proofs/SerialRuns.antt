@@ -26,7 +26,7 @@ use Rattle.octet_regions.specs.declared.access.Access.{Access}
 use Rattle.octet_regions.specs.declared.region.Region.{Region}
 use Rattle.octet_regions.specs.Accesses.{access_in, access_made, accesses_along, accesses_of, region_in}
 use Rattle.octet_regions.specs.Choice.{IsSerialChoice, TakesAll}
-use Rattle.octet_regions.specs.Gather.{is_access}
+use Rattle.octet_regions.specs.code.Gather.{is_access}
 use Rattle.octet_regions.specs.Runs.{RunsSerially, is_in, serial_run, without_marks}
 use Rattle.octet_regions.proofs.Gathering.{in_cases, rises_in_order}
 use Rattle.octet_regions.proofs.Reordering.{Reorders, Runs, by_thread, filtered, heap_past, of_thread}

@@ -14,9 +14,9 @@ use Rattle.octet_regions.specs.declared.serial.Serial.{Serial}
 use Rattle.octet_regions.specs.declared.serial.Serial.TheVariants.{Order, Cycle}
 use Rattle.octet_regions.specs.Accesses.{accesses_of}
 use Rattle.octet_regions.specs.Choice.{IsChosen, IsChoice, IsCycle, IsHop, IsSerial, IsWalk, TakesAll, walk_end}
-use Rattle.octet_regions.specs.Chooser.{FitLanes}
+use Rattle.octet_regions.specs.code.Chooser.{FitQueues}
 use Rattle.octet_regions.specs.Runs.{ClosesCycle, LeadsOn, ListsRegions, Shows}
-use Rattle.octet_regions.proofs.Lanes.{same_region}
+use Rattle.octet_regions.proofs.Queues.{same_region}
 use Rattle.octet_regions.proofs.SerialRuns.{runs_serially}
 
 contains_at : {X : Type 0} (xs : List X) (k : ℕ) (x : X) → slice_get xs k ≡ Some x → Contains xs x
@@ -110,6 +110,6 @@ closes accesses taken cycle c =
           (sym (c.comes_back next is_next) ∙ end_is c.start hops (lead + last) hop (omega (arith, ends, length-append c.lead cycle)) (at last hop is));
     }
 
-pub shows : (script : Script) (log : List ThreadLog) (serial : Serial) → IsLawful script log → FitLanes (length script.threads) (accesses_of script log) → IsSerial (accesses_of script log) serial → Shows script log serial
+pub shows : (script : Script) (log : List ThreadLog) (serial : Serial) → IsLawful script log → FitQueues (length script.threads) (accesses_of script log) → IsSerial (accesses_of script log) serial → Shows script log serial
 shows script log (Order regions) lawful fit s = (runs_serially script log regions lawful fit.there s.0 s.1, lists (accesses_of script log) regions s.0 s.1)
 shows script log (Cycle hops) lawful fit s = closes (accesses_of script log) s.0 hops s.3

@@ -1,14 +1,14 @@
--- What a lane waits for, as waits are added to it and gone past.
+-- What a queue waits for, as waits are added to it and gone past.
 use Rattle.std.proofs.Common.{◌≡◌, ◌≢◌, ℕ, zero, suc, ◌+◌, ◌<◌, ◌≤◌, ◌⊎◌, inl, inr, true, false, List, [], ◌∷◌, ◌++◌, length, Option, Some, None, nat_lt, slice_get, get_or, refl, sym, ap, ◌∙◌, subst, arith, length-append}
 use Rattle.std.proofs.lemmas.Bool.{cases_eq, cases_lt, ltb-true, ltb-false}
 use Rattle.std.proofs.lemmas.Option.{slice_get_within}
 use Rattle.octet_model.proofs.lemmas.Lists.{slice_get-append, slice_get_last}
 use Rattle.octet_regions.specs.declared.bounds.Bounds.{Bounds}
-use Rattle.octet_regions.specs.declared.lane.Lane.{Lane}
-use Rattle.octet_regions.specs.declared.lane.Wait.{Wait}
-use Rattle.octet_regions.specs.Bounds.{bound_in, IsRaised}
-use Rattle.octet_regions.specs.Earlier.{AddsWaits, IsUnmet, KnowsWaits, LowestUnmet, is_lower}
-use Rattle.octet_regions.proofs.Tables.{last_cases}
+use Rattle.octet_regions.specs.declared.queue.RegionQueue.{RegionQueue}
+use Rattle.octet_regions.specs.declared.queue.Wait.{Wait}
+use Rattle.octet_regions.specs.code.Bounds.{bound_in, IsRaised}
+use Rattle.octet_regions.specs.code.Earlier.{AddsWaits, IsUnmet, KnowsWaits, LowestUnmet, is_lower}
+use Rattle.octet_regions.proofs.LastAccesses.{last_cases}
 
 -- waits are added for the threads below a number
 pub record AddsBelow (limit thread : ℕ) (conflicts : ℕ → ℕ) (before : List Wait) (known : Bounds) (after : List Wait) (known_then : Bounds) : Type 0 where
@@ -101,21 +101,21 @@ adds_all limit thread conflicts before known after known_then all adds = record 
 }
 
 -- the lowest thread of which a wait is not over, place by place
-module _ (lane : Lane) (taken : Bounds) where
-  unmet_more : (upto other : ℕ) → IsUnmet lane taken upto other → IsUnmet lane taken (upto + 1) other
+module _ (queue : RegionQueue) (taken : Bounds) where
+  unmet_more : (upto other : ℕ) → IsUnmet queue taken upto other → IsUnmet queue taken (upto + 1) other
   unmet_more upto other u = record { place = u.place; wait = u.wait; is_there = u.is_there; from_here = u.from_here; sooner = omega (arith, u.sooner); of_thread = u.of_thread; above = u.above }
 
-  unmet_cases : (upto other : ℕ) (wait : Wait) → slice_get lane.waits.items upto ≡ Some wait → IsUnmet lane taken (upto + 1) other → IsUnmet lane taken upto other ⊎ ((wait.of ≡ other) × (bound_in taken other < wait.bound))
+  unmet_cases : (upto other : ℕ) (wait : Wait) → slice_get queue.waits.items upto ≡ Some wait → IsUnmet queue taken (upto + 1) other → IsUnmet queue taken upto other ⊎ ((wait.of ≡ other) × (bound_in taken other < wait.bound))
   unmet_cases upto other wait is u = elim (cases_eq u.place upto) [
     | inr not ↦ inl (record { place = u.place; wait = u.wait; is_there = u.is_there; from_here = u.from_here; sooner = omega (arith, u.sooner, not); of_thread = u.of_thread; above = u.above })
     | inl here ↦ inr (
-        let at : slice_get lane.waits.items upto ≡ Some u.wait = ap (slice_get lane.waits.items) (sym here) ∙ u.is_there in
+        let at : slice_get queue.waits.items upto ≡ Some u.wait = ap (slice_get queue.waits.items) (sym here) ∙ u.is_there in
         let one : u.wait ≡ wait = cc in
         (ap (λ (w : Wait). w.of) (sym one) ∙ u.of_thread, omega (arith, u.above, ap (λ (w : Wait). w.bound) one)))
   ]
 
   -- a wait that is over, or of a thread that is no lower, changes nothing
-  pub unmet_skip : (upto : ℕ) (wait : Wait) (lowest : Option ℕ) → slice_get lane.waits.items upto ≡ Some wait → (bound_in taken wait.of < wait.bound → is_lower wait.of lowest ≡ false) → LowestUnmet lane taken upto lowest → LowestUnmet lane taken (upto + 1) lowest
+  pub unmet_skip : (upto : ℕ) (wait : Wait) (lowest : Option ℕ) → slice_get queue.waits.items upto ≡ Some wait → (bound_in taken wait.of < wait.bound → is_lower wait.of lowest ≡ false) → LowestUnmet queue taken upto lowest → LowestUnmet queue taken (upto + 1) lowest
   unmet_skip upto wait None is skipped none = λ other u. elim (unmet_cases upto other wait is u) [
     | inl old ↦ none other old
     | inr here ↦ (let above : bound_in taken wait.of < wait.bound = subst (λ (o : ℕ). bound_in taken o < wait.bound) (sym here.0) here.1 in let no_ = skipped above in cc)
@@ -134,7 +134,7 @@ module _ (lane : Lane) (taken : Bounds) where
       not_lower a b not lt = omega (arith, lt, ltb-false a b not)
 
   -- one that is not over, of a lower thread
-  pub unmet_found : (upto : ℕ) (wait : Wait) (lowest : Option ℕ) → slice_get lane.waits.items upto ≡ Some wait → lane.over ≤ upto → bound_in taken wait.of < wait.bound → is_lower wait.of lowest ≡ true → LowestUnmet lane taken upto lowest → LowestUnmet lane taken (upto + 1) (Some wait.of)
+  pub unmet_found : (upto : ℕ) (wait : Wait) (lowest : Option ℕ) → slice_get queue.waits.items upto ≡ Some wait → queue.over ≤ upto → bound_in taken wait.of < wait.bound → is_lower wait.of lowest ≡ true → LowestUnmet queue taken upto lowest → LowestUnmet queue taken (upto + 1) (Some wait.of)
   unmet_found upto wait lowest is from above lower_one least = (
     record { place = upto; wait = wait; is_there = is; from_here = from; sooner = omega arith; of_thread = refl; above = above },
     λ lower lt u. elim (unmet_cases upto lower wait is u) [
@@ -143,20 +143,20 @@ module _ (lane : Lane) (taken : Bounds) where
     ],
   )
     where
-      none_below : (o : Option ℕ) → is_lower wait.of o ≡ true → LowestUnmet lane taken upto o → (lower : ℕ) → lower < wait.of → ¬ IsUnmet lane taken upto lower
+      none_below : (o : Option ℕ) → is_lower wait.of o ≡ true → LowestUnmet queue taken upto o → (lower : ℕ) → lower < wait.of → ¬ IsUnmet queue taken upto lower
       none_below None yes_ none lower lt u = none lower u
       none_below (Some low) yes_ some_ lower lt u = some_.1 lower (omega (arith, lt, ltb-true wait.of low yes_)) u
 
   -- up to where the waits end
-  unmet_same : (place upto other : ℕ) → (upto ≤ place) → ((place ≤ upto) ⊎ (place ≡ lane.over)) → IsUnmet lane taken place other → IsUnmet lane taken upto other
+  unmet_same : (place upto other : ℕ) → (upto ≤ place) → ((place ≤ upto) ⊎ (place ≡ queue.over)) → IsUnmet queue taken place other → IsUnmet queue taken upto other
   unmet_same place upto other ge at u = elim at [
-    | inl le ↦ (let e : place ≡ upto = omega (arith, ge, le) in subst (λ (p : ℕ). IsUnmet lane taken p other) e u)
+    | inl le ↦ (let e : place ≡ upto = omega (arith, ge, le) in subst (λ (p : ℕ). IsUnmet queue taken p other) e u)
     | inr start ↦ absurd (omega (arith, start, u.from_here, u.sooner))
   ]
 
-  unmet_back : (place upto other : ℕ) → (upto ≤ place) → IsUnmet lane taken upto other → IsUnmet lane taken place other
+  unmet_back : (place upto other : ℕ) → (upto ≤ place) → IsUnmet queue taken upto other → IsUnmet queue taken place other
   unmet_back place upto other ge u = record { place = u.place; wait = u.wait; is_there = u.is_there; from_here = u.from_here; sooner = omega (arith, u.sooner, ge); of_thread = u.of_thread; above = u.above }
 
-  pub unmet_all : (place upto : ℕ) (lowest : Option ℕ) → upto ≤ place → (place ≤ upto) ⊎ (place ≡ lane.over) → LowestUnmet lane taken place lowest → LowestUnmet lane taken upto lowest
+  pub unmet_all : (place upto : ℕ) (lowest : Option ℕ) → upto ≤ place → (place ≤ upto) ⊎ (place ≡ queue.over) → LowestUnmet queue taken place lowest → LowestUnmet queue taken upto lowest
   unmet_all place upto None ge at none = λ other u. none other (unmet_back place upto other ge u)
   unmet_all place upto (Some low) ge at least = (unmet_same place upto low ge at least.0, λ lower lt u. least.1 lower lt (unmet_back place upto lower ge u))

@@ -7,19 +7,19 @@ use Rattle.octet_model.specs.HappensBefore.{is_write}
 use Rattle.octet_model.proofs.lemmas.Lists.{slice_get-append, slice_get_last}
 use Rattle.octet_regions.specs.declared.access.Access.{Access}
 use Rattle.octet_regions.specs.declared.chooser.Chooser.{Chooser}
-use Rattle.octet_regions.specs.declared.lane.Lane.{Lane}
-use Rattle.octet_regions.specs.declared.lane.Node.{Node}
+use Rattle.octet_regions.specs.declared.queue.RegionQueue.{RegionQueue}
+use Rattle.octet_regions.specs.declared.queue.QueuedRegion.{QueuedRegion}
 use Rattle.octet_regions.specs.declared.last.LastRegions.{LastRegions}
 use Rattle.octet_regions.specs.declared.region.Hop.{Hop}
 use Rattle.octet_regions.specs.declared.region.Region.{Region}
 use Rattle.octet_regions.specs.Before.{InConflict, RegionBefore}
-use Rattle.octet_regions.specs.Bounds.{bound_in}
+use Rattle.octet_regions.specs.code.Bounds.{bound_in}
 use Rattle.octet_regions.specs.Choice.{IsCycle, IsHop, IsLowestLeft, IsWalk, TakesAll, walk_end}
-use Rattle.octet_regions.specs.Chooser.{IsBehind, IsStuck, KeepsChoice, LowestBehind}
-use Rattle.octet_regions.specs.Earlier.{BoundConflicts, Conflicts, KeepsLast, LowestUnmet, RegionsRise, region_of}
-use Rattle.octet_regions.specs.Walk.{EarliestFrom, EarliestIs, HasInto, IsFrom, NotesFrom, WalksTo}
-use Rattle.octet_regions.proofs.Tables.{last_cases}
-use Rattle.octet_regions.proofs.Lanes.{same_region, set_elsewhere, set_there}
+use Rattle.octet_regions.specs.code.Chooser.{IsBehind, IsStuck, KeepsChoice, LowestBehind}
+use Rattle.octet_regions.specs.code.Earlier.{BoundConflicts, Conflicts, KeepsLast, LowestUnmet, RegionsRise, region_of}
+use Rattle.octet_regions.specs.code.Walk.{EarliestFrom, EarliestIs, HasInto, IsFrom, NotesFrom, WalksTo}
+use Rattle.octet_regions.proofs.LastAccesses.{last_cases}
+use Rattle.octet_regions.proofs.Queues.{same_region, set_elsewhere, set_there}
 use Rattle.octet_regions.proofs.Choosing.{before_left, free_is, got, none_left, left_above, left_from, left_is_above, next_is}
 
 or_comm : (a b : Bool) → IsTrue (a || b) → IsTrue (b || a)
@@ -146,49 +146,49 @@ module _ (later : LastRegions) (access : Access) (other : ℕ) (bound : ℕ → 
   no_conflict none seen keeps number c = omega (arith, none, (by seen keeps other (λ same. differ (sym same))).below number c)
 
 -- the hop into a thread's next region, where the choice ended
-module _ (accesses : List Access) (chooser : Chooser) (stuck : IsStuck accesses chooser) (thread : ℕ) (lane : Lane) (is_lane : slice_get chooser.lanes.items thread ≡ Some lane) (node : Node)
-    (at : slice_get lane.nodes.items lane.taken ≡ Some node) where
+module _ (accesses : List Access) (chooser : Chooser) (stuck : IsStuck accesses chooser) (thread : ℕ) (queue : RegionQueue) (is_queue : slice_get chooser.queues.items thread ≡ Some queue) (item : QueuedRegion)
+    (at : slice_get queue.regions.items queue.taken ≡ Some item) where
   -- some bound is above what was taken
-  pub some_above : LowestUnmet lane chooser.upto node.waits_upto None → ⊥
-  some_above none = stuck.none_free (region_of thread node.number) (free_is accesses chooser stuck.keeps thread lane is_lane node at none)
+  pub some_above : LowestUnmet queue chooser.upto item.waits_upto None → ⊥
+  some_above none = stuck.none_free (region_of thread item.number) (free_is accesses chooser stuck.keeps thread queue is_queue item at none)
 
-  module _ (from : ℕ) (lowest : LowestUnmet lane chooser.upto node.waits_upto (Some from)) where
+  module _ (from : ℕ) (lowest : LowestUnmet queue chooser.upto item.waits_upto (Some from)) where
     -- which is another one
     pub from_differs : from ≢ thread
     from_differs same =
-        let b = before_left accesses chooser stuck.keeps thread lane is_lane node from at lowest.0 in
+        let b = before_left accesses chooser stuck.keeps thread queue is_queue item from at lowest.0 in
         b.2.conflict.by_others (ap (λ (q : Region). q.thread) b.2.in_region ∙ same ∙ sym (ap (λ (q : Region). q.thread) b.2.in_other))
 
     -- so some region of that thread is left and before
-    pub some_earliest : EarliestIs accesses from (bound_in chooser.upto from) (region_of thread node.number) None → ⊥
+    pub some_earliest : EarliestIs accesses from (bound_in chooser.upto from) (region_of thread item.number) None → ⊥
     some_earliest none =
-        let b = before_left accesses chooser stuck.keeps thread lane is_lane node from at lowest.0 in
+        let b = before_left accesses chooser stuck.keeps thread queue is_queue item from at lowest.0 in
         none b.0 b.2 (left_above accesses chooser stuck.keeps (region_of from b.0) b.1)
 
-    pub hop_is : (number : ℕ) → EarliestIs accesses from (bound_in chooser.upto from) (region_of thread node.number) (Some number)
-        → IsHop accesses chooser.order.items (record { before = region_of from number; after = region_of thread node.number })
+    pub hop_is : (number : ℕ) → EarliestIs accesses from (bound_in chooser.upto from) (region_of thread item.number) (Some number)
+        → IsHop accesses chooser.order.items (record { before = region_of from number; after = region_of thread item.number })
     hop_is number earliest =
         let before = earliest.1 in
         record {
-          into_next = next_is accesses chooser stuck.keeps thread lane is_lane node at;
+          into_next = next_is accesses chooser stuck.keeps thread queue is_queue item at;
           left = left_from accesses chooser stuck.keeps (region_of from number) (record { place = before.first; access = before.one; is_there = before.is_first; in_region = before.in_region }) earliest.0;
           is_before = before;
           lowest = λ other left is. elim (cases_lt other.thread from) [
-            | inl lt ↦ absurd (lowest.1 other.thread lt (left_is_above accesses chooser stuck.keeps thread lane is_lane node other at left is))
+            | inl lt ↦ absurd (lowest.1 other.thread lt (left_is_above accesses chooser stuck.keeps thread queue is_queue item other at left is))
             | inr ge ↦ omega arith
           ];
           earliest = λ other left is same.
               let other_is = same_region other from other.number same refl in
-              earliest.2 other.number (subst (λ (r : Region). RegionBefore accesses r (region_of thread node.number)) other_is is)
+              earliest.2 other.number (subst (λ (r : Region). RegionBefore accesses r (region_of thread item.number)) other_is is)
               (subst (λ (t : ℕ). bound_in chooser.upto t ≤ other.number) same (left_above accesses chooser stuck.keeps other left));
         }
 
-    pub hop_behind : (number : ℕ) → EarliestIs accesses from (bound_in chooser.upto from) (region_of thread node.number) (Some number) → IsBehind chooser.lanes.items from
+    pub hop_behind : (number : ℕ) → EarliestIs accesses from (bound_in chooser.upto from) (region_of thread item.number) (Some number) → IsBehind chooser.queues.items from
     hop_behind number earliest =
-        let before = before_left accesses chooser stuck.keeps thread lane is_lane node from at lowest.0 in
-        let l = got chooser.lanes.items from (stuck.keeps.there (region_of from before.0) before.1.is_region) in
-        elim (cases_lt l.0.taken (length l.0.nodes.items)) [
-          | inl lt ↦ record { lane = l.0; is_there = l.1; behind = lt }
+        let before = before_left accesses chooser stuck.keeps thread queue is_queue item from at lowest.0 in
+        let l = got chooser.queues.items from (stuck.keeps.there (region_of from before.0) before.1.is_region) in
+        elim (cases_lt l.0.taken (length l.0.regions.items)) [
+          | inl lt ↦ record { queue = l.0; is_there = l.1; behind = lt }
           | inr ge ↦ absurd (none_left accesses chooser stuck.keeps from l.0 l.1 (omega arith) number (hop_is number earliest).left)
         ]
 
@@ -258,27 +258,27 @@ walks_more accesses taken start at came hops after hop within fresh walks into i
 })
 
 -- the lowest thread that is behind is the lowest with a region left
-pub lowest_left_is : (accesses : List Access) (chooser : Chooser) → KeepsChoice accesses chooser → (start : ℕ) → LowestBehind chooser.lanes.items (Some start) → IsLowestLeft accesses chooser.order.items start
+pub lowest_left_is : (accesses : List Access) (chooser : Chooser) → KeepsChoice accesses chooser → (start : ℕ) → LowestBehind chooser.queues.items (Some start) → IsLowestLeft accesses chooser.order.items start
 lowest_left_is accesses chooser keeps start lowest =
     let b = lowest.0 in
-    let n = got b.lane.nodes.items b.lane.taken b.behind in
+    let n = got b.queue.regions.items b.queue.taken b.behind in
     record {
       region = region_of start n.0.number;
-      left = (next_is accesses chooser keeps start b.lane b.is_there n.0 n.1).left;
+      left = (next_is accesses chooser keeps start b.queue b.is_there n.0 n.1).left;
       of_thread = refl;
       lowest = λ other left. elim (cases_lt other.thread start) [
         | inr ge ↦ omega arith
         | inl lt ↦ absurd (
-            let l = got chooser.lanes.items other.thread (keeps.there other left.is_region) in
-            elim (cases_lt l.0.taken (length l.0.nodes.items)) [
-              | inl behind ↦ lowest.1 other.thread lt (record { lane = l.0; is_there = l.1; behind = behind })
+            let l = got chooser.queues.items other.thread (keeps.there other left.is_region) in
+            elim (cases_lt l.0.taken (length l.0.regions.items)) [
+              | inl behind ↦ lowest.1 other.thread lt (record { queue = l.0; is_there = l.1; behind = behind })
               | inr ended ↦ none_left accesses chooser keeps other.thread l.0 l.1 (omega arith) other.number left
             ])
       ];
     }
 
 -- the cycle, where the walk comes to a thread at which it was
-pub cycle_is : (accesses : List Access) (chooser : Chooser) → KeepsChoice accesses chooser → (start at : ℕ) (came : List Bool) (hops cycle : List Hop) → LowestBehind chooser.lanes.items (Some start)
+pub cycle_is : (accesses : List Access) (chooser : Chooser) → KeepsChoice accesses chooser → (start at : ℕ) (came : List Bool) (hops cycle : List Hop) → LowestBehind chooser.queues.items (Some start)
     → WalksTo accesses chooser.order.items start at came hops → IsFrom hops at cycle → IsCycle accesses chooser.order.items cycle
 cycle_is accesses chooser keeps start at came hops cycle lowest walks from = record {
   start = start;
@@ -291,7 +291,7 @@ cycle_is accesses chooser keeps start at came hops cycle lowest walks from = rec
 }
 
 -- some region is left where a thread is behind
-pub not_all : (accesses : List Access) (chooser : Chooser) → KeepsChoice accesses chooser → (start : ℕ) → LowestBehind chooser.lanes.items (Some start) → ¬ TakesAll accesses chooser.order.items
+pub not_all : (accesses : List Access) (chooser : Chooser) → KeepsChoice accesses chooser → (start : ℕ) → LowestBehind chooser.queues.items (Some start) → ¬ TakesAll accesses chooser.order.items
 not_all accesses chooser keeps start lowest all = let l = lowest_left_is accesses chooser keeps start lowest in l.left.not_taken (all l.region l.left.is_region)
 
 -- a thread at which the walk was has a hop into it

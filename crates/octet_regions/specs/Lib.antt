@@ -1,11 +1,6 @@
 pub mod Accesses
 pub mod Before
-pub mod Gather
-pub mod Holders
-pub mod Bounds
-pub mod Earlier
 pub mod Choice
-pub mod Chooser
-pub mod Walk
 pub mod Runs
 pub mod Laws
+pub mod code

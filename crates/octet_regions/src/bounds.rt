@@ -1,6 +1,6 @@
 //! A number for each thread, as in a vector clock.
 ghost use Rattle.std.specs.Prelude.{◌≡◌, ◌≢◌, ◌<◌, ℕ, false, true, get_or};
-ghost use Rattle.octet_regions.specs.Holders.{may_have};
+ghost use Rattle.octet_regions.specs.code.Holders.{may_have};
 
 use octet_model::MAX_THREADS;
 
@@ -34,7 +34,7 @@ pub(crate) struct Bounds {
 }
 
 impl Bounds {
-    ghost use Rattle.octet_regions.specs.Bounds.{bound_in, IsRaised};
+    ghost use Rattle.octet_regions.specs.code.Bounds.{bound_in, IsRaised};
 
     /// Bounds below which nothing is.
     pub(crate) fn new() -> Bounds

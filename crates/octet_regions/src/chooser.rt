@@ -2,9 +2,9 @@
 //! lowest one's is taken.
 ghost use Rattle.std.specs.Prelude.{◌≡◌, ◌+◌, ◌^◌, ◌<◌, ◌≤◌, ◌∷◌, ◌++◌, [], ℕ, List, length, IfOk, OnOk};
 ghost use Rattle.octet_regions.specs.Before.{IsRegion};
-ghost use Rattle.octet_regions.specs.Bounds.{bound_in};
+ghost use Rattle.octet_regions.specs.code.Bounds.{bound_in};
 ghost use Rattle.octet_regions.specs.Choice.{IsChosen, IsFree, IsSerialChoice};
-ghost use Rattle.octet_regions.specs.Chooser.{AreEmptyLanes, AreLanesOf, AreWithin, ChosenIs, FitLanes, FreeIs, HasChosen, IsBehind, KeepsChoice, left_of, LowestBehind};
+ghost use Rattle.octet_regions.specs.code.Chooser.{AreEmptyQueues, AreQueuesOf, AreWithin, ChosenIs, FitQueues, FreeIs, HasChosen, IsBehind, KeepsChoice, left_of, LowestBehind};
 ghost use Rattle.octet_regions.specs.Accesses.{accesses_of};
 ghost use Rattle.octet_replay.specs.ReplayState.{HasHalted};
 ghost use Rattle.octet_regions.specs.declared.access.Access.{Access as AccessOf};
@@ -13,8 +13,8 @@ ghost use Rattle.octet_regions.specs.declared.region.Region.{Region as RegionOf}
 use crate::Region;
 use crate::bounds::Bounds;
 use crate::gather::next_access;
-use crate::lane::Lane;
 use crate::last::LastRegions;
+use crate::queue::RegionQueue;
 use octet_model::{MAX_THREADS, OutOfMemory};
 use octet_replay::Replayer;
 use std::alloc::Global;
@@ -23,27 +23,27 @@ use std::alloc::Global;
 /// order.
 #[derive(Debug, Drop)]
 pub(crate) struct Chooser {
-    pub(crate) lanes: Vec<Lane>,
+    pub(crate) queues: Vec<RegionQueue>,
     pub(crate) upto: Bounds,
     pub(crate) order: Vec<Region>,
 }
 
-fn empty_lanes(alloc: Global, threads: usize) -> Result<Vec<Lane>, OutOfMemory>
-    ensures { IfOk result (λ lanes. AreEmptyLanes threads lanes.items) }
+fn empty_queues(alloc: Global, threads: usize) -> Result<Vec<RegionQueue>, OutOfMemory>
+    ensures { IfOk result (λ queues. AreEmptyQueues threads queues.items) }
 {
-    let mut lanes = Vec::new(alloc);
+    let mut queues = Vec::new(alloc);
     for _ in 0..threads {
-        lanes.push(Lane::new(alloc))?;
+        queues.push(RegionQueue::new(alloc))?;
     }
-    Ok(lanes)
+    Ok(queues)
 }
 
 /// The regions of each thread, by all its accesses, and what they wait for.
-pub(crate) fn lanes_of(
+pub(crate) fn queues_of(
     alloc: Global,
     threads: usize,
     replayer: &mut Replayer<'_>,
-) -> Result<Vec<Lane>, OutOfMemory>
+) -> Result<Vec<RegionQueue>, OutOfMemory>
     requires few { threads ≤ MAX_THREADS }
     requires threads { threads ≡ length replayer.old.script.threads }
     requires agree { length replayer.old.script.threads ≡ length replayer.old.log.threads }
@@ -51,28 +51,28 @@ pub(crate) fn lanes_of(
     ensures script { OnOk result (replayer.new.script ≡ replayer.old.script) }
     ensures log { OnOk result (replayer.new.log ≡ replayer.old.log) }
     ensures halted { OnOk result (HasHalted replayer.new) }
-    ensures fit { OnOk result (FitLanes threads (accesses_of replayer.old.script replayer.old.log.threads)) }
-    ensures lanes { IfOk result (λ lanes. AreLanesOf threads (accesses_of replayer.old.script replayer.old.log.threads) lanes.items) }
+    ensures fit { OnOk result (FitQueues threads (accesses_of replayer.old.script replayer.old.log.threads)) }
+    ensures queues { IfOk result (λ queues. AreQueuesOf threads (accesses_of replayer.old.script replayer.old.log.threads) queues.items) }
 {
-    let mut lanes = empty_lanes(alloc, threads)?;
+    let mut queues = empty_queues(alloc, threads)?;
     let mut last = LastRegions::new(alloc);
     while let Some(access) = next_access(replayer) {
         let conflicts = last.conflicts(access);
-        let lane = &mut lanes[access.region.thread as usize];
-        lane.take_in(access.region, conflicts)?;
+        let queue = &mut queues[access.region.thread as usize];
+        queue.take_in(access.region, conflicts)?;
         last.note(access)?;
     }
-    Ok(lanes)
+    Ok(queues)
 }
 
 impl Chooser {
     /// Before the first choice.
-    pub(crate) fn new(alloc: Global, lanes: Vec<Lane>) -> Chooser
-        ensures keeps { (threads : ℕ) (accesses : List AccessOf) → FitLanes threads accesses → AreLanesOf threads accesses lanes.items → KeepsChoice accesses result }
+    pub(crate) fn new(alloc: Global, queues: Vec<RegionQueue>) -> Chooser
+        ensures keeps { (threads : ℕ) (accesses : List AccessOf) → FitQueues threads accesses → AreQueuesOf threads accesses queues.items → KeepsChoice accesses result }
         ensures none { result.order.items ≡ [] }
     {
         Chooser {
-            lanes,
+            queues,
             upto: Bounds::new(),
             order: Vec::new(alloc),
         }
@@ -80,30 +80,30 @@ impl Chooser {
 
     // The number of the thread's next region, if none that is left is before it.
     fn free_in(&mut self, thread: usize) -> Option<u32>
-        requires there { thread < length self.old.lanes.items }
-        requires within { AreWithin self.old.lanes.items }
+        requires there { thread < length self.old.queues.items }
+        requires within { AreWithin self.old.queues.items }
         ensures order { self.new.order ≡ self.old.order }
-        ensures many { length self.new.lanes.items ≡ length self.old.lanes.items }
-        ensures within { AreWithin self.new.lanes.items }
-        ensures left { left_of self.new.lanes.items ≡ left_of self.old.lanes.items }
+        ensures many { length self.new.queues.items ≡ length self.old.queues.items }
+        ensures within { AreWithin self.new.queues.items }
+        ensures left { left_of self.new.queues.items ≡ left_of self.old.queues.items }
         ensures keeps { (accesses : List AccessOf) → KeepsChoice accesses self.old → KeepsChoice accesses self.new }
         ensures free { (accesses : List AccessOf) → KeepsChoice accesses self.new → FreeIs accesses self.new.order.items thread result }
     {
-        self.lanes[thread].free(&self.upto)
+        self.queues[thread].free(&self.upto)
     }
 
     // The region to be taken next.
     fn chosen(&mut self) -> Option<Region>
-        requires few { length self.old.lanes.items ≤ MAX_THREADS }
-        requires within { AreWithin self.old.lanes.items }
+        requires few { length self.old.queues.items ≤ MAX_THREADS }
+        requires within { AreWithin self.old.queues.items }
         ensures order { self.new.order ≡ self.old.order }
-        ensures many { length self.new.lanes.items ≡ length self.old.lanes.items }
-        ensures within { AreWithin self.new.lanes.items }
-        ensures left { left_of self.new.lanes.items ≡ left_of self.old.lanes.items }
+        ensures many { length self.new.queues.items ≡ length self.old.queues.items }
+        ensures within { AreWithin self.new.queues.items }
+        ensures left { left_of self.new.queues.items ≡ left_of self.old.queues.items }
         ensures keeps { (accesses : List AccessOf) → KeepsChoice accesses self.old → KeepsChoice accesses self.new }
         ensures chosen { (accesses : List AccessOf) → KeepsChoice accesses self.old → ChosenIs accesses self.new.order.items result }
     {
-        for thread in 0..self.lanes.len() {
+        for thread in 0..self.queues.len() {
             if let Some(number) = self.free_in(thread) {
                 return Some(Region {
                     thread: thread as u8,
@@ -116,20 +116,20 @@ impl Chooser {
 
     // Takes a region.
     fn take(&mut self, region: Region) -> Result<(), OutOfMemory>
-        requires few { length self.old.lanes.items ≤ MAX_THREADS }
-        requires there { region.thread < length self.old.lanes.items }
+        requires few { length self.old.queues.items ≤ MAX_THREADS }
+        requires there { region.thread < length self.old.queues.items }
         requires room { region.number + 1 < 2 ^ 32 }
-        requires left { IsBehind self.old.lanes.items region.thread }
-        requires within { AreWithin self.old.lanes.items }
+        requires left { IsBehind self.old.queues.items region.thread }
+        requires within { AreWithin self.old.queues.items }
         ensures order { OnOk result (self.new.order.items ≡ self.old.order.items ++ region ∷ []) }
-        ensures lanes { OnOk result (length self.new.lanes.items ≡ length self.old.lanes.items) }
+        ensures queues { OnOk result (length self.new.queues.items ≡ length self.old.queues.items) }
         ensures keeps { OnOk result ((accesses : List AccessOf) → KeepsChoice accesses self.old → IsChosen accesses self.old.order.items region → KeepsChoice accesses self.new) }
-        ensures within { OnOk result (AreWithin self.new.lanes.items) }
-        ensures fewer { OnOk result (left_of self.new.lanes.items < left_of self.old.lanes.items) }
+        ensures within { OnOk result (AreWithin self.new.queues.items) }
+        ensures fewer { OnOk result (left_of self.new.queues.items < left_of self.old.queues.items) }
     {
         let thread = region.thread as usize;
         self.order.push(region)?;
-        self.lanes[thread].take();
+        self.queues[thread].take();
         self.upto.raise(region.thread, region.number + 1);
         Ok(())
     }
@@ -148,11 +148,11 @@ impl Chooser {
 
     /// The lowest thread that has a region left.
     pub(crate) fn lowest_behind(&self) -> Option<u8>
-        requires { length self.now.lanes.items ≤ MAX_THREADS }
-        ensures { LowestBehind self.now.lanes.items result }
+        requires { length self.now.queues.items ≤ MAX_THREADS }
+        ensures { LowestBehind self.now.queues.items result }
     {
-        for thread in 0..self.lanes.len() {
-            if self.lanes[thread].next().is_some() {
+        for thread in 0..self.queues.len() {
+            if self.queues[thread].next().is_some() {
                 return Some(thread as u8);
             }
         }

@@ -2,7 +2,7 @@
 ghost use Rattle.std.specs.Prelude.{◌≡◌, IfErr, IfOk};
 ghost use Rattle.octet_replay.specs.ReplayState.{IsNotBegun};
 ghost use Rattle.octet_regions.specs.Accesses.{accesses_of};
-ghost use Rattle.octet_regions.specs.Gather.{AddsAccess, is_access};
+ghost use Rattle.octet_regions.specs.code.Gather.{AddsAccess, is_access};
 
 use crate::Region;
 use crate::access::Access;

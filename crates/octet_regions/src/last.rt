@@ -1,8 +1,8 @@
 //! Of each object and thread, the last region with an access of it.
 ghost use Rattle.std.specs.Prelude.{◌≡◌, ◌≢◌, ◌<◌, ◌+◌, ◌^◌, [], ◌∷◌, ◌++◌, ℕ, List, OnOk};
 ghost use Rattle.octet_regions.specs.declared.access.Access.{Access};
-ghost use Rattle.octet_regions.specs.Bounds.{bounds_of, last_in, IsCovered, IsNoted};
-ghost use Rattle.octet_regions.specs.Earlier.{BoundConflicts, KeepsLast};
+ghost use Rattle.octet_regions.specs.code.Bounds.{bounds_of, last_in, IsCovered, IsNoted};
+ghost use Rattle.octet_regions.specs.code.Earlier.{BoundConflicts, KeepsLast};
 
 use crate::access::Access;
 use crate::bounds::Bounds;
@@ -11,15 +11,15 @@ use std::alloc::Global;
 
 /// For each object bounds, above the numbers of each thread's regions with a noted access of it.
 #[derive(Debug, Drop)]
-pub(crate) struct Table {
+pub(crate) struct LastByObject {
     objects: Vec<Bounds>,
 }
 
-impl Table {
-    fn new(alloc: Global) -> Table
+impl LastByObject {
+    fn new(alloc: Global) -> LastByObject
         ensures { result.objects.items ≡ [] }
     {
-        Table {
+        LastByObject {
             objects: Vec::new(alloc),
         }
     }
@@ -63,8 +63,8 @@ impl Table {
 /// The last regions with an access of an object, and with one that writes.
 #[derive(Debug, Drop)]
 pub(crate) struct LastRegions {
-    all: Table,
-    writing: Table,
+    all: LastByObject,
+    writing: LastByObject,
 }
 
 impl LastRegions {
@@ -72,8 +72,8 @@ impl LastRegions {
         ensures { KeepsLast [] result }
     {
         LastRegions {
-            all: Table::new(alloc),
-            writing: Table::new(alloc),
+            all: LastByObject::new(alloc),
+            writing: LastByObject::new(alloc),
         }
     }
 

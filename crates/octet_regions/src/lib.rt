@@ -6,10 +6,10 @@ mod access;
 mod bounds;
 mod chooser;
 mod gather;
-mod lane;
 mod last;
 pub mod laws;
 mod order;
+mod queue;
 mod region;
 mod serial;
 #[cfg(test)]

@@ -4,13 +4,13 @@ ghost use Rattle.octet_model.specs.Orders.{execution, lowest_order};
 ghost use Rattle.octet_replay.specs.Judged.{HasCause, IsLawful};
 ghost use Rattle.octet_regions.specs.Accesses.{accesses_of};
 ghost use Rattle.octet_regions.specs.Choice.{IsSerial};
-ghost use Rattle.octet_regions.specs.Chooser.{AreLanesOf, FitLanes};
+ghost use Rattle.octet_regions.specs.code.Chooser.{AreQueuesOf, FitQueues};
 ghost use Rattle.octet_replay.specs.ReplayState.{IsNotBegun};
 ghost use Rattle.octet_regions.specs.Runs.{Shows};
 
-use crate::chooser::{Chooser, lanes_of};
+use crate::chooser::{Chooser, queues_of};
 use crate::gather::gather;
-use crate::lane::Lane;
+use crate::queue::RegionQueue;
 use crate::{Serial, Serialized};
 use octet_model::{List, Log, Script};
 use octet_replay::{ReplayFault, Replayer};
@@ -22,14 +22,14 @@ fn serial_of(
     alloc: Global,
     script: &Script,
     log: &Log,
-    lanes: Vec<Lane>,
+    queues: Vec<RegionQueue>,
 ) -> Result<Serial, ReplayFault>
-    requires fit { FitLanes (length script.now.threads) (accesses_of script.now log.now.threads) }
-    requires lanes { AreLanesOf (length script.now.threads) (accesses_of script.now log.now.threads) lanes.items }
+    requires fit { FitQueues (length script.now.threads) (accesses_of script.now log.now.threads) }
+    requires queues { AreQueuesOf (length script.now.threads) (accesses_of script.now log.now.threads) queues.items }
     ensures serial { IfOk result (IsSerial (accesses_of script.now log.now.threads)) }
     ensures refused { IfErr result (IsNotBegun script.now log.now.threads) }
 {
-    let mut chooser = Chooser::new(alloc, lanes);
+    let mut chooser = Chooser::new(alloc, queues);
     chooser.choose()?;
     let Some(start) = chooser.lowest_behind() else {
         return Ok(Serial::Order {
@@ -54,9 +54,9 @@ pub fn serialize(alloc: Global, script: &Script, log: &Log) -> Result<Serialized
     ensures refused { IfErr result (HasCause script.now log.now.threads) }
 {
     let mut replayer = Replayer::new(alloc, script, log)?;
-    let lanes = lanes_of(alloc, script.threads.len(), &mut replayer)?;
+    let queues = queues_of(alloc, script.threads.len(), &mut replayer)?;
     let outcome = replayer.end(alloc)?;
-    let serial = serial_of(alloc, script, log, lanes)?;
+    let serial = serial_of(alloc, script, log, queues)?;
     Ok(Serialized { serial, outcome })
 }
 

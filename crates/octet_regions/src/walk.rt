@@ -1,9 +1,9 @@
 //! The walk to a cycle, where the serial choice ends with regions left.
 ghost use Rattle.std.specs.Prelude.{◌≡◌, ◌≢◌, ◌<◌, ◌≤◌, ℕ, List, Some, length, true, false, IfOk};
 ghost use Rattle.octet_regions.specs.Choice.{IsCycle, IsHop};
-ghost use Rattle.octet_regions.specs.Chooser.{FitLanes, IsBehind, IsStuck, LowestBehind};
-ghost use Rattle.octet_regions.specs.Earlier.{region_of, Conflicts, KeepsLast, RegionsRise};
-ghost use Rattle.octet_regions.specs.Walk.{EarliestIs, HasInto, IsFrom};
+ghost use Rattle.octet_regions.specs.code.Chooser.{FitQueues, IsBehind, IsStuck, LowestBehind};
+ghost use Rattle.octet_regions.specs.code.Earlier.{region_of, Conflicts, KeepsLast, RegionsRise};
+ghost use Rattle.octet_regions.specs.code.Walk.{EarliestIs, HasInto, IsFrom};
 ghost use Rattle.octet_regions.specs.declared.access.Access.{Access};
 
 use crate::access::Access;
@@ -42,7 +42,7 @@ fn earliest_before(
     region: Region,
 ) -> Result<Option<u32>, OutOfMemory>
     requires differ { thread ≢ region.thread }
-    requires fit { (threads : ℕ) × FitLanes threads accesses.now }
+    requires fit { (threads : ℕ) × FitQueues threads accesses.now }
     requires rise { RegionsRise accesses.now }
     ensures { IfOk result (EarliestIs accesses.now thread from region) }
 {
@@ -78,21 +78,21 @@ impl Chooser {
     // The hop into a thread's next region, where the choice ended.
     fn hop_into(&self, alloc: Global, accesses: &[Access], thread: u8) -> Result<Hop, OutOfMemory>
         requires stuck { IsStuck accesses.now self.now }
-        requires behind { IsBehind self.now.lanes.items thread }
+        requires behind { IsBehind self.now.queues.items thread }
         ensures into { IfOk result (λ hop. hop.after.thread ≡ thread) }
         ensures hop { IfOk result (IsHop accesses.now self.now.order.items) }
-        ensures behind { IfOk result (λ hop. IsBehind self.now.lanes.items hop.before.thread) }
+        ensures behind { IfOk result (λ hop. IsBehind self.now.queues.items hop.before.thread) }
     {
-        let lane = &self.lanes[thread as usize];
-        let Some(node) = lane.next() else {
+        let queue = &self.queues[thread as usize];
+        let Some(item) = queue.next() else {
             unreachable!()
         };
-        let Some(from) = lane.lowest_unmet(node, &self.upto) else {
+        let Some(from) = queue.lowest_unmet(item, &self.upto) else {
             unreachable!()
         };
         let after = Region {
             thread,
-            number: node.number,
+            number: item.number,
         };
         let bound = self.upto.of(from as usize);
         let Some(number) = earliest_before(alloc, accesses, from, bound, after)? else {
@@ -113,10 +113,10 @@ impl Chooser {
         start: u8,
     ) -> Result<List<Hop>, OutOfMemory>
         requires stuck { IsStuck accesses.now self.now }
-        requires start { LowestBehind self.now.lanes.items (Some start) }
+        requires start { LowestBehind self.now.queues.items (Some start) }
         ensures { IfOk result (IsCycle accesses.now self.now.order.items) }
     {
-        let mut came = vec![in alloc; false; self.lanes.len()]?;
+        let mut came = vec![in alloc; false; self.queues.len()]?;
         let mut hops: Vec<Hop> = Vec::new(alloc);
         let mut at = start;
         while !came[at as usize] {

@@ -10,7 +10,7 @@ use Rattle.octet_regions.specs.declared.serial.Serial.TheVariants.{Order, Cycle}
 use Rattle.octet_regions.specs.Before.{RegionBefore}
 use Rattle.octet_regions.specs.Choice.{IsChosen, IsChoice, IsCycle, IsHop, IsWalk, TakesAll, walk_end}
 use Rattle.octet_regions.specs.Laws.{OneAnswer}
-use Rattle.octet_regions.proofs.Lanes.{same_region}
+use Rattle.octet_regions.proofs.Queues.{same_region}
 
 module _ (accesses : List Access) where
   one_chosen : (taken : List Region) (region other : Region) → IsChosen accesses taken region → IsChosen accesses taken other → region ≡ other

@@ -1,13 +1,13 @@
 use Rattle.std.proofs.Common.{◌≡◌, ◌-◌, length}
 use Rattle.octet_model.specs.Orders.{lowest_order}
-use Rattle.octet_regions.specs.Gather.{Gathered}
+use Rattle.octet_regions.specs.code.Gather.{AccessesSoFar}
 use Rattle.octet_regions.proofs.gather.gather.Given as goal
 
 abbrev pub invariant-loop-access : goal.invariant-loop-access
 invariant-loop-access l = record {
   script : l.replayer.script ≡ l.fn.script;
   log : l.replayer.log ≡ l.fn.log;
-  gathered : Gathered l.replayer l.accesses.items;
+  gathered : AccessesSoFar l.replayer l.accesses.items;
 }
 
 abbrev pub decreases-loop-access : goal.decreases-loop-access

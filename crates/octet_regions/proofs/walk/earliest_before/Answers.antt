@@ -1,7 +1,7 @@
 use Rattle.std.proofs.Common.{◌≡◌, ◌-◌, ℕ, suc, get_or, sym, ◌∙◌, subst, arith}
 use Rattle.std.proofs.lemmas.Option.{slice_get-get_or}
-use Rattle.octet_regions.specs.Walk.{EarliestFrom, NotesFrom}
-use Rattle.octet_regions.proofs.Laning.{no_access}
+use Rattle.octet_regions.specs.code.Walk.{EarliestFrom, NotesFrom}
+use Rattle.octet_regions.proofs.QueuesByAccess.{no_access}
 use Rattle.octet_regions.proofs.Walking.{differ_if, equal_if, found_here, found_is, found_none, found_not, noted_more, noted_still, notes_none, own_is_not_before}
 use Rattle.octet_regions.proofs.walk.earliest_before.Goals as goal
 

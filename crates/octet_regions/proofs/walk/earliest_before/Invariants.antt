@@ -1,5 +1,5 @@
 use Rattle.std.proofs.Common.{◌≤◌, length}
-use Rattle.octet_regions.specs.Walk.{EarliestFrom, NotesFrom}
+use Rattle.octet_regions.specs.code.Walk.{EarliestFrom, NotesFrom}
 use Rattle.octet_regions.proofs.walk.earliest_before.Given as goal
 
 abbrev pub invariant-loop-place : goal.invariant-loop-place

@@ -2,7 +2,7 @@ use denote.Ref.{Bor}
 use Rattle.std.proofs.Common.{Option, sym, ap, ◌∙◌, arith}
 use Rattle.std.proofs.lemmas.Bool.{ltb-true, ltb-false}
 use Rattle.octet_regions.specs.declared.bounds.Bounds.{Bounds}
-use Rattle.octet_regions.specs.Bounds.{bounds_of}
+use Rattle.octet_regions.specs.code.Bounds.{bounds_of}
 use Rattle.octet_regions.proofs.Walking.{no_conflict, some_conflict}
 use Rattle.octet_regions.proofs.walk.is_before.Goals as goal
 

@@ -1,6 +1,6 @@
 use Rattle.std.proofs.Common.{List}
 use Rattle.octet_regions.specs.declared.access.Access.{Access}
-use Rattle.octet_regions.specs.Chooser.{KeepsChoice, left_of}
+use Rattle.octet_regions.specs.code.Chooser.{KeepsChoice, left_of}
 use Rattle.octet_regions.proofs.Choosing.{Chose}
 use Rattle.octet_regions.proofs.chooser.Chooser.choose.Given as goal
 
@@ -11,4 +11,4 @@ invariant-loop-region l = record {
 }
 
 abbrev pub decreases-loop-region : goal.decreases-loop-region
-decreases-loop-region l = left_of l.self.lanes.items
+decreases-loop-region l = left_of l.self.queues.items

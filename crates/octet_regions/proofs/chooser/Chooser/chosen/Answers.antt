@@ -2,7 +2,7 @@ use Rattle.std.proofs.Common.{inl, inr, arith, ℕ, Vec, Global, refl, sym, ◌�
 use Rattle.std.proofs.lemmas.Bool.{cases_lt}
 use Rattle.octet_regions.specs.declared.region.Region.{Region}
 use Rattle.octet_regions.specs.Choice.{IsFree}
-use Rattle.octet_regions.specs.Earlier.{region_of}
+use Rattle.octet_regions.specs.code.Earlier.{region_of}
 use Rattle.octet_regions.proofs.Choosing.{chosen_is, none_chosen}
 use Rattle.octet_regions.proofs.chooser.Chooser.chosen.Goals as goal
 

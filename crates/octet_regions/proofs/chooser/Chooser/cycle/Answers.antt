@@ -3,14 +3,14 @@ use Rattle.std.proofs.lemmas.Option.{slice_get_read, slice_get_within, get_or_fr
 use Rattle.std.proofs.lemmas.Result.{IfOk-weaker}
 use Rattle.octet_regions.specs.declared.region.Hop.{Hop}
 use Rattle.octet_regions.specs.Choice.{IsCycle}
-use Rattle.octet_regions.specs.Walk.{HasInto, IsFrom}
+use Rattle.octet_regions.specs.code.Walk.{HasInto, IsFrom}
 use Rattle.octet_regions.proofs.Walking.{cycle_is, walks_more, was_there}
 use Rattle.octet_regions.proofs.chooser.Chooser.cycle.Goals as goal
 
 pub loop-came-preserved : goal.loop-came-preserved
 loop-came-preserved c =
     let inv = c.loop-came.invariant in
-    let within = slice_get_within c.args.self.now.lanes.items c.loop-came.at inv.behind.lane inv.behind.is_there in
+    let within = slice_get_within c.args.self.now.queues.items c.loop-came.at inv.behind.queue inv.behind.is_there in
     let within' : c.loop-came.at < length c.loop-came.came.items = omega (arith, within, inv.many) in
     let at = slice_get_read c.loop-came.came.items (length c.loop-came.came.items) c.loop-came.at c.index.result.now refl within' c.index.ensures in
     record {
@@ -24,7 +24,7 @@ loop-came-preserved c =
 pub from_thread-requires : goal.from_thread-requires
 from_thread-requires c =
     let inv = c.loop-came.invariant in
-    let within = slice_get_within c.args.self.now.lanes.items c.loop-came.at inv.behind.lane inv.behind.is_there in
+    let within = slice_get_within c.args.self.now.queues.items c.loop-came.at inv.behind.queue inv.behind.is_there in
     let within' : c.loop-came.at < length c.loop-came.came.items = omega (arith, within, inv.many) in
     let at = slice_get_read c.loop-came.came.items (length c.loop-came.came.items) c.loop-came.at c.index.result.now refl within' c.index.ensures in
     subst (λ (hops : List Hop). HasInto hops c.loop-came.at) (sym c.deref.ensures.value)

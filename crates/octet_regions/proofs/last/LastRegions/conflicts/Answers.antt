@@ -1,6 +1,6 @@
 use Rattle.std.proofs.Common.{true, false, sym, ◌∙◌}
-use Rattle.octet_regions.specs.Bounds.{bounds_of}
-use Rattle.octet_regions.proofs.Tables.{conflicts_by}
+use Rattle.octet_regions.specs.code.Bounds.{bounds_of}
+use Rattle.octet_regions.proofs.LastAccesses.{conflicts_by}
 use Rattle.octet_regions.proofs.last.LastRegions.conflicts.Goals as goal
 
 pub returns-then-writes : goal.returns-then-writes

@@ -1,5 +1,5 @@
 use Rattle.std.proofs.Common.{sym, refl, arith, ◌∙◌}
-use Rattle.octet_regions.proofs.Tables.{keeps_both, keeps_read, keeps_no_access}
+use Rattle.octet_regions.proofs.LastAccesses.{keeps_both, keeps_read, keeps_no_access}
 use Rattle.octet_regions.proofs.last.LastRegions.note.Goals as goal
 
 pub returns-in_default : goal.returns-in_default

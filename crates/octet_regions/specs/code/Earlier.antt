@@ -3,13 +3,13 @@ use Rattle.std.specs.Prelude.{◌≡◌, ◌≢◌, ℕ, ◌-◌, ◌<◌, ◌�
 use Rattle.octet_model.specs.HappensBefore.{object_of, is_write}
 use Rattle.octet_regions.specs.declared.access.Access.{Access}
 use Rattle.octet_regions.specs.declared.bounds.Bounds.{Bounds}
-use Rattle.octet_regions.specs.declared.lane.Lane.{Lane}
-use Rattle.octet_regions.specs.declared.lane.Node.{Node}
-use Rattle.octet_regions.specs.declared.lane.Wait.{Wait}
+use Rattle.octet_regions.specs.declared.queue.RegionQueue.{RegionQueue}
+use Rattle.octet_regions.specs.declared.queue.QueuedRegion.{QueuedRegion}
+use Rattle.octet_regions.specs.declared.queue.Wait.{Wait}
 use Rattle.octet_regions.specs.declared.last.LastRegions.{LastRegions}
 use Rattle.octet_regions.specs.declared.region.Region.{Region}
 use Rattle.octet_regions.specs.Before.{InConflict, IsRegion, RegionBefore}
-use Rattle.octet_regions.specs.Bounds.{bound_in, last_in, IsBound}
+use Rattle.octet_regions.specs.code.Bounds.{bound_in, last_in, IsBound}
 
 -- an access of the region is of the object, and writes where not any will do
 pub record Touches (seen : List Access) (any : Bool) (object : ℕ) (region : Region) : Type 0 where
@@ -68,51 +68,51 @@ pub record HoldsBack (seen : List Access) (region : Region) (wait : Wait) : Type
   pub is_before : RegionBefore seen (region_of wait.of (wait.bound - 1)) region
 
 -- the regions of a thread, in order, and what they wait for: each wait is of the first region whose waits come up to it, and holds that one back; a region that is before another is waited for up to that one's last wait
-pub record KeepsLane (seen : List Access) (thread : ℕ) (nodes : List Node) (waits : List Wait) : Type 0 where
-  pub rising : (i j : ℕ) (one other : Node) → i < j → slice_get nodes i ≡ Some one → slice_get nodes j ≡ Some other → one.number < other.number
-  pub each : (i : ℕ) (node : Node) → slice_get nodes i ≡ Some node → IsRegion seen (region_of thread node.number)
-  pub all : (number : ℕ) → IsRegion seen (region_of thread number) → (i : ℕ) × (node : Node) × (slice_get nodes i ≡ Some node) × (node.number ≡ number)
-  pub in_order : (i j : ℕ) (one other : Node) → i < j → slice_get nodes i ≡ Some one → slice_get nodes j ≡ Some other → one.waits_upto ≤ other.waits_upto
-  pub within : (i : ℕ) (node : Node) → slice_get nodes i ≡ Some node → node.waits_upto ≤ length waits
-  pub spanned : (k : ℕ) → k < length waits → (i : ℕ) × (node : Node) × (slice_get nodes i ≡ Some node) × (k < node.waits_upto)
-  pub held : (i k : ℕ) (node : Node) (wait : Wait) → slice_get nodes i ≡ Some node → slice_get waits k ≡ Some wait → k < node.waits_upto
-      → ((j : ℕ) (earlier : Node) → j < i → slice_get nodes j ≡ Some earlier → earlier.waits_upto ≤ k) → HoldsBack seen (region_of thread node.number) wait
-  pub awaited : (i : ℕ) (node : Node) (region : Region) → slice_get nodes i ≡ Some node → RegionBefore seen region (region_of thread node.number) → IsAwaited waits node.waits_upto region.thread region.number
+pub record KeepsQueue (seen : List Access) (thread : ℕ) (regions : List QueuedRegion) (waits : List Wait) : Type 0 where
+  pub rising : (i j : ℕ) (one other : QueuedRegion) → i < j → slice_get regions i ≡ Some one → slice_get regions j ≡ Some other → one.number < other.number
+  pub each : (i : ℕ) (item : QueuedRegion) → slice_get regions i ≡ Some item → IsRegion seen (region_of thread item.number)
+  pub all : (number : ℕ) → IsRegion seen (region_of thread number) → (i : ℕ) × (item : QueuedRegion) × (slice_get regions i ≡ Some item) × (item.number ≡ number)
+  pub in_order : (i j : ℕ) (one other : QueuedRegion) → i < j → slice_get regions i ≡ Some one → slice_get regions j ≡ Some other → one.waits_upto ≤ other.waits_upto
+  pub within : (i : ℕ) (item : QueuedRegion) → slice_get regions i ≡ Some item → item.waits_upto ≤ length waits
+  pub spanned : (k : ℕ) → k < length waits → (i : ℕ) × (item : QueuedRegion) × (slice_get regions i ≡ Some item) × (k < item.waits_upto)
+  pub held : (i k : ℕ) (item : QueuedRegion) (wait : Wait) → slice_get regions i ≡ Some item → slice_get waits k ≡ Some wait → k < item.waits_upto
+      → ((j : ℕ) (earlier : QueuedRegion) → j < i → slice_get regions j ≡ Some earlier → earlier.waits_upto ≤ k) → HoldsBack seen (region_of thread item.number) wait
+  pub awaited : (i : ℕ) (item : QueuedRegion) (region : Region) → slice_get regions i ≡ Some item → RegionBefore seen region (region_of thread item.number) → IsAwaited waits item.waits_upto region.thread region.number
 
--- waits of a lane that are over by these bounds are gone past, and nothing else is changed
-pub record PassesWaits (before : Lane) (taken : Bounds) (after : Lane) : Type 0 where
-  pub nodes : after.nodes ≡ before.nodes
+-- waits of a queue that are over by these bounds are gone past, and nothing else is changed
+pub record PassesWaits (before : RegionQueue) (taken : Bounds) (after : RegionQueue) : Type 0 where
+  pub regions : after.regions ≡ before.regions
   pub waits : after.waits ≡ before.waits
   pub taken_is : after.taken ≡ before.taken
   pub further : before.over ≤ after.over
   pub passed : (k : ℕ) (wait : Wait) → before.over ≤ k → k < after.over → slice_get before.waits.items k ≡ Some wait → wait.bound ≤ bound_in taken wait.of
 
 -- the next region waits for nothing more, or what it waits for next is not taken
-pub record IsHeld (lane : Lane) (taken : Bounds) (node : Node) : Type 0 where
-  pub is_next : slice_get lane.nodes.items lane.taken ≡ Some node
+pub record IsHeld (queue : RegionQueue) (taken : Bounds) (item : QueuedRegion) : Type 0 where
+  pub is_next : slice_get queue.regions.items queue.taken ≡ Some item
   pub wait : Wait
-  pub is_there : slice_get lane.waits.items lane.over ≡ Some wait
-  pub sooner : lane.over < node.waits_upto
+  pub is_there : slice_get queue.waits.items queue.over ≡ Some wait
+  pub sooner : queue.over < item.waits_upto
   pub above : bound_in taken wait.of < wait.bound
 
-abbrev pub TellsFree : Lane → Bounds → Option ℕ → Type 0
-TellsFree lane taken (Some number) = (node : Node) × (slice_get lane.nodes.items lane.taken ≡ Some node) × (node.number ≡ number) × (node.waits_upto ≤ lane.over)
-TellsFree lane taken None = (slice_get lane.nodes.items lane.taken ≡ None) ⊎ ((node : Node) × IsHeld lane taken node)
+abbrev pub TellsFree : RegionQueue → Bounds → Option ℕ → Type 0
+TellsFree queue taken (Some number) = (item : QueuedRegion) × (slice_get queue.regions.items queue.taken ≡ Some item) × (item.number ≡ number) × (item.waits_upto ≤ queue.over)
+TellsFree queue taken None = (slice_get queue.regions.items queue.taken ≡ None) ⊎ ((item : QueuedRegion) × IsHeld queue taken item)
 
 -- up to a place, and from the first that is not over on, a wait for a region of this thread that is not taken
-pub record IsUnmet (lane : Lane) (taken : Bounds) (upto other : ℕ) : Type 0 where
+pub record IsUnmet (queue : RegionQueue) (taken : Bounds) (upto other : ℕ) : Type 0 where
   pub place : ℕ
   pub wait : Wait
-  pub is_there : slice_get lane.waits.items place ≡ Some wait
-  pub from_here : lane.over ≤ place
+  pub is_there : slice_get queue.waits.items place ≡ Some wait
+  pub from_here : queue.over ≤ place
   pub sooner : place < upto
   pub of_thread : wait.of ≡ other
   pub above : bound_in taken other < wait.bound
 
 -- the lowest thread of which there is such a wait
-abbrev pub LowestUnmet : Lane → Bounds → ℕ → Option ℕ → Type 0
-LowestUnmet lane taken upto (Some other) = IsUnmet lane taken upto other × ((lower : ℕ) → lower < other → ¬ IsUnmet lane taken upto lower)
-LowestUnmet lane taken upto None = (other : ℕ) → ¬ IsUnmet lane taken upto other
+abbrev pub LowestUnmet : RegionQueue → Bounds → ℕ → Option ℕ → Type 0
+LowestUnmet queue taken upto (Some other) = IsUnmet queue taken upto other × ((lower : ℕ) → lower < other → ¬ IsUnmet queue taken upto lower)
+LowestUnmet queue taken upto None = (other : ℕ) → ¬ IsUnmet queue taken upto other
 
 abbrev pub is_lower : ℕ → Option ℕ → Bool
 is_lower thread (Some other) = nat_lt thread other

@@ -1,11 +1,11 @@
 use Rattle.std.proofs.Common.{◌≡◌, ◌-◌, ◌<◌, ◌≤◌, ℕ, Some, slice_get}
-use Rattle.octet_regions.specs.declared.lane.Wait.{Wait}
-use Rattle.octet_regions.specs.Bounds.{bound_in}
-use Rattle.octet_regions.proofs.lane.Lane.free.Given as goal
+use Rattle.octet_regions.specs.declared.queue.Wait.{Wait}
+use Rattle.octet_regions.specs.code.Bounds.{bound_in}
+use Rattle.octet_regions.proofs.queue.RegionQueue.free.Given as goal
 
 abbrev pub invariant-loop-self : goal.invariant-loop-self
 invariant-loop-self l = record {
-  nodes : l.self.nodes ≡ l.fn.self.nodes;
+  regions : l.self.regions ≡ l.fn.self.regions;
   waits : l.self.waits ≡ l.fn.self.waits;
   taken : l.self.taken ≡ l.fn.self.taken;
   further : l.fn.self.over ≤ l.self.over;
@@ -13,4 +13,4 @@ invariant-loop-self l = record {
 }
 
 abbrev pub decreases-loop-self : goal.decreases-loop-self
-decreases-loop-self l = l.node.waits_upto - l.self.over
+decreases-loop-self l = l.item.waits_upto - l.self.over

@@ -7,8 +7,8 @@ use Rattle.octet_regions.specs.declared.access.Access.{Access}
 use Rattle.octet_regions.specs.declared.bounds.Bounds.{Bounds}
 use Rattle.octet_regions.specs.declared.region.Region.{Region}
 use Rattle.octet_regions.specs.declared.last.LastRegions.{LastRegions}
-use Rattle.octet_regions.specs.Bounds.{last_in, IsBound, IsNoted}
-use Rattle.octet_regions.specs.Earlier.{Touches, Conflicts, KeepsLast, BoundConflicts, region_of}
+use Rattle.octet_regions.specs.code.Bounds.{last_in, IsBound, IsNoted}
+use Rattle.octet_regions.specs.code.Earlier.{Touches, Conflicts, KeepsLast, BoundConflicts, region_of}
 
 -- the item at a place of a list with one more is one of the list, or the one more
 pub last_cases : {X : Type 0} (xs : List X) (y : X) (i : ℕ) (x : X) → slice_get (xs ++ y ∷ []) i ≡ Some x → (slice_get xs i ≡ Some x) ⊎ ((i ≡ length xs) × (x ≡ y))

@@ -1,7 +1,7 @@
 use Rattle.std.proofs.Common.{◌≡◌, Some, inl, length, slice_get, refl, sym, ◌∙◌, arith}
 use Rattle.std.proofs.lemmas.Option.{slice_get_read}
 use Rattle.octet_regions.proofs.Waiting.{unmet_all, unmet_found, unmet_skip}
-use Rattle.octet_regions.proofs.lane.Lane.lowest_unmet.Goals as goal
+use Rattle.octet_regions.proofs.queue.RegionQueue.lowest_unmet.Goals as goal
 
 pub loop-place-preserved-then-wait-of : goal.loop-place-preserved-then-wait-of
 loop-place-preserved-then-wait-of c =
@@ -34,4 +34,4 @@ loop-place-preserved c =
     }
 
 pub returns : goal.returns
-returns c = unmet_all c.args.self.now c.args.taken.now c.loop-place.place c.args.node.waits_upto c.loop-place.lowest (omega (arith, c.loop-place-test.false)) c.loop-place.invariant.within c.loop-place.invariant.lowest
+returns c = unmet_all c.args.self.now c.args.taken.now c.loop-place.place c.args.item.waits_upto c.loop-place.lowest (omega (arith, c.loop-place-test.false)) c.loop-place.invariant.within c.loop-place.invariant.lowest

@@ -2,10 +2,10 @@ use denote.Ref.{Bor}
 use Rattle.std.proofs.Common.{Option, sym, subst}
 use Rattle.std.specs.Prelude.{OnOk}
 use Rattle.octet_regions.specs.declared.bounds.Bounds.{Bounds}
-use Rattle.octet_regions.specs.Bounds.{bounds_of}
-use Rattle.octet_regions.specs.Earlier.{AddsWaits}
+use Rattle.octet_regions.specs.code.Bounds.{bounds_of}
+use Rattle.octet_regions.specs.code.Earlier.{AddsWaits}
 use Rattle.octet_regions.proofs.Waiting.{adds_nothing}
-use Rattle.octet_regions.proofs.lane.Lane.add_waits.Goals as goal
+use Rattle.octet_regions.proofs.queue.RegionQueue.add_waits.Goals as goal
 
 pub returns-in-Some-clause-adds : goal.returns-in-Some-clause-adds
 returns-in-Some-clause-adds c =

@@ -1,18 +1,18 @@
 use Rattle.std.proofs.Common.{◌≡◌, ◌-◌, List, length}
 use Rattle.octet_model.specs.Orders.{lowest_order}
 use Rattle.octet_regions.specs.declared.access.Access.{Access}
-use Rattle.octet_regions.specs.Chooser.{AreLanesOf}
-use Rattle.octet_regions.specs.Earlier.{KeepsLast}
-use Rattle.octet_regions.specs.Gather.{Gathered}
-use Rattle.octet_regions.proofs.chooser.lanes_of.Given as goal
+use Rattle.octet_regions.specs.code.Chooser.{AreQueuesOf}
+use Rattle.octet_regions.specs.code.Earlier.{KeepsLast}
+use Rattle.octet_regions.specs.code.Gather.{AccessesSoFar}
+use Rattle.octet_regions.proofs.chooser.queues_of.Given as goal
 
 abbrev pub invariant-loop-access : goal.invariant-loop-access
 invariant-loop-access l = record {
   script : l.replayer.script ≡ l.fn.replayer.script;
   log : l.replayer.log ≡ l.fn.replayer.log;
   seen : List Access;
-  gathered : Gathered l.replayer seen;
-  lanes : AreLanesOf l.threads seen l.lanes.items;
+  gathered : AccessesSoFar l.replayer seen;
+  queues : AreQueuesOf l.threads seen l.queues.items;
   last : KeepsLast seen l.last;
 }
 

@@ -6,7 +6,7 @@ use Rattle.octet_regions.specs.declared.region.Region.{Region}
 use Rattle.octet_regions.specs.declared.region.Hop.{Hop}
 use Rattle.octet_regions.specs.Choice.{IsWalk, walk_end}
 use Rattle.octet_regions.specs.Before.{RegionBefore}
-use Rattle.octet_regions.specs.Earlier.{KeepsLast, region_of}
+use Rattle.octet_regions.specs.code.Earlier.{KeepsLast, region_of}
 
 -- of the regions of a thread from a number on, the earliest that is before a region by an access at or after a place
 abbrev pub EarliestFrom : List Access → ℕ → ℕ → ℕ → Region → Option ℕ → Type 0

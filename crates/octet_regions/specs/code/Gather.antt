@@ -13,7 +13,7 @@ is_access (Marked mark) = false
 is_access _ = true
 
 -- the accesses of the steps so far, of threads that are there, in regions of small numbers
-pub record Gathered (r : ReplayState) (accesses : List Access) : Type 0 where
+pub record AccessesSoFar (r : ReplayState) (accesses : List Access) : Type 0 where
   pub all : accesses ≡ accesses_along r.script r.log.threads (opening_state r.script) (take r.steps (lowest_order r.script r.log.threads))
   pub there : (place : ℕ) (access : Access) → slice_get accesses place ≡ Some access → access.region.thread < length r.script.threads
   pub few : (place : ℕ) (access : Access) → slice_get accesses place ≡ Some access → access.region.number ≤ MAX_FUEL
@@ -21,7 +21,7 @@ pub record Gathered (r : ReplayState) (accesses : List Access) : Type 0 where
 -- one access more, further in the lowest order; or the order has ended
 abbrev pub AddsAccess : ReplayState → Option Access → ReplayState → Type 0
 AddsAccess before (Some access) after =
-    ((seen : List Access) → Gathered before seen → Gathered after (seen ++ access ∷ []))
+    ((seen : List Access) → AccessesSoFar before seen → AccessesSoFar after (seen ++ access ∷ []))
     × (access.region.thread < length before.script.threads) × (access.region.number ≤ MAX_FUEL)
     × (before.steps < after.steps) × (after.steps ≤ length (lowest_order before.script before.log.threads))
-AddsAccess before None after = ((seen : List Access) → Gathered before seen → Gathered after seen) × HasHalted after
+AddsAccess before None after = ((seen : List Access) → AccessesSoFar before seen → AccessesSoFar after seen) × HasHalted after

@@ -1,5 +1,0 @@
-use Rattle.octet_regions.proofs.Laning.{empty_more}
-use Rattle.octet_regions.proofs.chooser.empty_lanes.Goals as goal
-
-pub loop-preserved : goal.loop-preserved
-loop-preserved c = empty_more c.loop.counter c.loop.lanes.items c.push.new.self.items c.new.result c.in_ok-push.ensures.items (record { nodes = c.new.ensures.nodes; waits = c.new.ensures.waits; known = c.new.ensures.known; taken = c.new.ensures.taken; over = c.new.ensures.over }) c.loop.invariant
