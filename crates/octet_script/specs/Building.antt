@@ -18,8 +18,8 @@ draft b = record {
 }
 
 -- with the present thread among those before
-abbrev pub kept : Draft → Draft
-kept p = record p { threads = threads_of p; commands = [] }
+abbrev pub with_present_thread : Draft → Draft
+with_present_thread p = record p { threads = threads_of p; commands = [] }
 
 -- with the openers that are still open: each is ended once all is valid
 pub record IsValidSoFar (p : Draft) : Type 0 where

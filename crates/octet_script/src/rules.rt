@@ -4,7 +4,7 @@ ghost use Rattle.octet_model.specs.Name.{IsName};
 ghost use Rattle.octet_script.specs.Words.{texts};
 ghost use Rattle.octet_script.specs.Spelling.{contents, object_named};
 ghost use Rattle.octet_script.specs.Parsing.{start, Gives, is_misplaced, with_fuel, with_object, with_command, all_closed, closed, added, threads_of, names_of, fuel_of, with_thread, judged_arguments, judged_line, judged_end};
-ghost use Rattle.octet_script.specs.Building.{draft, kept, IsValidSoFar};
+ghost use Rattle.octet_script.specs.Building.{draft, with_present_thread, IsValidSoFar};
 
 use crate::builder::Builder;
 use crate::keyword::Keyword;
@@ -189,7 +189,7 @@ impl<'a> Builder<'a> {
     // Keeps the present thread, and makes room for the next.
     fn keep_thread(&mut self, alloc: Global) -> Result<(), ScriptFault>
         requires { length (threads_of (draft self.old)) ≤ MAX_THREADS }
-        ensures kept { OnOk result (draft self.new ≡ kept (draft self.old)) }
+        ensures thread { OnOk result (draft self.new ≡ with_present_thread (draft self.old)) }
         ensures memory { IfErr result (λ e. e ≡ ScriptFault.OutOfMemory) }
     {
         let commands = std::mem::replace(&mut self.commands, List::new(alloc));

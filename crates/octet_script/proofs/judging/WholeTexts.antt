@@ -41,8 +41,8 @@ each_ok : {A B : Type 0} (r : Result A ScriptFault) (f : A → Result B ScriptFa
 each_ok (Ok x) f P all y is = all x y is
 each_ok (Err e) f P all y is = cc
 
-made : {B : Type 0} (P : B → Type 0) (x : B) → P x → (y : B) → ◌≡◌ {A = Result B ScriptFault} (Ok x) (Ok y) → P y
-made P x holds y is =
+of_ok : {B : Type 0} (P : B → Type 0) (x : B) → P x → (y : B) → ◌≡◌ {A = Result B ScriptFault} (Ok x) (Ok y) → P y
+of_ok P x holds y is =
     let same : x ≡ y = cc in
     subst P same holds
 
@@ -67,7 +67,7 @@ Changes k p line q = (q.openers ≡ openers_after k line p.openers) × (q.starte
 
 added_plain : (p : Draft) (line : ℕ) (c : Command) → is_plain c ≡ true → (q : Draft) → with_command p line c ≡ Ok q → (q.openers ≡ p.openers) × (q.started ≡ p.started)
 added_plain p line c plain q is =
-    made (λ r. (r.openers ≡ p.openers) × (r.started ≡ p.started)) (added p c p.openers) (refl, refl) q (sym (with_plain p line c plain) ∙ is)
+    of_ok (λ r. (r.openers ≡ p.openers) × (r.started ≡ p.started)) (added p c p.openers) (refl, refl) q (sym (with_plain p line c plain) ∙ is)
 
 plain_operation : (op : Arithmetic) (to left right : ℕ) → is_plain (arithmetic_command op to left right) ≡ true
 plain_operation operation.Add to left right = refl
@@ -79,66 +79,66 @@ plain_operation operation.Same to left right = refl
 
 closes : (p : Draft) (line : ℕ) (openers : List ℕ) → p.openers ≡ openers → (q : Draft) → closed p line openers ≡ Ok q → (q.openers ≡ openers_after (CommandWord verb.End) line openers) × (q.started ≡ p.started)
 closes p line [] are q is = cc
-closes p line (opener ∷ openers) are q is = made (λ r. (r.openers ≡ openers) × (r.started ≡ p.started)) (added p command.Close openers) (refl, refl) q is
+closes p line (opener ∷ openers) are q is = of_ok (λ r. (r.openers ≡ openers) × (r.started ≡ p.started)) (added p command.Close openers) (refl, refl) q is
 
 command_changes : (p : Draft) (line : ℕ) (words : List (List ℕ)) (v : Verb) (c : Command) → command_of (names_of p) line words v ≡ Ok c → (q : Draft) → with_command p line c ≡ Ok q → Changes (CommandWord v) p line q
 command_changes p line words verb.Set c is =
     each_ok (register_at line words 1) _ (λ d. (q : Draft) → with_command p line d ≡ Ok q → Changes (CommandWord verb.Set) p line q) (λ to.
     each_ok (number_at line words 2) _ (λ d. (q : Draft) → with_command p line d ≡ Ok q → Changes (CommandWord verb.Set) p line q) (λ n.
-    made (λ d. (q : Draft) → with_command p line d ≡ Ok q → Changes (CommandWord verb.Set) p line q) (command.Set to n) (added_plain p line (command.Set to n) refl))) c is
+    of_ok (λ d. (q : Draft) → with_command p line d ≡ Ok q → Changes (CommandWord verb.Set) p line q) (command.Set to n) (added_plain p line (command.Set to n) refl))) c is
 command_changes p line words verb.Copy c is =
     each_ok (register_at line words 1) _ (λ d. (q : Draft) → with_command p line d ≡ Ok q → Changes (CommandWord verb.Copy) p line q) (λ to.
     each_ok (register_at line words 2) _ (λ d. (q : Draft) → with_command p line d ≡ Ok q → Changes (CommandWord verb.Copy) p line q) (λ from.
-    made (λ d. (q : Draft) → with_command p line d ≡ Ok q → Changes (CommandWord verb.Copy) p line q) (command.Copy to from) (added_plain p line (command.Copy to from) refl))) c is
+    of_ok (λ d. (q : Draft) → with_command p line d ≡ Ok q → Changes (CommandWord verb.Copy) p line q) (command.Copy to from) (added_plain p line (command.Copy to from) refl))) c is
 command_changes p line words (verb.Arithmetic op) c is =
     each_ok (register_at line words 1) _ (λ d. (q : Draft) → with_command p line d ≡ Ok q → Changes (CommandWord (verb.Arithmetic op)) p line q) (λ to.
     each_ok (register_at line words 2) _ (λ d. (q : Draft) → with_command p line d ≡ Ok q → Changes (CommandWord (verb.Arithmetic op)) p line q) (λ left.
     each_ok (register_at line words 3) _ (λ d. (q : Draft) → with_command p line d ≡ Ok q → Changes (CommandWord (verb.Arithmetic op)) p line q) (λ right.
-    made (λ d. (q : Draft) → with_command p line d ≡ Ok q → Changes (CommandWord (verb.Arithmetic op)) p line q) (arithmetic_command op to left right) (added_plain p line (arithmetic_command op to left right) (plain_operation op to left right))))) c is
+    of_ok (λ d. (q : Draft) → with_command p line d ≡ Ok q → Changes (CommandWord (verb.Arithmetic op)) p line q) (arithmetic_command op to left right) (added_plain p line (arithmetic_command op to left right) (plain_operation op to left right))))) c is
 command_changes p line words verb.Read c is =
     each_ok (register_at line words 1) _ (λ d. (q : Draft) → with_command p line d ≡ Ok q → Changes (CommandWord verb.Read) p line q) (λ to.
     each_ok (object_at (names_of p) line words 2) _ (λ d. (q : Draft) → with_command p line d ≡ Ok q → Changes (CommandWord verb.Read) p line q) (λ object.
-    made (λ d. (q : Draft) → with_command p line d ≡ Ok q → Changes (CommandWord verb.Read) p line q) (command.Read to object) (added_plain p line (command.Read to object) refl))) c is
+    of_ok (λ d. (q : Draft) → with_command p line d ≡ Ok q → Changes (CommandWord verb.Read) p line q) (command.Read to object) (added_plain p line (command.Read to object) refl))) c is
 command_changes p line words verb.Write c is =
     each_ok (object_at (names_of p) line words 1) _ (λ d. (q : Draft) → with_command p line d ≡ Ok q → Changes (CommandWord verb.Write) p line q) (λ object.
     each_ok (register_at line words 2) _ (λ d. (q : Draft) → with_command p line d ≡ Ok q → Changes (CommandWord verb.Write) p line q) (λ from.
-    made (λ d. (q : Draft) → with_command p line d ≡ Ok q → Changes (CommandWord verb.Write) p line q) (command.Write object from) (added_plain p line (command.Write object from) refl))) c is
+    of_ok (λ d. (q : Draft) → with_command p line d ≡ Ok q → Changes (CommandWord verb.Write) p line q) (command.Write object from) (added_plain p line (command.Write object from) refl))) c is
 command_changes p line words verb.Bump c is =
     each_ok (object_at (names_of p) line words 1) _ (λ d. (q : Draft) → with_command p line d ≡ Ok q → Changes (CommandWord verb.Bump) p line q) (λ object.
     each_ok (register_at line words 2) _ (λ d. (q : Draft) → with_command p line d ≡ Ok q → Changes (CommandWord verb.Bump) p line q) (λ from.
-    made (λ d. (q : Draft) → with_command p line d ≡ Ok q → Changes (CommandWord verb.Bump) p line q) (command.Bump object from) (added_plain p line (command.Bump object from) refl))) c is
+    of_ok (λ d. (q : Draft) → with_command p line d ≡ Ok q → Changes (CommandWord verb.Bump) p line q) (command.Bump object from) (added_plain p line (command.Bump object from) refl))) c is
 command_changes p line words verb.While c is =
     each_ok (register_at line words 1) _ (λ d. (q : Draft) → with_command p line d ≡ Ok q → Changes (CommandWord verb.While) p line q) (λ test.
-    made (λ d. (q : Draft) → with_command p line d ≡ Ok q → Changes (CommandWord verb.While) p line q) (command.Loop test)
-    (made (λ r. Changes (CommandWord verb.While) p line r) (added p (command.Loop test) (line ∷ p.openers)) (refl, refl))) c is
+    of_ok (λ d. (q : Draft) → with_command p line d ≡ Ok q → Changes (CommandWord verb.While) p line q) (command.Loop test)
+    (of_ok (λ r. Changes (CommandWord verb.While) p line r) (added p (command.Loop test) (line ∷ p.openers)) (refl, refl))) c is
 command_changes p line words verb.If c is =
     each_ok (register_at line words 1) _ (λ d. (q : Draft) → with_command p line d ≡ Ok q → Changes (CommandWord verb.If) p line q) (λ test.
-    made (λ d. (q : Draft) → with_command p line d ≡ Ok q → Changes (CommandWord verb.If) p line q) (command.Branch test)
-    (made (λ r. Changes (CommandWord verb.If) p line r) (added p (command.Branch test) (line ∷ p.openers)) (refl, refl))) c is
+    of_ok (λ d. (q : Draft) → with_command p line d ≡ Ok q → Changes (CommandWord verb.If) p line q) (command.Branch test)
+    (of_ok (λ r. Changes (CommandWord verb.If) p line r) (added p (command.Branch test) (line ∷ p.openers)) (refl, refl))) c is
 command_changes p line words verb.End c is =
-    made (λ d. (q : Draft) → with_command p line d ≡ Ok q → Changes (CommandWord verb.End) p line q) command.Close (closes p line p.openers refl) c is
+    of_ok (λ d. (q : Draft) → with_command p line d ≡ Ok q → Changes (CommandWord verb.End) p line q) command.Close (closes p line p.openers refl) c is
 command_changes p line words verb.Safe c is =
-    made (λ d. (q : Draft) → with_command p line d ≡ Ok q → Changes (CommandWord verb.Safe) p line q) command.Safe (added_plain p line command.Safe refl) c is
+    of_ok (λ d. (q : Draft) → with_command p line d ≡ Ok q → Changes (CommandWord verb.Safe) p line q) command.Safe (added_plain p line command.Safe refl) c is
 command_changes p line words verb.Pause c is =
-    made (λ d. (q : Draft) → with_command p line d ≡ Ok q → Changes (CommandWord verb.Pause) p line q) command.Pause (added_plain p line command.Pause refl) c is
+    of_ok (λ d. (q : Draft) → with_command p line d ≡ Ok q → Changes (CommandWord verb.Pause) p line q) command.Pause (added_plain p line command.Pause refl) c is
 command_changes p line words verb.Region c is =
-    made (λ d. (q : Draft) → with_command p line d ≡ Ok q → Changes (CommandWord verb.Region) p line q) command.Region (added_plain p line command.Region refl) c is
+    of_ok (λ d. (q : Draft) → with_command p line d ≡ Ok q → Changes (CommandWord verb.Region) p line q) command.Region (added_plain p line command.Region refl) c is
 
 arguments_change : (p : Draft) (line : ℕ) (words : List (List ℕ)) (k : Keyword) (q : Draft) → judged_arguments p line words k ≡ Ok q → Changes k p line q
 arguments_change p line words Fuel =
     each_ok (number_at line words 1) (with_fuel p line) (Changes Fuel p line) (λ fuel.
     guarded (is_some p.fuel || fuel == 0 || nat_lt 262144 fuel) (Refused line BadFuel) _ (Changes Fuel p line)
-    (made (Changes Fuel p line) (record p { fuel = Some fuel }) (refl, refl)))
+    (of_ok (Changes Fuel p line) (record p { fuel = Some fuel }) (refl, refl)))
 arguments_change p line words Object =
     each_ok (name_at (names_of p) line words 1) _ (Changes Object p line) (λ name.
     each_ok (number_at line words 2) _ (Changes Object p line) (λ value.
     guarded (nat_le 1024 (length p.objects)) (Refused line TooMany) _ (Changes Object p line)
-    (made (Changes Object p line) (record p { objects = p.objects ++ record { name = name; start = value } ∷ [] }) (refl, refl))))
+    (of_ok (Changes Object p line) (record p { objects = p.objects ++ record { name = name; start = value } ∷ [] }) (refl, refl))))
 arguments_change p line words Thread =
     each_ok (all_closed p.openers) _ (Changes Thread p line) (λ _.
     guarded (nat_le 16 (length (threads_of p))) (Refused line TooMany) _ (Changes Thread p line)
     (guarded (nat_lt 262144 (suc (length (threads_of p)) * fuel_of p)) (Refused line BadFuel) _ (Changes Thread p line)
-    (made (Changes Thread p line) (record p { started = true; threads = threads_of p; commands = [] }) (refl, refl))))
+    (of_ok (Changes Thread p line) (record p { started = true; threads = threads_of p; commands = [] }) (refl, refl))))
 arguments_change p line words (CommandWord v) = λ q is.
     let c = bind_ok (command_of (names_of p) line words v) (with_command p line) q is in
     command_changes p line words v c.0 c.1 q c.2

@@ -193,6 +193,13 @@ good_object names o are is =
 good_name : (names : List (List ℕ)) (name : List ℕ) → is_name name ≡ true → IsGoodPart names (New name)
 good_name names name is = record { clean = name_clean name is; written = (refl, is) }
 
+good_three : (names : List (List ℕ)) (to left right : ℕ) → (nat_lt to 16 && nat_lt left 16 && nat_lt right 16) ≡ true
+    → AreGoodParts names (Register to ∷ Register left ∷ Register right ∷ [])
+good_three names to left right is =
+    let all = both_true (nat_lt to 16 && nat_lt left 16) (nat_lt right 16) is in
+    let both = both_true (nat_lt to 16) (nat_lt left 16) all.0 in
+    (good_register names to both.0, (good_register names left both.1, (good_register names right all.1, tt)))
+
 good_command : (names : List (List ℕ)) (c : Command) → AreNames names → is_command (length names) c ≡ true → (is_filled (command_form c) ≡ true) × AreGoodParts names (command_form c)
 good_command names (command.Set to number) are is =
     let both = both_true (nat_lt to 16) (nat_lt number (2 ^ 64)) is in
@@ -200,30 +207,12 @@ good_command names (command.Set to number) are is =
 good_command names (command.Copy to from) are is =
     let both = both_true (nat_lt to 16) (nat_lt from 16) is in
     (refl, (good_word names (codes "copy") refl refl, (good_register names to both.0, (good_register names from both.1, tt))))
-good_command names (command.Add to left right) are is =
-    let all = both_true (nat_lt to 16 && nat_lt left 16) (nat_lt right 16) is in
-    let both = both_true (nat_lt to 16) (nat_lt left 16) all.0 in
-    (refl, (good_word names (codes "add") refl refl, (good_register names to both.0, (good_register names left both.1, (good_register names right all.1, tt)))))
-good_command names (command.Sub to left right) are is =
-    let all = both_true (nat_lt to 16 && nat_lt left 16) (nat_lt right 16) is in
-    let both = both_true (nat_lt to 16) (nat_lt left 16) all.0 in
-    (refl, (good_word names (codes "sub") refl refl, (good_register names to both.0, (good_register names left both.1, (good_register names right all.1, tt)))))
-good_command names (command.Mul to left right) are is =
-    let all = both_true (nat_lt to 16 && nat_lt left 16) (nat_lt right 16) is in
-    let both = both_true (nat_lt to 16) (nat_lt left 16) all.0 in
-    (refl, (good_word names (codes "mul") refl refl, (good_register names to both.0, (good_register names left both.1, (good_register names right all.1, tt)))))
-good_command names (command.Xor to left right) are is =
-    let all = both_true (nat_lt to 16 && nat_lt left 16) (nat_lt right 16) is in
-    let both = both_true (nat_lt to 16) (nat_lt left 16) all.0 in
-    (refl, (good_word names (codes "xor") refl refl, (good_register names to both.0, (good_register names left both.1, (good_register names right all.1, tt)))))
-good_command names (command.Less to left right) are is =
-    let all = both_true (nat_lt to 16 && nat_lt left 16) (nat_lt right 16) is in
-    let both = both_true (nat_lt to 16) (nat_lt left 16) all.0 in
-    (refl, (good_word names (codes "less") refl refl, (good_register names to both.0, (good_register names left both.1, (good_register names right all.1, tt)))))
-good_command names (command.Same to left right) are is =
-    let all = both_true (nat_lt to 16 && nat_lt left 16) (nat_lt right 16) is in
-    let both = both_true (nat_lt to 16) (nat_lt left 16) all.0 in
-    (refl, (good_word names (codes "same") refl refl, (good_register names to both.0, (good_register names left both.1, (good_register names right all.1, tt)))))
+good_command names (command.Add to left right) are is = (refl, (good_word names (codes "add") refl refl, good_three names to left right is))
+good_command names (command.Sub to left right) are is = (refl, (good_word names (codes "sub") refl refl, good_three names to left right is))
+good_command names (command.Mul to left right) are is = (refl, (good_word names (codes "mul") refl refl, good_three names to left right is))
+good_command names (command.Xor to left right) are is = (refl, (good_word names (codes "xor") refl refl, good_three names to left right is))
+good_command names (command.Less to left right) are is = (refl, (good_word names (codes "less") refl refl, good_three names to left right is))
+good_command names (command.Same to left right) are is = (refl, (good_word names (codes "same") refl refl, good_three names to left right is))
 good_command names (command.Read to object) are is =
     let both = both_true (nat_lt to 16) (nat_lt object (length names)) is in
     (refl, (good_word names (codes "read") refl refl, (good_register names to both.0, (good_object names object are both.1, tt))))

@@ -9,8 +9,8 @@ pub invariant_of-result : goal.invariant_of-result
 invariant_of-result c =
     let p = draft c.args.self in
     let after = c.keep_thread.new.self in
-    let kept = c.in_ok-keep_thread.ensures.kept in
+    let with_present = c.in_ok-keep_thread.ensures.thread in
     let none = closed_ok p.openers c.in_ok-all_closed.ensures in
     record {
-      valid = script_valid p c.fuel-fuel.result c.in_ok-objects.objects after.threads c.requires (c.fuel-fuel.ensures.value ∙ ap fuel_of kept) (c.in_ok-objects.ensures ∙ ap (λ (q : Draft). q.objects) kept) (ap (λ (q : Draft). q.threads) kept) c.if-not-self.false none;
+      valid = script_valid p c.fuel-fuel.result c.in_ok-objects.objects after.threads c.requires (c.fuel-fuel.ensures.value ∙ ap fuel_of with_present) (c.in_ok-objects.ensures ∙ ap (λ (q : Draft). q.objects) with_present) (ap (λ (q : Draft). q.threads) with_present) c.if-not-self.false none;
     }

@@ -9,6 +9,6 @@ abbrev pub invariant-loop-name : goal.invariant-loop-name
 invariant-loop-name l = record {
   can_next : (goal.iterator-loop-name).can_next l.name-iterator;
   finite : (goal.iterator-loop-name).is_finite l.name-iterator;
-  made : map declaration l.objects.items ++ map shown l.name-iterator ≡ l.self;
+  declarations : map declaration l.objects.items ++ map shown l.name-iterator ≡ l.self;
   named : list_all (λ (e : Entry). is_name e.0.now) l.name-iterator ≡ true;
 }
