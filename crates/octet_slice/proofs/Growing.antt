@@ -16,9 +16,9 @@ use Rattle.octet_model.proofs.lemmas.Pasts.{place, by_edge, along_journal, past_
 use Rattle.octet_slice.specs.declared.cursor.Cursor.{Cursor}
 use Rattle.octet_slice.specs.declared.cursor.Placed.{Placed}
 use Rattle.octet_slice.specs.declared.gathering.Reach.{Reach}
-use Rattle.octet_slice.specs.Cursors.{past_mark, IsCursorOf, IsFirstMark}
+use Rattle.octet_slice.specs.code.Cursors.{past_mark, IsCursorOf, IsFirstMark}
 use Rattle.octet_slice.specs.Gathering.{IsTakenIn, AreOfLog, IsPartOfPast}
-use Rattle.octet_slice.specs.Reached.{no_reach, nothing, reach_of, count_of, Gathered, raised, raised_by, with_taken_in, with_searched}
+use Rattle.octet_slice.specs.code.Reached.{no_reach, nothing, reach_of, count_of, Gathered, raised, raised_by, with_taken_in, with_searched}
 use Rattle.octet_slice.proofs.Marks.{past_is_cursor, starts_as_cursor}
 
 -- ---- what a change of one thread's reach leaves
@@ -74,11 +74,11 @@ module _ (g : Gathered) (u n : ℕ) where
     draws = omega arith;
   }
 
-  pub raised_inside : (v : ℕ) → (reach_of (raised g u n).threads v).taken_in ≡ (reach_of g.threads v).taken_in
-  raised_inside = kept_part g.threads u _ (λ (r : Reach). r.taken_in) refl
+  pub raised_taken_in : (v : ℕ) → (reach_of (raised g u n).threads v).taken_in ≡ (reach_of g.threads v).taken_in
+  raised_taken_in = kept_part g.threads u _ (λ (r : Reach). r.taken_in) refl
 
-  pub raised_ahead : (v : ℕ) → (reach_of (raised g u n).threads v).searched ≡ (reach_of g.threads v).searched
-  raised_ahead = kept_part g.threads u _ (λ (r : Reach). r.searched) refl
+  pub raised_searched : (v : ℕ) → (reach_of (raised g u n).threads v).searched ≡ (reach_of g.threads v).searched
+  raised_searched = kept_part g.threads u _ (λ (r : Reach). r.searched) refl
 
   -- after that there are at least so many
   pub raised_to : u < length g.threads → n ≤ count_of (raised g u n).threads u
@@ -105,11 +105,11 @@ module _ (journals : Journals) (thread now : ℕ) where
       ]
     ];
     draws_in = part.draws_in;
-    taken_in = λ v. subst (λ (c : Cursor). IsCursorOf (journal_of journals v) c) (sym (raised_inside g u n v)) (part.taken_in v);
-    taken_in_within = λ v. omega (arith, part.taken_in_within v, (raised_grows g u n).counts v, ap (λ (c : Cursor). c.events) (raised_inside g u n v));
-    searched = λ v. subst (λ (c : Cursor). IsCursorOf (journal_of journals v) c) (sym (raised_ahead g u n v)) (part.searched v);
-    taken = λ p mark lt is. still_taken g (raised g u n) (raised_grows g u n) mark (part.taken p mark (omega (arith, lt, ap (λ (c : Cursor). c.events) (raised_inside g u n p.thread))) is);
-    passed = λ p number lt is. omega (arith, part.passed p number (omega (arith, lt, ap (λ (c : Cursor). c.events) (raised_ahead g u n p.thread))) is, (raised_grows g u n).counts p.thread);
+    taken_in = λ v. subst (λ (c : Cursor). IsCursorOf (journal_of journals v) c) (sym (raised_taken_in g u n v)) (part.taken_in v);
+    taken_in_within = λ v. omega (arith, part.taken_in_within v, (raised_grows g u n).counts v, ap (λ (c : Cursor). c.events) (raised_taken_in g u n v));
+    searched = λ v. subst (λ (c : Cursor). IsCursorOf (journal_of journals v) c) (sym (raised_searched g u n v)) (part.searched v);
+    taken = λ p mark lt is. still_taken g (raised g u n) (raised_grows g u n) mark (part.taken p mark (omega (arith, lt, ap (λ (c : Cursor). c.events) (raised_taken_in g u n p.thread))) is);
+    passed = λ p number lt is. omega (arith, part.passed p number (omega (arith, lt, ap (λ (c : Cursor). c.events) (raised_searched g u n p.thread))) is, (raised_grows g u n).counts p.thread);
   }
 
   -- more draws that lie in the past
@@ -174,27 +174,27 @@ module _ (journals : Journals) (thread now : ℕ) where
     own = place t next.event
 
     module _ (first : IsFirstMark (journal_of journals t) (reach_of g.threads t).taken_in.events next) (gathers : next.event < count_of g.threads t) (taken : IsTakenIn g next.mark) where
-      abbrev moved : Gathered
-      moved = with_taken_in g t (past_mark (reach_of g.threads t).taken_in next)
+      abbrev with_mark_taken_in : Gathered
+      with_mark_taken_in = with_taken_in g t (past_mark (reach_of g.threads t).taken_in next)
 
-      inside_counts : (v : ℕ) → count_of moved.threads v ≡ count_of g.threads v
-      inside_counts = kept_part g.threads t _ (λ (r : Reach). r.count) refl
+      taken_in_counts : (v : ℕ) → count_of with_mark_taken_in.threads v ≡ count_of g.threads v
+      taken_in_counts = kept_part g.threads t _ (λ (r : Reach). r.count) refl
 
-      inside_ahead : (v : ℕ) → (reach_of moved.threads v).searched ≡ (reach_of g.threads v).searched
-      inside_ahead = kept_part g.threads t _ (λ (r : Reach). r.searched) refl
+      taken_in_searched : (v : ℕ) → (reach_of with_mark_taken_in.threads v).searched ≡ (reach_of g.threads v).searched
+      taken_in_searched = kept_part g.threads t _ (λ (r : Reach). r.searched) refl
 
-      inside_own : (reach_of moved.threads t).taken_in ≡ past_mark (reach_of g.threads t).taken_in next
-      inside_own = ap (λ (r : Reach). r.taken_in) (same_reach g.threads t _ within)
+      taken_in_own : (reach_of with_mark_taken_in.threads t).taken_in ≡ past_mark (reach_of g.threads t).taken_in next
+      taken_in_own = ap (λ (r : Reach). r.taken_in) (same_reach g.threads t _ within)
 
-      inside_other : (v : ℕ) → v ≢ t → (reach_of moved.threads v).taken_in ≡ (reach_of g.threads v).taken_in
-      inside_other v differ = ap (λ (r : Reach). r.taken_in) (other_reach g.threads t _ v differ)
+      taken_in_other : (v : ℕ) → v ≢ t → (reach_of with_mark_taken_in.threads v).taken_in ≡ (reach_of g.threads v).taken_in
+      taken_in_other v differ = ap (λ (r : Reach). r.taken_in) (other_reach g.threads t _ v differ)
 
-      taken_now : (p : Place) (mark : Mark) → p.event < (reach_of moved.threads p.thread).taken_in.events → event_at journals p ≡ Some (Marked mark) → IsTakenIn g mark
+      taken_now : (p : Place) (mark : Mark) → p.event < (reach_of with_mark_taken_in.threads p.thread).taken_in.events → event_at journals p ≡ Some (Marked mark) → IsTakenIn g mark
       taken_now p mark lt is = elim (cases_eq p.thread t) [
-        | inr differ ↦ part.taken p mark (omega (arith, lt, ap (λ (c : Cursor). c.events) (inside_other p.thread differ))) is
+        | inr differ ↦ part.taken p mark (omega (arith, lt, ap (λ (c : Cursor). c.events) (taken_in_other p.thread differ))) is
         | inl same ↦
             let at_t : slice_get (journal_of journals t) p.event ≡ Some (Marked mark) = ap (λ (v : ℕ). slice_get (journal_of journals v) p.event) (sym same) ∙ is in
-            let below : p.event < suc next.event = omega (arith, lt, ap (λ (v : ℕ). (reach_of moved.threads v).taken_in.events) same, ap (λ (c : Cursor). c.events) inside_own) in
+            let below : p.event < suc next.event = omega (arith, lt, ap (λ (v : ℕ). (reach_of with_mark_taken_in.threads v).taken_in.events) same, ap (λ (c : Cursor). c.events) taken_in_own) in
             elim (cases_lt p.event (reach_of g.threads t).taken_in.events) [
               | inl before ↦ part.taken p mark (omega (arith, before, ap (λ (v : ℕ). (reach_of g.threads v).taken_in.events) same)) is
               | inr after ↦ elim (cases_eq p.event next.event) [
@@ -207,49 +207,49 @@ module _ (journals : Journals) (thread now : ℕ) where
             ]
       ]
 
-      pub inside_part : IsPartOfPast journals thread now moved
-      inside_part = record {
+      pub taken_in_part : IsPartOfPast journals thread now with_mark_taken_in
+      taken_in_part = record {
         as_many = length-set g.threads t _ ∙ part.as_many;
-        whole = omega (arith, part.whole, inside_counts thread);
-        in_past = λ p lt. part.in_past p (omega (arith, lt, inside_counts p.thread));
+        whole = omega (arith, part.whole, taken_in_counts thread);
+        in_past = λ p lt. part.in_past p (omega (arith, lt, taken_in_counts p.thread));
         draws_in = part.draws_in;
         taken_in = λ v. elim (cases_eq v t) [
-          | inl same ↦ subst (λ (w : ℕ). IsCursorOf (journal_of journals w) (reach_of moved.threads w).taken_in) (sym same)
-              (subst (λ (c : Cursor). IsCursorOf (journal_of journals t) c) (sym inside_own) (past_is_cursor (journal_of journals t) (reach_of g.threads t).taken_in next (part.taken_in t) first))
-          | inr differ ↦ subst (λ (c : Cursor). IsCursorOf (journal_of journals v) c) (sym (inside_other v differ)) (part.taken_in v)
+          | inl same ↦ subst (λ (w : ℕ). IsCursorOf (journal_of journals w) (reach_of with_mark_taken_in.threads w).taken_in) (sym same)
+              (subst (λ (c : Cursor). IsCursorOf (journal_of journals t) c) (sym taken_in_own) (past_is_cursor (journal_of journals t) (reach_of g.threads t).taken_in next (part.taken_in t) first))
+          | inr differ ↦ subst (λ (c : Cursor). IsCursorOf (journal_of journals v) c) (sym (taken_in_other v differ)) (part.taken_in v)
         ];
         taken_in_within = λ v. elim (cases_eq v t) [
-          | inl same ↦ subst (λ (w : ℕ). (reach_of moved.threads w).taken_in.events ≤ count_of moved.threads w) (sym same) (omega (arith, gathers, inside_counts t, ap (λ (c : Cursor). c.events) inside_own))
-          | inr differ ↦ omega (arith, part.taken_in_within v, inside_counts v, ap (λ (c : Cursor). c.events) (inside_other v differ))
+          | inl same ↦ subst (λ (w : ℕ). (reach_of with_mark_taken_in.threads w).taken_in.events ≤ count_of with_mark_taken_in.threads w) (sym same) (omega (arith, gathers, taken_in_counts t, ap (λ (c : Cursor). c.events) taken_in_own))
+          | inr differ ↦ omega (arith, part.taken_in_within v, taken_in_counts v, ap (λ (c : Cursor). c.events) (taken_in_other v differ))
         ];
-        searched = λ v. subst (λ (c : Cursor). IsCursorOf (journal_of journals v) c) (sym (inside_ahead v)) (part.searched v);
-        taken = λ p mark lt is. still_taken g moved (record { counts = λ v. omega (arith, inside_counts v); draws = omega arith }) mark (taken_now p mark lt is);
-        passed = λ p number lt is. omega (arith, inside_counts p.thread, part.passed p number (omega (arith, lt, ap (λ (c : Cursor). c.events) (inside_ahead p.thread))) is);
+        searched = λ v. subst (λ (c : Cursor). IsCursorOf (journal_of journals v) c) (sym (taken_in_searched v)) (part.searched v);
+        taken = λ p mark lt is. still_taken g with_mark_taken_in (record { counts = λ v. omega (arith, taken_in_counts v); draws = omega arith }) mark (taken_now p mark lt is);
+        passed = λ p number lt is. omega (arith, taken_in_counts p.thread, part.passed p number (omega (arith, lt, ap (λ (c : Cursor). c.events) (taken_in_searched p.thread))) is);
       }
 
     module _ (first : IsFirstMark (journal_of journals t) (reach_of g.threads t).searched.events next)
         (has : (number : ℕ) → next.mark ≡ Draw number → next.event < count_of g.threads t) where
-      abbrev moved_ahead : Gathered
-      moved_ahead = with_searched g t (past_mark (reach_of g.threads t).searched next)
+      abbrev with_mark_searched : Gathered
+      with_mark_searched = with_searched g t (past_mark (reach_of g.threads t).searched next)
 
-      ahead_counts : (v : ℕ) → count_of moved_ahead.threads v ≡ count_of g.threads v
-      ahead_counts = kept_part g.threads t _ (λ (r : Reach). r.count) refl
+      searched_counts : (v : ℕ) → count_of with_mark_searched.threads v ≡ count_of g.threads v
+      searched_counts = kept_part g.threads t _ (λ (r : Reach). r.count) refl
 
-      ahead_inside : (v : ℕ) → (reach_of moved_ahead.threads v).taken_in ≡ (reach_of g.threads v).taken_in
-      ahead_inside = kept_part g.threads t _ (λ (r : Reach). r.taken_in) refl
+      searched_taken_in : (v : ℕ) → (reach_of with_mark_searched.threads v).taken_in ≡ (reach_of g.threads v).taken_in
+      searched_taken_in = kept_part g.threads t _ (λ (r : Reach). r.taken_in) refl
 
-      ahead_own : (reach_of moved_ahead.threads t).searched ≡ past_mark (reach_of g.threads t).searched next
-      ahead_own = ap (λ (r : Reach). r.searched) (same_reach g.threads t _ within)
+      searched_own : (reach_of with_mark_searched.threads t).searched ≡ past_mark (reach_of g.threads t).searched next
+      searched_own = ap (λ (r : Reach). r.searched) (same_reach g.threads t _ within)
 
-      ahead_other : (v : ℕ) → v ≢ t → (reach_of moved_ahead.threads v).searched ≡ (reach_of g.threads v).searched
-      ahead_other v differ = ap (λ (r : Reach). r.searched) (other_reach g.threads t _ v differ)
+      searched_other : (v : ℕ) → v ≢ t → (reach_of with_mark_searched.threads v).searched ≡ (reach_of g.threads v).searched
+      searched_other v differ = ap (λ (r : Reach). r.searched) (other_reach g.threads t _ v differ)
 
-      passed_now : (p : Place) (number : ℕ) → p.event < (reach_of moved_ahead.threads p.thread).searched.events → event_at journals p ≡ Some (Marked (Draw number)) → p.event < count_of g.threads p.thread
+      passed_now : (p : Place) (number : ℕ) → p.event < (reach_of with_mark_searched.threads p.thread).searched.events → event_at journals p ≡ Some (Marked (Draw number)) → p.event < count_of g.threads p.thread
       passed_now p number lt is = elim (cases_eq p.thread t) [
-        | inr differ ↦ part.passed p number (omega (arith, lt, ap (λ (c : Cursor). c.events) (ahead_other p.thread differ))) is
+        | inr differ ↦ part.passed p number (omega (arith, lt, ap (λ (c : Cursor). c.events) (searched_other p.thread differ))) is
         | inl same ↦
             let at_t : slice_get (journal_of journals t) p.event ≡ Some (Marked (Draw number)) = ap (λ (v : ℕ). slice_get (journal_of journals v) p.event) (sym same) ∙ is in
-            let below : p.event < suc next.event = omega (arith, lt, ap (λ (v : ℕ). (reach_of moved_ahead.threads v).searched.events) same, ap (λ (c : Cursor). c.events) ahead_own) in
+            let below : p.event < suc next.event = omega (arith, lt, ap (λ (v : ℕ). (reach_of with_mark_searched.threads v).searched.events) same, ap (λ (c : Cursor). c.events) searched_own) in
             elim (cases_lt p.event (reach_of g.threads t).searched.events) [
               | inl before ↦ part.passed p number (omega (arith, before, ap (λ (v : ℕ). (reach_of g.threads v).searched.events) same)) is
               | inr after ↦ elim (cases_eq p.event next.event) [
@@ -262,21 +262,21 @@ module _ (journals : Journals) (thread now : ℕ) where
             ]
       ]
 
-      pub ahead_part : IsPartOfPast journals thread now moved_ahead
-      ahead_part = record {
+      pub searched_part : IsPartOfPast journals thread now with_mark_searched
+      searched_part = record {
         as_many = length-set g.threads t _ ∙ part.as_many;
-        whole = omega (arith, part.whole, ahead_counts thread);
-        in_past = λ p lt. part.in_past p (omega (arith, lt, ahead_counts p.thread));
+        whole = omega (arith, part.whole, searched_counts thread);
+        in_past = λ p lt. part.in_past p (omega (arith, lt, searched_counts p.thread));
         draws_in = part.draws_in;
-        taken_in = λ v. subst (λ (c : Cursor). IsCursorOf (journal_of journals v) c) (sym (ahead_inside v)) (part.taken_in v);
-        taken_in_within = λ v. omega (arith, part.taken_in_within v, ahead_counts v, ap (λ (c : Cursor). c.events) (ahead_inside v));
+        taken_in = λ v. subst (λ (c : Cursor). IsCursorOf (journal_of journals v) c) (sym (searched_taken_in v)) (part.taken_in v);
+        taken_in_within = λ v. omega (arith, part.taken_in_within v, searched_counts v, ap (λ (c : Cursor). c.events) (searched_taken_in v));
         searched = λ v. elim (cases_eq v t) [
-          | inl same ↦ subst (λ (w : ℕ). IsCursorOf (journal_of journals w) (reach_of moved_ahead.threads w).searched) (sym same)
-              (subst (λ (c : Cursor). IsCursorOf (journal_of journals t) c) (sym ahead_own) (past_is_cursor (journal_of journals t) (reach_of g.threads t).searched next (part.searched t) first))
-          | inr differ ↦ subst (λ (c : Cursor). IsCursorOf (journal_of journals v) c) (sym (ahead_other v differ)) (part.searched v)
+          | inl same ↦ subst (λ (w : ℕ). IsCursorOf (journal_of journals w) (reach_of with_mark_searched.threads w).searched) (sym same)
+              (subst (λ (c : Cursor). IsCursorOf (journal_of journals t) c) (sym searched_own) (past_is_cursor (journal_of journals t) (reach_of g.threads t).searched next (part.searched t) first))
+          | inr differ ↦ subst (λ (c : Cursor). IsCursorOf (journal_of journals v) c) (sym (searched_other v differ)) (part.searched v)
         ];
-        taken = λ p mark lt is. still_taken g moved_ahead (record { counts = λ v. omega (arith, ahead_counts v); draws = omega arith }) mark (part.taken p mark (omega (arith, lt, ap (λ (c : Cursor). c.events) (ahead_inside p.thread))) is);
-        passed = λ p number lt is. omega (arith, ahead_counts p.thread, passed_now p number lt is);
+        taken = λ p mark lt is. still_taken g with_mark_searched (record { counts = λ v. omega (arith, searched_counts v); draws = omega arith }) mark (part.taken p mark (omega (arith, lt, ap (λ (c : Cursor). c.events) (searched_taken_in p.thread))) is);
+        passed = λ p number lt is. omega (arith, searched_counts p.thread, passed_now p number lt is);
       }
 
 -- ---- the start
@@ -302,11 +302,11 @@ starts_in_past journals log t now are here le = record {
         (past_has_own journals t now p.event below (get_or (journal_of journals t) p.event (Read 0 0), slice_get-get_or (journal_of journals t) p.event (Read 0 0) (omega arith)))
   ];
   draws_in = λ p number is few. absurd (omega (arith, few, are.numbered p number is));
-  taken_in = λ v. subst (λ (c : Cursor). IsCursorOf (journal_of journals v) c) (sym (inside_is v)) (starts_as_cursor (journal_of journals v));
-  taken_in_within = λ v. omega (arith, ap (λ (c : Cursor). c.events) (inside_is v));
-  searched = λ v. subst (λ (c : Cursor). IsCursorOf (journal_of journals v) c) (sym (ahead_is v)) (starts_as_cursor (journal_of journals v));
-  taken = λ p mark lt is. absurd (omega (arith, lt, ap (λ (c : Cursor). c.events) (inside_is p.thread)));
-  passed = λ p number lt is. absurd (omega (arith, lt, ap (λ (c : Cursor). c.events) (ahead_is p.thread)));
+  taken_in = λ v. subst (λ (c : Cursor). IsCursorOf (journal_of journals v) c) (sym (taken_in_is v)) (starts_as_cursor (journal_of journals v));
+  taken_in_within = λ v. omega (arith, ap (λ (c : Cursor). c.events) (taken_in_is v));
+  searched = λ v. subst (λ (c : Cursor). IsCursorOf (journal_of journals v) c) (sym (searched_is v)) (starts_as_cursor (journal_of journals v));
+  taken = λ p mark lt is. absurd (omega (arith, lt, ap (λ (c : Cursor). c.events) (taken_in_is p.thread)));
+  passed = λ p number lt is. absurd (omega (arith, lt, ap (λ (c : Cursor). c.events) (searched_is p.thread)));
 }
   where
     g : Gathered
@@ -315,8 +315,8 @@ starts_in_past journals log t now are here le = record {
     none : (v : ℕ) → count_of g.threads v ≡ 0
     none v = ap (λ (r : Reach). r.count) (nothing_of (length journals) v)
 
-    inside_is : (v : ℕ) → (reach_of (raised g t now).threads v).taken_in ≡ no_reach.taken_in
-    inside_is v = raised_inside g t now v ∙ ap (λ (r : Reach). r.taken_in) (nothing_of (length journals) v)
+    taken_in_is : (v : ℕ) → (reach_of (raised g t now).threads v).taken_in ≡ no_reach.taken_in
+    taken_in_is v = raised_taken_in g t now v ∙ ap (λ (r : Reach). r.taken_in) (nothing_of (length journals) v)
 
-    ahead_is : (v : ℕ) → (reach_of (raised g t now).threads v).searched ≡ no_reach.searched
-    ahead_is v = raised_ahead g t now v ∙ ap (λ (r : Reach). r.searched) (nothing_of (length journals) v)
+    searched_is : (v : ℕ) → (reach_of (raised g t now).threads v).searched ≡ no_reach.searched
+    searched_is v = raised_searched g t now v ∙ ap (λ (r : Reach). r.searched) (nothing_of (length journals) v)

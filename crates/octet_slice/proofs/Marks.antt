@@ -12,8 +12,8 @@ use Rattle.octet_model.specs.Journals.{mark_count, gap_after, gapped_marks}
 use Rattle.octet_model.proofs.lemmas.Splits.{marks_split, gap_split}
 use Rattle.octet_slice.specs.declared.cursor.Cursor.{Cursor}
 use Rattle.octet_slice.specs.declared.cursor.Placed.{Placed}
-use Rattle.octet_slice.specs.Cursors.{past_mark, IsCursorOf, IsLogOfOne, IsFirstMark, NoMarks}
-use Rattle.octet_slice.proofs.lemmas.SameNext.{next_gapped}
+use Rattle.octet_slice.specs.code.Cursors.{past_mark, IsCursorOf, IsLogOfOne, IsFirstMark, NoMarks}
+use Rattle.octet_model.proofs.lemmas.LogsOfJournals.{next_gapped}
 
 -- the second part of a list from its start
 second_part : {A : Type 0} (pre post : List A) (i : ℕ) → slice_get (pre ++ post) (length pre + i) ≡ slice_get post i

@@ -12,10 +12,11 @@ use Rattle.octet_model.proofs.lemmas.Pasts.{place}
 use Rattle.octet_slice.specs.declared.cursor.Cursor.{Cursor}
 use Rattle.octet_slice.specs.declared.cursor.Placed.{Placed}
 use Rattle.octet_slice.specs.declared.gathering.Reach.{Reach}
-use Rattle.octet_slice.specs.Cursors.{past_mark, IsCursorOf, IsFirstMark, IsLogOfOne}
-use Rattle.octet_slice.specs.Gathering.{AreOfLog, IsPartOfPast, Advances}
-use Rattle.octet_slice.specs.Reached.{no_reach, reach_of, count_of, Gathered, raised, raised_by, with_taken_in, with_searched, left_of, left}
-use Rattle.octet_slice.proofs.Growing.{raised_reach, raised_to, taken_counts, raised_inside, raised_ahead, take_part, take_is, gather_part, inside_part, ahead_part}
+use Rattle.octet_slice.specs.code.Cursors.{past_mark, IsCursorOf, IsFirstMark, IsLogOfOne}
+use Rattle.octet_slice.specs.Gathering.{AreOfLog, IsPartOfPast}
+use Rattle.octet_slice.specs.code.Advancing.{Advances}
+use Rattle.octet_slice.specs.code.Reached.{no_reach, reach_of, count_of, Gathered, raised, raised_by, with_taken_in, with_searched, left_of, left}
+use Rattle.octet_slice.proofs.Growing.{raised_reach, raised_to, taken_counts, raised_taken_in, raised_searched, take_part, take_is, gather_part, taken_in_part, searched_part}
 
 -- ---- how many marks are left
 
@@ -44,7 +45,7 @@ many_taken g (Draw number) = refl
 many_taken g (Fence number) = refl
 
 taken_inside : (g : Gathered) (mark : Mark) (u : ℕ) → (reach_of (raised_by g mark).threads u).taken_in ≡ (reach_of g.threads u).taken_in
-taken_inside g (Join from upto) u = raised_inside g from upto u
+taken_inside g (Join from upto) u = raised_taken_in g from upto u
 taken_inside g (Draw number) u = refl
 taken_inside g (Fence number) u = refl
 
@@ -64,7 +65,7 @@ takes : (logs : List ThreadLog) (g mid after : Gathered) (t : ℕ) (log : Thread
     → (reach_of g.threads t).taken_in.marks < length log.marks → next.event < count_of g.threads t
     → mid ≡ raised_by g next.mark → after ≡ with_taken_in mid t (past_mark (reach_of g.threads t).taken_in next) → Advances logs g true after
 takes logs g mid after t log next here there log_is first left_one below mid_is after_is = record {
-  kept = λ journals thread now are part.
+  stays_part = λ journals thread now are part.
       let of_one = log_of_one journals logs are t log there log_is in
       let is_first = first (journal_of journals t) of_one (part.taken_in t) in
       let b = place t next.event in
@@ -73,11 +74,11 @@ takes logs g mid after t log next here there log_is first left_one below mid_is 
       let same = taken_inside g next.mark t in
       let many : t < length (raised_by g next.mark).threads = omega (arith, here, many_taken g next.mark) in
       let first' : IsFirstMark (journal_of journals t) (reach_of (raised_by g next.mark).threads t).taken_in.events next = subst (λ (c : Cursor). IsFirstMark (journal_of journals t) c.events next) (sym same) is_first in
-      let moved = inside_part journals thread now (raised_by g next.mark) taken t many next first' (omega (arith, below, taken_counts g next.mark t)) is in
-      subst (λ (x : Gathered). IsPartOfPast journals thread now x) (sym whole) moved;
+      let on = taken_in_part journals thread now (raised_by g next.mark) taken t many next first' (omega (arith, below, taken_counts g next.mark t)) is in
+      subst (λ (x : Gathered). IsPartOfPast journals thread now x) (sym whole) on;
   many = ap (λ (x : Gathered). length x.threads) whole ∙ length-set (raised_by g next.mark).threads t _ ∙ many_taken g next.mark;
   still = λ never. absurd cc;
-  fewer = λ moved.
+  fewer = λ passes.
       let same = taken_inside g next.mark t in
       let many : t < length (raised_by g next.mark).threads = omega (arith, here, many_taken g next.mark) in
       omega (
@@ -101,13 +102,13 @@ passes : (logs : List ThreadLog) (g mid after : Gathered) (t : ℕ) (log : Threa
     → ((number : ℕ) × (next.mark ≡ Draw number) × (number ≤ g.draws) × (mid ≡ raised g t (suc next.event))) ⊎ (((number : ℕ) → next.mark ≡ Draw number → ⊥) × (mid ≡ g))
     → after ≡ with_searched mid t (past_mark (reach_of g.threads t).searched next) → Advances logs g true after
 passes logs g mid after t log next here there log_is first left_one (inr (no_draw, mid_is)) after_is = record {
-  kept = λ journals thread now are part.
+  stays_part = λ journals thread now are part.
       let is_first = first (journal_of journals t) (log_of_one journals logs are t log there log_is) (part.searched t) in
-      let moved = ahead_part journals thread now g part t here next is_first (λ number is. absurd (no_draw number is)) in
-      subst (λ (x : Gathered). IsPartOfPast journals thread now x) (sym whole) moved;
+      let on = searched_part journals thread now g part t here next is_first (λ number is. absurd (no_draw number is)) in
+      subst (λ (x : Gathered). IsPartOfPast journals thread now x) (sym whole) on;
   many = ap (λ (x : Gathered). length x.threads) whole ∙ length-set g.threads t _;
   still = λ never. absurd cc;
-  fewer = λ moved. omega (
+  fewer = λ passes. omega (
     arith,
     ap (λ (x : Gathered). left logs x.threads) whole,
     left_fewer logs g.threads t log (record (reach_of g.threads t) { searched = past_mark (reach_of g.threads t).searched next }) there here log_is (omega (arith, left_one)),
@@ -117,22 +118,22 @@ passes logs g mid after t log next here there log_is first left_one (inr (no_dra
     whole : after ≡ with_searched g t (past_mark (reach_of g.threads t).searched next)
     whole = after_is ∙ ap (λ (x : Gathered). with_searched x t (past_mark (reach_of g.threads t).searched next)) mid_is
 passes logs g mid after t log next here there log_is first left_one (inl (number, is_draw, le, mid_is)) after_is = record {
-  kept = λ journals thread now are part.
+  stays_part = λ journals thread now are part.
       let is_first = first (journal_of journals t) (log_of_one journals logs are t log there log_is) (part.searched t) in
       let at_b = is_first.is_mark ∙ ap (λ (m : Mark). Some (Marked m)) is_draw in
       let more = gather_part journals thread now logs are g part (place t next.event) number at_b le in
-      let first' : IsFirstMark (journal_of journals t) (reach_of (raised g t (suc next.event)).threads t).searched.events next = subst (λ (c : Cursor). IsFirstMark (journal_of journals t) c.events next) (sym (raised_ahead g t (suc next.event) t)) is_first in
-      let moved = ahead_part journals thread now (raised g t (suc next.event)) more t many next first' (λ other is. omega (arith, raised_to g t (suc next.event) here)) in
-      subst (λ (x : Gathered). IsPartOfPast journals thread now x) (sym whole) moved;
+      let first' : IsFirstMark (journal_of journals t) (reach_of (raised g t (suc next.event)).threads t).searched.events next = subst (λ (c : Cursor). IsFirstMark (journal_of journals t) c.events next) (sym (raised_searched g t (suc next.event) t)) is_first in
+      let on = searched_part journals thread now (raised g t (suc next.event)) more t many next first' (λ other is. omega (arith, raised_to g t (suc next.event) here)) in
+      subst (λ (x : Gathered). IsPartOfPast journals thread now x) (sym whole) on;
   many = ap (λ (x : Gathered). length x.threads) whole ∙ length-set (raised g t (suc next.event)).threads t _ ∙ length-set g.threads t _;
   still = λ never. absurd cc;
-  fewer = λ moved. omega (
+  fewer = λ passes. omega (
     arith,
     ap (λ (x : Gathered). left logs x.threads) whole,
     left_same logs g.threads t (raised_reach g t (suc next.event)) refl refl,
     left_fewer logs (raised g t (suc next.event)).threads t log
         (record (reach_of (raised g t (suc next.event)).threads t) { searched = past_mark (reach_of (raised g t (suc next.event)).threads t).searched next }) there many log_is
-        (omega (arith, left_one, ap (λ (c : Cursor). c.marks) (raised_ahead g t (suc next.event) t))),
+        (omega (arith, left_one, ap (λ (c : Cursor). c.marks) (raised_searched g t (suc next.event) t))),
   );
 }
   where
@@ -142,7 +143,7 @@ passes logs g mid after t log next here there log_is first left_one (inl (number
     whole : after ≡ with_searched (raised g t (suc next.event)) t (past_mark (reach_of (raised g t (suc next.event)).threads t).searched next)
     whole =
         after_is ∙ ap (λ (x : Gathered). with_searched x t (past_mark (reach_of g.threads t).searched next)) mid_is
-        ∙ ap (λ (c : Cursor). with_searched (raised g t (suc next.event)) t (past_mark c next)) (sym (raised_ahead g t (suc next.event) t))
+        ∙ ap (λ (c : Cursor). with_searched (raised g t (suc next.event)) t (past_mark c next)) (sym (raised_searched g t (suc next.event) t))
 
 -- the same, by the reach as it was read
 module _ (logs : List ThreadLog) (g mid after : Gathered) (t : ℕ) (log : ThreadLog) (next : Placed) (here : t < length g.threads) (there : t < length logs) (log_is : log ≡ get_or logs t log)

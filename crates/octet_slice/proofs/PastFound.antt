@@ -19,9 +19,9 @@ use Rattle.octet_model.proofs.lemmas.Pasts.{place}
 use Rattle.octet_model.proofs.lemmas.Splits.{length_parts, length-gapped_marks, marks_split}
 use Rattle.octet_slice.specs.declared.gathering.Reach.{Reach}
 use Rattle.octet_slice.specs.FirstEvents.{first_events, IsClosed}
-use Rattle.octet_slice.specs.Cutting.{CanCut, cut_thread, cut_log}
+use Rattle.octet_slice.specs.code.Cutting.{CanCut, cut_thread, cut_log}
 use Rattle.octet_slice.specs.Gathering.{AreOfLog, GathersPast, IsSettled, IsTakenIn}
-use Rattle.octet_slice.specs.Reached.{no_reach, reach_of, count_of, Gathered, counts_in}
+use Rattle.octet_slice.specs.code.Reached.{no_reach, reach_of, count_of, Gathered, counts_in}
 use Rattle.octet_slice.specs.Slice.{CountsPast}
 use Rattle.octet_slice.proofs.lemmas.FirstEvents.{first_marks}
 use Rattle.octet_slice.proofs.Marks.{as_many_marks}

@@ -5,8 +5,9 @@ use Rattle.std.proofs.lemmas.List.{length-map}
 use Rattle.octet_model.specs.declared.log.ThreadLog.{ThreadLog}
 use Rattle.octet_model.specs.Journals.{log_of_journal}
 use Rattle.octet_model.specs.Machine.{Journals, journal_of}
-use Rattle.octet_slice.specs.Gathering.{Advances, AreOfLog, HasDraws, GathersPast, IsPartOfPast, IsSettled}
-use Rattle.octet_slice.specs.Reached.{Gathered, left, nothing, raised}
+use Rattle.octet_slice.specs.Gathering.{AreOfLog, HasDraws, GathersPast, IsPartOfPast, IsSettled}
+use Rattle.octet_slice.specs.code.Advancing.{Advances}
+use Rattle.octet_slice.specs.code.Reached.{Gathered, left, nothing, raised}
 use Rattle.octet_slice.proofs.Growing.{starts_in_past}
 
 -- a thread that has no mark to pass is settled, as those before it are
@@ -33,20 +34,20 @@ begins_in_past journals logs t now n none start n_is none_is start_is lt are le 
 
 -- ---- marks passed one after the other
 
-no_more_left : (logs : List ThreadLog) (a b : Gathered) (moved : Bool) → Advances logs a moved b → left logs b.threads ≤ left logs a.threads
+no_more_left : (logs : List ThreadLog) (a b : Gathered) (has_passed : Bool) → Advances logs a has_passed b → left logs b.threads ≤ left logs a.threads
 no_more_left logs a b true advances = omega (arith, advances.fewer refl)
 no_more_left logs a b false advances = omega (arith, ap (λ (g : Gathered). left logs g.threads) (advances.still refl))
 
-pub advances_on : (logs : List ThreadLog) (a b c : Gathered) (moved : Bool) → Advances logs a moved b → Advances logs b true c → Advances logs a true c
-advances_on logs a b c moved first then = record {
-  kept = λ journals thread now are part. then.kept journals thread now are (first.kept journals thread now are part);
+pub advances_on : (logs : List ThreadLog) (a b c : Gathered) (has_passed : Bool) → Advances logs a has_passed b → Advances logs b true c → Advances logs a true c
+advances_on logs a b c has_passed first then = record {
+  stays_part = λ journals thread now are part. then.stays_part journals thread now are (first.stays_part journals thread now are part);
   many = then.many ∙ first.many;
   still = λ is. absurd cc;
-  fewer = λ is. omega (arith, then.fewer refl, no_more_left logs a b moved first);
+  fewer = λ is. omega (arith, then.fewer refl, no_more_left logs a b has_passed first);
 }
 
-pub advances_still : (logs : List ThreadLog) (a b c : Gathered) (moved : Bool) → Advances logs a moved b → Advances logs b false c → Advances logs a moved c
-advances_still logs a b c moved first then = subst (λ (g : Gathered). Advances logs a moved g) (sym (then.still refl)) first
+pub advances_still : (logs : List ThreadLog) (a b c : Gathered) (has_passed : Bool) → Advances logs a has_passed b → Advances logs b false c → Advances logs a has_passed c
+advances_still logs a b c has_passed first then = subst (λ (g : Gathered). Advances logs a has_passed g) (sym (then.still refl)) first
 
 -- with no draw in the past none is to be searched for
 pub no_draws : (journals : Journals) (logs : List ThreadLog) (g : Gathered) (thread : ℕ) → AreOfLog journals logs → g.draws ≡ 0 → HasDraws journals g thread

@@ -23,9 +23,9 @@ use Rattle.octet_model.proofs.lemmas.Validity.{valid_log}
 use Rattle.octet_replay.specs.Judged.{IsLawful}
 use Rattle.octet_slice.specs.declared.replaying.Replayed.{Replayed}
 use Rattle.octet_slice.specs.FirstEvents.{first_events}
-use Rattle.octet_slice.specs.Cutting.{CanCut, cut_log}
+use Rattle.octet_slice.specs.code.Cutting.{CanCut, cut_log}
 use Rattle.octet_slice.specs.Gathering.{AreOfLog, GathersPast}
-use Rattle.octet_slice.specs.Reached.{Gathered, counts_in, reach_of}
+use Rattle.octet_slice.specs.code.Reached.{Gathered, counts_in, reach_of}
 use Rattle.octet_slice.specs.Replaying.{MakesEventAt, IsReplayedTo}
 use Rattle.octet_slice.specs.Slice.{events_of, CountsPast, IsSliceOf}
 use Rattle.octet_slice.proofs.lemmas.FirstEvents.{first_of, as_many_first}

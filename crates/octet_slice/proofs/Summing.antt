@@ -5,7 +5,7 @@ use Rattle.std.proofs.lemmas.List.Sums.{sum_by_more}
 use Rattle.octet_model.specs.declared.log.ThreadLog.{ThreadLog}
 use Rattle.octet_model.specs.Orders.{thread_log_of}
 use Rattle.octet_slice.specs.declared.gathering.Reach.{Reach}
-use Rattle.octet_slice.specs.Cutting.{cut_log, cut_thread}
+use Rattle.octet_slice.specs.code.Cutting.{cut_log, cut_thread}
 use Rattle.octet_slice.specs.Slice.{events_of}
 
 cut_two : (logs : List ThreadLog) (threads : List Reach) (log : ThreadLog) (reach : Reach) → length logs ≡ length threads → cut_log (logs ++ log ∷ []) (threads ++ reach ∷ []) ≡ cut_log logs threads ++ cut_thread log reach ∷ []

@@ -1,5 +1,5 @@
 -- What is gathered of a past from the marks of a log, in terms of the journals.
-use Rattle.std.specs.Prelude.{◌≡◌, ℕ, pred, ◌^◌, ◌<◌, ◌≤◌, Bool, true, false, List, length, Some}
+use Rattle.std.specs.Prelude.{◌≡◌, ℕ, pred, ◌^◌, ◌<◌, ◌≤◌, List, length, Some}
 use Rattle.octet_model.specs.declared.event.Event.TheVariants.{Marked}
 use Rattle.octet_model.specs.declared.event.Mark.{Mark}
 use Rattle.octet_model.specs.declared.event.Mark.TheVariants.{Join, Draw, Fence}
@@ -9,8 +9,8 @@ use Rattle.octet_model.specs.Journals.{log_of}
 use Rattle.octet_model.specs.Machine.{Journals, journal_of}
 use Rattle.octet_model.specs.HappensBefore.{event_at}
 use Rattle.octet_model.specs.Past.{InPast}
-use Rattle.octet_slice.specs.Cursors.{IsCursorOf}
-use Rattle.octet_slice.specs.Reached.{Gathered, count_of, left, reach_of}
+use Rattle.octet_slice.specs.code.Cursors.{IsCursorOf}
+use Rattle.octet_slice.specs.code.Reached.{Gathered, count_of, reach_of}
 
 -- journals of a log, none too long: Joins name events that are there, draws have numbers of at least 1, and each thread's draws are in order
 pub record AreOfLog (journals : Journals) (log : List ThreadLog) : Type 0 where
@@ -56,10 +56,3 @@ pub record IsSettled (journals : Journals) (g : Gathered) (thread : ℕ) : Type 
 pub record GathersPast (journals : Journals) (thread now : ℕ) (g : Gathered) : Type 0 where
   pub part : IsPartOfPast journals thread now g
   pub settled : (of : ℕ) → of < length journals → IsSettled journals g of
-
--- marks were passed, where one was there to pass: what is gathered stays in the past, and fewer marks are left
-pub record Advances (logs : List ThreadLog) (before : Gathered) (moved : Bool) (after : Gathered) : Type 0 where
-  pub kept : (journals : Journals) (thread now : ℕ) → AreOfLog journals logs → IsPartOfPast journals thread now before → IsPartOfPast journals thread now after
-  pub many : length after.threads ≡ length before.threads
-  pub still : moved ≡ false → after ≡ before
-  pub fewer : moved ≡ true → left logs after.threads < left logs before.threads

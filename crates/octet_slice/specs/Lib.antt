@@ -1,9 +1,7 @@
 pub mod FirstEvents
 pub mod Laws
-pub mod Cursors
-pub mod Reached
 pub mod Gathering
-pub mod Cutting
 pub mod Slice
 pub mod Replaying
 pub mod FirstMatch
+pub mod code

@@ -1,7 +1,7 @@
 //! Going over the marks of a thread's log.
 ghost use Rattle.std.specs.Prelude.{◌≡◌, ◌<◌, List, length, IfSome};
 ghost use Rattle.octet_model.specs.declared.event.Event.{Event};
-ghost use Rattle.octet_slice.specs.Cursors.{past_mark, IsCursorOf, IsLogOfOne, IsNextMark};
+ghost use Rattle.octet_slice.specs.code.Cursors.{past_mark, IsCursorOf, IsLogOfOne, IsNextMark};
 
 use octet_model::{Mark, ThreadLog};
 

@@ -2,8 +2,8 @@
 ghost use Rattle.std.specs.Prelude.{◌≡◌, ◌<◌, ℕ, length, IfOk, IsTrue};
 ghost use Rattle.octet_model.specs.Log.{is_log};
 ghost use Rattle.octet_model.specs.Orders.{thread_log_of};
-ghost use Rattle.octet_slice.specs.Cutting.{CanCut, cut_log, cut_thread};
-ghost use Rattle.octet_slice.specs.Reached.{reach_of};
+ghost use Rattle.octet_slice.specs.code.Cutting.{CanCut, cut_log, cut_thread};
+ghost use Rattle.octet_slice.specs.code.Reached.{reach_of};
 
 use crate::gathering::{Gathering, Reach};
 use octet_model::{List, Log, OutOfMemory, ThreadLog};

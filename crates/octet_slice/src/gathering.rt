@@ -1,8 +1,9 @@
 //! A past, gathered from the marks of a log alone.
 ghost use Rattle.std.specs.Prelude.{◌≡◌, ◌<◌, ◌≤◌, ℕ, false, length, IfOk};
 ghost use Rattle.octet_model.specs.Machine.{Journals, journal_of};
-ghost use Rattle.octet_slice.specs.Gathering.{Advances, AreOfLog, HasDraws, HasMarks, GathersPast, IsPartOfPast, IsSettled};
-ghost use Rattle.octet_slice.specs.Reached.{gathered, nothing, raised, raised_by, with_searched, with_taken_in};
+ghost use Rattle.octet_slice.specs.Gathering.{AreOfLog, HasDraws, HasMarks, GathersPast, IsPartOfPast, IsSettled};
+ghost use Rattle.octet_slice.specs.code.Advancing.{Advances};
+ghost use Rattle.octet_slice.specs.code.Reached.{gathered, nothing, raised, raised_by, with_searched, with_taken_in};
 
 use crate::cursor::Cursor;
 use octet_model::{Mark, OutOfMemory, ThreadLog};
@@ -137,14 +138,14 @@ impl Gathering {
         ensures advances { Advances logs.now (gathered self.old) result (gathered self.new) }
         ensures settled { result ≡ false → (journals : Journals) (of now : ℕ) → AreOfLog journals logs.now → IsPartOfPast journals of now (gathered self.old) → IsSettled journals (gathered self.old) thread }
     {
-        let mut moved = false;
+        let mut has_passed = false;
         'taking: while self.take_next(logs, thread) {
-            moved = true;
+            has_passed = true;
         }
         'searching: while self.search_next(logs, thread) {
-            moved = true;
+            has_passed = true;
         }
-        moved
+        has_passed
     }
 
     // Goes once over all threads, and past all marks that can be passed. False where there is none.
@@ -153,13 +154,13 @@ impl Gathering {
         ensures advances { Advances logs.now (gathered self.old) result (gathered self.new) }
         ensures settled { result ≡ false → (journals : Journals) (of now : ℕ) → AreOfLog journals logs.now → IsPartOfPast journals of now (gathered self.old) → GathersPast journals of now (gathered self.new) }
     {
-        let mut moved = false;
+        let mut has_passed = false;
         for thread in 0..logs.len() {
             if self.pass_all(logs, thread) {
-                moved = true;
+                has_passed = true;
             }
         }
-        moved
+        has_passed
     }
 }
 

@@ -74,7 +74,7 @@ const READ_9: Event = Event::Read {
 };
 
 // What a slice tells, where the log orders all conflicts.
-fn told(
+fn slice_at(
     alloc: Global,
     script: &Script,
     log: &Log,
@@ -106,7 +106,10 @@ fn slices_tell_an_event_and_its_past(rt: HostRuntime) -> Result<(), Fail> {
         (1, 4, Err(SliceFault::NoEvent { events: 4 })),
         (3, 0, Err(SliceFault::NoThread { threads: 3 })),
     ] {
-        assert_eq!(rt; told(alloc, &script, &log, thread, event)?, Some(wanted));
+        assert_eq!(rt;
+            slice_at(alloc, &script, &log, thread, event)?,
+            Some(wanted)
+        );
     }
     Ok(())
 }

@@ -1,6 +1,6 @@
 -- What is next by a log of journals depends on the next event alone.
-use Rattle.std.proofs.Common.{◌≡◌, ℕ, suc, ◌<◌, Bool, true, false, nat_lt, cond, List, [], ◌∷◌, ◌++◌, length, Option, Some, None, slice_get, refl, sym, ap, ◌∙◌, arith}
-use Rattle.std.proofs.lemmas.Bool.{eq-eqb, ne_eqb, lt-ltb, le-ltb}
+use Rattle.std.proofs.Common.{◌≡◌, ℕ, suc, Bool, true, false, nat_lt, cond, List, ◌∷◌, ◌++◌, length, Option, Some, None, slice_get, refl, sym, ap, ◌∙◌, arith}
+use Rattle.std.proofs.lemmas.Bool.{eq-eqb, lt-ltb, le-ltb}
 use Rattle.std.proofs.lemmas.Option.{slice_get_past}
 use Rattle.octet_model.specs.declared.command.Command.{Command}
 use Rattle.octet_model.specs.declared.event.Event.{Event}
@@ -10,6 +10,7 @@ use Rattle.octet_model.specs.declared.log.Gapped.{Gapped}
 use Rattle.octet_model.specs.Thread.{Configuration, AccessOrEnd, ToRead, ToWrite, ToBump, ToEnd, demanded, configuration_after, FitsFrom}
 use Rattle.octet_model.specs.Journals.{access_count, mark_count, gap_after, gapped_marks, log_of_journal, due_mark, next_access, mark_first, next_by_log}
 use Rattle.octet_model.specs.Machine.{PlainState, may_proceed}
+use Rattle.octet_model.proofs.lemmas.LogsOfJournals.{next_gapped, not_due_mark}
 use Rattle.octet_model.proofs.lemmas.Splits.{accesses_split, length-gapped_marks, fits_split}
 
 -- the mark that an event is
@@ -17,22 +18,11 @@ abbrev mark_in : Event → Option Mark
 mark_in (Marked mark) = Some mark
 mark_in _ = None
 
--- the first mark that is left of a log is the first of what is left of the journal
-pub next_gapped : (before : ℕ) (pre post : List Event) → slice_get (gapped_marks before (pre ++ post)) (mark_count pre) ≡ slice_get (gapped_marks (gap_after before pre) post) 0
-next_gapped before [] post = refl
-next_gapped before (Marked mark ∷ pre) post = next_gapped 0 pre post
-next_gapped before (access ∷ pre) post = next_gapped (suc before) pre post
-
-not_due : (gap more : ℕ) (post : List Event) → gap < more → due_mark (slice_get (gapped_marks more post) 0) gap ≡ None
-not_due gap more [] lt = refl
-not_due gap more (Marked mark ∷ post) lt = ap (λ (b : Bool). cond b (Some mark) None) (ne_eqb more gap (λ e. omega arith))
-not_due gap more (access ∷ post) lt = not_due gap (suc more) post (omega arith)
-
 first_due : (gap : ℕ) (e : Event) (post : List Event) → due_mark (slice_get (gapped_marks gap (e ∷ post)) 0) gap ≡ mark_in e
 first_due gap (Marked mark) post = ap (λ (b : Bool). cond b (Some mark) None) (eq-eqb gap gap refl)
-first_due gap (Read object value) post = not_due gap (suc gap) post (omega arith)
-first_due gap (Write object value) post = not_due gap (suc gap) post (omega arith)
-first_due gap (Update object before after) post = not_due gap (suc gap) post (omega arith)
+first_due gap (Read object value) post = not_due_mark gap (suc gap) post (omega arith)
+first_due gap (Write object value) post = not_due_mark gap (suc gap) post (omega arith)
+first_due gap (Update object before after) post = not_due_mark gap (suc gap) post (omega arith)
 
 -- after a whole journal nothing is next
 nothing_next : (s : PlainState) (d : AccessOrEnd) (m : Bool) → may_proceed s (next_access d false m) ≡ false

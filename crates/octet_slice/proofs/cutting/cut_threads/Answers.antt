@@ -1,5 +1,5 @@
 use Rattle.std.proofs.Common.{get_or, refl}
-use Rattle.octet_slice.specs.Reached.{no_reach}
+use Rattle.octet_slice.specs.code.Reached.{no_reach}
 use Rattle.octet_slice.proofs.Summing.{cut_more}
 use Rattle.octet_slice.proofs.cutting.cut_threads.Goals as goal
 

@@ -1,5 +1,5 @@
 use Rattle.std.proofs.Common.{◌≡◌, take}
-use Rattle.octet_slice.specs.Cutting.{cut_log}
+use Rattle.octet_slice.specs.code.Cutting.{cut_log}
 use Rattle.octet_slice.proofs.cutting.cut_threads.Given as goal
 
 abbrev pub invariant-loop-thread : goal.invariant-loop-thread

@@ -1,7 +1,7 @@
 use Rattle.std.proofs.Common.{length, refl, ap, ◌∙◌}
 use Rattle.std.proofs.lemmas.List.{length-set, length-replicate}
 use Rattle.octet_slice.specs.declared.gathering.Reach.{Reach}
-use Rattle.octet_slice.specs.Reached.{Gathered, gathered, no_reach, raised}
+use Rattle.octet_slice.specs.code.Reached.{Gathered, gathered, no_reach, raised}
 use Rattle.octet_slice.proofs.Settling.{begins_in_past}
 use Rattle.octet_slice.proofs.gathering.gather.Goals as goal
 
@@ -17,7 +17,7 @@ loop-init c = record {
 pub loop-preserved : goal.loop-preserved
 loop-preserved c = record {
   many = c.loop-test.ensures.advances.many ∙ c.loop.invariant.many;
-  part = λ journals are le. c.loop-test.ensures.advances.kept journals c.args.thread c.args.now are (c.loop.invariant.part journals are le);
+  part = λ journals are le. c.loop-test.ensures.advances.stays_part journals c.args.thread c.args.now are (c.loop.invariant.part journals are le);
 }
 
 pub returns-clause-gathered : goal.returns-clause-gathered

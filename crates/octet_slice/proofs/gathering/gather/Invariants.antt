@@ -1,7 +1,7 @@
 use Rattle.std.proofs.Common.{◌≡◌, ◌≤◌, length}
 use Rattle.octet_model.specs.Machine.{Journals, journal_of}
 use Rattle.octet_slice.specs.Gathering.{AreOfLog, IsPartOfPast}
-use Rattle.octet_slice.specs.Reached.{gathered, left}
+use Rattle.octet_slice.specs.code.Reached.{gathered, left}
 use Rattle.octet_slice.proofs.gathering.gather.Given as goal
 
 abbrev pub invariant-loop : goal.invariant-loop

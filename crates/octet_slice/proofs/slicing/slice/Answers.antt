@@ -1,5 +1,5 @@
 use Rattle.std.proofs.Common.{arith}
-use Rattle.octet_slice.specs.Reached.{gathered}
+use Rattle.octet_slice.specs.code.Reached.{gathered}
 use Rattle.octet_slice.proofs.Summing.{few_events}
 use Rattle.octet_slice.proofs.SliceFound.{cut_is_valid, cuts, few_events_of, makes_it, same_many, sliced}
 use Rattle.octet_slice.proofs.slicing.slice.Goals as goal

@@ -1,6 +1,7 @@
 use Rattle.std.proofs.Common.{◌≡◌, ◌∙◌, Bool, false, refl, subst, sym}
-use Rattle.octet_slice.specs.Gathering.{Advances, IsPartOfPast, IsSettled}
-use Rattle.octet_slice.specs.Reached.{Gathered, gathered}
+use Rattle.octet_slice.specs.Gathering.{IsPartOfPast, IsSettled}
+use Rattle.octet_slice.specs.code.Advancing.{Advances}
+use Rattle.octet_slice.specs.code.Reached.{Gathered, gathered}
 use Rattle.octet_slice.proofs.Settling.{advances_on, advances_still, all_settled, settled_more}
 use Rattle.octet_slice.proofs.gathering.Gathering.advance.Goals as goal
 use Rattle.octet_slice.proofs.gathering.Gathering.advance.Goals.{then-pass_all, else-pass_all}
@@ -13,16 +14,16 @@ loop-thread-preserved c =
     elim c.if-pass_all.branch [
       | then-pass_all w ↦ record {
         advances =
-            subst (λ (moved : Bool). Advances c.args.logs.now start moved next) (sym w.moved-is)
-            (advances_on c.args.logs.now start here next c.loop-thread.moved c.loop-thread.invariant.advances w.if-pass_all.ensures.advances);
-        settled = λ never. absurd (let moved = w.moved-is in cc);
+            subst (λ (has_passed : Bool). Advances c.args.logs.now start has_passed next) (sym w.has_passed-is)
+            (advances_on c.args.logs.now start here next c.loop-thread.has_passed c.loop-thread.invariant.advances w.if-pass_all.ensures.advances);
+        settled = λ never. absurd (let has_passed = w.has_passed-is in cc);
       }
       | else-pass_all w ↦ record {
         advances =
-            subst (λ (moved : Bool). Advances c.args.logs.now start moved next) (sym w.moved-is)
-            (advances_still c.args.logs.now start here next c.loop-thread.moved c.loop-thread.invariant.advances w.if-pass_all.ensures.advances);
+            subst (λ (has_passed : Bool). Advances c.args.logs.now start has_passed next) (sym w.has_passed-is)
+            (advances_still c.args.logs.now start here next c.loop-thread.has_passed c.loop-thread.invariant.advances w.if-pass_all.ensures.advances);
         settled = λ never journals of now are part.
-            let before : c.loop-thread.moved ≡ false = sym w.moved-is ∙ never in
+            let before : c.loop-thread.has_passed ≡ false = sym w.has_passed-is ∙ never in
             let still : here ≡ start = c.loop-thread.invariant.advances.still before in
             settled_more journals c.loop-thread.thread start (c.loop-thread.invariant.settled before journals of now are part)
             (subst (λ (g : Gathered). IsSettled journals g c.loop-thread.thread) still (w.if-pass_all.ensures.settled refl journals of now are (subst (λ (g : Gathered). IsPartOfPast journals of now g) (sym still) part)));

@@ -1,5 +1,5 @@
 use Rattle.std.proofs.Common.{◌≡◌, suc, ◌+◌, arith, inl, inr, ap, ◌∙◌}
-use Rattle.octet_slice.specs.Reached.{gathered, raised, with_searched}
+use Rattle.octet_slice.specs.code.Reached.{gathered, raised, with_searched}
 use Rattle.octet_slice.proofs.Passing.{passes_it}
 use Rattle.octet_slice.proofs.gathering.Gathering.pass_next.Goals as goal
 use Rattle.octet_slice.proofs.gathering.Gathering.pass_next.Goals.{in-Draw+else-number-self, in_default-mark}

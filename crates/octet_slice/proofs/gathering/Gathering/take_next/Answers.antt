@@ -1,5 +1,5 @@
 use Rattle.std.proofs.Common.{arith, ap, ◌∙◌}
-use Rattle.octet_slice.specs.Reached.{gathered, with_taken_in}
+use Rattle.octet_slice.specs.code.Reached.{gathered, with_taken_in}
 use Rattle.octet_slice.proofs.Passing.{takes_it}
 use Rattle.octet_slice.proofs.gathering.Gathering.take_next.Goals as goal
 

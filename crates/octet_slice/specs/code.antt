@@ -1,0 +1,4 @@
+pub mod Cursors
+pub mod Reached
+pub mod Advancing
+pub mod Cutting
