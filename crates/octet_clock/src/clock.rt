@@ -1,5 +1,5 @@
 //! Vector clocks.
-ghost use Rattle.std.specs.Prelude.{◌≡◌, ◌≢◌, ◌<◌, ◌≤◌, false, length, min, slice_index, ℕ};
+ghost use Rattle.std.specs.Prelude.{◌≡◌, ◌≢◌, ◌<◌, ◌≤◌, false, get_or, length, min, slice_index, ℕ};
 ghost use Rattle.octet_model.specs.declared.limits.TheConstants.{MAX_THREADS};
 ghost use Rattle.octet_clock.specs.Clock.{count_in, no_events, IsRaised, IsJoined};
 
@@ -31,6 +31,16 @@ impl Clock {
         } else {
             0
         }
+    }
+
+    /// The clock that knows so many first events of the first threads, and nothing of the others.
+    pub(crate) fn of_first(known: &[u32]) -> Clock
+        ensures { length known.now ≤ MAX_THREADS → (thread : ℕ) → count_in result thread ≡ get_or known.now thread 0 }
+    {
+        let threads = known.len().min(MAX_THREADS);
+        let mut counts = [0; MAX_THREADS];
+        counts[..threads].copy_from_slice(&known[..threads]);
+        Clock { counts }
     }
 
     /// The counts of the first threads.

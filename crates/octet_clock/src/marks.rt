@@ -66,11 +66,10 @@ impl Marks {
     fn clock_at(&self, place: usize) -> Clock
         ensures { self.now.threads ≤ MAX_THREADS → (thread : ℕ) → count_in result thread ≡ count_after self.now place thread }
     {
-        let mut clock = Clock::new();
-        for thread in 0..MAX_THREADS {
-            clock.raise(thread, self.count_after(place, thread));
-        }
-        clock
+        let kept = self.counts.len();
+        let from = place.saturating_mul(self.threads).min(kept);
+        let upto = from.saturating_add(self.threads).min(kept);
+        Clock::of_first(&self.counts[from..upto])
     }
 
     /// The clock of the thread's first `upto` events.
