@@ -61,41 +61,44 @@ not_there w thread at = go (slice_get w.needs thread) at
     go (Some n) is = absurd cc
 
 -- one thread is put among those that may step, or taken out
-pub record Marked (before mid : Lists) (thread : ℕ) (met : Bool) : Type 0 where
+pub record Marked (mid after : Lists) (thread : ℕ) (met : Bool) : Type 0 where
   pub ready : ThreadSet
-  pub mid_is : mid ≡ record before { ready = ready }
+  pub after_is : after ≡ record mid { ready = ready }
   pub own : has ready thread ≡ met
-  pub others : (other : ℕ) → other ≢ thread → has ready other ≡ has before.ready other
+  pub others : (other : ℕ) → other ≢ thread → has ready other ≡ has mid.ready other
 
--- and on a list: then it is placed, and the others are where they were
-module _ (before mid after : Lists) (thread : ℕ) (need : Need) (met : Bool) (marked : Marked before mid thread met) (is : met ≡ is_met before.events.items before.draws need)
-    (here : slice_get before.needs.items thread ≡ Some need) (kept : Keeps (counts_of mid) mid after) (ready : after.ready ≡ mid.ready) (listed : IsListed after thread need)
-    (lists : (other : ℕ) (its : Need) → IsListed mid other its → IsListed after other its) where
+-- on a list, and among those that may step, or not: then it is placed, and the others are where they were
+module _ (before mid after : Lists) (thread : ℕ) (need : Need) (met : Bool) (here : slice_get before.needs.items thread ≡ Some need) (kept : Keeps (counts_of before) before mid) (same : mid.ready ≡ before.ready)
+    (is : met ≡ is_met before.events.items before.draws need) (listed : IsListed mid thread need) (lists : (other : ℕ) (its : Need) → IsListed before other its → IsListed mid other its)
+    (marked : Marked mid after thread met) where
   counts_same : counts_of after ≡ counts_of before
-  counts_same = kept.counts_are ∙ ap counts_of marked.mid_is
+  counts_same = ap counts_of marked.after_is ∙ kept.counts_are
 
-  placed_here : IsPlaced after thread
+  listed_after : (other : ℕ) (its : Need) → IsListed mid other its → IsListed after other its
+  listed_after other its there =
+      subst (λ (l : Lists). IsListed l other its) (sym marked.after_is)
+      (still_listed mid (record mid { ready = marked.ready }) refl refl (λ of list at. (list, at, λ t n a. a)) (λ t n a. a) other its there)
+
+  pub placed_here : IsPlaced after thread
   placed_here = record {
     ready =
-        ap (λ (s : ThreadSet). has s thread) ready ∙ ap (λ (l : Lists). has l.ready thread) marked.mid_is ∙ marked.own ∙ is
+        ap (λ (l : Lists). has l.ready thread) marked.after_is ∙ marked.own ∙ is
         ∙ sym (ready_is (counts_of before) thread need here) ∙ ap (λ (w : NeedsAndCounts). is_ready w thread) (sym counts_same);
     listed = λ its at.
         let there = sym here ∙ ap (λ (w : NeedsAndCounts). slice_get w.needs thread) (sym counts_same) ∙ at in
-        subst (λ (n : Need). IsListed after thread n) (same_Some need its there) listed;
+        subst (λ (n : Need). IsListed after thread n) (same_Some need its there) (listed_after thread need listed);
   }
 
   pub others_placed : (other : ℕ) → IsPlaced before other → IsPlaced after other
   others_placed other was =
       elim (cases_eq other thread) [
-        | inl same ↦ subst (λ (n : ℕ). IsPlaced after n) (sym same) placed_here
+        | inl here_too ↦ subst (λ (n : ℕ). IsPlaced after n) (sym here_too) placed_here
         | inr differ ↦ record {
           ready =
-              ap (λ (s : ThreadSet). has s other) ready ∙ ap (λ (l : Lists). has l.ready other) marked.mid_is ∙ marked.others other differ ∙ was.ready
+              ap (λ (l : Lists). has l.ready other) marked.after_is ∙ marked.others other differ ∙ ap (λ (s : ThreadSet). has s other) same ∙ was.ready
               ∙ ap (λ (w : NeedsAndCounts). is_ready w other) (sym counts_same);
           listed = λ its at.
-              let is_listed = was.listed its (ap (λ (w : NeedsAndCounts). slice_get w.needs other) (sym counts_same) ∙ at) in
-              let in_mid : IsListed (record before { ready = marked.ready }) other its = still_listed before (record before { ready = marked.ready }) refl refl (λ of list at. (list, at, λ t n a. a)) (λ t n a. a) other its is_listed in
-              lists other its (subst (λ (l : Lists). IsListed l other its) (sym marked.mid_is) in_mid);
+              listed_after other its (lists other its (was.listed its (ap (λ (w : NeedsAndCounts). slice_get w.needs other) (sym counts_same) ∙ at)));
         }
       ]
 

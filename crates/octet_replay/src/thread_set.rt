@@ -40,6 +40,20 @@ impl ThreadSet {
         self.bits = bits & !(1u16 << thread);
     }
 
+    /// Puts a thread in, or takes it out.
+    #[inline(always)]
+    pub(crate) fn set(&mut self, thread: u8, within: bool)
+        requires { thread < MAX_THREADS }
+        ensures own { has self.new thread ≡ within }
+        ensures others { (other : ℕ) → other ≢ thread → has self.new other ≡ has self.old other }
+    {
+        if within {
+            self.insert(thread);
+        } else {
+            self.remove(thread);
+        }
+    }
+
     /// The lowest thread of the set.
     #[inline(always)]
     pub(crate) fn lowest(&self) -> Option<u8>

@@ -25,55 +25,64 @@ struct Lists {
 }
 
 impl Lists {
+    // Whether a thread's need is met. Puts the thread on the list of the count at which the need
+    // changes, if that can come.
     #[inline(always)]
-    fn is_met(&self, need: Need) -> bool
-        requires { NamesThread (length self.now.events.items) need }
-        ensures { result ≡ is_met self.now.events.items self.now.draws need }
-    {
-        match need {
-            Need::Free => true,
-            Need::Events { of, count } => self.events[of as usize] >= count,
-            Need::DrawsAre { count } => count == self.draws,
-            Need::DrawsReach { count } => self.draws >= count,
-            Need::Never => false,
-        }
-    }
-
-    // Puts a thread on the list of the count at which its need changes, if that can come.
-    #[inline(always)]
-    fn enlist(&mut self, thread: u8, need: Need)
+    fn enlist(&mut self, thread: u8, need: Need) -> bool
         requires thread { thread < MAX_THREADS }
         requires events { NamesThread (length self.old.events.items) need }
         requires lists { NamesThread (length self.old.at_events.items) need }
+        ensures met { result ≡ is_met self.old.events.items self.old.draws need }
         ensures listed { IsListed self.new thread need }
         ensures others { (other : ℕ) (its : Need) → IsListed self.old other its → IsListed self.new other its }
         ensures kept { Keeps (counts_of self.old) self.old self.new }
         ensures ready { self.new.ready ≡ self.old.ready }
     {
         match need {
-            Need::Free | Need::Never => {}
+            Need::Free => true,
+            Need::Never => false,
             Need::Events { of, count } => {
                 if self.events[of as usize] < count {
                     self.at_events[of as usize].add(thread, count);
+                    return false;
                 }
+                true
             }
             Need::DrawsAre { count } => {
                 if self.draws == count {
                     self.at_draws.add(thread, count.saturating_add(1));
-                } else if self.draws < count {
+                    return true;
+                }
+                if self.draws < count {
                     self.at_draws.add(thread, count);
                 }
+                false
             }
             Need::DrawsReach { count } => {
                 if self.draws < count {
                     self.at_draws.add(thread, count);
+                    return false;
                 }
+                true
             }
         }
     }
 
     // Puts a thread where its need says: among those that may step, or not, and on a list.
     #[inline(always)]
+    fn settle(&mut self, thread: u8, need: Need)
+        requires sized { IsSized self.old }
+        requires its { slice_get self.old.needs.items thread ≡ Some need }
+        ensures placed { IsPlaced self.new thread }
+        ensures others { (other : ℕ) → IsPlaced self.old other → IsPlaced self.new other }
+        ensures sized { IsSized self.new }
+        ensures kept { Keeps (counts_of self.old) self.old self.new }
+    {
+        let met = self.enlist(thread, need);
+        self.ready.set(thread, met);
+    }
+
+    // Puts a thread where its need says, if there is such a thread.
     fn place(&mut self, thread: u8)
         requires { IsSized self.old }
         ensures placed { thread < length self.old.needs.items → IsPlaced self.new thread }
@@ -81,16 +90,10 @@ impl Lists {
         ensures sized { IsSized self.new }
         ensures kept { Keeps (counts_of self.old) self.old self.new }
     {
-        if thread as usize >= self.needs.len() {
-            return;
+        if (thread as usize) < self.needs.len() {
+            let need = self.needs[thread as usize];
+            self.settle(thread, need);
         }
-        let need = self.needs[thread as usize];
-        if self.is_met(need) {
-            self.ready.insert(thread);
-        } else {
-            self.ready.remove(thread);
-        }
-        self.enlist(thread, need);
     }
 
     // Places the threads that are due: mostly there are none.
@@ -169,7 +172,7 @@ impl Lists {
         if draw {
             self.count_draw();
         }
-        self.place(thread);
+        self.settle(thread, next);
     }
 }
 

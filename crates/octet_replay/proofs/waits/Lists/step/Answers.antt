@@ -1,6 +1,9 @@
-use Rattle.std.proofs.Common.{◌≡◌, ℕ, inl, inr, refl, sym, ap, ◌∙◌, subst, length, arith, length-set}
+use Rattle.std.proofs.Common.{◌≡◌, ◌<◌, ℕ, inl, inr, Some, refl, sym, ap, ◌∙◌, subst, length, arith, length-set, slice_get, slice_set}
 use Rattle.std.proofs.lemmas.Bool.{cases_eq}
+use Rattle.std.proofs.lemmas.List.{get_or-set_same}
+use Rattle.std.proofs.lemmas.Option.{slice_get-get_or}
 use Rattle.std.specs.Vec.{with_item}
+use Rattle.octet_replay.specs.declared.need.Need.{Need}
 use Rattle.octet_replay.specs.declared.waits.Lists.{Lists}
 use Rattle.octet_replay.specs.Needs.{NeedsAndCounts}
 use Rattle.octet_replay.specs.WaitingLists.{IsPlaced, IsSized, ArePlacedBut}
@@ -13,32 +16,37 @@ count_event-requires-clause-placed c thread differ =
     let l = c.args.self.now in
     need_placed l (record l { needs = with_item l.needs c.args.thread c.args.next }) c.args.thread c.args.next refl refl (λ other need is. is) refl refl thread differ (c.requires.placed thread)
 
-pub place-requires : goal.place-requires
-place-requires c =
+pub settle-requires-clause-sized : goal.settle-requires-clause-sized
+settle-requires-clause-sized c =
     elim c.if-draw.branch [
       | then-draw w ↦ subst (λ (l : Lists). IsSized l) (sym w.self-is) w.count_draw.ensures.sized
       | else-draw w ↦ subst (λ (l : Lists). IsSized l) (sym w.self-is) c.count_event.ensures.sized
     ]
 
-placed_but : (c : goal.After-place) → ArePlacedBut c.if-draw.self c.args.thread
+-- the need that was written is still the thread's
+pub settle-requires-clause-its : goal.settle-requires-clause-its
+settle-requires-clause-its c =
+    let l = c.args.self.now in
+    let thread : ℕ = c.args.thread in
+    let within : thread < length (slice_set l.needs.items thread c.args.next) = omega (arith, length-set l.needs.items thread c.args.next, c.requires.within) in
+    let written : slice_get (slice_set l.needs.items thread c.args.next) thread ≡ Some c.args.next =
+    slice_get-get_or (slice_set l.needs.items thread c.args.next) thread c.args.next within ∙ ap (λ (n : Need). Some n) (get_or-set_same l.needs.items thread c.args.next c.args.next c.requires.within) in
+    let event = ap (λ (w : NeedsAndCounts). slice_get w.needs thread) c.count_event.ensures.kept.counts_are ∙ written in
+    elim c.if-draw.branch [
+      | then-draw w ↦ ap (λ (x : Lists). slice_get x.needs.items thread) w.self-is ∙ ap (λ (w : NeedsAndCounts). slice_get w.needs thread) w.count_draw.ensures.kept.counts_are ∙ event
+      | else-draw w ↦ ap (λ (x : Lists). slice_get x.needs.items thread) w.self-is ∙ event
+    ]
+
+placed_but : (c : goal.After-settle) → ArePlacedBut c.if-draw.self c.args.thread
 placed_but c =
     elim c.if-draw.branch [
       | then-draw w ↦ subst (λ (l : Lists). ArePlacedBut l c.args.thread) (sym w.self-is) (w.count_draw.ensures.placed c.args.thread c.count_event.ensures.placed)
       | else-draw w ↦ subst (λ (l : Lists). ArePlacedBut l c.args.thread) (sym w.self-is) c.count_event.ensures.placed
     ]
 
-as_many : (c : goal.After-place) → length c.if-draw.self.needs.items ≡ length c.args.self.now.needs.items
-as_many c =
-    let l = c.args.self.now in
-    let event = ap (λ (w : NeedsAndCounts). length w.needs) c.count_event.ensures.kept.counts_are ∙ length-set l.needs.items c.args.thread c.args.next in
-    elim c.if-draw.branch [
-      | then-draw w ↦ ap (λ (x : Lists). length x.needs.items) w.self-is ∙ ap (λ (w : NeedsAndCounts). length w.needs) w.count_draw.ensures.kept.counts_are ∙ event
-      | else-draw w ↦ ap (λ (x : Lists). length x.needs.items) w.self-is ∙ event
-    ]
-
 pub returns-clause-placed : goal.returns-clause-placed
 returns-clause-placed c any =
     elim (cases_eq any c.args.thread) [
-      | inl same ↦ subst (λ (n : ℕ). IsPlaced c.place.new.self n) (sym same) (c.place.ensures.placed (omega (arith, as_many c)))
-      | inr differ ↦ c.place.ensures.others any (placed_but c any differ)
+      | inl same ↦ subst (λ (n : ℕ). IsPlaced c.settle.new.self n) (sym same) c.settle.ensures.placed
+      | inr differ ↦ c.settle.ensures.others any (placed_but c any differ)
     ]
