@@ -120,11 +120,13 @@ impl Replay {
         requires of_log { log.now ≡ thread_log_of self.old.log.value.threads thread }
         ensures { MakesEvent self.old thread event self.new }
     {
+        // What depends on the event's kind stands together, so that the kind is looked at once.
+        let draw = is_draw(event);
+        write(&mut self.heap, event);
         let it = &mut self.threads[thread as usize];
         it.make(event);
         let next = it.need(log);
-        write(&mut self.heap, event);
-        self.waits.step(thread, is_draw(event), next);
+        self.waits.step(thread, draw, next);
     }
 
     /// Makes the next step of the lowest order, if a thread may step. Inlined down to the waiting

@@ -17,7 +17,7 @@ returns c =
       grown = c.make.ensures;
       threads = refl;
       heap = c.write.ensures;
-      waits = c.step.ensures ∙ (λ i. after_step r.waits c.args.thread (c.is_draw.ensures i) ((c.need-next.ensures ∙ ap (λ (log : ThreadLog). need_of (next_by_counts log c.make.new.self)) c.requires.of_log) i));
+      waits = c.step.ensures ∙ (λ i. after_step r.waits c.args.thread (c.is_draw-draw.ensures i) ((c.need-next.ensures ∙ ap (λ (log : ThreadLog). need_of (next_by_counts log c.make.new.self)) c.requires.of_log) i));
       script = refl;
       log = refl;
     }
