@@ -18,7 +18,7 @@ use Rattle.octet_clock.specs.Fronts.{demand_after}
 use Rattle.octet_parallel.specs.Soundness.{IsSoundLook, IsSoundPlayer, IsSoundField}
 use Rattle.octet_parallel.specs.Tracks.{IsOnTrack}
 use Rattle.octet_parallel.proofs.Tracks.{none_on_track, front_on_track}
-use Rattle.octet_parallel.proofs.DrawsMade.{DrawsMade, draws_made}
+use Rattle.octet_clock.proofs.lemmas.DrawsMade.{DrawsMade, draws_made}
 
 journal_at : (ps : List PlayerState) (u : ℕ) → journal_of (map (λ (p : PlayerState). p.journal) ps) u ≡ (get_or ps u unbegun).journal
 journal_at [] u = refl

@@ -1,6 +1,5 @@
 mod Spread
 mod Tracks
-mod DrawsMade
 mod MayMark
 mod Keeping
 mod Lawful

@@ -27,7 +27,7 @@ use Rattle.octet_clock.specs.Untied.{by_log_alone, opening_alone, IsUntied}
 use Rattle.octet_parallel.specs.Needs.{mark_at, HasMarkAt, Needs}
 use Rattle.octet_parallel.specs.Tracks.{IsOnTrack}
 use Rattle.octet_parallel.proofs.Tracks.{mark_of, mark_later, marks_are, due_there, none_on_track, any_demand, follows_alone, front_on_track}
-use Rattle.octet_parallel.proofs.DrawsMade.{IsDrawnBefore, DrawsMade, draws_made}
+use Rattle.octet_clock.proofs.lemmas.DrawsMade.{IsDrawnBefore, DrawsMade, draws_made}
 
 is_mark : (o : Option Event) (mark : Mark) → mark_of o ≡ Some mark → o ≡ Some (Marked mark)
 is_mark None mark is = absurd cc

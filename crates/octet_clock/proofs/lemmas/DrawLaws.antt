@@ -1,76 +1,27 @@
 -- What a draw and a fence wait for, by the draws that are made.
-use Rattle.std.proofs.Common.{◌≡◌, ℕ, zero, suc, ◌<◌, ◌≤◌, ◌⊎◌, ◌↔◌, inl, inr, nat_lt, List, [], length, Some, IsTrue, slice_get, refl, sym, ap, ◌∙◌, subst, arith}
+use Rattle.std.proofs.Common.{◌≡◌, ℕ, zero, suc, ◌<◌, ◌≤◌, ◌⊎◌, ◌↔◌, inl, inr, nat_lt, List, [], length, IsTrue, slice_get, refl, sym, ap, ◌∙◌, subst, arith}
 use Rattle.std.proofs.lemmas.Bool.{cases_lt, eqb-true, eq-eqb, le-leb, leb-true, and_parts}
 use Rattle.std.proofs.lemmas.List.{length-map}
 use Rattle.std.proofs.lemmas.Option.{slice_get_within}
 use Rattle.octet_model.specs.declared.command.Command.{Command}
-use Rattle.octet_model.specs.declared.event.Event.{Event}
 use Rattle.octet_model.specs.declared.event.Event.TheVariants.{Marked}
 use Rattle.octet_model.specs.declared.event.Mark.{Mark}
-use Rattle.octet_model.specs.declared.event.Mark.TheVariants.{Join, Draw, Fence}
+use Rattle.octet_model.specs.declared.event.Mark.TheVariants.{Draw, Fence}
 use Rattle.octet_model.specs.declared.event.Place.{Place}
 use Rattle.octet_model.specs.declared.log.ThreadLog.{ThreadLog}
 use Rattle.octet_model.specs.declared.script.Script.{Script}
-use Rattle.octet_model.specs.Machine.{journal_of, PlainState, no_events, starting_state, Operation, MakeMark, MakeRead, MakeWrite, MakeUpdate, Wants, Behavior, is_enabled, event_made, draws_after, appended, performed, next_of, may_proceed, may_step, after, IsFront, AllFinished}
-use Rattle.octet_model.specs.HappensBefore.{event_at}
+use Rattle.octet_model.specs.Machine.{journal_of, PlainState, MakeMark, Wants, Behavior, is_enabled, next_of, may_proceed, may_step, after, IsFront, AllFinished}
 use Rattle.octet_model.specs.Journals.{access_count, mark_count, gap_after, due_mark}
 use Rattle.octet_model.specs.Orders.{thread_log_of, by_log, opening_state, state_after, journals_after, IsLawfulFront}
-use Rattle.octet_model.proofs.lemmas.Steps.{at, count, Makes, makes_from, stays_appended, new_event, by_front}
-use Rattle.octet_model.proofs.lemmas.Fronts.{stays, makes_it, no_journal, after_on}
+use Rattle.octet_model.proofs.lemmas.Steps.{count, makes_from, by_front}
+use Rattle.octet_model.proofs.lemmas.Fronts.{stays, makes_it, after_on}
 use Rattle.octet_model.proofs.lemmas.LogsOfJournals.{as_many_after}
-use Rattle.octet_model.proofs.lemmas.MarksSeen.{MarksSeen, marks_seen_longer}
 use Rattle.octet_clock.specs.Fronts.{IsDrawn, demand_after}
 use Rattle.octet_clock.specs.Laws.{FenceWaits, UntiedDrawWaits}
 use Rattle.octet_clock.specs.Untied.{by_log_alone, opening_alone, IsUntied}
+use Rattle.octet_clock.proofs.lemmas.DrawsMade.{DrawsMade, draws_made, draws_made_longer}
 use Rattle.octet_clock.proofs.lemmas.FrontLaws.{front_split}
 use Rattle.octet_clock.proofs.lemmas.LogsAlone.{StandsAlike, by_counts, front_alone, next_alone, untied_leads_on}
-
--- each mark names what was made before it, and each draw up to the number of draws is made
-record DrawsMade (s : PlainState) : Type 0 where
-  seen : MarksSeen s.journals s.draws
-  each : (number : ℕ) → 1 ≤ number → number ≤ s.draws → IsDrawn s.journals number
-
-none_made : {A : Type 0} (heap : List ℕ) (threads : List A) → DrawsMade (starting_state heap threads)
-none_made heap threads = record {
-  seen = record {
-    joined = λ b from upto is. absurd (none b (Marked (Join from upto)) is);
-    drawn = λ a number is. absurd (none a (Marked (Draw number)) is);
-    fenced = λ b upto is. absurd (none b (Marked (Fence upto)) is);
-    differ = λ a b number is_a is_b. absurd (none a (Marked (Draw number)) is_a);
-  };
-  each = λ number some le. absurd (omega arith);
-}
-  where
-    none : (p : Place) (x : Event) → event_at (no_events threads) p ≡ Some x → ⊥
-    none p x is = let empty = ap (λ (j : List Event). slice_get j p.event) (no_journal threads p.thread) in absurd cc
-
-module _ (V : Behavior) where
-  more_made : (s : PlainState) (t : ℕ) (o : Operation) → Makes V s t o → DrawsMade s → DrawsMade (performed s t o)
-  more_made s t o m made = record {
-    seen = marks_seen_longer s t o m.within m.enabled made.seen;
-    each = λ number some le. go o m.enabled number some le (new_event s.journals t (event_made o s.heap) m.within);
-  }
-    where
-      old : (o : Operation) (number : ℕ) → 1 ≤ number → number ≤ s.draws → IsDrawn (appended s.journals t (event_made o s.heap)) number
-      old o number some le = let d = made.each number some le in (d.0, stays_appended s.journals t d.0.thread d.0.event (event_made o s.heap) (Marked (Draw number)) d.1)
-
-      go : (o : Operation) → IsTrue (is_enabled s o) → (number : ℕ) → 1 ≤ number → number ≤ draws_after o s.draws
-          → at (appended s.journals t (event_made o s.heap)) t (count s.journals t) ≡ Some (event_made o s.heap) → IsDrawn (appended s.journals t (event_made o s.heap)) number
-      go (MakeMark (Draw other)) enabled number some le new =
-          elim (cases_lt s.draws number) [
-            | inl above ↦
-                let same : other ≡ number = omega (arith, eqb-true other (suc s.draws) enabled) in
-                (record { thread = t; event = count s.journals t }, new ∙ ap (λ (n : ℕ). Some (Marked (Draw n))) same)
-            | inr below ↦ old (MakeMark (Draw other)) number some below
-          ]
-      go (MakeMark (Join from upto)) enabled number some le new = old (MakeMark (Join from upto)) number some le
-      go (MakeMark (Fence upto)) enabled number some le new = old (MakeMark (Fence upto)) number some le
-      go (MakeRead object) enabled number some le new = old (MakeRead object) number some le
-      go (MakeWrite object value) enabled number some le new = old (MakeWrite object value) number some le
-      go (MakeUpdate object change) enabled number some le new = old (MakeUpdate object change) number some le
-
-  draws_made : {A : Type 0} (heap : List ℕ) (threads : List A) (front : List ℕ) → IsFront V (starting_state heap threads) front → DrawsMade (after V (starting_state heap threads) front)
-  draws_made heap threads front is = by_front V DrawsMade more_made front (starting_state heap threads) is (none_made heap threads)
 
 -- what is next may step where it is enabled
 module _ (V : Behavior) (s : PlainState) (t : ℕ) (lt : t < length s.journals) (mark : Mark) (next : next_of V s t ≡ Wants (MakeMark mark)) where
@@ -90,7 +41,7 @@ module _ (script : Script) (log : List ThreadLog) (front : List ℕ) (lawful : I
   many : length (state_after script log front).journals ≡ length log
   many = as_many_after V front (opening_state script) ∙ length-map script.threads (λ (c : List Command). []) ∙ lawful.0
 
-  made : DrawsMade (state_after script log front)
+  made : DrawsMade (state_after script log front).journals (state_after script log front).draws
   made = draws_made V (opening_state script).heap script.threads front lawful.1
 
   -- as many draws are made as a number that is drawn, or 0
@@ -139,7 +90,7 @@ module _ (script : Script) (log : List ThreadLog) (front : List ℕ) (lawful : I
           let now = draws_made V' [] log front both.0 in
           let drawn = now.each (suc number) (omega arith) (omega (arith, above, both.1.draws)) in
           let stays_drawn = stays V' on.0 s' drawn.0.thread drawn.0.event (Marked (Draw (suc number))) drawn.1 in
-          let all : DrawsMade last = by_front V' DrawsMade (more_made V') on.0 s' later now in
+          let all : DrawsMade last.journals last.draws = by_front V' (λ (x : PlainState). DrawsMade x.journals x.draws) (λ x u o m made. draws_made_longer x u o m.within m.enabled made) on.0 s' later now in
           let same = all.seen.differ drawn.0 (record { thread = t; event = count s'.journals t }) (suc number) stays_drawn it.1 in
           let old = slice_get_within (journal_of s'.journals drawn.0.thread) drawn.0.event (Marked (Draw (suc number))) drawn.1 in
           absurd (omega (arith, old, ap (λ (p : Place). p.event) same, ap (λ (p : Place). count s'.journals p.thread) same))
