@@ -9,6 +9,7 @@ use Rattle.octet_model.specs.Thread.{AccessOrEnd, demanded, configuration_after,
 use Rattle.octet_model.specs.Machine.{Journals, journal_of, next_of, Finished}
 use Rattle.octet_model.specs.Orders.{by_log, commands_of, end_of, ends_of, values_read, IsLawfulFront}
 use Rattle.octet_replay.specs.NextDemand.{demand_of}
+use Rattle.octet_replay.specs.Threads.{end_told, values_of}
 use Rattle.octet_parallel.specs.declared.fate.Fate.{Fate}
 use Rattle.octet_parallel.specs.declared.fate.Fate.TheVariants.{Playing, Amiss, Stopped}
 use Rattle.octet_parallel.specs.declared.finished.Finished as finished
@@ -61,7 +62,7 @@ some_player (q ∷ players) h = q
 ends_are : (fuel : ℕ) (commands : List (List Command)) (players : List Player) (journals : Journals) → length players ≡ length commands → length players ≡ length journals
     → ((t : ℕ) (none : Player) → t < length players
     → demanded (get_or commands t []) (configuration_after (get_or commands t []) (starting_configuration fuel) (journal_of journals t)) ≡ demand_of (get_or players t none).replay.up_next)
-    → map (λ (p : Player). end_of (demand_of p.replay.up_next)) players ≡ ends_of fuel commands journals
+    → map (λ (p : Player). end_told p.replay) players ≡ ends_of fuel commands journals
 ends_are fuel [] [] journals same as_many demands = refl
 ends_are fuel [] (x ∷ players) journals same as_many demands = absurd (omega arith)
 ends_are fuel (c ∷ commands) [] journals same as_many demands = absurd (omega arith)
@@ -69,7 +70,7 @@ ends_are fuel (c ∷ commands) (x ∷ players) [] same as_many demands = absurd 
 ends_are fuel (c ∷ commands) (x ∷ players) (j ∷ journals) same as_many demands =
     let first : demanded c (configuration_after c (starting_configuration fuel) j) ≡ demand_of x.replay.up_next = demands 0 x (omega arith) in
     let rest = ends_are fuel commands players journals (omega arith) (omega arith) (λ t none h. demands (suc t) none (omega arith)) in
-    ap (λ (es : List End). end_of (demand_of x.replay.up_next) ∷ es) rest ∙ ap (λ (d : AccessOrEnd). end_of d ∷ ends_of fuel commands journals) (sym first)
+    ap (λ (es : List End). end_told x.replay ∷ es) rest ∙ ap (λ (d : AccessOrEnd). end_of d ∷ ends_of fuel commands journals) (sym first)
 
 module _ (field : Field) (players : List Player) (all : length players ≡ field.words.players) (ended : EachEnded field players) where
   -- the seats of the players are those of the field
@@ -157,9 +158,9 @@ module _ (field : Field) (players : List Player) (all : length players ≡ field
           ∙ sym (mapped_twice (λ (p : Player). (view_of p).player) (λ (x : PlayerState). x.journal) players)
           ∙ ap (λ (l : List PlayerState). map (λ (x : PlayerState). x.journal) l) (sym players_are) ∙ sym closes.sound.journals
 
-      reads_are : map (λ (p : Player). p.replay.reads.items) players ≡ map values_read (plain s).journals
+      reads_are : map (λ (p : Player). values_of p.replay) players ≡ map values_read (plain s).journals
       reads_are =
-          maps_alike (λ (p : Player). p.replay.reads.items) (λ (p : Player). values_read p.journal.items) players (λ k none h. (ended k none h).0.replay.reads)
+          maps_alike (λ (p : Player). values_of p.replay) (λ (p : Player). values_read p.journal.items) players (λ k none h. (ended k none h).0.replay.reads)
           ∙ sym (mapped_twice (λ (p : Player). p.journal.items) values_read players) ∙ ap (λ (js : Journals). map values_read js) journals_are
 
       numbered : (t : ℕ) (none : Player) → t < length players → (get_or players t none).number ≡ t
@@ -168,7 +169,7 @@ module _ (field : Field) (players : List Player) (all : length players ≡ field
       journal_at : (t : ℕ) (none : Player) → t < length players → journal_of (plain s).journals t ≡ (get_or players t none).journal.items
       journal_at t none h = journal_is s closes.sound t ∙ ap (λ (x : PlayerState). x.journal) (player_is t none h) ∙ (ended t none h).0.journal
 
-      ends_told : map (λ (p : Player). end_of (demand_of p.replay.up_next)) players ≡ ends_of s.script.fuel s.script.threads (plain s).journals
+      ends_told : map (λ (p : Player). end_told p.replay) players ≡ ends_of s.script.fuel s.script.threads (plain s).journals
       ends_told =
           ends_are s.script.fuel s.script.threads players (plain s).journals (sym many ∙ closes.sound.as_many ∙ sym closes.sound.agree) (sym (many_journals s closes.sound ∙ many))
           (λ t none h.
@@ -176,8 +177,8 @@ module _ (field : Field) (players : List Player) (all : length players ≡ field
           (λ i. demanded (commands_of (closes.is_script i) (sym (numbered t none h) i)) (configuration_after (commands_of (closes.is_script i) (sym (numbered t none h) i)) (starting_configuration ((closes.is_script i).fuel)) (journal_at t none h i)))
           ∙ e.0.replay.comes.demands)
 
-      pub is_finished : (result : finished.Finished) → result.journals ≡ map (λ (p : Player). p.journal.items) players → result.outcome.reads ≡ map (λ (p : Player). p.replay.reads.items) players
-          → result.outcome.ends ≡ map (λ (p : Player). end_of (demand_of p.replay.up_next)) players → result.outcome.heap ≡ cells → IsFinishedReplay (script_in field) (log_in field).threads result
+      pub is_finished : (result : finished.Finished) → result.journals ≡ map (λ (p : Player). p.journal.items) players → result.outcome.reads ≡ map (λ (p : Player). values_of p.replay) players
+          → result.outcome.ends ≡ map (λ (p : Player). end_told p.replay) players → result.outcome.heap ≡ cells → IsFinishedReplay (script_in field) (log_in field).threads result
       is_finished result journals reads ends heap =
           subst (λ z. z) (λ i. IsFinishedReplay (closes.is_script i) ((closes.is_log i).threads) result) (record {
             order = s.front;

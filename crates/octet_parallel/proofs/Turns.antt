@@ -1,6 +1,6 @@
 -- What a player knows between two of its calls, and what a step makes of it.
-use Rattle.std.proofs.Common.{◌≡◌, inr, ℕ, suc, ◌+◌, ◌<◌, ◌≤◌, Bool, true, false, nat_lt, if◌then◌else◌, cond, List, [], ◌∷◌, ◌++◌, length, get_or, Option, Some, None, slice_get, refl, sym, ap, ◌∙◌, subst, subst₂, arith, length-append}
-use Rattle.std.proofs.lemmas.Bool.{eq-eqb, le-ltb}
+use Rattle.std.proofs.Common.{◌≡◌, ◌⊎◌, inl, inr, ℕ, suc, ◌+◌, ◌<◌, ◌≤◌, Bool, true, false, nat_lt, if◌then◌else◌, cond, List, [], ◌∷◌, ◌++◌, length, get_or, Option, Some, None, slice_get, refl, sym, ap, ◌∙◌, subst, subst₂, arith, length-append}
+use Rattle.std.proofs.lemmas.Bool.{eq-eqb, ltb-false, ltb-true}
 use Rattle.std.proofs.lemmas.List.Sums.{sum_by-cons, sum_by-append}
 use Rattle.std.specs.List.{sum_by}
 use Rattle.std.specs.Vec.{vec_len, vec_capacity}
@@ -12,13 +12,12 @@ use Rattle.octet_model.specs.declared.log.Log.{Log}
 use Rattle.octet_model.specs.declared.log.ThreadLog.{ThreadLog}
 use Rattle.octet_model.specs.Thread.{AccessOrEnd, ToRead, ToWrite, ToBump, ToEnd, starting_configuration, added}
 use Rattle.octet_model.specs.Journals.{access_count, mark_count, gap_after, gapped_marks, due_mark, next_access, mark_first}
-use Rattle.octet_model.specs.Machine.{Next, Wants, Finished, MakeMark, MakeRead, MakeWrite, MakeUpdate}
+use Rattle.octet_model.specs.Machine.{Next, Wants, NothingFits, MakeMark, MakeRead, MakeWrite, MakeUpdate}
 use Rattle.octet_model.specs.Orders.{by_log, commands_of, thread_log_of}
 use Rattle.octet_model.proofs.lemmas.Splits.{length_parts, length-gapped_marks}
 use Rattle.octet_model.proofs.lemmas.Validity.{valid_log}
 use Rattle.octet_replay.specs.Threads.{IsReplayOf, next_by_counts, next_event, Grown, HasRoomFor, StandsFor}
 use Rattle.octet_replay.specs.NextDemand.{demand_of}
-use Rattle.octet_replay.specs.declared.thread.NextDemand.{NextDemand}
 use Rattle.octet_replay.specs.declared.thread.ThreadReplay.{ThreadReplay}
 use Rattle.octet_replay.proofs.lemmas.Growing.{by_counts, grows, stands_for, has_room}
 use Rattle.octet_replay.proofs.lemmas.Valid.{few_accesses, few_marks}
@@ -26,7 +25,7 @@ use Rattle.octet_parallel.specs.declared.field.Field.{Field}
 use Rattle.octet_parallel.specs.declared.player.Player.{Player}
 use Rattle.octet_parallel.specs.State.{PlayerState, FieldState, player_of}
 use Rattle.octet_parallel.specs.Steps.{Kind, ToRead, ToWrite, ToBump, ToAdvance, step, target, event_next, with_event, IsAmissBy}
-use Rattle.octet_replay.specs.Judged.{DemandsAccess}
+use Rattle.octet_replay.specs.Judged.{DemandsAccess, DemandsEnd}
 use Rattle.octet_parallel.specs.Tracks.{Ahead, IsOnTrack}
 use Rattle.octet_parallel.specs.Views.{PlayerView, next_in}
 use Rattle.octet_parallel.specs.Rule.{Steps}
@@ -35,7 +34,6 @@ use Rattle.octet_parallel.specs.Calls.{view_of, script_in, log_in, IsPlayerOf}
 use Rattle.octet_parallel.proofs.Keeping.{own_track}
 use Rattle.octet_parallel.proofs.Kept.{next_seen}
 use Rattle.octet_parallel.proofs.Tracks.{next_left}
-use Rattle.octet_model.specs.declared.outcome.End.{End}
 
 -- ---- what is next for a player, by what it keeps
 module _ (field : Field) (p : Player) (own : IsPlayerOf field p) where
@@ -46,11 +44,6 @@ module _ (field : Field) (p : Player) (own : IsPlayerOf field p) where
   next_here =
       (λ i. by_log (own.own.0.1 i) ((own.own.0.2 i).threads) (own.number i) (own.journal i))
       ∙ by_counts (commands_of (script_in field) p.number) (starting_configuration (script_in field).fuel) (length (script_in field).objects) log p.journal.items p.replay own.replay
-
-  -- by its due mark, what it demands, and whether accesses and marks are left
-  pub next_by : (due : Option Mark) (d : AccessOrEnd) (a m : Bool) → due_mark (slice_get log.marks p.replay.marks) p.replay.gap ≡ due → demand_of p.replay.up_next ≡ d → nat_lt p.replay.accesses log.accesses ≡ a → nat_lt p.replay.marks (length log.marks) ≡ m
-      → next_in (view_of p) ≡ mark_first due (next_access d a m)
-  next_by due d a m is_due is_d is_a is_m = next_here ∙ (λ i. mark_first (is_due i) (next_access (is_d i) (is_a i) (is_m i)))
 
   -- the event that is next on a heap
   module _ (heap : List ℕ) (event : Event) (is : next_event (next_in (view_of p)) heap ≡ Some event) where
@@ -205,9 +198,19 @@ nothing_left log journal track fits all none = go track.rest track.marks track.a
         ) in
         absurd (let due : due_mark (Some next) (gap_after 0 journal) ≡ Some next.mark = ap (λ (b : Bool). cond b (Some next.mark) None) (eq-eqb next.gap (gap_after 0 journal) same) in cc)
 
--- what the player demands that is no end
-abbrev pub IsDemand : NextDemand → Type 0
-IsDemand d = DemandsAccess (demand_of d)
+-- what decides that nothing fits
+nothing_fits : (due : Option Mark) (d : AccessOrEnd) (left marks : Bool) → mark_first due (next_access d left marks) ≡ NothingFits
+    → (due ≡ None) × (((left ≡ true) × DemandsEnd d) ⊎ ((left ≡ false) × (DemandsAccess d ⊎ (marks ≡ true))))
+nothing_fits (Some mark) d left marks is = absurd cc
+nothing_fits None (ToRead object) true marks is = absurd cc
+nothing_fits None (ToWrite object value) true marks is = absurd cc
+nothing_fits None (ToBump object amount) true marks is = absurd cc
+nothing_fits None (ToEnd end) true marks is = (refl, inl (refl, tt))
+nothing_fits None (ToRead object) false marks is = (refl, inr (refl, inl tt))
+nothing_fits None (ToWrite object value) false marks is = (refl, inr (refl, inl tt))
+nothing_fits None (ToBump object amount) false marks is = (refl, inr (refl, inl tt))
+nothing_fits None (ToEnd end) false true is = (refl, inr (refl, inr refl))
+nothing_fits None (ToEnd end) false false is = absurd cc
 
 module _ (field : Field) (p : Player) (own : IsPlayerOf field p) where
   abbrev own_log : ThreadLog
@@ -231,15 +234,26 @@ module _ (field : Field) (p : Player) (own : IsPlayerOf field p) where
     pub no_mark_left : own_log.accesses ≤ p.replay.accesses → mark_count p.journal.items ≡ length own_log.marks
     no_mark_left past = nothing_left own_log p.journal.items own.track gaps_fit (all_made past) none_due
 
-    -- it goes on where nothing is left
-    pub goes_on : own_log.accesses ≤ p.replay.accesses → IsDemand p.replay.up_next → IsAmissBy (view_of p).script (view_of p).log.threads (view_of p).number (view_of p).player.journal
-    goes_on past demands = to_view (record {
-      no_mark = none_due;
-      why = inr (all_made past, no_mark_left past, subst DemandsAccess (sym own.replay.comes.demands) demands);
-    })
-
-    -- and is through where nothing is left
-    pub is_through : own_log.accesses ≤ p.replay.accesses → (end : End) → demand_of p.replay.up_next ≡ ToEnd end → next_in (view_of p) ≡ Finished
-    is_through past end demands =
-        next_by field p own None (ToEnd end) false false none demands (le-ltb p.replay.accesses own_log.accesses past)
-        (le-ltb p.replay.marks (length own_log.marks) (omega (arith, no_mark_left past, own.replay.counts.counts_marks)))
+  -- where nothing fits the player is amiss
+  pub is_amiss : next_by_counts own_log p.replay ≡ NothingFits → IsAmissBy (view_of p).script (view_of p).log.threads (view_of p).number (view_of p).player.journal
+  is_amiss is =
+      let replay = p.replay in
+      let why = nothing_fits (due_mark (slice_get own_log.marks replay.marks) replay.gap) (demand_of replay.up_next) (nat_lt replay.accesses own_log.accesses) (nat_lt replay.marks (length own_log.marks)) is in
+      let here = own.replay.comes.demands in
+      to_view (record {
+        no_mark = none_due why.0;
+        why = elim why.1 [
+          | inl early ↦ inl (omega (arith, ltb-true replay.accesses own_log.accesses early.0, own.replay.counts.counts_accesses), subst DemandsEnd (sym here) early.1)
+          | inr late ↦
+              let past = ltb-false replay.accesses own_log.accesses late.0 in
+              let none_left = no_mark_left why.0 past in
+              inr (
+                all_made why.0 past,
+                none_left,
+                elim late.1 [
+                  | inl demands ↦ subst DemandsAccess (sym here) demands
+                  | inr marks ↦ absurd (omega (arith, ltb-true replay.marks (length own_log.marks) marks, none_left, own.replay.counts.counts_marks))
+                ],
+              )
+        ];
+      })

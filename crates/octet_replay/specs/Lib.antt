@@ -4,6 +4,7 @@ pub mod WaitingLists
 pub mod Judged
 pub mod Line
 pub mod NextDemand
+pub mod NextSteps
 pub mod Threads
 pub mod Replayed
 pub mod ReplayState

@@ -9,7 +9,8 @@ use Rattle.octet_model.specs.Thread.{Configuration, configuration_after}
 use Rattle.octet_model.specs.declared.event.Mark.TheVariants.{Join, Draw, Fence}
 use Rattle.octet_model.specs.Machine.{Next, Wants, Finished, NothingFits, MakeMark, MakeRead, MakeWrite, MakeUpdate, event_made}
 use Rattle.octet_model.specs.Journals.{access_count, mark_count, gap_after, due_mark, next_access, mark_first}
-use Rattle.octet_model.specs.Orders.{values_read}
+use Rattle.octet_model.specs.declared.outcome.End.{End}
+use Rattle.octet_model.specs.Orders.{end_of, values_read}
 use Rattle.octet_interp.specs.Demands.{given}
 use Rattle.octet_interp.specs.Regions.{regions_before}
 use Rattle.octet_replay.specs.declared.need.Need.{Need}
@@ -41,6 +42,20 @@ abbrev pub next_by_counts : ThreadLog → ThreadReplay → Next
 next_by_counts log t =
     mark_first (due_mark (slice_get log.marks t.marks) t.gap)
     (next_access (demand_of t.up_next) (nat_lt t.accesses log.accesses) (nat_lt t.marks (length log.marks)))
+
+-- how it ended, where it demands its end
+abbrev pub end_told : ThreadReplay → End
+end_told t = end_of (demand_of t.up_next)
+
+abbrev pub accesses_made : ThreadReplay → ℕ
+accesses_made t = t.accesses
+
+abbrev pub values_of : ThreadReplay → List ℕ
+values_of t = t.reads.items
+
+-- what it demands next names one of the objects, by their number
+abbrev pub DemandsWithin : ℕ → ThreadReplay → Type 0
+DemandsWithin objects t = NamesObject objects t.up_next
 
 -- what a thread waits for that is to step so
 abbrev pub need_of : Next → Need

@@ -1,44 +1,35 @@
 //! What a replay comes to at the end of the lowest order.
 ghost use Rattle.std.specs.Prelude.{◌≡◌, length, map, IfOk, IfErr};
-ghost use Rattle.octet_model.specs.Orders.{end_of, execution, lowest_order};
-ghost use Rattle.octet_replay.specs.NextDemand.{demand_of};
+ghost use Rattle.octet_model.specs.Orders.{execution, lowest_order};
 ghost use Rattle.octet_replay.specs.Judged.{HasCause, IsLawful};
 ghost use Rattle.octet_replay.specs.Replayed.{state_of, IsAt};
 ghost use Rattle.octet_replay.specs.ReplayState.{HasHalted};
+ghost use Rattle.octet_replay.specs.Threads.{end_told, values_of};
 
 use crate::ReplayFault;
 use crate::judge::{are_finished, lowest_misfit, positions_of};
 use crate::state::Replay;
-use crate::thread::{NextDemand, ThreadReplay};
+use crate::thread::ThreadReplay;
 use octet_model::{End, List, Log, OutOfMemory, Outcome};
 use std::alloc::Global;
 
-fn end_of(thread: &ThreadReplay) -> End
-    ensures { result ≡ end_of (demand_of thread.now.up_next) }
-{
-    match thread.up_next {
-        NextDemand::Ended { end } => end,
-        _ => End::Spent,
-    }
-}
-
 fn ends_of(alloc: Global, threads: &[ThreadReplay]) -> Result<List<End>, OutOfMemory>
-    ensures { IfOk result (λ ends. ends ≡ map (λ t. end_of (demand_of t.up_next)) threads.now) }
+    ensures { IfOk result (λ ends. ends ≡ map end_told threads.now) }
 {
     let mut ends = List::new(alloc);
     for thread in threads {
-        ends.push(end_of(thread))?;
+        ends.push(thread.end())?;
     }
     Ok(ends)
 }
 
 // The values that each thread read.
 fn reads_of(alloc: Global, threads: Vec<ThreadReplay>) -> Result<List<List<u64>>, OutOfMemory>
-    ensures { IfOk result (λ reads. reads ≡ map (λ t. t.reads.items) threads.items) }
+    ensures { IfOk result (λ reads. reads ≡ map values_of threads.items) }
 {
     let mut reads = List::new(alloc);
     for thread in threads {
-        reads.push(List::from_vec(thread.reads))?;
+        reads.push(List::from_vec(thread.into_reads()))?;
     }
     Ok(reads)
 }

@@ -1,19 +1,20 @@
 //! One thread as far as it is replayed.
-ghost use Rattle.std.specs.Prelude.{◌≡◌, ◌<◌, ◌^◌, suc, [], false, length, IfOk, OnOk, slice_get};
-ghost use Rattle.octet_model.specs.Journals.{due_mark};
+ghost use Rattle.std.specs.Prelude.{◌≡◌, ◌<◌, ◌^◌, ℕ, suc, [], false, length, nat_lt, IfOk, OnOk, slice_get};
+ghost use Rattle.octet_model.specs.Journals.{due_mark, next_access};
 ghost use Rattle.octet_model.specs.Orders.{commands_of};
 ghost use Rattle.octet_model.specs.Thread.{starting_configuration};
-ghost use Rattle.octet_replay.specs.NextDemand.{CountsAhead, IsDemandedNext, NamesObject};
-ghost use Rattle.octet_replay.specs.Threads.{need_of, next_by_counts, next_event, Counted, Grown, HasRoomFor, IsReplayOf, StandsFor};
+ghost use Rattle.octet_replay.specs.NextDemand.{demand_of, CountsAhead, IsDemandedNext, NamesObject};
+ghost use Rattle.octet_replay.specs.NextSteps.{as_next, AccessesWithin};
+ghost use Rattle.octet_replay.specs.Threads.{accesses_made, end_told, need_of, next_by_counts, next_event, values_of, Counted, DemandsWithin, Grown, HasRoomFor, IsReplayOf, StandsFor};
 
-use crate::Need;
+use crate::{Need, NextStep};
 use octet_interp::{Config, Demand};
 use octet_model::{End, Event, Mark, OutOfMemory, Script, ThreadLog};
 use std::alloc::Global;
 
 /// What a thread demands next: an access, or its end.
 #[derive(Clone, Copy, Debug, PartialEq, Eq)]
-pub enum NextDemand {
+pub(crate) enum NextDemand {
     Read { object: u16 },
     Write { object: u16, value: u64 },
     Bump { object: u16, amount: u64 },
@@ -24,12 +25,12 @@ pub enum NextDemand {
 /// and accesses since the last mark it made, and the values that it read. Its log is its caller's.
 #[derive(Debug, Drop)]
 pub struct ThreadReplay {
-    pub config: Config,
-    pub up_next: NextDemand,
-    pub marks: usize,
-    pub accesses: u32,
-    pub gap: u32,
-    pub reads: Vec<u64>,
+    pub(crate) config: Config,
+    pub(crate) up_next: NextDemand,
+    pub(crate) marks: usize,
+    pub(crate) accesses: u32,
+    gap: u32,
+    reads: Vec<u64>,
 }
 
 // Asks a thread for its next access, or its end.
@@ -89,25 +90,55 @@ impl ThreadReplay {
         })
     }
 
+    /// What is next by the log.
+    #[inline(always)]
+    pub fn next(&self, log: &ThreadLog) -> NextStep
+        ensures next { as_next result ≡ next_by_counts log.now self.now }
+        ensures within { (objects : ℕ) → DemandsWithin objects self.now → AccessesWithin objects result }
+    {
+        if let Some(mark) = due_mark(log, self.marks, self.gap) {
+            return NextStep::Mark { mark };
+        }
+        if self.accesses >= log.accesses {
+            return self.next_after_accesses(log);
+        }
+        match self.up_next {
+            NextDemand::Read { object } => NextStep::Read { object },
+            NextDemand::Write { object, value } => NextStep::Write { object, value },
+            NextDemand::Bump { object, amount } => NextStep::Bump { object, amount },
+            NextDemand::Ended { .. } => NextStep::NothingFits,
+        }
+    }
+
+    // What is next where no mark is due and no access is left.
+    #[inline(always)]
+    fn next_after_accesses(&self, log: &ThreadLog) -> NextStep
+        ensures next { as_next result ≡ next_access (demand_of self.now.up_next) false (nat_lt self.now.marks (length log.now.marks)) }
+        ensures within { (objects : ℕ) → AccessesWithin objects result }
+    {
+        if self.marks < log.marks.len() {
+            return NextStep::NothingFits;
+        }
+        match self.up_next {
+            NextDemand::Ended { .. } => NextStep::Finished,
+            _ => NextStep::NothingFits,
+        }
+    }
+
     /// The event that is next by the log, where a read would take its value from the heap now.
     #[inline(always)]
     pub(crate) fn next_event(&self, log: &ThreadLog, heap: &[u64]) -> Option<Event>
-        requires { NamesObject (length heap.now) self.now.up_next }
+        requires { DemandsWithin (length heap.now) self.now }
         ensures { result ≡ next_event (next_by_counts log.now self.now) heap.now }
     {
-        if let Some(mark) = due_mark(log, self.marks, self.gap) {
-            return Some(Event::Marked { mark });
-        }
-        if self.accesses >= log.accesses {
-            return None;
-        }
-        match self.up_next {
-            NextDemand::Read { object } => Some(Event::Read {
+        match self.next(log) {
+            NextStep::Mark { mark } => Some(Event::Marked { mark }),
+            NextStep::Read { object } => Some(Event::Read {
                 object,
                 value: heap[object as usize],
             }),
-            NextDemand::Write { object, value } => Some(Event::Write { object, value }),
-            NextDemand::Bump { object, amount } => {
+            NextStep::Write { object, value } => Some(Event::Write { object, value }),
+            NextStep::Bump { object, amount } => {
                 let before = heap[object as usize];
                 Some(Event::Update {
                     object,
@@ -115,7 +146,7 @@ impl ThreadReplay {
                     after: before.wrapping_add(amount),
                 })
             }
-            NextDemand::Ended { .. } => None,
+            NextStep::Finished | NextStep::NothingFits => None,
         }
     }
 
@@ -124,18 +155,35 @@ impl ThreadReplay {
     pub(crate) fn need(&self, log: &ThreadLog) -> Need
         ensures { result ≡ need_of (next_by_counts log.now self.now) }
     {
-        if let Some(mark) = due_mark(log, self.marks, self.gap) {
-            return Need::of_mark(mark);
+        match self.next(log) {
+            NextStep::Mark { mark } => Need::of_mark(mark),
+            NextStep::Read { .. } | NextStep::Write { .. } | NextStep::Bump { .. } => Need::Free,
+            NextStep::Finished | NextStep::NothingFits => Need::Never,
         }
-        if self.accesses >= log.accesses {
-            return Need::Never;
-        }
+    }
+
+    /// How the thread ended, where it demands its end; spent where it demands more.
+    pub fn end(&self) -> End
+        ensures { result ≡ end_told self.now }
+    {
         match self.up_next {
-            NextDemand::Read { .. } | NextDemand::Write { .. } | NextDemand::Bump { .. } => {
-                Need::Free
-            }
-            NextDemand::Ended { .. } => Need::Never,
+            NextDemand::Ended { end } => end,
+            _ => End::Spent,
         }
+    }
+
+    /// How many accesses were made.
+    pub fn accesses(&self) -> u32
+        ensures { result ≡ accesses_made self.now }
+    {
+        self.accesses
+    }
+
+    /// The values that the thread read.
+    pub fn into_reads(self) -> Vec<u64>
+        ensures { result.items ≡ values_of self }
+    {
+        self.reads
     }
 
     // Counts an access, past which the thread is asked.

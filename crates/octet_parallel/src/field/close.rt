@@ -1,7 +1,6 @@
 //! A field is closed, and its replay told.
 ghost use Rattle.std.specs.Prelude.{◌≡◌, ◌≢◌, ◌<◌, All, length, map, IfOk, IfSome, IfNone};
-ghost use Rattle.octet_model.specs.Orders.{end_of};
-ghost use Rattle.octet_replay.specs.NextDemand.{demand_of};
+ghost use Rattle.octet_replay.specs.Threads.{end_told, values_of};
 ghost use Rattle.octet_parallel.specs.declared.fate.Fate.TheVariants.{Playing as StillPlaying};
 ghost use Rattle.octet_parallel.specs.Calls.{script_in, log_in, players_in, EachEnded, ClosesTo, fate_at};
 
@@ -11,7 +10,6 @@ use crate::finished::Finished;
 use crate::player::Player;
 use crate::words::Seat;
 use octet_model::{End, Event, List, OutOfMemory, Outcome};
-use octet_replay::{NextDemand, ThreadReplay};
 use std::alloc::Global;
 
 // What players leave that have ended.
@@ -66,30 +64,20 @@ fn first_stopped(players: &[Player]) -> Option<usize>
     None
 }
 
-// How a thread ended that demands its end.
-fn end_of(demand: NextDemand) -> End
-    ensures { result ≡ end_of (demand_of demand) }
-{
-    match demand {
-        NextDemand::Ended { end } => end,
-        _ => End::Spent,
-    }
-}
-
 // How each thread ended.
 fn ends_of(alloc: Global, players: &[Player]) -> Result<List<End>, OutOfMemory>
-    ensures { IfOk result (λ ends. ends ≡ map (λ player. end_of (demand_of player.replay.up_next)) players.now) }
+    ensures { IfOk result (λ ends. ends ≡ map (λ player. end_told player.replay) players.now) }
 {
     let mut ends = List::new(alloc);
     for player in players {
-        ends.push(end_of(player.replay.up_next))?;
+        ends.push(player.replay.end())?;
     }
     Ok(ends)
 }
 
 fn left_of(alloc: Global, players: Vec<Player>) -> Result<Left, OutOfMemory>
     ensures seats { IfOk result (λ left. left.seats.items ≡ map (λ player. player.seat) players.items) }
-    ensures reads { IfOk result (λ left. left.reads ≡ map (λ player. player.replay.reads.items) players.items) }
+    ensures reads { IfOk result (λ left. left.reads ≡ map (λ player. values_of player.replay) players.items) }
     ensures journals { IfOk result (λ left. left.journals ≡ map (λ player. player.journal.items) players.items) }
 {
     let mut seats = Vec::new(alloc);
@@ -102,9 +90,8 @@ fn left_of(alloc: Global, players: Vec<Player>) -> Result<Left, OutOfMemory>
             journal,
             ..
         } = player;
-        let ThreadReplay { reads: values, .. } = replay;
         seats.push(seat)?;
-        reads.push(List::from_vec(values))?;
+        reads.push(List::from_vec(replay.into_reads()))?;
         journals.push(List::from_vec(journal))?;
     }
     Ok(Left {

@@ -19,7 +19,7 @@ use crate::played::Played;
 use crate::player::{Player, note};
 use crate::words::STOP_NUMBER;
 use octet_model::{Event, Mark, ThreadLog};
-use octet_replay::{NextDemand, due_mark};
+use octet_replay::NextStep;
 
 impl Field {
     // The log of a player's thread.
@@ -37,16 +37,11 @@ impl Field {
         ensures same { player.new ≡ player.old }
         ensures tells { TellsAccess (view_of player.old) result }
     {
-        let log = self.own_log(player);
-        let replay = &player.replay;
-        if due_mark(log, replay.marks, replay.gap).is_some() || replay.accesses >= log.accesses {
-            return None;
-        }
-        match replay.up_next {
-            NextDemand::Read { .. } | NextDemand::Write { .. } | NextDemand::Bump { .. } => {
-                Some(replay.accesses)
+        match player.replay.next(self.own_log(player)) {
+            NextStep::Read { .. } | NextStep::Write { .. } | NextStep::Bump { .. } => {
+                Some(player.replay.accesses())
             }
-            NextDemand::Ended { .. } => None,
+            NextStep::Mark { .. } | NextStep::Finished | NextStep::NothingFits => None,
         }
     }
 
@@ -74,22 +69,13 @@ impl Field {
         ensures own { IsPlayerOf self.now player.new }
         ensures step { PlaysTo (view_of player.old) result (view_of player.new) }
     {
-        let log = self.own_log(player);
-        let due = due_mark(log, player.replay.marks, player.replay.gap);
-        if let Some(mark) = due {
-            return self.play_mark(player, mark);
-        }
-        if player.replay.accesses >= log.accesses {
-            return match player.replay.up_next {
-                NextDemand::Ended { .. } => Played::Through,
-                _ => self.go_amiss(player),
-            };
-        }
-        match player.replay.up_next {
-            NextDemand::Read { object } => self.read(player, object),
-            NextDemand::Write { object, value } => self.write(player, object, value),
-            NextDemand::Bump { object, amount } => self.bump(player, object, amount),
-            NextDemand::Ended { .. } => self.go_amiss(player),
+        match player.replay.next(self.own_log(player)) {
+            NextStep::Mark { mark } => self.play_mark(player, mark),
+            NextStep::Read { object } => self.read(player, object),
+            NextStep::Write { object, value } => self.write(player, object, value),
+            NextStep::Bump { object, amount } => self.bump(player, object, amount),
+            NextStep::Finished => Played::Through,
+            NextStep::NothingFits => self.go_amiss(player),
         }
     }
 

@@ -1,6 +1,5 @@
 use Rattle.std.proofs.Common.{rules, ◌≡◌, ◌∙◌, ◌≢◌, ◌<◌, All, List, map, length, ap, subst}
-use Rattle.octet_model.specs.Orders.{end_of}
-use Rattle.octet_replay.specs.NextDemand.{demand_of}
+use Rattle.octet_replay.specs.Threads.{end_told, values_of}
 use Rattle.octet_parallel.specs.declared.fate.Fate.TheVariants.{Playing}
 use Rattle.octet_parallel.specs.declared.player.Player.{Player}
 use Rattle.octet_parallel.specs.Calls.{fate_at}
@@ -26,7 +25,7 @@ returns c =
       journals ∙ journals_told c.args.self c.args.players c.requires.all c.requires.ended c.in_ok-left.left.seats.items c.in_ok-cells.cells.items seats c.in_ok-cells.ensures play,
       is_finished c.args.self c.args.players c.requires.all c.requires.ended c.in_ok-left.left.seats.items c.in_ok-cells.cells.items seats c.in_ok-cells.ensures play _
           journals
-          (c.in_ok-left.ensures.reads ∙ ap (λ (l : List Player). map (λ (p : Player). p.replay.reads.items) l) c.into_vec.ensures)
-          (c.in_ok-ends.ensures ∙ ap (λ (l : List Player). map (λ (p : Player). end_of (demand_of p.replay.up_next)) l) c.as_slice-2.ensures)
+          (c.in_ok-left.ensures.reads ∙ ap (λ (l : List Player). map (λ (p : Player). values_of p.replay) l) c.into_vec.ensures)
+          (c.in_ok-ends.ensures ∙ ap (λ (l : List Player). map (λ (p : Player). end_told p.replay) l) c.as_slice-2.ensures)
           c.from_vec.ensures,
     )

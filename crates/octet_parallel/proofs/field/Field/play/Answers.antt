@@ -1,13 +1,9 @@
-use Rattle.std.proofs.Common.{rules, refl}
-use Rattle.octet_parallel.proofs.Turns.{goes_on, is_through}
+use Rattle.std.proofs.Common.{sym, ap, ◌∙◌}
+use Rattle.octet_model.specs.declared.log.ThreadLog.{ThreadLog}
+use Rattle.octet_replay.specs.Threads.{next_by_counts}
+use Rattle.octet_parallel.proofs.Turns.{is_amiss}
 use Rattle.octet_parallel.proofs.field.Field.play.Goals as goal
 
-pub go_amiss-requires : goal.go_amiss-requires
-go_amiss-requires c = record {
-  own = c.requires.own;
-  plays = c.requires.plays;
-  why = goes_on _ _ c.requires.own (search rules) (search rules) (search rules);
-}
-
-pub returns-in-Ended-clause-step : goal.returns-in-Ended-clause-step
-returns-in-Ended-clause-step c = (refl, is_through _ _ c.requires.own (search rules) (search rules) c.in-Ended.end (search rules))
+pub go_amiss-requires-clause-why : goal.go_amiss-requires-clause-why
+go_amiss-requires-clause-why c =
+    is_amiss c.args.self.now c.args.player.now c.requires.own (ap (λ (log : ThreadLog). next_by_counts log c.args.player.now.replay) (sym c.own_log.ensures) ∙ sym c.in-NothingFits.ensures.next)
