@@ -1,7 +1,5 @@
 -- The words as they are laid out at first.
-use Rattle.std.proofs.Common.{◌≡◌, ℕ, zero, suc, ◌+◌, ◌*◌, ◌<◌, false, List, [], ◌∷◌, ◌++◌, map, length, replicate, take, get_or, append_assoc, sym, refl, ap, ◌∙◌, subst, arith, length-append}
-use mathlib.Core.Option.{some, some-injective, some-ne-none}
-use lib.ListN.{get_elem?}
+use Rattle.std.proofs.Common.{◌≡◌, ℕ, zero, suc, ◌+◌, ◌*◌, ◌<◌, List, [], ◌∷◌, ◌++◌, map, length, replicate, take, get_or, append_assoc, refl, ap, ◌∙◌, arith, length-append}
 use Rattle.std.proofs.lemmas.List.{length-replicate, length-map}
 use Rattle.atomic_table.specs.Table as table
 use Rattle.octet_model.specs.declared.script.Script.{Script}
@@ -9,45 +7,25 @@ use Rattle.octet_model.specs.declared.log.Log.{Log}
 use Rattle.octet_model.specs.Orders.{starting_heap}
 use Rattle.octet_clock.specs.Untied.{IsUntied}
 use Rattle.octet_parallel.specs.State.{unbegun, progress, spread, words, opening}
-use Rattle.octet_parallel.specs.Views.{PlayerView}
-use Rattle.octet_parallel.specs.Rule.{IsSeated, IsRuled, first_view}
+use Rattle.octet_seats.proofs.lemmas.Rows.{take_more}
+use Rattle.octet_seats.proofs.lemmas.Seats.{first_seat}
+use Rattle.octet_parallel.specs.Views.{facts_of}
+use Rattle.octet_parallel.specs.Rule.{IsSeenBy, HasLeft, IsUnmade, IsRuled, first_view}
 use Rattle.octet_parallel.proofs.Spread.{length_spread}
 use Rattle.octet_parallel.proofs.Lawful.{opening_is_sound, none_found}
 
 module _ (script : Script) (log : Log) (agree : length script.threads ≡ length log.threads) (untied : IsUntied log.threads) (more : 0 < length log.threads) where
-  at_first : (seat : ℕ) (v : PlayerView) → get_elem? (first_view script log ∷ []) seat ≡ some v → IsSeated (opening script log) (λ t. 0) 1 (λ t. false) seat v
-  at_first zero v e = subst (IsSeated (opening script log) (λ t. 0) 1 (λ t. false) 0) (some-injective (first_view script log) v e) record {
-    within = omega arith;
-    own = refl;
-    here = refl;
-    seen = record {
-      sound = opening_is_sound script log agree untied;
-      script = refl;
-      log = refl;
-      inside = let e = length-replicate (length log.threads) unbegun in omega arith;
-      stands = none_found (length log.threads) 0;
-    };
-    counted = λ z. refl;
-    are_joined = λ z. tt;
-    apart = λ z. tt;
-  }
-  at_first (suc seat) v e = absurd (some-ne-none v (sym e))
-
   -- the rule holds at first
   pub opens : (ws : List ℕ) → ws ≡ words (opening script log) → IsRuled script log (table.opening ws [] (first_view script log))
-  opens ws is = record {
-    state = opening script log;
-    seat_of = λ t. 0;
-    players_made = 1;
-    has_joined = λ t. false;
+  opens ws is = let s = opening script log in let sound = opening_is_sound script log agree untied in let many : length s.players ≡ length log.threads = length-replicate (length log.threads) unbegun in record {
+    state = s;
     lie = is;
-    sound = opening_is_sound script log agree untied;
+    sound = sound;
     is_script = refl;
     is_log = refl;
-    few = let e = length-replicate (length log.threads) unbegun in omega arith;
-    not_joined = λ t h. refl;
-    not_made = λ t h. none_found (length log.threads) t;
-    seats = λ seat v e live. at_first seat v e;
+    seats = first_seat facts_of (λ y. IsSeenBy y s) (HasLeft s) (IsUnmade s) (length s.players) (first_view script log) refl
+        (record { sound = sound; script = refl; log = refl; inside = omega arith; stands = none_found (length log.threads) 0 })
+        (omega arith) (λ t h. none_found (length log.threads) t);
   }
 
 no_progress : (n : ℕ) → map progress (replicate n unbegun) ≡ replicate n 0
@@ -77,15 +55,6 @@ one_on n = omega arith
 
 pub player_more : (ws : List ℕ) (n : ℕ) → ws ≡ spread (replicate n 0) → ws ++ spread (0 ∷ []) ≡ spread (replicate (n + 1) 0)
 player_more ws n is = ap (λ (l : List ℕ). l ++ spread (0 ∷ [])) is ∙ spread_more (replicate n 0) 0 ∙ ap spread (zero_more n) ∙ ap (λ (m : ℕ). spread (replicate m 0)) (one_on n)
-
-pub take_more : (xs : List ℕ) (i : ℕ) → i < length xs → take i xs ++ get_or xs i 0 ∷ [] ≡ take (suc i) xs
-take_more [] i h = absurd (omega arith)
-take_more (x ∷ xs) zero h = refl
-take_more (x ∷ xs) (suc i) h = ap (λ l. x ∷ l) (take_more xs i (omega arith))
-
-pub take_whole : (xs : List ℕ) → take (length xs) xs ≡ xs
-take_whole [] = refl
-take_whole (x ∷ xs) = ap (λ l. x ∷ l) (take_whole xs)
 
 pub cell_more : (ws cells : List ℕ) (players object cell : ℕ) → object < length cells → cell ≡ get_or cells object 0 → ws ≡ spread (replicate players 0 ++ take object cells)
     → ws ++ spread (cell ∷ []) ≡ spread (replicate players 0 ++ take (object + 1) cells)

@@ -1,5 +1,5 @@
 -- What the journals that the players made tell of the lowest order.
-use Rattle.std.proofs.Common.{◌⊎◌, inl, inr, ℕ, ◌<◌, ⊎_elim, All, List, length, Some, None, sym, ◌∙◌, subst, arith}
+use Rattle.std.proofs.Common.{inl, inr, ℕ, ◌<◌, ⊎_elim, All, List, length, Some, None, sym, ◌∙◌, subst, arith}
 use Rattle.octet_model.specs.declared.log.Log.{Log}
 use Rattle.octet_model.specs.declared.log.ThreadLog.{ThreadLog}
 use Rattle.octet_model.specs.declared.script.Script.{Script}

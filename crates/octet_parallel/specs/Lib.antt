@@ -7,7 +7,6 @@ pub mod Rule
 pub mod Laws
 pub mod Conditions
 pub mod Seats
-pub mod Cells
 pub mod Draws
 pub mod Tracks
 pub mod Calls

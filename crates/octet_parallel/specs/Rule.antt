@@ -1,7 +1,6 @@
 -- The rule: between any two steps the words and the views of all players are one sound state of the replay.
-use Rattle.std.specs.Prelude.{◌≡◌, ◌≢◌, ℕ, ◌<◌, ◌≤◌, List, [], ◌∷◌, Bool, true, false, length}
-use mathlib.Core.Option.{some, none}
-use lib.ListN.{get_elem?}
+use Rattle.std.specs.Prelude.{◌≡◌, ℕ, ◌<◌, List, [], ◌∷◌, true, false, length}
+use mathlib.Core.Option.{none}
 use Rattle.atomic_table.specs.Table.{State, Me, Step as TableStep, step as table_step}
 use Rattle.octet_model.specs.declared.script.Script.{Script}
 use Rattle.octet_model.specs.declared.log.Log.{Log}
@@ -9,7 +8,8 @@ use Rattle.octet_parallel.specs.State.{PlayerState, FieldState, player_of, unbeg
 use Rattle.octet_parallel.specs.Steps as steps
 use Rattle.octet_parallel.specs.Steps.{Kind, May, step, ToLook, ToRead, ToWrite, ToBump, target}
 use Rattle.octet_parallel.specs.Soundness.{IsSoundField}
-use Rattle.octet_parallel.specs.Views.{PlayerView, new_view, next_in, stepped_by}
+use Rattle.octet_seats.specs.Seats.{AreSeats}
+use Rattle.octet_parallel.specs.Views.{PlayerView, facts_of, new_view, next_in, stepped_by}
 
 -- in a sound state the player is as its view has it
 pub record IsSeenBy (v : PlayerView) (s : FieldState) : Type 0 where
@@ -19,44 +19,21 @@ pub record IsSeenBy (v : PlayerView) (s : FieldState) : Type 0 where
   pub inside : v.number < length s.players
   pub stands : player_of s v.number ≡ v.player
 
--- the players that were joined back are kept as they were
-abbrev pub AreJoined : FieldState → (ℕ → Bool) → List (ℕ × PlayerState) → Type 0
-AreJoined s has_joined [] = Unit {0}
-AreJoined s has_joined (player ∷ players) = (has_joined player.0 ≡ true) × (player_of s player.0 ≡ player.1) × AreJoined s has_joined players
+-- a player that was joined back is kept as it was
+abbrev pub HasLeft : FieldState → ℕ → PlayerState → Type 0
+HasLeft s number player = player_of s number ≡ player
 
--- their numbers all differ
-abbrev pub IsApart : ℕ → List (ℕ × PlayerState) → Type 0
-IsApart number [] = Unit {0}
-IsApart number (player ∷ players) = (player.0 ≢ number) × IsApart number players
-
-abbrev pub AreApart : List (ℕ × PlayerState) → Type 0
-AreApart [] = Unit {0}
-AreApart (player ∷ players) = IsApart player.0 players × AreApart players
-
--- what holds of the live view numbered `seat`, where each player has one view, so many players were made, and some were joined back
-pub record IsSeated (s : FieldState) (seat_of : ℕ → ℕ) (players_made : ℕ) (has_joined : ℕ → Bool) (seat : ℕ) (v : PlayerView) : Type 0 where
-  pub within : v.number < players_made
-  pub own : seat_of v.number ≡ seat
-  pub here : has_joined v.number ≡ false
-  pub seen : IsSeenBy v s
-  pub counted : v.number ≡ 0 → v.players_made ≡ players_made
-  pub are_joined : v.number ≡ 0 → AreJoined s has_joined v.joined
-  pub apart : v.number ≡ 0 → AreApart v.joined
+-- a player that isn't made yet has made no event
+abbrev pub IsUnmade : FieldState → ℕ → Type 0
+IsUnmade s number = player_of s number ≡ unbegun
 
 pub record IsRuled (script : Script) (log : Log) (table : State (Unit {0}) PlayerView) : Type 0 where
   pub state : FieldState
-  pub seat_of : ℕ → ℕ
-  pub players_made : ℕ
-  pub has_joined : ℕ → Bool
   pub lie : table.words ≡ words state
   pub sound : IsSoundField state
   pub is_script : state.script ≡ script
   pub is_log : state.log ≡ log
-  pub few : players_made ≤ length state.players
-  -- a player that isn't made yet has made no event
-  pub not_joined : (t : ℕ) → players_made ≤ t → has_joined t ≡ false
-  pub not_made : (t : ℕ) → players_made ≤ t → player_of state t ≡ unbegun
-  pub seats : (seat : ℕ) (v : PlayerView) → get_elem? table.views seat ≡ some v → v.is_live ≡ true → IsSeated state seat_of players_made has_joined seat v
+  pub seats : AreSeats facts_of (λ v. IsSeenBy v state) (HasLeft state) (IsUnmade state) (length state.players) table.views
 
 -- the view of the first player at first
 abbrev pub first_view : Script → Log → PlayerView

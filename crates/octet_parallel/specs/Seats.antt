@@ -1,7 +1,8 @@
 -- What a clause says of words, seats and players.
-use Rattle.std.specs.Prelude.{◌≡◌, ℕ, ◌+◌, ◌<◌, List, [], ◌∷◌, map, length, slice_index_or}
+use Rattle.std.specs.Prelude.{◌≡◌, ℕ, ◌<◌, List, [], map, length, slice_index_or}
 use Rattle.octet_model.specs.declared.script.Script.{Script}
 use Rattle.octet_model.specs.declared.log.Log.{Log}
+use Rattle.octet_seats.specs.Rows.{AreInRow}
 use Rattle.octet_parallel.specs.State.{PlayerState, FieldState, unbegun}
 use Rattle.octet_parallel.specs.Soundness.{IsSoundField}
 use Rattle.octet_parallel.specs.Views.{PlayerView}
@@ -38,14 +39,18 @@ abbrev pub EachOf : Words → List Seat → Type 0
 EachOf words seats = (number : ℕ) (none : Seat) → number < length seats → IsSeatOf words (slice_index_or seats number none) × ((view (slice_index_or seats number none)).number ≡ number)
 
 -- while seats are made: those of the players from this one on, in order
+abbrev pub IsFreshSeat : Words → ℕ → Seat → Type 0
+IsFreshSeat words number seat = BelongsTo words seat × IsFresh number seat
+
 abbrev pub AreFresh : Words → ℕ → List Seat → Type 0
-AreFresh words number [] = Unit {0}
-AreFresh words number (seat ∷ seats) = BelongsTo words seat × IsFresh number seat × AreFresh words (number + 1) seats
+AreFresh words number seats = AreInRow (IsFreshSeat words) number seats
 
 -- while seats join: likewise
-abbrev pub AreInRow : Words → ℕ → List Seat → Type 0
-AreInRow words number [] = Unit {0}
-AreInRow words number (seat ∷ seats) = BelongsTo words seat × ((view seat).number ≡ number) × AreInRow words (number + 1) seats
+abbrev pub IsNumberedSeat : Words → ℕ → Seat → Type 0
+IsNumberedSeat words number seat = BelongsTo words seat × ((view seat).number ≡ number)
+
+abbrev pub AreNumbered : Words → ℕ → List Seat → Type 0
+AreNumbered words number seats = AreInRow (IsNumberedSeat words) number seats
 
 -- what a seat leaves that joins the first one
 abbrev pub state_left : Seat → ℕ × PlayerState

@@ -4,6 +4,7 @@ use Rattle.octet_model.specs.declared.script.Script.{Script}
 use Rattle.octet_model.specs.declared.log.Log.{Log}
 use Rattle.octet_model.specs.Machine.{Next}
 use Rattle.octet_model.specs.Orders.{by_log}
+use Rattle.octet_seats.specs.Seats.{SeatFacts}
 use Rattle.octet_parallel.specs.State.{PlayerState, unbegun}
 use Rattle.octet_parallel.specs.Steps.{Kind, after}
 
@@ -22,6 +23,10 @@ pub record PlayerView : Type 0 where
   pub trail : List Taken
   pub players_made : ℕ
   pub joined : List (ℕ × PlayerState)
+
+-- what it tells of its seat
+abbrev pub facts_of : PlayerView → SeatFacts PlayerState
+facts_of v = record { is_live = v.is_live; number = v.number; seats_made = v.players_made; joined = v.joined }
 
 -- a player that has taken no step
 abbrev pub new_view : ℕ → Script → Log → ℕ → PlayerView

@@ -1,12 +1,10 @@
 //! The seats join into one, and the cells' values are read.
 ghost use Rattle.std.specs.Prelude.{◌≡◌, ◌+◌, ◌*◌, [], length, map, IfOk};
-ghost use Rattle.std.specs.Mem.Slots.{slots_items, slots_len, IsFull};
-ghost use Rattle.octet_parallel.specs.Cells.{cells_in};
 ghost use Rattle.octet_parallel.specs.Views.{after_join};
-ghost use Rattle.octet_parallel.specs.Seats.{view, script_of, log_of, BelongsTo, EachOf, AreInRow, state_left, Closes};
+ghost use Rattle.octet_parallel.specs.Seats.{view, script_of, log_of, BelongsTo, EachOf, AreNumbered, state_left, Closes};
 
 use crate::words::{Seat, Words, kinds};
-use atomic_table::Closed;
+use octet_seats::read_cells;
 use std::alloc::{AllocError, Global};
 
 impl Words {
@@ -25,7 +23,8 @@ impl Words {
         } = self;
         let Seat { inner, .. } = first;
         let closed = table.close_with(inner);
-        let values = read_cells(alloc, &closed, players, objects);
+        let first_cell = 8 * players as usize;
+        let values = read_cells(alloc, &closed, first_cell, objects);
         closed.free();
         values
     }
@@ -33,7 +32,7 @@ impl Words {
     // Takes all seats back into the first.
     fn join_all(&self, mut first: Seat, mut seats: Vec<Seat>) -> Seat
         requires first { BelongsTo self.now first × ((view first).number ≡ 0) × ((view first).joined ≡ []) }
-        requires seats { AreInRow self.now 1 seats.items }
+        requires seats { AreNumbered self.now 1 seats.items }
         ensures own { BelongsTo self.now result × ((view result).number ≡ 0) }
         ensures first { (view result).player ≡ (view first).player }
         ensures joined { (view result).joined ≡ map state_left seats.items }
@@ -56,22 +55,4 @@ impl Words {
             .shared
             .join_seat::<kinds::JoinSeat>(&mut first.inner, inner);
     }
-}
-
-// The cells of `objects` objects, after the progress words of `players` players.
-fn read_cells(
-    alloc: Global,
-    closed: &Closed<(), Global>,
-    players: u8,
-    objects: u16,
-) -> Result<Vec<u64>, AllocError>
-    requires { IsFull closed.now.words × (slots_len closed.now.words ≡ 8 * (players + objects)) }
-    ensures { IfOk result (λ values. values.items ≡ cells_in (slots_items closed.now.words) players objects) }
-{
-    let mut values = Vec::new(alloc);
-    for object in 0..objects {
-        let place = 8 * (players as usize + object as usize);
-        values.push(closed.word(place))?;
-    }
-    Ok(values)
 }

@@ -1,4 +1,3 @@
-use Rattle.std.proofs.Common.{rules}
 use Rattle.octet_parallel.proofs.Zips.{all_same, still_same}
 use Rattle.octet_parallel.proofs.worker.play_rounds.Goals as goal
 

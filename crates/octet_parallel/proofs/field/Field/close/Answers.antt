@@ -1,4 +1,4 @@
-use Rattle.std.proofs.Common.{rules, ◌≡◌, ◌∙◌, ◌≢◌, ◌<◌, All, List, map, length, ap, subst}
+use Rattle.std.proofs.Common.{◌≡◌, ◌∙◌, ◌≢◌, ◌<◌, All, List, map, length, ap, subst}
 use Rattle.octet_replay.specs.Threads.{end_told, values_of}
 use Rattle.octet_parallel.specs.declared.fate.Fate.TheVariants.{Playing}
 use Rattle.octet_parallel.specs.declared.player.Player.{Player}

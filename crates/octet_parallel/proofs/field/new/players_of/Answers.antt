@@ -1,4 +1,4 @@
-use Rattle.std.proofs.Common.{rules, ◌≡◌, ◌+◌, ◌++◌, ◌∷◌, [], List, length, ap, sym, subst, length-append, arith}
+use Rattle.std.proofs.Common.{rules, ◌≡◌, ◌++◌, ◌∷◌, [], List, length, ap, sym, subst, length-append, arith}
 use Rattle.octet_parallel.specs.declared.words.Seat.{Seat}
 use Rattle.octet_parallel.specs.Calls.{ArePlayersAt}
 use Rattle.octet_parallel.proofs.Beginning.{players_more}

@@ -1,9 +1,11 @@
-use Rattle.std.proofs.Common.{rules, ◌≡◌, ◌∙◌, ◌∷◌, List, ℕ, sym, subst}
+use Rattle.std.proofs.Common.{rules, ◌≡◌, ◌∙◌, ◌∷◌, ◌*◌, List, ℕ, sym, subst}
 use Rattle.std.specs.Mem.Slots.{slots_items}
+use Rattle.std.proofs.lemmas.Result.{IfOk-weaker}
 use Rattle.octet_parallel.specs.declared.words.Seat.{Seat}
-use Rattle.octet_parallel.specs.Cells.{cells_in}
+use Rattle.octet_seats.specs.Cells.{cells_in}
+use Rattle.octet_seats.proofs.lemmas.Rows.{first_rest}
 use Rattle.octet_parallel.specs.Seats.{script_of, log_of, Closes}
-use Rattle.octet_parallel.proofs.Ending.{IsParted, parted, first_rest, closes, if_ok}
+use Rattle.octet_parallel.proofs.Ending.{IsParted, parted, closes}
 use Rattle.octet_parallel.proofs.words.Words.close.Goals.{After-remove-first}
 use Rattle.octet_parallel.proofs.words.Words.close.Goals as goal
 
@@ -23,6 +25,6 @@ pub returns : goal.returns
 returns c = let e = all_seats (goal.at.returns c).After-remove-first in let p = parts (goal.at.returns c).After-remove-first in let g = c.join_all-first.ensures in let w = c.args.self in
     let done = closes (script_of w) (log_of w) (slots_items c.close_with-closed.result.words) (slots_items c.close_with-closed.result.slots) c.join_all-first.result.inner.id w
     c.remove-first.result c.remove-first.new.self.items c.join_all-first.result.inner.me.0 c.join_all-first.result.live g.own.1 g.first g.joined p.others (p.all ∙ sym w.numbered) c.close_with-closed.ensures.values.2 in
-    if_ok (λ r. r.items ≡ cells_in (slots_items c.close_with-closed.result.words) w.players w.objects) (λ r. Closes (script_of w) (log_of w) c.args.seats.items r.items)
-    (λ r is. subst (λ (z : List Seat × List ℕ). Closes (script_of w) (log_of w) z.0 z.1) (λ i. (sym e i, ((λ j. cells_in (slots_items c.close_with-closed.result.words) (w.numbered j) (w.sized j)) ∙ sym is) i)) done)
-    c.read_cells-values.result c.read_cells-values.ensures
+    IfOk-weaker c.read_cells-values.result (λ r. r.items ≡ cells_in (slots_items c.close_with-closed.result.words) (8 * w.players) w.objects) (λ r. Closes (script_of w) (log_of w) c.args.seats.items r.items)
+    (λ r is. subst (λ (z : List Seat × List ℕ). Closes (script_of w) (log_of w) z.0 z.1) (λ i. (sym e i, ((λ j. cells_in (slots_items c.close_with-closed.result.words) (8 * w.numbered j) (w.sized j)) ∙ sym is) i)) done)
+    c.read_cells-values.ensures
