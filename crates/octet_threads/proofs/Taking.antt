@@ -8,7 +8,7 @@ use Rattle.octet_machine.specs.declared.turned.Turned.{Turned}
 use Rattle.octet_machine.specs.declared.turned.Turned.TheVariants.{Moved, Waits, Ended}
 use Rattle.octet_machine.specs.Machine.{MachineState, runner_of, next_waits, turned_by, state_of_turn, answer_of_turn, after_step, turned, after_turn}
 use Rattle.octet_machine.specs.Turns.{after_turns}
-use Rattle.octet_threads.specs.Step.{at_gate, step_result_by, after_step_by, step_result, after_step}
+use Rattle.octet_threads.specs.Step.{at_gate, step_result_by, after_step_by, step_result, state_after_step}
 use Rattle.octet_threads.specs.declared.step.Found.{Found}
 use Rattle.octet_threads.specs.declared.step.Found.TheVariants.{AtGate, Took}
 use Rattle.octet_threads.specs.Turns.{due_at_gate, MayGo, MayHelp, MayTurn, own_turns, Helps, TakesTurns, Finds}
@@ -85,7 +85,7 @@ has_taken None turn answer before turned after is comes = (refl, (cc, comes))
 has_taken (Some number) turn answer before turned after is comes = absurd cc
 
 pub finds_gate : (is_open : Bool) (own : ℕ) (passed now : Option ℕ) (m after : MachineState) (access : ℕ)
-    → at_gate m own now ≡ due_at_gate is_open m own passed → AtGate access ≡ step_result m own now → after ≡ after_step m own now
+    → at_gate m own now ≡ due_at_gate is_open m own passed → AtGate access ≡ step_result m own now → after ≡ state_after_step m own now
     → Finds is_open own passed 1 m (AtGate access) after
 finds_gate is_open own passed now m after access due is comes =
     let is_at = is_at_gate (at_gate m own now) (turned m own) m (after_turn m own) after access is comes in
@@ -98,7 +98,7 @@ pub record HasTaken (is_open : Bool) (own : ℕ) (passed : Option ℕ) (m : Mach
   pub comes : after ≡ after_turn m own
 
 pub taken : (is_open : Bool) (own : ℕ) (passed now : Option ℕ) (m after : MachineState) (answer : Turned)
-    → at_gate m own now ≡ due_at_gate is_open m own passed → Took answer ≡ step_result m own now → after ≡ after_step m own now
+    → at_gate m own now ≡ due_at_gate is_open m own passed → Took answer ≡ step_result m own now → after ≡ state_after_step m own now
     → HasTaken is_open own passed m answer after
 taken is_open own passed now m after answer due is comes =
     let has = has_taken (at_gate m own now) (turned m own) answer m (after_turn m own) after is comes in

@@ -26,5 +26,5 @@ after_step_by (Some access) before after = before
 after_step_by None before after = after
 
 -- nothing changes before the gate; else the thread takes its turn
-abbrev pub after_step : MachineState → ℕ → Option ℕ → MachineState
-after_step m thread passed = after_step_by (at_gate m thread passed) m (after_turn m thread)
+abbrev pub state_after_step : MachineState → ℕ → Option ℕ → MachineState
+state_after_step m thread passed = after_step_by (at_gate m thread passed) m (after_turn m thread)
