@@ -8,9 +8,9 @@ mod fate;
 mod field;
 mod finished;
 pub mod laws;
-mod patience;
 mod played;
 mod player;
+mod player_backoff;
 mod replay;
 #[cfg(test)]
 mod tests;

@@ -8,9 +8,9 @@ ghost use Rattle.octet_parallel.specs.Judging.{HasPlayed, IsSamePlayer};
 
 use crate::crew::Crew;
 use crate::field::Field;
-use crate::patience::Patience;
 use crate::played::Played;
 use crate::player::Player;
+use crate::player_backoff::PlayerBackoff;
 use crate::words::STOP_NUMBER;
 use octet_base::Gate;
 use std::sync::Wait;
@@ -84,15 +84,15 @@ fn work<R: Threads + Wait + Sync, G: Gate>(
 {
     crew.begin();
     let number = player.number;
-    let mut patience = Patience::new(!gate.is_open());
+    let mut backoff = PlayerBackoff::new(!gate.is_open());
     for _ in rt.forever() {
         let before = player.journal.len();
         let played = play_events(rt, field, gate, crew, player);
-        patience.restart(player.journal.len().saturating_sub(before));
+        backoff.restart(player.journal.len().saturating_sub(before));
         match played {
             Played::Made => {}
             Played::Waits { whom, needs, .. } => {
-                if !patience.wait(rt, crew, whom, needs) {
+                if !backoff.wait(rt, crew, whom, needs) {
                     return;
                 }
             }

@@ -23,7 +23,7 @@ const EVENTS_FOR_A_WAIT: usize = 64;
 /// and runs, many events could be made on one thread: so where nearly every event waits, all players
 /// are played on one thread for some rounds, unless they have to pass a gate.
 #[derive(Drop)]
-pub(crate) struct Patience {
+pub(crate) struct PlayerBackoff {
     is_gated: bool,
     looks: u32,
     rung: Option<u32>,
@@ -32,9 +32,9 @@ pub(crate) struct Patience {
     events: usize,
 }
 
-impl Patience {
-    pub(crate) fn new(is_gated: bool) -> Patience {
-        Patience {
+impl PlayerBackoff {
+    pub(crate) fn new(is_gated: bool) -> PlayerBackoff {
+        PlayerBackoff {
             is_gated,
             looks: 0,
             rung: None,
