@@ -5,7 +5,7 @@ use Rattle.octet_replay.specs.ReplayState.{ReplayState}
 use Rattle.octet_replay.proofs.lemmas.Halting.{halted_after}
 use Rattle.octet_clock.specs.Checker.{Holds}
 use Rattle.octet_clock.specs.Verdict.{JudgedUpTo}
-use Rattle.octet_clock.proofs.Verifying.{as_many_journals, holds_after, next_in_play, room_in_play, thread_in_play}
+use Rattle.octet_clock.proofs.checks.Verifying.{as_many_journals, holds_after, next_in_play, room_in_play, thread_in_play}
 use Rattle.octet_clock.proofs.checker.judge.Goals as goal
 
 pub new-requires : goal.new-requires

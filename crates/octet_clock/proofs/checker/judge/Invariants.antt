@@ -1,6 +1,6 @@
 use Rattle.std.proofs.Common.{◌≡◌, ◌-◌, length}
 use Rattle.octet_model.specs.Orders.{lowest_order}
-use Rattle.octet_clock.proofs.Verifying.{HoldsOf}
+use Rattle.octet_clock.proofs.checks.Verifying.{HoldsOf}
 use Rattle.octet_clock.proofs.checker.judge.Given as goal
 
 abbrev pub invariant-loop-thread : goal.invariant-loop-thread

@@ -2,8 +2,8 @@ use Rattle.std.proofs.Common.{refl, subst}
 use Rattle.octet_model.specs.Machine.{Journals}
 use Rattle.octet_clock.specs.Ordered.{ChecksAt}
 use Rattle.octet_clock.specs.Sharing.{HasNoConflict}
-use Rattle.octet_clock.proofs.JournalsAlone.{is_ordered, not_ordered}
-use Rattle.octet_clock.proofs.SharedObjects.{all_ordered}
+use Rattle.octet_clock.proofs.checks.JournalsAlone.{is_ordered, not_ordered}
+use Rattle.octet_clock.proofs.checks.SharedObjects.{all_ordered}
 use Rattle.octet_clock.proofs.journal_check.ordered.Goals as goal
 
 pub returns-then-branch : goal.returns-then-branch

@@ -4,7 +4,7 @@ use Rattle.octet_replay.specs.declared.need.Need.{Need}
 use Rattle.octet_replay.specs.Threads.{need_of}
 use Rattle.octet_replay.proofs.lemmas.Reading.{log_read, holds_pushed}
 use Rattle.octet_clock.specs.Untied.{by_log_alone, next_by_log_alone}
-use Rattle.octet_clock.proofs.WalksAlone.{by_progress}
+use Rattle.octet_clock.proofs.plays.WalksAlone.{by_progress}
 use Rattle.octet_clock.proofs.log_walk.first_needs.Goals as goal
 
 pub loop-log-preserved : goal.loop-log-preserved

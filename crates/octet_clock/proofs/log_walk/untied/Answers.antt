@@ -1,4 +1,4 @@
-use Rattle.octet_clock.proofs.WalksAlone.{untied_decided}
+use Rattle.octet_clock.proofs.plays.WalksAlone.{untied_decided}
 use Rattle.octet_clock.proofs.log_walk.untied.Goals as goal
 
 pub returns : goal.returns

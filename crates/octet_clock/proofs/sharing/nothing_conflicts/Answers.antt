@@ -1,5 +1,5 @@
 use Rattle.std.proofs.Common.{arith}
-use Rattle.octet_clock.proofs.SharedObjects.{no_conflict, within}
+use Rattle.octet_clock.proofs.checks.SharedObjects.{no_conflict, within}
 use Rattle.octet_clock.proofs.sharing.nothing_conflicts.Goals as goal
 
 pub returns : goal.returns

@@ -4,8 +4,8 @@ use Rattle.std.proofs.lemmas.Option.{slice_get_read}
 use Rattle.octet_model.specs.declared.event.Event.{Event}
 use Rattle.octet_clock.specs.Past.{IsPastOf}
 use Rattle.octet_clock.specs.Play.{made_by}
-use Rattle.octet_clock.proofs.Known.{past_of_none}
-use Rattle.octet_clock.proofs.Taken.{made_within}
+use Rattle.octet_clock.proofs.pasts.Known.{past_of_none}
+use Rattle.octet_clock.proofs.pasts.Taken.{made_within}
 use Rattle.octet_clock.proofs.sources.clock_after.Goals as goal
 
 pub returns-then-thread-marks : goal.returns-then-thread-marks

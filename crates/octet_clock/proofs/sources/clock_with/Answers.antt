@@ -1,5 +1,5 @@
 use Rattle.std.proofs.Common.{arith, add-one}
-use Rattle.octet_clock.proofs.Taken.{counted_source, step_within}
+use Rattle.octet_clock.proofs.pasts.Taken.{counted_source, step_within}
 use Rattle.octet_clock.proofs.sources.clock_with.Goals as goal
 
 pub returns : goal.returns

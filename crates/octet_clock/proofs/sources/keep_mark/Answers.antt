@@ -7,8 +7,8 @@ use Rattle.octet_clock.specs.declared.sources.Prefix.{Prefix}
 use Rattle.octet_clock.specs.Past.{KeepsMarks}
 use Rattle.octet_clock.specs.Play.{made_by}
 use Rattle.octet_clock.specs.Sources.{TakesIn}
-use Rattle.octet_clock.proofs.Taken.{known_adds_nothing}
-use Rattle.octet_clock.proofs.Taking.{marks_stay, marks_with}
+use Rattle.octet_clock.proofs.pasts.Taken.{known_adds_nothing}
+use Rattle.octet_clock.proofs.checks.Taking.{marks_stay, marks_with}
 use Rattle.octet_clock.proofs.sources.keep_mark.Goals as goal
 
 pub returns-in_default : goal.returns-in_default

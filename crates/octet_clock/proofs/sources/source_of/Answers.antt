@@ -4,7 +4,7 @@ use Rattle.octet_model.specs.declared.event.Mark.TheVariants.{Draw, Fence}
 use Rattle.octet_model.specs.declared.event.Event.TheVariants.{Marked}
 use Rattle.octet_clock.specs.declared.sources.Prefix.{Prefix}
 use Rattle.octet_clock.specs.Sources.{IsNextStep, IsSource, TakesIn}
-use Rattle.octet_clock.proofs.Taken.{join_source, join_fits, waited_takes_in, draw_number}
+use Rattle.octet_clock.proofs.pasts.Taken.{join_source, join_fits, waited_takes_in, draw_number}
 use Rattle.octet_clock.proofs.sources.source_of.Goals as goal
 
 pub returns-in-Ok : goal.returns-in-Ok

@@ -3,7 +3,7 @@ use Rattle.octet_model.specs.declared.script.Script.{Script}
 use Rattle.octet_model.specs.declared.log.Log.{Log}
 use Rattle.octet_replay.specs.Judged.{IsLawful}
 use Rattle.octet_replay.specs.ReplayState.{ReplayState}
-use Rattle.octet_clock.proofs.Verifying.{verified}
+use Rattle.octet_clock.proofs.checks.Verifying.{verified}
 use Rattle.octet_clock.proofs.verified.verify.Goals as goal
 
 pub returns-clause-verdict : goal.returns-clause-verdict

@@ -1,7 +1,7 @@
 use Rattle.std.proofs.Common.{◌≡◌, ℕ, Bool, true, false, ◌∙◌, max, sym, ap, subst}
 use Rattle.octet_clock.specs.LastAccesses.{conflicts_with, read_in, written_in, IsLastOf}
 use Rattle.octet_clock.specs.Play.{made_by}
-use Rattle.octet_clock.proofs.Conflicts.{last_write_conflicts, later_conflicts}
+use Rattle.octet_clock.proofs.checks.Conflicts.{last_write_conflicts, later_conflicts}
 use Rattle.octet_clock.proofs.accesses.Accesses.last_conflict.Goals as goal
 
 pub returns-then-not-writing : goal.returns-then-not-writing

@@ -1,6 +1,6 @@
 use Rattle.std.proofs.Common.{◌-◌, inl, inr, arith}
 use Rattle.std.proofs.lemmas.Bool.{cases_eq}
-use Rattle.octet_clock.proofs.Conflicts.{all_known, last_is_unordered, not_own, by_a_thread}
+use Rattle.octet_clock.proofs.checks.Conflicts.{all_known, last_is_unordered, not_own, by_a_thread}
 use Rattle.octet_clock.proofs.accesses.Accesses.unordered_conflict.Goals.{else-other-thread-via-then-other-thread+else-last-count, else-other-thread-via-else-other-thread}
 use Rattle.octet_clock.proofs.accesses.Accesses.unordered_conflict.Goals as goal
 

@@ -1,7 +1,7 @@
 use Rattle.std.proofs.Common.{Bool, subst, sym}
 use Rattle.octet_clock.specs.LastAccesses.{LieWithin}
 use Rattle.octet_clock.specs.Play.{made_by}
-use Rattle.octet_clock.proofs.Within.{lie_fewer}
+use Rattle.octet_clock.proofs.checks.Within.{lie_fewer}
 use Rattle.octet_clock.proofs.checker.Checker.follows.Goals as goal
 
 pub returns-then-knows_all : goal.returns-then-knows_all

@@ -3,7 +3,7 @@ use Rattle.octet_model.specs.declared.event.Place.{Place}
 use Rattle.octet_clock.specs.declared.verdict.Verdict.{Verdict}
 use Rattle.octet_clock.specs.declared.verdict.Verdict.TheVariants.{Ordered}
 use Rattle.octet_clock.specs.Verdict.{JudgedUpTo, UnorderedConflictIs}
-use Rattle.octet_clock.proofs.Taking.{judged_more, judged_unordered}
+use Rattle.octet_clock.proofs.checks.Taking.{judged_more, judged_unordered}
 use Rattle.octet_clock.proofs.checker.Checker.judged.Goals as goal
 
 pub returns-in-None : goal.returns-in-None

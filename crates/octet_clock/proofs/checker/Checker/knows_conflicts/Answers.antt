@@ -2,7 +2,7 @@ use Rattle.std.proofs.Common.{◌≡◌, ◌≤◌, ◌∙◌, ℕ, Some, sym, r
 use Rattle.std.proofs.lemmas.Option.{slice_get_read}
 use Rattle.octet_clock.specs.LastAccesses.{conflicts_within, kept_of}
 use Rattle.octet_clock.specs.Play.{made_by}
-use Rattle.octet_clock.proofs.Within.{lie_in_more}
+use Rattle.octet_clock.proofs.checks.Within.{lie_in_more}
 use Rattle.octet_clock.proofs.checker.Checker.knows_conflicts.Goals as goal
 
 pub returns-in-Some : goal.returns-in-Some

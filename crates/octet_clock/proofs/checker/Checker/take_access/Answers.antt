@@ -11,9 +11,9 @@ use Rattle.octet_clock.specs.LastAccesses.{LieWithin}
 use Rattle.octet_clock.specs.Play.{made_by}
 use Rattle.octet_clock.specs.Sources.{KeepsAllMarks, KeepsDraws}
 use Rattle.octet_clock.specs.Verdict.{JudgedUpTo}
-use Rattle.octet_clock.proofs.Taking.{made_stays, marks_on_access, draws_on_access}
-use Rattle.octet_clock.proofs.Noting.{accesses_on_access}
-use Rattle.octet_clock.proofs.Within.{judged_within}
+use Rattle.octet_clock.proofs.checks.Taking.{made_stays, marks_on_access, draws_on_access}
+use Rattle.octet_clock.proofs.checks.Noting.{accesses_on_access}
+use Rattle.octet_clock.proofs.checks.Within.{judged_within}
 use Rattle.octet_clock.proofs.checker.Checker.take_access.Goals.{then-not-follows, else-not-follows}
 use Rattle.octet_clock.proofs.checker.Checker.take_access.Goals as goal
 

@@ -4,8 +4,8 @@ use Rattle.octet_model.specs.declared.event.Event.TheVariants.{Marked}
 use Rattle.octet_clock.specs.declared.marks.Marks.{Marks}
 use Rattle.octet_clock.specs.declared.sources.Prefix.{Prefix}
 use Rattle.octet_clock.specs.Sources.{KeepsAllMarks, KeepsDraws}
-use Rattle.octet_clock.proofs.Taking.{made_stays, draws_on_mark, judged_on_mark}
-use Rattle.octet_clock.proofs.Noting.{accesses_on_mark}
+use Rattle.octet_clock.proofs.checks.Taking.{made_stays, draws_on_mark, judged_on_mark}
+use Rattle.octet_clock.proofs.checks.Noting.{accesses_on_mark}
 use Rattle.octet_clock.proofs.checker.Checker.take_mark.Goals as goal
 
 -- the marks as the call left them

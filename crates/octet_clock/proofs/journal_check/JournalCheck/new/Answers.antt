@@ -1,5 +1,5 @@
 use Rattle.std.proofs.Common.{refl, arith}
-use Rattle.octet_clock.proofs.JournalsAlone.{check_starts, fit_in_places, some_journals, start_names}
+use Rattle.octet_clock.proofs.checks.JournalsAlone.{check_starts, fit_in_places, some_journals, start_names}
 use Rattle.octet_clock.proofs.journal_check.JournalCheck.new.Goals as goal
 
 pub new-requires : goal.new-requires

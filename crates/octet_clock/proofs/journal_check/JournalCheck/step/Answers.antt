@@ -8,7 +8,7 @@ use Rattle.octet_replay.specs.Threads.{need_of}
 use Rattle.octet_clock.specs.declared.journal_check.JournalCheck.{JournalCheck}
 use Rattle.octet_clock.specs.Following.{counted}
 use Rattle.octet_clock.specs.Play.{made_by}
-use Rattle.octet_clock.proofs.JournalsAlone.{as_many_needs, checks_on, fit_in_places, made_is, more_counted, need_names, play_within, room, room_for_draw, room_for_event, some_event, thread_within}
+use Rattle.octet_clock.proofs.checks.JournalsAlone.{as_many_needs, checks_on, fit_in_places, made_is, more_counted, need_names, play_within, room, room_for_draw, room_for_event, some_event, thread_within}
 use Rattle.octet_clock.proofs.journal_check.JournalCheck.step.Goals as goal
 
 pub unreachable-requires : goal.unreachable-requires

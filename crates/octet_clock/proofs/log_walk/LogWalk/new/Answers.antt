@@ -1,7 +1,7 @@
 use Rattle.std.proofs.Common.{ℕ, List, replicate, ap, ◌∙◌, subst}
 use Rattle.octet_model.specs.declared.log.ThreadLog.{ThreadLog}
 use Rattle.octet_clock.specs.LogWalks.{AreFirstNeeds}
-use Rattle.octet_clock.proofs.WalksAlone.{first_names, walk_starts}
+use Rattle.octet_clock.proofs.plays.WalksAlone.{first_names, walk_starts}
 use Rattle.octet_clock.proofs.log_walk.LogWalk.new.Goals as goal
 
 pub new-requires-clause-names : goal.new-requires-clause-names

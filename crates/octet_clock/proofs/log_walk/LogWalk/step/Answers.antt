@@ -9,7 +9,7 @@ use Rattle.octet_replay.specs.Threads.{need_of}
 use Rattle.octet_replay.proofs.lemmas.Valid.{few_accesses, few_marks}
 use Rattle.octet_clock.specs.declared.log_walk.LogWalk.{LogWalk}
 use Rattle.octet_clock.specs.LogWalks.{next_by_progress, Advances, WantsSome}
-use Rattle.octet_clock.proofs.WalksAlone.{as_many_needs, front_within, gap_within_accesses, log_within, more_counted, names_thread, own_read, progress_read, room_for_draw, room_for_event, walks_on, wants}
+use Rattle.octet_clock.proofs.plays.WalksAlone.{as_many_needs, front_within, gap_within_accesses, log_within, more_counted, names_thread, own_read, progress_read, room_for_draw, room_for_event, walks_on, wants}
 use Rattle.octet_clock.proofs.log_walk.LogWalk.step.Goals as goal
 
 -- the thread's log and progress, as they were read

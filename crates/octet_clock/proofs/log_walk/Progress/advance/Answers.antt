@@ -1,6 +1,6 @@
 use Rattle.std.proofs.Common.{refl, sym, ◌∙◌, arith}
 use Rattle.octet_model.proofs.lemmas.LowestFronts.{due_within}
-use Rattle.octet_clock.proofs.WalksAlone.{access_left, advances_by_mark, advances_by_access}
+use Rattle.octet_clock.proofs.plays.WalksAlone.{access_left, advances_by_mark, advances_by_access}
 use Rattle.octet_clock.proofs.log_walk.Progress.advance.Goals as goal
 
 pub overflow_add-self : goal.overflow_add-self

@@ -1,5 +1,5 @@
 use Rattle.std.proofs.Common.{refl}
-use Rattle.octet_clock.proofs.KeptMarks.{keeps_mark}
+use Rattle.octet_clock.proofs.pasts.KeptMarks.{keeps_mark}
 use Rattle.octet_clock.proofs.marks.Marks.keep.Goals as goal
 
 pub returns : goal.returns

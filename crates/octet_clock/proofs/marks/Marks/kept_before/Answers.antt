@@ -1,7 +1,7 @@
 use Rattle.std.proofs.Common.{◌≡◌, ◌-◌, ℕ, List, length, ltb, Some, true, false, sym, ap, ◌∙◌, subst, rules, slice_get}
 use Rattle.std.specs.List.Sorted.{IsNonDecreasingBy, IsPartitionPoint}
 use Rattle.std.proofs.lemmas.List.Sorted.{IsPartitionPoint-from_clause, IsPartitionedBy-ltb}
-use Rattle.octet_clock.proofs.KeptMarks.{all_before}
+use Rattle.octet_clock.proofs.pasts.KeptMarks.{all_before}
 use Rattle.octet_clock.proofs.marks.Marks.kept_before.Goals as goal
 
 pub returns-in-Some-clause-point : goal.returns-in-Some-clause-point

@@ -4,7 +4,7 @@ use Rattle.std.proofs.lemmas.Option.{slice_get-get_or}
 use Rattle.octet_model.specs.Past.{InPast}
 use Rattle.octet_model.proofs.lemmas.Pasts.{past_grows}
 use Rattle.octet_clock.specs.Past.{count_after}
-use Rattle.octet_clock.proofs.Known.{past_within}
+use Rattle.octet_clock.proofs.pasts.Known.{past_within}
 use Rattle.octet_clock.proofs.marks.Marks.knows.Goals as goal
 
 pub returns-then-first-thread : goal.returns-then-first-thread

@@ -9,7 +9,7 @@ use Rattle.octet_model.specs.HappensBefore.{Edge, ProgramOrder, Joined, Drawn, F
 use Rattle.octet_model.proofs.lemmas.Growth.{swapped}
 use Rattle.octet_clock.specs.Play.{made_by, step_place, IsMadeBefore, IsWholePlay}
 use Rattle.octet_clock.specs.Verdict.{FollowsConflicts, IsFirstUnordered}
-use Rattle.octet_clock.proofs.Walk.{index_in, index_of, step_at_place, made_one, made_grows, join_names, draw_is_next, fence_names, drawn_is_made}
+use Rattle.octet_clock.proofs.plays.Walk.{index_in, index_of, step_at_place, made_one, made_grows, join_names, draw_is_next, fence_names, drawn_is_made}
 
 module _ (js : Journals) (play : List ℕ) (whole : IsWholePlay js play) where
   -- the event of an earlier step is made

@@ -16,7 +16,7 @@ use Rattle.octet_model.proofs.lemmas.Plays.{total, total_cons, total_after, tota
 use Rattle.octet_clock.specs.Play.{IsWholePlay}
 use Rattle.octet_clock.proofs.lemmas.AlikeStates.{Alike, enabled_alike, step_alike}
 use Rattle.octet_clock.proofs.lemmas.Readers.{reading, reading_enabled, reading_draws, reading_writes_not, NeverWrites, reads_are_ordered}
-use Rattle.octet_clock.proofs.Walk.{counts_are}
+use Rattle.octet_clock.proofs.plays.Walk.{counts_are}
 
 -- the read of one object in place of each access
 abbrev reading_next : Next → Next

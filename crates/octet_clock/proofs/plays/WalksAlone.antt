@@ -33,7 +33,7 @@ use Rattle.octet_clock.specs.LogWalks.{next_by_progress, Advances, AreFirstNeeds
 use Rattle.octet_clock.specs.Untied.{any_access, next_by_log_alone, by_log_alone, opening_alone, IsUntied, lowest_alone}
 use Rattle.octet_clock.proofs.lemmas.LogsAlone.{untied_leads_on}
 use Rattle.octet_clock.proofs.lemmas.LowestAlone.{IsNextAlone, next_alone, all_within, lowest_alone_is_lowest}
-use Rattle.octet_clock.proofs.Following.{front_take, made_now, next_of_front, one_more_counted, reached, follows_on, is_whole}
+use Rattle.octet_clock.proofs.plays.Following.{front_take, made_now, next_of_front, one_more_counted, reached, follows_on, is_whole}
 
 -- ---- one thread
 module _ (log : ThreadLog) (p : Progress) where

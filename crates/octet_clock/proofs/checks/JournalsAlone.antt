@@ -39,11 +39,11 @@ use Rattle.octet_clock.specs.Ordered.{AreNeedsAtStart, AreOfLawfulOrder, ChecksA
 use Rattle.octet_clock.specs.Play.{made_by, IsWholePlay}
 use Rattle.octet_clock.specs.Sources.{IsNextStep}
 use Rattle.octet_clock.specs.Verdict.{JudgedUpTo}
-use Rattle.octet_clock.proofs.Checking.{verdict_is}
-use Rattle.octet_clock.proofs.Following.{made_now, next_of_front, one_more_counted, follows_on, all_counted}
-use Rattle.octet_clock.proofs.LowestPlays.{lowest_is_whole}
-use Rattle.octet_clock.proofs.Walk.{counts_are}
-use Rattle.octet_clock.proofs.WholePlay.{whole_play}
+use Rattle.octet_clock.proofs.checks.Checking.{verdict_is}
+use Rattle.octet_clock.proofs.plays.Following.{made_now, next_of_front, one_more_counted, follows_on, all_counted}
+use Rattle.octet_clock.proofs.plays.LowestPlays.{lowest_is_whole}
+use Rattle.octet_clock.proofs.plays.Walk.{counts_are}
+use Rattle.octet_clock.proofs.plays.WholePlay.{whole_play}
 
 -- ---- what is known of the journals of a lawful order
 module _ (js : Journals) (of : AreOfLawfulOrder js) where

@@ -25,8 +25,8 @@ use Rattle.octet_clock.specs.Play.{made_by}
 use Rattle.octet_clock.specs.Sources.{IsNextStep}
 use Rattle.octet_clock.specs.Verdict.{JudgedUpTo}
 use Rattle.octet_clock.specs.Verified.{HasOneOutcome, IsVerified, IsJudged}
-use Rattle.octet_clock.proofs.Checking.{has_room, verdict_is}
-use Rattle.octet_clock.proofs.WholePlay.{whole_play, step_of_play, lowest_is_lawful_front}
+use Rattle.octet_clock.proofs.checks.Checking.{has_room, verdict_is}
+use Rattle.octet_clock.proofs.plays.WholePlay.{whole_play, step_of_play, lowest_is_lawful_front}
 
 -- where the journals of the lowest order are ordered, the log has one outcome
 one_outcome : (script : Script) (log : List ThreadLog) → IsLawfulOrder script log (lowest_order script log) → IsOrdered (journals_after script log (lowest_order script log)) → HasOneOutcome script log

@@ -16,11 +16,11 @@ use Rattle.octet_clock.specs.Past.{HasPast}
 use Rattle.octet_clock.specs.Play.{made_by, step_place, IsMadeBefore}
 use Rattle.octet_clock.specs.Sources.{IsNextStep}
 use Rattle.octet_clock.specs.Verdict.{FollowsConflicts, JudgedUpTo}
-use Rattle.octet_clock.proofs.Conflicts.{from_conflict, same_object, one_writes_of}
-use Rattle.octet_clock.proofs.Known.{own_event}
-use Rattle.octet_clock.proofs.Taken.{step_within}
-use Rattle.octet_clock.proofs.Taking.{judged_more}
-use Rattle.octet_clock.proofs.Walk.{made_one, made_other}
+use Rattle.octet_clock.proofs.checks.Conflicts.{from_conflict, same_object, one_writes_of}
+use Rattle.octet_clock.proofs.pasts.Known.{own_event}
+use Rattle.octet_clock.proofs.pasts.Taken.{step_within}
+use Rattle.octet_clock.proofs.checks.Taking.{judged_more}
+use Rattle.octet_clock.proofs.plays.Walk.{made_one, made_other}
 
 -- a write conflicts with all that conflicts with a read
 conflicts_more : (object : ℕ) (writing : Bool) (x : Event) → conflicts_with object writing x ≡ true → conflicts_with object true x ≡ true

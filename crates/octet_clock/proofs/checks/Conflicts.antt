@@ -17,7 +17,7 @@ use Rattle.octet_clock.specs.Accesses.{IsAccessStep}
 use Rattle.octet_clock.specs.LastAccesses.{is_read_of, is_write_of, conflicts_with, IsLastOf}
 use Rattle.octet_clock.specs.Play.{made_by, step_place}
 use Rattle.octet_clock.specs.Verdict.{IsEarlierConflict, IsUnorderedConflict}
-use Rattle.octet_clock.proofs.Edges.{unmarked_adds}
+use Rattle.octet_clock.proofs.pasts.Edges.{unmarked_adds}
 
 -- in conflict with a write are the reads and the writes, and with a read the writes
 conflicts_with_read : (object : ℕ) (e : Event) → conflicts_with object false e ≡ is_write_of object e

@@ -20,9 +20,9 @@ use Rattle.octet_clock.specs.Past.{AddsNothing, KeepsMarks}
 use Rattle.octet_clock.specs.Play.{made_by, step_place, IsStep}
 use Rattle.octet_clock.specs.Sources.{IsNextStep, IsDrawn, KeepsDraws, KeepsAllMarks, draws_with}
 use Rattle.octet_clock.specs.Verdict.{IsEarlierConflict, FollowsConflicts, IsUnorderedConflict, IsFirstUnordered, JudgedUpTo}
-use Rattle.octet_clock.proofs.Edges.{unmarked_adds}
-use Rattle.octet_clock.proofs.KeptMarks.{keeps_on, pushed}
-use Rattle.octet_clock.proofs.Walk.{made_one, made_other, draw_counts, draw_is_next, others_count_none}
+use Rattle.octet_clock.proofs.pasts.Edges.{unmarked_adds}
+use Rattle.octet_clock.proofs.pasts.KeptMarks.{keeps_on, pushed}
+use Rattle.octet_clock.proofs.plays.Walk.{made_one, made_other, draw_counts, draw_is_next, others_count_none}
 
 -- an item of a list with one item set
 in_set : {X : Type 0} (xs : List X) (i : ℕ) (y : X) (j : ℕ) (z : X) → slice_get (slice_set xs i y) j ≡ Some z → ((j ≡ i) × (y ≡ z)) ⊎ ((j ≡ i → ⊥) × (slice_get xs j ≡ Some z))

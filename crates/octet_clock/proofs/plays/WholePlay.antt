@@ -16,7 +16,7 @@ use Rattle.octet_model.proofs.lemmas.LowestFronts.{lowest_is_front, lowest_order
 use Rattle.octet_replay.proofs.lemmas.EventsMade.{do_alike}
 use Rattle.octet_clock.specs.Play.{made_by, IsWholePlay, IsStep}
 use Rattle.octet_clock.proofs.lemmas.AlikeStates.{Alike, enabled_alike, step_alike}
-use Rattle.octet_clock.proofs.Walk.{counts_are}
+use Rattle.octet_clock.proofs.plays.Walk.{counts_are}
 
 module _ (V : Behavior) (js : Journals) where
   record Both (s s' : PlainState) (t : ℕ) (o : Operation) : Type 0 where

@@ -18,9 +18,9 @@ use Rattle.octet_clock.specs.Clock.{IsRaised, IsJoined}
 use Rattle.octet_clock.specs.Past.{AddsNothing, HasPast, IsPastOf}
 use Rattle.octet_clock.specs.Play.{made_by, draws_by, IsWholePlay, IsStep}
 use Rattle.octet_clock.specs.Sources.{IsNextStep, IsDrawn, KeepsDraws, IsSource, TakesIn, draw_of}
-use Rattle.octet_clock.proofs.Edges.{Added, Before, Itself, ByJoin, ByDraw, ByFence, added}
-use Rattle.octet_clock.proofs.Known.{past_joined}
-use Rattle.octet_clock.proofs.Walk.{made_grows, join_names, draw_is_next, fence_names, draws_differ, draw_is_some}
+use Rattle.octet_clock.proofs.pasts.Edges.{Added, Before, Itself, ByJoin, ByDraw, ByFence, added}
+use Rattle.octet_clock.proofs.pasts.Known.{past_joined}
+use Rattle.octet_clock.proofs.plays.Walk.{made_grows, join_names, draw_is_next, fence_names, draws_differ, draw_is_some}
 
 -- no more is made than the journals have
 pub made_within : (js : Journals) (play : List ℕ) → IsWholePlay js play → (i t : ℕ) → i ≤ length play → made_by play i t ≤ length (journal_of js t)

@@ -14,7 +14,7 @@ use Rattle.octet_clock.specs.declared.clock.Clock.{Clock}
 use Rattle.octet_clock.specs.declared.marks.Marks.{Marks}
 use Rattle.octet_clock.specs.Clock.{count_in, IsRaised}
 use Rattle.octet_clock.specs.Past.{count_after, AddsNothing, ArePastOf, IsKept, IsPastOf, KeepsMarks}
-use Rattle.octet_clock.proofs.Known.{past_of_none, past_raised}
+use Rattle.octet_clock.proofs.pasts.Known.{past_of_none, past_raised}
 
 -- ---- the counts of one clock among those of all
 

@@ -11,7 +11,7 @@ use Rattle.octet_model.proofs.lemmas.Pasts.{place, past_grows, past_has_own, pas
 use Rattle.octet_clock.specs.declared.clock.Clock.{Clock}
 use Rattle.octet_clock.specs.Clock.{count_in, IsRaised, IsJoined}
 use Rattle.octet_clock.specs.Past.{AddsNothing, ArePastOf, IsPastOf}
-use Rattle.octet_clock.proofs.Edges.{nothing_added}
+use Rattle.octet_clock.proofs.pasts.Edges.{nothing_added}
 
 -- what a raised clock knows
 pub raised_has : (c d : Clock) (t n u e : ℕ) → IsRaised c t n d → e < count_in c u → e < count_in d u

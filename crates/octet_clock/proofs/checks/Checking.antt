@@ -10,9 +10,9 @@ use Rattle.octet_clock.specs.declared.verdict.Verdict.TheVariants.{Ordered, Unor
 use Rattle.octet_clock.specs.Play.{made_by, IsWholePlay}
 use Rattle.octet_replay.specs.Places.{FitInPlaces}
 use Rattle.octet_clock.specs.Verdict.{IsFirstUnordered, JudgedUpTo, IsVerdict}
-use Rattle.octet_clock.proofs.Forward.{ordered_by_steps, unordered_by_pair}
-use Rattle.octet_clock.proofs.Taken.{step_within}
-use Rattle.octet_clock.proofs.Walk.{event_of_step}
+use Rattle.octet_clock.proofs.plays.Forward.{ordered_by_steps, unordered_by_pair}
+use Rattle.octet_clock.proofs.pasts.Taken.{step_within}
+use Rattle.octet_clock.proofs.plays.Walk.{event_of_step}
 
 -- a step of a whole play of journals that have places
 pub record Stands (js : Journals) (play : List ℕ) (i : ℕ) : Type 0 where

@@ -15,9 +15,9 @@ use Rattle.octet_clock.specs.Clock.{count_in, IsRaised}
 use Rattle.octet_clock.specs.LastAccesses.{conflicts_with, conflicts_within, kept_of, read_in, written_in, is_read_of, is_write_of, IsLastOf, KeepsLast, LieWithin}
 use Rattle.octet_clock.specs.Play.{made_by}
 use Rattle.octet_clock.specs.Sources.{IsNextStep}
-use Rattle.octet_clock.proofs.Taking.{last_all_stay, last_noted, no_less, of_read, of_write}
-use Rattle.octet_clock.proofs.Walk.{made_one}
-use Rattle.octet_clock.proofs.Within.{lie_after_write, lie_in_own, lie_still, other_object, read_with_read}
+use Rattle.octet_clock.proofs.checks.Taking.{last_all_stay, last_noted, no_less, of_read, of_write}
+use Rattle.octet_clock.proofs.plays.Walk.{made_one}
+use Rattle.octet_clock.proofs.checks.Within.{lie_after_write, lie_in_own, lie_still, other_object, read_with_read}
 
 some_same : (a b : Prefix) → Some a ≡ Some b → a ≡ b
 some_same a b e = cc

@@ -1,0 +1,4 @@
+pub mod Edges
+pub mod KeptMarks
+pub mod Known
+pub mod Taken
