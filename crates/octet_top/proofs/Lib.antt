@@ -1,4 +1,4 @@
-mod answering
+pub mod answering
 mod profiling
-mod serving
-mod writing
+pub mod serving
+pub mod writing

@@ -1,7 +1,7 @@
 use Rattle.std.proofs.Common.{rules, ◌≡◌, ◌∙◌, List, replicate, sym, subst}
 use Rattle.octet_parallel.specs.Draws.{AreDraws, noted_of, highest_in, unknown}
 use Rattle.octet_parallel.specs.declared.draws.PlayerEvents.{PlayerEvents}
-use Rattle.octet_parallel.proofs.Noting.{are_draws, take_all, few_marks_each}
+use Rattle.octet_parallel.proofs.players.Noting.{are_draws, take_all, few_marks_each}
 use Rattle.octet_parallel.proofs.draws.draws_of.Goals as goal
 
 pub note_logs-requires-clause-few : goal.note_logs-requires-clause-few

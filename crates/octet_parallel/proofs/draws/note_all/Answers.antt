@@ -1,6 +1,6 @@
 use Rattle.std.proofs.Common.{rules, arith}
 use Rattle.octet_model.specs.declared.event.Mark.TheVariants.{Join}
-use Rattle.octet_parallel.proofs.Noting.{one_noted}
+use Rattle.octet_parallel.proofs.players.Noting.{one_noted}
 use Rattle.octet_parallel.proofs.draws.note_all.Goals as goal
 
 pub note_next-place-requires : goal.note_next-place-requires

@@ -1,4 +1,4 @@
-use Rattle.octet_parallel.proofs.Lawful.{opening_is_sound, look_is_lawful, read_is_lawful, write_is_lawful, bump_is_lawful, count_is_lawful, mark_is_lawful, stop_is_lawful}
+use Rattle.octet_parallel.proofs.steps.Lawful.{opening_is_sound, look_is_lawful, read_is_lawful, write_is_lawful, bump_is_lawful, count_is_lawful, mark_is_lawful, stop_is_lawful}
 use Rattle.octet_parallel.proofs.laws.steps_keep_the_field_sound.Goals as goal
 
 pub returns-clause-opening : goal.returns-clause-opening

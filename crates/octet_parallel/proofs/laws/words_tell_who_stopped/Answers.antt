@@ -1,4 +1,4 @@
-use Rattle.octet_parallel.proofs.Lawful.{word_tells_stop}
+use Rattle.octet_parallel.proofs.steps.Lawful.{word_tells_stop}
 use Rattle.octet_parallel.proofs.laws.words_tell_who_stopped.Goals as goal
 
 pub returns : goal.returns

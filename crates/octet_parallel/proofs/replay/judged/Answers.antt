@@ -1,4 +1,4 @@
-use Rattle.octet_parallel.proofs.Verdicts.{of_lawful, ordered_judged, unordered_judged}
+use Rattle.octet_parallel.proofs.verdicts.Verdicts.{of_lawful, ordered_judged, unordered_judged}
 use Rattle.octet_parallel.proofs.replay.judged.Goals as goal
 
 pub ordered-requires : goal.ordered-requires

@@ -6,7 +6,7 @@ use Rattle.std.specs.List.{AllZip}
 use Rattle.octet_parallel.specs.declared.player.Player.{Player}
 use Rattle.octet_parallel.specs.Calls.{EachUnbegun, EachEnded}
 use Rattle.octet_parallel.specs.Judging.{HasPlayed, IsSamePlayer}
-use Rattle.octet_parallel.proofs.Verdicts.{each_ended}
+use Rattle.octet_parallel.proofs.verdicts.Verdicts.{each_ended}
 use Rattle.octet_parallel.proofs.tests.played.Goals as goal
 
 pub close-requires-clause-ended : goal.close-requires-clause-ended

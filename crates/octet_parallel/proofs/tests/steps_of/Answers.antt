@@ -1,5 +1,5 @@
 use Rattle.std.proofs.Common.{rules}
-use Rattle.octet_parallel.proofs.Zips.{all_same, still_same}
+use Rattle.octet_parallel.proofs.players.Zips.{all_same, still_same}
 use Rattle.octet_parallel.proofs.tests.steps_of.Goals as goal
 
 pub loop-place-init : goal.loop-place-init

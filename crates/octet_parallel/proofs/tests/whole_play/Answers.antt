@@ -1,4 +1,4 @@
-use Rattle.octet_parallel.proofs.Zips.{still_same}
+use Rattle.octet_parallel.proofs.players.Zips.{still_same}
 use Rattle.octet_parallel.proofs.tests.whole_play.Goals as goal
 
 pub returns-then-play_round-clause-same : goal.returns-then-play_round-clause-same

@@ -2,8 +2,8 @@ use Rattle.octet_heap.specs.declared.pending_access.PendingAccess.{PendingAccess
 use Rattle.octet_heap.specs.declared.poll.Poll.TheVariants.{Ready}
 use Rattle.octet_heap.specs.Workers.{seat_of}
 use Rattle.octet_heap.specs.Walks.{access_task}
-use Rattle.octet_threads.proofs.Doing.{gone_and_done}
-use Rattle.octet_threads.proofs.Polling.{pending_goes, ready_does, adds_none, adds_more, adds_last}
+use Rattle.octet_threads.proofs.tasks.Doing.{gone_and_done}
+use Rattle.octet_threads.proofs.tasks.Polling.{pending_goes, ready_does, adds_none, adds_more, adds_last}
 use Rattle.octet_threads.proofs.carrying.access.Goals as goal
 
 pub returns-in-Ready-clause-steps : goal.returns-in-Ready-clause-steps

@@ -6,8 +6,8 @@ use Rattle.octet_interp.specs.Laws.{IsJournalOf}
 use Rattle.octet_heap.specs.Workers.{seat_of}
 use Rattle.octet_threads.specs.Tasks.{task_of, Does}
 use Rattle.octet_threads.specs.Carrying.{TellsAgain}
-use Rattle.octet_threads.proofs.Doing.{pauses}
-use Rattle.octet_threads.proofs.Journals.{read_kept, write_kept, bump_kept, safe_kept, pause_kept, end_kept, end_told_again}
+use Rattle.octet_threads.proofs.tasks.Doing.{pauses}
+use Rattle.octet_threads.proofs.tasks.Journals.{read_kept, write_kept, bump_kept, safe_kept, pause_kept, end_kept, end_told_again}
 use Rattle.octet_threads.proofs.carrying.carry_with_backoff.Goals as goal
 
 pub returns-in-Read-clause-journal : goal.returns-in-Read-clause-journal

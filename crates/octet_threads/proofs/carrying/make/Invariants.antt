@@ -3,8 +3,8 @@ use Rattle.std.specs.Option.{is_some}
 use Rattle.octet_heap.specs.declared.pending_access.PendingAccess.{PendingAccess}
 use Rattle.octet_heap.specs.Workers.{seat_of, IsWorkerOf}
 use Rattle.octet_heap.specs.Walks.{access_task}
-use Rattle.octet_threads.proofs.Doing.{HasGone}
-use Rattle.octet_threads.proofs.Polling.{AddsMarks}
+use Rattle.octet_threads.proofs.tasks.Doing.{HasGone}
+use Rattle.octet_threads.proofs.tasks.Polling.{AddsMarks}
 use Rattle.octet_threads.proofs.carrying.make.Given as goal
 
 abbrev pub invariant-loop : goal.invariant-loop

@@ -1,5 +1,5 @@
 use Rattle.std.proofs.Common.{rules, ◌≡◌, ◌∙◌, length, None, Some, sym}
-use Rattle.octet_threads.proofs.Draining.{drain_nothing, drains_on, one_drains}
+use Rattle.octet_threads.proofs.live_log.Draining.{drain_nothing, drains_on, one_drains}
 use Rattle.octet_threads.proofs.drainer.add_round.Goals as goal
 
 pub loop-thread-init : goal.loop-thread-init

@@ -2,7 +2,7 @@ use Rattle.std.proofs.Common.{rules, ◌∙◌, ◌≤◌, List, ◌∷◌, [], 
 use Rattle.std.proofs.lemmas.List.{length-set}
 use Rattle.octet_model.specs.declared.log.Gapped.{Gapped}
 use Rattle.octet_threads.specs.Live.{AddsPieces}
-use Rattle.octet_threads.proofs.Draining.{drains_none, drains_more}
+use Rattle.octet_threads.proofs.live_log.Draining.{drains_none, drains_more}
 use Rattle.octet_threads.proofs.drainer.add_sent.Goals as goal
 
 pub loop-init : goal.loop-init

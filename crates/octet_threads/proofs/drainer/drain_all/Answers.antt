@@ -1,5 +1,5 @@
 use Rattle.std.proofs.Common.{rules, ◌∙◌, None, Some}
-use Rattle.octet_threads.proofs.Draining.{drain_nothing, drains_on}
+use Rattle.octet_threads.proofs.live_log.Draining.{drain_nothing, drains_on}
 use Rattle.octet_threads.proofs.drainer.drain_all.Goals as goal
 
 pub loop-init : goal.loop-init

@@ -1,6 +1,6 @@
 use Rattle.std.proofs.Common.{rules, ◌≡◌, ◌+◌, ◌++◌, [], ◌∷◌, length, length-append, set, sym, ap, ◌∙◌, arith}
 use Rattle.octet_ring.specs.Views.{received_of}
-use Rattle.octet_threads.proofs.Draining.{received_more}
+use Rattle.octet_threads.proofs.live_log.Draining.{received_more}
 use Rattle.octet_threads.proofs.drainer.take_piece.Goals as goal
 
 pub loop-preserved : goal.loop-preserved

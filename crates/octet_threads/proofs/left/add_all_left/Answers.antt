@@ -7,8 +7,8 @@ use Rattle.octet_ring.specs.Views.{RingName}
 use Rattle.octet_threads.specs.declared.runner.Runner.{Runner}
 use Rattle.octet_threads.specs.Feeds.{AddsLeft, SendsBy}
 use Rattle.octet_threads.specs.Work.{IsSameWork, marks_made}
-use Rattle.octet_threads.proofs.Draining.{left_of_none, left_of_next}
-use Rattle.octet_threads.proofs.Places.{made_at, all_same, same_set}
+use Rattle.octet_threads.proofs.live_log.Draining.{left_of_none, left_of_next}
+use Rattle.octet_threads.proofs.runners.Places.{made_at, all_same, same_set}
 use Rattle.octet_threads.proofs.left.add_all_left.Goals as goal
 
 pub loop-thread-init : goal.loop-thread-init

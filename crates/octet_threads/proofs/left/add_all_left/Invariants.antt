@@ -3,7 +3,7 @@ use Rattle.std.specs.Prelude.{vec_capacity}
 use Rattle.std.specs.List.{AllZip}
 use Rattle.octet_threads.specs.declared.runner.Runner.{Runner}
 use Rattle.octet_threads.specs.Work.{IsSameWork, marks_made}
-use Rattle.octet_threads.proofs.Draining.{LeftBelow}
+use Rattle.octet_threads.proofs.live_log.Draining.{LeftBelow}
 use Rattle.octet_threads.proofs.left.add_all_left.Given as goal
 
 abbrev pub invariant-loop-thread : goal.invariant-loop-thread

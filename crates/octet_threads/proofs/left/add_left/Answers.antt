@@ -1,7 +1,7 @@
 use Rattle.std.proofs.Common.{◌∙◌, ◌-◌, List, subst}
 use Rattle.octet_model.specs.declared.log.Gapped.{Gapped}
 use Rattle.octet_threads.specs.Feeds.{AddsFront, HasSent}
-use Rattle.octet_threads.proofs.Draining.{all_behind, sent_so_far, drains_from, left_added}
+use Rattle.octet_threads.proofs.live_log.Draining.{all_behind, sent_so_far, drains_from, left_added}
 use Rattle.octet_threads.proofs.left.add_left.Goals as goal
 
 pub overflow_sub-feed : goal.overflow_sub-feed

@@ -1,6 +1,6 @@
 use Rattle.std.proofs.Common.{◌≡◌, ◌∙◌, ◌≤◌, ◌++◌, length, arith}
 use Rattle.std.proofs.lemmas.List.{take-append-drop}
-use Rattle.octet_threads.proofs.Draining.{front_more, front_refused}
+use Rattle.octet_threads.proofs.live_log.Draining.{front_more, front_refused}
 use Rattle.octet_threads.proofs.left.add_marks.Goals as goal
 
 pub loop-left-preserved : goal.loop-left-preserved

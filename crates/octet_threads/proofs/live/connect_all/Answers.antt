@@ -4,8 +4,8 @@ use Rattle.std.proofs.lemmas.List.Elements.{AllZip-get_or}
 use Rattle.octet_ring.specs.declared.limits.TheConstants.{MAX_ROOM}
 use Rattle.octet_ring.specs.Views.{SenderView, IsFresh, IsOf}
 use Rattle.octet_threads.specs.Work.{IsSameWork}
-use Rattle.octet_threads.proofs.Connecting.{AreFreshFrom, are_fresh, one_sends}
-use Rattle.octet_threads.proofs.Places.{all_same, same_set}
+use Rattle.octet_threads.proofs.live_log.Connecting.{AreFreshFrom, are_fresh, one_sends}
+use Rattle.octet_threads.proofs.runners.Places.{all_same, same_set}
 use Rattle.octet_threads.proofs.live.connect_all.Goals as goal
 
 pub loop-sender-init : goal.loop-sender-init

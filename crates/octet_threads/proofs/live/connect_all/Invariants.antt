@@ -3,7 +3,7 @@ use Rattle.std.specs.List.{AllZip}
 use Rattle.octet_threads.specs.declared.runner.Runner.{Runner}
 use Rattle.octet_threads.specs.Feeds.{SendsBy}
 use Rattle.octet_threads.specs.Work.{IsSameWork}
-use Rattle.octet_threads.proofs.Connecting.{AreFreshFrom}
+use Rattle.octet_threads.proofs.live_log.Connecting.{AreFreshFrom}
 use Rattle.octet_threads.proofs.live.connect_all.Given as goal
 
 abbrev pub invariant-loop-sender : goal.invariant-loop-sender

@@ -8,8 +8,8 @@ use Rattle.octet_model.specs.declared.log.Gapped.{Gapped}
 use Rattle.octet_threads.specs.declared.runner.Runner.{Runner}
 use Rattle.octet_threads.specs.Runners.{AreOf, IsAtRest}
 use Rattle.octet_threads.specs.Work.{IsSameWork, SendEach}
-use Rattle.octet_threads.proofs.Opening.{still_of}
-use Rattle.octet_threads.proofs.Places.{work_threads, all_rest_still}
+use Rattle.octet_threads.proofs.runners.Opening.{still_of}
+use Rattle.octet_threads.proofs.runners.Places.{work_threads, all_rest_still}
 use Rattle.octet_threads.proofs.live.open.Goals as goal
 
 none_received : (n thread : ℕ) → get_or {A = List Gapped} (replicate n []) thread [] ≡ []

@@ -8,9 +8,9 @@ use Rattle.octet_heap.specs.Seated.{journals_of}
 use Rattle.octet_threads.specs.declared.runner.Runner.{Runner}
 use Rattle.octet_threads.specs.Runners.{AreOf}
 use Rattle.octet_threads.specs.Work.{IsOfThread, SendEach, workers_in}
-use Rattle.octet_threads.proofs.Adding.{failed_rose, is_write_answer}
-use Rattle.octet_threads.proofs.Leaving.{log_written, partly_written, nothing_added}
-use Rattle.octet_threads.proofs.Opening.{still_of}
+use Rattle.octet_threads.proofs.live_log.Adding.{failed_rose, is_write_answer}
+use Rattle.octet_threads.proofs.live_log.Leaving.{log_written, partly_written, nothing_added}
+use Rattle.octet_threads.proofs.runners.Opening.{still_of}
 use Rattle.octet_threads.proofs.live.run_live.Goals as goal
 
 pub returns-in_default-clause-partly : goal.returns-in_default-clause-partly

@@ -4,8 +4,8 @@ use Rattle.octet_model.specs.declared.log.Gapped.{Gapped}
 use Rattle.octet_threads.specs.Feeds.{AddsAllLeft}
 use Rattle.octet_threads.specs.Runners.{IsSame}
 use Rattle.octet_threads.specs.Work.{Writes, marks_made}
-use Rattle.octet_threads.proofs.Draining.{all_written}
-use Rattle.octet_threads.proofs.Places.{still_send, all_ended_still, same_threads, work_threads, threads_both, made_same}
+use Rattle.octet_threads.proofs.live_log.Draining.{all_written}
+use Rattle.octet_threads.proofs.runners.Places.{still_send, all_ended_still, same_threads, work_threads, threads_both, made_same}
 use Rattle.octet_threads.proofs.live.run_written.Goals as goal
 
 pub add_all_left-requires-clause-send : goal.add_all_left-requires-clause-send

@@ -5,7 +5,7 @@ use Rattle.octet_heap.specs.declared.worker.Worker.{Worker}
 use Rattle.octet_heap.specs.Seated.{EachRests}
 use Rattle.octet_heap.specs.Closings.{IsClosed}
 use Rattle.octet_threads.specs.declared.runner.Runner.{Runner}
-use Rattle.octet_threads.proofs.Ending.{ends_in, each_rests, valid, faithful}
+use Rattle.octet_threads.proofs.runners.Ending.{ends_in, each_rests, valid, faithful}
 use Rattle.octet_threads.proofs.recording.finish_run.Goals as goal
 
 pub close-requires-clause-still : goal.close-requires-clause-still

@@ -5,8 +5,8 @@ use Rattle.std.proofs.lemmas.List.Elements.{length_all_zip}
 use Rattle.std.specs.List.{AllZip}
 use Rattle.octet_threads.specs.declared.runner.Runner.{Runner}
 use Rattle.octet_threads.specs.Runners.{AreOf, HasEnded, IsSame}
-use Rattle.octet_threads.proofs.Opening.{still_of}
-use Rattle.octet_threads.proofs.Places.{same_threads}
+use Rattle.octet_threads.proofs.runners.Opening.{still_of}
+use Rattle.octet_threads.proofs.runners.Places.{same_threads}
 use Rattle.octet_threads.proofs.running.run.Goals as goal
 
 pub finish_run-requires-clause-runners : goal.finish_run-requires-clause-runners

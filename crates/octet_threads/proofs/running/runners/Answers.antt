@@ -4,7 +4,7 @@ use Rattle.octet_heap.specs.declared.worker.Worker.{Worker}
 use Rattle.octet_heap.specs.Seated.{IsNew}
 use Rattle.octet_threads.specs.declared.runner.Runner.{Runner}
 use Rattle.octet_threads.specs.Runners.{IsAtRest, IsOf}
-use Rattle.octet_threads.proofs.Opening.{AreNew, are_new, each_more, EachOf}
+use Rattle.octet_threads.proofs.runners.Opening.{AreNew, are_new, each_more, EachOf}
 use Rattle.octet_threads.proofs.running.runners.Goals as goal
 
 pub loop-worker-init : goal.loop-worker-init

@@ -1,7 +1,7 @@
 use Rattle.std.proofs.Common.{◌≡◌, ℕ, ◌+◌, ◌<◌, All, length, slice_index_or}
 use Rattle.octet_threads.specs.declared.runner.Runner.{Runner}
 use Rattle.octet_threads.specs.Runners.{IsAtRest, IsOf}
-use Rattle.octet_threads.proofs.Opening.{AreNew}
+use Rattle.octet_threads.proofs.runners.Opening.{AreNew}
 use Rattle.octet_threads.proofs.running.runners.Given as goal
 
 abbrev pub invariant-loop-worker : goal.invariant-loop-worker

@@ -1,6 +1,6 @@
 use Rattle.std.proofs.Common.{◌≡◌, ◌≤◌, ◌-◌, suc, true, false, inl, sym, arith}
 use Rattle.octet_machine.specs.declared.turned.Turned.TheVariants.{Moved, Ended}
-use Rattle.octet_threads.proofs.Helping.{helps_once, helps_then}
+use Rattle.octet_threads.proofs.turns.Helping.{helps_once, helps_then}
 use Rattle.octet_threads.proofs.worker.+help.Goals as goal
 
 pub returns-in-Moved-clause-helps : goal.returns-in-Moved-clause-helps

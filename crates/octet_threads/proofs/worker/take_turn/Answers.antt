@@ -1,6 +1,6 @@
 use Rattle.std.proofs.Common.{ap, sym, ◌∙◌}
 use Rattle.octet_machine.specs.declared.turned.Turned.TheVariants.{Moved, Waits, Ended}
-use Rattle.octet_threads.proofs.Taking.{taken, finds_gate, finds_moved, finds_ended, finds_helped, finds_waits}
+use Rattle.octet_threads.proofs.turns.Taking.{taken, finds_gate, finds_moved, finds_ended, finds_helped, finds_waits}
 use Rattle.octet_threads.specs.declared.step.Found.TheVariants.{Took}
 use Rattle.octet_threads.proofs.worker.take_turn.Goals as goal
 

@@ -5,7 +5,7 @@ use Rattle.octet_threads.specs.declared.step.Found.{Found}
 use Rattle.octet_threads.specs.declared.step.Found.TheVariants.{Took}
 use Rattle.octet_threads.specs.declared.tuning.TheConstants.{TURNS}
 use Rattle.octet_threads.specs.Turns.{Finds}
-use Rattle.octet_threads.proofs.Taking.{turns_then, no_turns, finds_then}
+use Rattle.octet_threads.proofs.turns.Taking.{turns_then, no_turns, finds_then}
 use Rattle.octet_threads.proofs.worker.take_turns.Goals as goal
 
 pub loop-init : goal.loop-init

@@ -10,10 +10,10 @@ use Rattle.octet_rule.specs.Seats.{view}
 use Rattle.octet_heap.specs.OwnersPath.{steps_since}
 use Rattle.octet_heap.specs.SlowPath.{is_idle, is_fast, slow_by, slow_after}
 use Rattle.octet_heap.specs.Calls.{access_to}
-use Rattle.octet_heap.proofs.Fastness.{idle_fast}
-use Rattle.octet_heap.proofs.Polled.{poll_ready, poll_pending}
-use Rattle.octet_heap.proofs.Growing.{same_number}
-use Rattle.octet_heap.proofs.WholePolls.{polls_by}
+use Rattle.octet_heap.proofs.polls.Fastness.{idle_fast}
+use Rattle.octet_heap.proofs.polls.Polled.{poll_ready, poll_pending}
+use Rattle.octet_heap.proofs.polls.Growing.{same_number}
+use Rattle.octet_heap.proofs.polls.WholePolls.{polls_by}
 use Rattle.octet_heap.proofs.heap.Heap.access_or_begin.Goals as goal
 
 pub returns-in-Ready-clause-polls : goal.returns-in-Ready-clause-polls

@@ -2,10 +2,10 @@ use Rattle.std.proofs.Common.{rules, ◌≡◌, ◌<◌, ◌≤◌, ◌+◌, ◌
 use Rattle.octet_state.specs.Asking.{whom_to_ask, number_to_ask, next_to_ask}
 use Rattle.octet_rule.specs.Views.{SeatView}
 use Rattle.octet_rule.specs.Seats.{view}
-use Rattle.octet_heap.proofs.Going.{goes_on, comes_after}
+use Rattle.octet_heap.proofs.polls.Going.{goes_on, comes_after}
 use Rattle.octet_heap.specs.declared.poll.Poll.{Poll}
 use Rattle.octet_heap.specs.Polls.{Comes}
-use Rattle.octet_heap.proofs.Pursuits.{ask_given, ask_waits, asks_few_more}
+use Rattle.octet_heap.proofs.stretches.Pursuits.{ask_given, ask_waits, asks_few_more}
 use Rattle.octet_heap.proofs.heap.Heap.ask_on.Goals as goal
 
 pub loop-done-preserved : goal.loop-done-preserved

@@ -3,9 +3,9 @@ use Rattle.octet_state.specs.declared.act.Act.TheVariants.{Fence, Raise, Share, 
 use Rattle.octet_rule.specs.Seats.{view}
 use Rattle.octet_heap.specs.declared.poll.Poll.TheVariants.{Ready}
 use Rattle.octet_heap.specs.Polls.{Comes}
-use Rattle.octet_heap.proofs.Going.{comes_after, comes_sooner}
-use Rattle.octet_heap.proofs.MadeAtOnce.{made_comes, made_leaves, loaded_goes, loaded_held}
-use Rattle.octet_heap.proofs.Fastness.{made_passes, load_waits, more_waits}
+use Rattle.octet_heap.proofs.polls.Going.{comes_after, comes_sooner}
+use Rattle.octet_heap.proofs.stretches.MadeAtOnce.{made_comes, made_leaves, loaded_goes, loaded_held}
+use Rattle.octet_heap.proofs.polls.Fastness.{made_passes, load_waits, more_waits}
 use Rattle.octet_heap.proofs.heap.Heap.load.Goals as goal
 
 pub returns-in-Made-clause-comes : goal.returns-in-Made-clause-comes

@@ -3,8 +3,8 @@ use Rattle.octet_state.specs.Asking.{whom_to_ask, next_to_ask}
 use Rattle.octet_rule.specs.Seats.{view}
 use Rattle.octet_heap.specs.declared.poll.Poll.{Poll}
 use Rattle.octet_heap.specs.Polls.{Comes}
-use Rattle.octet_heap.proofs.Going.{comes_after, comes_sooner}
-use Rattle.octet_heap.proofs.Pursuits.{look_given, look_waits}
+use Rattle.octet_heap.proofs.polls.Going.{comes_after, comes_sooner}
+use Rattle.octet_heap.proofs.stretches.Pursuits.{look_given, look_waits}
 use Rattle.octet_heap.proofs.heap.Heap.look_on.Goals as goal
 
 pub returns-in-Given-clause-comes : goal.returns-in-Given-clause-comes

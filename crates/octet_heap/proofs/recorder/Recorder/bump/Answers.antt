@@ -3,8 +3,8 @@ use Rattle.octet_model.specs.declared.event.Event.TheVariants.{Update}
 use Rattle.octet_model.specs.Thread.{added}
 use Rattle.octet_state.specs.Steps.{target, ToBump}
 use Rattle.octet_rule.specs.Seats.{view}
-use Rattle.octet_heap.proofs.Logged.{gap_within}
-use Rattle.octet_heap.proofs.Entries.{follows, same_room}
+use Rattle.octet_heap.proofs.log.Logged.{gap_within}
+use Rattle.octet_heap.proofs.log.Entries.{follows, same_room}
 use Rattle.octet_heap.proofs.recorder.Recorder.bump.Goals as goal
 
 pub add_write-requires : goal.add_write-requires

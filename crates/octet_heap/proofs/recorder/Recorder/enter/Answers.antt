@@ -1,8 +1,8 @@
 use Rattle.std.proofs.Common.{arith}
 use Rattle.octet_rule.specs.Seats.{view}
-use Rattle.octet_heap.proofs.Logged.{gap_within, reads_within}
-use Rattle.octet_heap.proofs.Entries.{same_room}
-use Rattle.octet_heap.proofs.MadeAtOnce.{follows_read, follows_other}
+use Rattle.octet_heap.proofs.log.Logged.{gap_within, reads_within}
+use Rattle.octet_heap.proofs.log.Entries.{same_room}
+use Rattle.octet_heap.proofs.stretches.MadeAtOnce.{follows_read, follows_other}
 use Rattle.octet_heap.proofs.recorder.Recorder.enter.Goals as goal
 
 pub add_read-requires-clause-few : goal.add_read-requires-clause-few

@@ -4,7 +4,7 @@ use Rattle.octet_model.specs.Thread.{added}
 use Rattle.octet_parallel.specs.Steps.{ToBump, event_next}
 use Rattle.octet_model.specs.Machine.{Next}
 use Rattle.octet_parallel.specs.Views.{PlayerView}
-use Rattle.octet_parallel.proofs.Turns.{bump_happens, counted, track_after, journal_room, stands, room, became}
+use Rattle.octet_parallel.proofs.players.Turns.{bump_happens, counted, track_after, journal_room, stands, room, became}
 use Rattle.octet_parallel.proofs.field.Field.bump.Goals as goal
 
 pub note-requires-clause-stands : goal.note-requires-clause-stands

@@ -3,7 +3,7 @@ use Rattle.octet_replay.specs.Threads.{end_told, values_of}
 use Rattle.octet_parallel.specs.declared.fate.Fate.TheVariants.{Playing}
 use Rattle.octet_parallel.specs.declared.player.Player.{Player}
 use Rattle.octet_parallel.specs.Calls.{fate_at}
-use Rattle.octet_parallel.proofs.Concluding.{each_of, some_amiss, none_stopped, journals_told, is_finished}
+use Rattle.octet_parallel.proofs.verdicts.Concluding.{each_of, some_amiss, none_stopped, journals_told, is_finished}
 use Rattle.octet_parallel.proofs.field.Field.close.Goals as goal
 
 pub close-requires : goal.close-requires

@@ -1,5 +1,5 @@
 use Rattle.std.proofs.Common.{rules, refl, ◌-◌}
-use Rattle.octet_parallel.proofs.Needing.{none_drawn, not_drawn, is_drawn, past_table, read_table}
+use Rattle.octet_parallel.proofs.steps.Needing.{none_drawn, not_drawn, is_drawn, past_table, read_table}
 use Rattle.octet_parallel.proofs.field.Field.draw.Goals as goal
 
 pub returns-then-place-len : goal.returns-then-place-len

@@ -1,7 +1,7 @@
 use Rattle.std.proofs.Common.{rules, ◌∙◌, refl, ap}
 use Rattle.octet_model.specs.declared.event.Event.TheVariants.{Marked}
 use Rattle.octet_parallel.specs.Views.{PlayerView}
-use Rattle.octet_parallel.proofs.Turns.{mark_happens, track_after, journal_room, became}
+use Rattle.octet_parallel.proofs.players.Turns.{mark_happens, track_after, journal_room, became}
 use Rattle.octet_parallel.proofs.field.Field.make_mark.Goals as goal
 
 pub note-requires-clause-journal : goal.note-requires-clause-journal

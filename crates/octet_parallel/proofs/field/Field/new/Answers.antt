@@ -1,7 +1,7 @@
 use Rattle.std.proofs.Common.{rules, ◌≡◌, ◌∙◌, length, sym, subst, ap}
 use Rattle.octet_model.specs.declared.log.Log.{Log}
 use Rattle.octet_parallel.specs.Calls.{EachUnbegun}
-use Rattle.octet_parallel.proofs.Beginning.{each_unbegun, as_many_players}
+use Rattle.octet_parallel.proofs.seats.Beginning.{each_unbegun, as_many_players}
 use Rattle.octet_parallel.proofs.field.Field.new.Goals as goal
 
 pub returns-clause-players : goal.returns-clause-players

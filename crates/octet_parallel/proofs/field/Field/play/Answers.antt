@@ -1,7 +1,7 @@
 use Rattle.std.proofs.Common.{sym, ap, ◌∙◌}
 use Rattle.octet_model.specs.declared.log.ThreadLog.{ThreadLog}
 use Rattle.octet_replay.specs.Threads.{next_by_counts}
-use Rattle.octet_parallel.proofs.Turns.{is_amiss}
+use Rattle.octet_parallel.proofs.players.Turns.{is_amiss}
 use Rattle.octet_parallel.proofs.field.Field.play.Goals as goal
 
 pub go_amiss-requires-clause-why : goal.go_amiss-requires-clause-why

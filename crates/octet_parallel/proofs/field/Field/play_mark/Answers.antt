@@ -7,7 +7,7 @@ use Rattle.octet_parallel.specs.State.{stop_number}
 use Rattle.octet_parallel.specs.Steps.{ToLook, event_next}
 use Rattle.octet_parallel.specs.Views.{PlayerView}
 use Rattle.octet_parallel.specs.Rule.{Steps}
-use Rattle.octet_parallel.proofs.Needing.{whom_within, has_found}
+use Rattle.octet_parallel.proofs.steps.Needing.{whom_within, has_found}
 use Rattle.octet_parallel.proofs.field.Field.play_mark.Goals as goal
 
 pub look-found-requires-clause-whom : goal.look-found-requires-clause-whom

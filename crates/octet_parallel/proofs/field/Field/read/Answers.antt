@@ -3,7 +3,7 @@ use Rattle.octet_model.specs.declared.event.Event.TheVariants.{Read}
 use Rattle.octet_parallel.specs.Steps.{ToRead, event_next}
 use Rattle.octet_model.specs.Machine.{Next}
 use Rattle.octet_parallel.specs.Views.{PlayerView}
-use Rattle.octet_parallel.proofs.Turns.{read_happens, counted, track_after, journal_room, stands, room, became}
+use Rattle.octet_parallel.proofs.players.Turns.{read_happens, counted, track_after, journal_room, stands, room, became}
 use Rattle.octet_parallel.proofs.field.Field.read.Goals as goal
 
 pub note-requires-clause-stands : goal.note-requires-clause-stands

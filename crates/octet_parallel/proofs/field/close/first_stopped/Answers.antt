@@ -2,7 +2,7 @@ use Rattle.std.proofs.Common.{rules, ◌≡◌, ◌∙◌, ℕ, inl, inr, sym, s
 use Rattle.std.proofs.lemmas.Bool.{cases_eq}
 use Rattle.octet_parallel.specs.declared.fate.Fate.TheVariants.{Playing}
 use Rattle.octet_parallel.specs.Calls.{fate_at}
-use Rattle.octet_parallel.proofs.Concluding.{fate_here, fate_got}
+use Rattle.octet_parallel.proofs.verdicts.Concluding.{fate_here, fate_got}
 use Rattle.octet_parallel.proofs.field.close.first_stopped.Goals as goal
 
 pub returns-then-ne-clause-some : goal.returns-then-ne-clause-some

@@ -1,5 +1,5 @@
 use Rattle.std.proofs.Common.{rules}
-use Rattle.octet_parallel.proofs.Beginning.{few_events}
+use Rattle.octet_parallel.proofs.seats.Beginning.{few_events}
 use Rattle.octet_parallel.proofs.field.new.player.Goals as goal
 
 pub overflow_add-events : goal.overflow_add-events

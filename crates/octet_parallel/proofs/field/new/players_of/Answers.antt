@@ -1,7 +1,7 @@
 use Rattle.std.proofs.Common.{rules, ◌≡◌, ◌++◌, ◌∷◌, [], List, length, ap, sym, subst, length-append, arith}
 use Rattle.octet_parallel.specs.declared.words.Seat.{Seat}
 use Rattle.octet_parallel.specs.Calls.{ArePlayersAt}
-use Rattle.octet_parallel.proofs.Beginning.{players_more}
+use Rattle.octet_parallel.proofs.seats.Beginning.{players_more}
 use Rattle.octet_parallel.proofs.field.new.players_of.Goals as goal
 
 pub loop-seat-preserved : goal.loop-seat-preserved

@@ -1,5 +1,5 @@
 use Rattle.std.proofs.Common.{rules}
-use Rattle.octet_parallel.proofs.Allowed.{bumps}
+use Rattle.octet_parallel.proofs.steps.Allowed.{bumps}
 use Rattle.octet_parallel.proofs.words.Words.bump.Goals as goal
 
 pub fetch_add-requires : goal.fetch_add-requires

@@ -5,7 +5,7 @@ use Rattle.octet_parallel.specs.declared.words.Seat.{Seat}
 use Rattle.octet_seats.specs.Cells.{cells_in}
 use Rattle.octet_seats.proofs.lemmas.Rows.{first_rest}
 use Rattle.octet_parallel.specs.Seats.{script_of, log_of, Closes}
-use Rattle.octet_parallel.proofs.Ending.{IsParted, parted, closes}
+use Rattle.octet_parallel.proofs.seats.Ending.{IsParted, parted, closes}
 use Rattle.octet_parallel.proofs.words.Words.close.Goals.{After-remove-first}
 use Rattle.octet_parallel.proofs.words.Words.close.Goals as goal
 

@@ -1,5 +1,5 @@
 use Rattle.std.proofs.Common.{rules}
-use Rattle.octet_parallel.proofs.Allowed.{counts}
+use Rattle.octet_parallel.proofs.steps.Allowed.{counts}
 use Rattle.octet_parallel.proofs.words.Words.count.Goals as goal
 
 pub store-requires : goal.store-requires

@@ -1,5 +1,5 @@
 use Rattle.std.proofs.Common.{rules}
-use Rattle.octet_parallel.proofs.Splitting.{joins}
+use Rattle.octet_parallel.proofs.seats.Splitting.{joins}
 use Rattle.octet_parallel.proofs.words.Words.join.Goals as goal
 
 pub join_seat-requires : goal.join_seat-requires

@@ -1,7 +1,7 @@
 use Rattle.std.proofs.Common.{rules, ◌≡◌, ◌/◌, ℕ, subst}
 use Rattle.octet_parallel.specs.Steps.{ToLook}
 use Rattle.octet_parallel.specs.Rule.{Steps}
-use Rattle.octet_parallel.proofs.Allowed.{looks}
+use Rattle.octet_parallel.proofs.steps.Allowed.{looks}
 use Rattle.octet_parallel.proofs.words.Words.look.Goals as goal
 
 pub load-requires : goal.load-requires

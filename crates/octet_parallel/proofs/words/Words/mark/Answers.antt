@@ -1,5 +1,5 @@
 use Rattle.std.proofs.Common.{rules}
-use Rattle.octet_parallel.proofs.Allowed.{marks}
+use Rattle.octet_parallel.proofs.steps.Allowed.{marks}
 use Rattle.octet_parallel.proofs.words.Words.mark.Goals as goal
 
 pub store-requires : goal.store-requires

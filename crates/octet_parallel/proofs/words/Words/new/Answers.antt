@@ -5,7 +5,7 @@ use Rattle.octet_model.specs.declared.log.Log.{Log}
 use Rattle.octet_parallel.specs.Rule.{IsRuled, first_view}
 use Rattle.octet_parallel.specs.State.{spread}
 use Rattle.octet_model.specs.Orders.{starting_heap}
-use Rattle.octet_parallel.proofs.LaidOut.{opens, words_at_first, as_many_words, many_starts}
+use Rattle.octet_parallel.proofs.seats.LaidOut.{opens, words_at_first, as_many_words, many_starts}
 use Rattle.octet_parallel.proofs.words.Words.new.Goals as goal
 
 pub of_words-requires : goal.of_words-requires

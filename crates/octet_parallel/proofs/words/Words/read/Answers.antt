@@ -1,5 +1,5 @@
 use Rattle.std.proofs.Common.{rules}
-use Rattle.octet_parallel.proofs.Allowed.{reads}
+use Rattle.octet_parallel.proofs.steps.Allowed.{reads}
 use Rattle.octet_parallel.proofs.words.Words.read.Goals as goal
 
 pub load-requires : goal.load-requires

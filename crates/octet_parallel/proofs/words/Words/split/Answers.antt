@@ -1,5 +1,5 @@
 use Rattle.std.proofs.Common.{rules}
-use Rattle.octet_parallel.proofs.Splitting.{splits}
+use Rattle.octet_parallel.proofs.seats.Splitting.{splits}
 use Rattle.octet_parallel.proofs.words.Words.split.Goals as goal
 
 pub split_seat-requires : goal.split_seat-requires

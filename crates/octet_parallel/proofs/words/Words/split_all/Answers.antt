@@ -2,7 +2,7 @@ use Rattle.std.proofs.Common.{rules, ◌≡◌, ◌∙◌, ◌++◌, ◌∷◌, 
 use Rattle.octet_parallel.specs.Views.{PlayerView}
 use Rattle.octet_parallel.specs.Seats.{IsFreshSeat, AreFresh}
 use Rattle.octet_seats.proofs.lemmas.Rows.{row_more}
-use Rattle.octet_parallel.proofs.Ending.{each_fresh}
+use Rattle.octet_parallel.proofs.seats.Ending.{each_fresh}
 use Rattle.octet_parallel.proofs.words.Words.split_all.Goals as goal
 
 pub loop-preserved : goal.loop-preserved

@@ -1,7 +1,7 @@
 use Rattle.std.proofs.Common.{rules}
 use Rattle.octet_parallel.specs.declared.fate.Fate.TheVariants.{Stopped}
 use Rattle.octet_parallel.specs.Rule.{stop_found}
-use Rattle.octet_parallel.proofs.Allowed.{stops}
+use Rattle.octet_parallel.proofs.steps.Allowed.{stops}
 use Rattle.octet_parallel.proofs.words.Words.stop.Goals as goal
 
 pub store-requires : goal.store-requires

@@ -1,5 +1,5 @@
 use Rattle.std.proofs.Common.{rules}
-use Rattle.octet_parallel.proofs.Allowed.{writes}
+use Rattle.octet_parallel.proofs.steps.Allowed.{writes}
 use Rattle.octet_parallel.proofs.words.Words.write.Goals as goal
 
 pub store-requires : goal.store-requires

@@ -1,6 +1,6 @@
 use Rattle.std.proofs.Common.{rules, ◌≡◌, ◌∙◌, ◌++◌, ◌∷◌, [], get_or, refl}
 use Rattle.octet_parallel.specs.State.{spread}
-use Rattle.octet_parallel.proofs.LaidOut.{player_more, cell_more}
+use Rattle.octet_parallel.proofs.seats.LaidOut.{player_more, cell_more}
 use Rattle.octet_parallel.proofs.words.new.lay_out.Goals as goal
 
 pub loop-preserved : goal.loop-preserved

@@ -8,7 +8,7 @@ use Rattle.octet_interp.specs.Laws.{IsJournalOf}
 use Rattle.octet_heap.specs.Workers.{seat_of}
 use Rattle.octet_threads.specs.Carrying.{start_of}
 use Rattle.octet_threads.specs.Feeds.{HasSent}
-use Rattle.octet_threads.proofs.Doing.{pauses}
+use Rattle.octet_threads.proofs.tasks.Doing.{pauses}
 use Rattle.octet_threads.proofs.runner.Runner.stay_away.Goals as goal
 
 pub invariant_of-self : goal.invariant_of-self

@@ -7,11 +7,11 @@ use Rattle.octet_model.specs.Thread.{starting_configuration}
 use Rattle.octet_interp.specs.Laws.{IsJournalOf}
 use Rattle.octet_heap.specs.Workers.{seat_of}
 use Rattle.octet_threads.specs.Carrying.{start_of}
-use Rattle.octet_threads.proofs.Fuel.{access_left}
+use Rattle.octet_threads.proofs.tasks.Fuel.{access_left}
 use Rattle.octet_threads.specs.Feeds.{HasSent}
 use Rattle.octet_threads.specs.Tasks.{task_of}
-use Rattle.octet_threads.proofs.Growing.{task_grows, task_seen, feed_still_sent}
-use Rattle.octet_threads.proofs.Props.{journal_prop}
+use Rattle.octet_threads.proofs.tasks.Growing.{task_grows, task_seen, feed_still_sent}
+use Rattle.octet_threads.proofs.runners.Props.{journal_prop}
 use Rattle.octet_threads.proofs.runner.Runner.step.Goals as goal
 
 pub carry_with_backoff-demand-requires-clause-more : goal.carry_with_backoff-demand-requires-clause-more

@@ -1,0 +1,5 @@
+pub mod Stretches
+pub mod Exchanges
+pub mod Pursuits
+pub mod Loads
+pub mod MadeAtOnce

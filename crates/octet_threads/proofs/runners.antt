@@ -1,0 +1,4 @@
+pub mod Opening
+pub mod Places
+pub mod Ending
+pub mod Props

@@ -1,0 +1,5 @@
+pub mod Doing
+pub mod Polling
+pub mod Growing
+pub mod Journals
+pub mod Fuel
