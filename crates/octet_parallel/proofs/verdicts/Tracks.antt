@@ -1,6 +1,6 @@
 -- What a front of a log tells of its marks: they stand where the log has them, and each draw stands once.
-use Rattle.std.proofs.Common.{◌⊎◌, ◌≡◌, ℕ, zero, suc, ◌+◌, ◌-◌, ◌<◌, ◌≤◌, inl, inr, Bool, true, false, nat_lt, ◌==◌, cond, List, [], ◌∷◌, ◌++◌, length, Option, Some, None, IsTrue, slice_get, refl, sym, ap, ◌∙◌, subst, arith, append-nil, append_assoc, zero-add}
-use Rattle.std.proofs.lemmas.Bool.{cases_eq, cases_lt, ltb-true, lt-ltb, le-ltb, eqb-true, eq-eqb, ne_eqb}
+use Rattle.std.proofs.Common.{◌⊎◌, ◌≡◌, ℕ, zero, suc, ◌+◌, ◌-◌, ◌<◌, ◌≤◌, inl, inr, Bool, true, false, nat_lt, cond, List, [], ◌∷◌, ◌++◌, length, Option, Some, None, IsTrue, slice_get, refl, sym, ap, ◌∙◌, subst, arith, append-nil, append_assoc, zero-add}
+use Rattle.std.proofs.lemmas.Bool.{cases_eq, cases_lt, ltb-true, lt-ltb, le-ltb, eq-eqb, ne_eqb}
 use Rattle.octet_model.specs.declared.event.Event.{Event}
 use Rattle.octet_model.specs.declared.event.Event.TheVariants.{Read, Write, Update, Marked}
 use Rattle.octet_model.specs.declared.event.Mark.{Mark}
@@ -13,6 +13,7 @@ use Rattle.octet_model.specs.Machine.{Journals, journal_of, PlainState, Operatio
 use Rattle.octet_model.specs.Orders.{thread_log_of}
 use Rattle.octet_model.proofs.lemmas.Splits.{accesses_split, gap_split, gapped_marks_split, length-gapped_marks}
 use Rattle.octet_model.proofs.lemmas.Lists.{slice_get_split}
+use Rattle.octet_model.proofs.lemmas.LawfulOrders.{due_is_first}
 use Rattle.octet_model.proofs.lemmas.LowestFronts.{IsNext, is_next, each_journal}
 use Rattle.octet_clock.specs.Untied.{any_access, by_log_alone}
 use Rattle.octet_parallel.specs.Needs.{mark_at}
@@ -23,20 +24,6 @@ abbrev pub next_by_demand : AccessOrEnd → ThreadLog → List Event → Next
 next_by_demand demand log journal =
     mark_first (due_mark (slice_get log.marks (mark_count journal)) (gap_after 0 journal))
     (next_access demand (nat_lt (access_count journal) log.accesses) (nat_lt (mark_count journal) (length log.marks)))
-
--- the mark that is due is the first of what is left, with its gap
-due_is_first : (rest : List Gapped) (gap : ℕ) (mark : Mark) → due_mark (slice_get rest 0) gap ≡ Some mark
-    → (more : List Gapped) × (rest ≡ record { gap = gap; mark = mark } ∷ more)
-due_is_first [] gap mark is = absurd cc
-due_is_first (first ∷ more) gap mark is = go (first.gap == gap) refl is
-  where
-    go : (b : Bool) → (first.gap == gap) ≡ b → cond b (Some first.mark) None ≡ Some mark → (more' : List Gapped) × (first ∷ more ≡ record { gap = gap; mark = mark } ∷ more')
-    go false not is = absurd cc
-    go true same is =
-        let gaps : first.gap ≡ gap = eqb-true first.gap gap same in
-        let marks : first.mark ≡ mark = cc in
-        let is : first ≡ record { gap = gap; mark = mark } = ap (λ (n : ℕ). record { gap = n; mark = first.mark }) gaps ∙ ap (λ (m : Mark). record { gap = gap; mark = m }) marks in
-        (more, ap (λ (g : Gapped). g ∷ more) is)
 
 -- where none is due, the next one is further on
 none_due : (rest : List Gapped) (gap : ℕ) → due_mark (slice_get rest 0) gap ≡ None → Ahead rest gap → Ahead rest (suc gap)

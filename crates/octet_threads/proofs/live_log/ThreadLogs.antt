@@ -1,12 +1,10 @@
 -- The log of a journal that was seen in a sound state is valid, and has few marks.
-use Rattle.std.proofs.Common.{◌≡◌, ◌∙◌, ℕ, suc, ◌+◌, ◌*◌, ◌^◌, ◌<◌, ◌≤◌, true, List, [], ◌∷◌, length, Some, IsTrue, slice_get, sum_by, refl, sym, ap, subst, arith}
-use Rattle.std.specs.List.{list_all}
+use Rattle.std.proofs.Common.{◌≡◌, ℕ, suc, ◌+◌, ◌*◌, ◌^◌, ◌<◌, ◌≤◌, true, List, [], ◌∷◌, length, Some, IsTrue, slice_get, sum_by, refl, sym, ap, subst, arith}
 use Rattle.std.proofs.lemmas.Bool.{and_from, le-leb, lt-ltb}
 use Rattle.std.proofs.lemmas.List.Sums.{sum_by-cons}
 use Rattle.octet_model.specs.declared.event.Event.{Event}
 use Rattle.octet_model.specs.declared.event.Event.TheVariants.{Marked}
 use Rattle.octet_model.specs.declared.event.Mark.{Mark}
-use Rattle.octet_model.specs.declared.log.Gapped.{Gapped}
 use Rattle.octet_model.specs.declared.log.ThreadLog.{ThreadLog}
 use Rattle.octet_model.specs.declared.script.Script.{Script}
 use Rattle.octet_model.specs.Log.{is_mark, is_thread_log, are_thread_logs, is_log}
@@ -14,22 +12,12 @@ use Rattle.octet_model.specs.Machine.{Journals, journal_of}
 use Rattle.octet_model.specs.Journals.{access_count, gapped_marks, log_of, log_of_journal}
 use Rattle.octet_model.proofs.lemmas.Splits.{length-gapped_marks, length_parts}
 use Rattle.octet_model.proofs.lemmas.Validity.{valid_script}
+use Rattle.octet_model.proofs.lemmas.ThreadLogs.{gaps_in_all, marks_valid, thread_logs_valid}
 use Rattle.octet_log.specs.v2.Pieces.{marks_in}
 use Rattle.octet_state.specs.State.{ProtocolState}
 use Rattle.octet_state.proofs.lemmas.Widths.{few_marks}
 use Rattle.octet_rule.specs.Rule.{IsSeenBy}
 use Rattle.octet_rule.specs.Views.{SeatView}
-
--- the gaps of marks sum to at most the accesses
-gaps_in_all : (before : ℕ) (journal : List Event) → sum_by (λ m. m.gap) (gapped_marks before journal) ≤ before + access_count journal
-gaps_in_all before [] = omega arith
-gaps_in_all before (Marked mark ∷ journal) = omega (arith, sum_by-cons (λ (m : Gapped). m.gap) (record { gap = before; mark = mark }) (gapped_marks 0 journal), gaps_in_all 0 journal)
-gaps_in_all before (access ∷ journal) = omega (arith, gaps_in_all (suc before) journal)
-
-marks_valid : (threads thread before : ℕ) (journal : List Event) → ((k : ℕ) (mark : Mark) → slice_get journal k ≡ Some (Marked mark) → IsTrue (is_mark threads thread mark)) → list_all (λ m. is_mark threads thread m.mark) (gapped_marks before journal) ≡ true
-marks_valid threads thread before [] valid = refl
-marks_valid threads thread before (Marked mark ∷ journal) valid = and_from _ _ (valid 0 mark refl) (marks_valid threads thread 0 journal (λ k other is. valid (suc k) other is))
-marks_valid threads thread before (access ∷ journal) valid = marks_valid threads thread (suc before) journal (λ k mark is. valid (suc k) mark is)
 
 -- what is known of the journal of one of so many threads
 pub record IsGoodJournal (threads thread : ℕ) (journal : List Event) : Type 0 where
@@ -55,12 +43,6 @@ seen_good v state seen most =
 
 abbrev AreGoodFrom : ℕ → ℕ → Journals → Type 0
 AreGoodFrom threads first js = (u : ℕ) → u < length js → IsGoodJournal threads (first + u) (journal_of js u)
-
-logs_valid : (threads first : ℕ) (js : Journals) → AreGoodFrom threads first js → are_thread_logs threads first (log_of js) ≡ true
-logs_valid threads first [] each = refl
-logs_valid threads first (journal ∷ js) each =
-    and_from _ _ (ap (λ (u : ℕ). is_thread_log threads u (log_of_journal journal)) (omega arith) ∙ (each 0 (omega arith)).valid)
-    (logs_valid threads (suc first) js (λ u less. let step : first + suc u ≡ suc first + u = omega arith in subst (λ (n : ℕ). IsGoodJournal threads n (journal_of js u)) step (each (suc u) (omega (arith, less)))))
 
 few_in_all : (threads first : ℕ) (js : Journals) → AreGoodFrom threads first js → marks_in (log_of js) ≤ 15 * sum_by (λ log. log.accesses) (log_of js) + 15 * length js
 few_in_all threads first [] each = omega arith
@@ -101,7 +83,7 @@ module _ (script : Script) (js : Journals) (as_many : length js ≡ length scrip
       (and_from _ _
       (and_from _ _ (le-leb 1 (length logs) (omega (arith, length_logs js, as_many, bound.some_threads))) (le-leb (length logs) 16 (omega (arith, length_logs js, as_many, bound.most_threads))))
       (le-leb (sum_by (λ log. log.accesses) logs) 262144 total))
-      (subst (λ (n : ℕ). are_thread_logs n 0 logs ≡ true) (sym (length_logs js)) (logs_valid (length js) 0 js good))
+      (subst (λ (n : ℕ). are_thread_logs n 0 logs ≡ true) (sym (length_logs js)) (thread_logs_valid (length js) 0 js (λ u less. (good u less).valid)))
 
   pub journals_few : marks_in (log_of js) ≤ 4793490
   journals_few =

@@ -5,17 +5,15 @@ use Rattle.std.specs.Int.{w32, to_be_bytes}
 use Rattle.std.proofs.lemmas.Bool.{cases_eq, ne_eqb}
 use Rattle.std.proofs.lemmas.List.Sums.{sum_by-cons, sum_by-append}
 use Rattle.std.proofs.lemmas.List.Concat.{flat_map-cons}
-use Rattle.octet_model.specs.declared.event.Mark.{Mark}
-use Rattle.octet_model.specs.declared.event.Mark.TheVariants.{Join, Draw, Fence}
 use Rattle.octet_model.specs.declared.log.Gapped.{Gapped}
 use Rattle.octet_model.specs.declared.log.Log.{Log}
 use Rattle.octet_model.specs.declared.log.ThreadLog.{ThreadLog}
 use Rattle.octet_model.specs.declared.outcome.Outcome.{Outcome}
 use Rattle.octet_model.specs.declared.script.Script.{Script}
 use Rattle.octet_model.specs.Orders.{IsFaithful}
-use Rattle.octet_model.specs.Texts.{mark_bytes, bytes_of_mark, thread_bytes, log_bytes}
+use Rattle.octet_model.specs.Texts.{mark_bytes, thread_bytes, log_bytes}
 use Rattle.octet_model.specs.Validity.{IsValidLog}
-use Rattle.octet_model.proofs.lemmas.LogLength.{faithful_log_is_short}
+use Rattle.octet_model.proofs.lemmas.LogLength.{marks_length, faithful_log_is_short}
 use Rattle.octet_model.proofs.lemmas.Validity.{valid_log}
 use Rattle.octet_log.specs.v2.Short.{short_bytes}
 use Rattle.octet_log.specs.v2.Pieces.{Piece, IsPiece, ArePieces, HaveMarks, marks_of, marks_in, short_mark_bytes, piece_bytes, head_bytes, tail_bytes, pieced_bytes, SpellsPieces}
@@ -113,19 +111,6 @@ weigh_all (log ∷ logs) =
       sum_by-cons (λ (l : ThreadLog). length l.marks) log logs,
       sum_by-cons (λ (l : ThreadLog). sum_by (λ (m : Gapped). m.gap) l.marks) log logs,
     )
-
--- in version 1 a mark has fourteen bytes
-mark_length : (m : Gapped) → length (mark_bytes m) ≡ 14
-mark_length m = of_mark m.mark
-  where
-    of_mark : (mark : Mark) → length (bytes_of_mark m.gap mark) ≡ 14
-    of_mark (Join from upto) = refl
-    of_mark (Draw number) = refl
-    of_mark (Fence number) = refl
-
-marks_length : (marks : List Gapped) → length (flat_map mark_bytes marks) ≡ 14 * length marks
-marks_length [] = refl
-marks_length (m ∷ marks) = omega (arith, length-append (mark_bytes m) (flat_map mark_bytes marks), mark_length m, marks_length marks)
 
 threads_length : (logs : List ThreadLog) → 14 * marks_in logs ≤ length (flat_map thread_bytes logs)
 threads_length [] = omega arith
