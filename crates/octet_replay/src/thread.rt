@@ -33,22 +33,34 @@ pub struct ThreadReplay {
     reads: Vec<u64>,
 }
 
-// Asks a thread for its next access, or its end.
-fn ask(config: &mut Config) -> NextDemand
+// Asks a thread for its next access, or its end, and writes it where it is kept.
+fn ask(config: &mut Config, next: &mut NextDemand)
     requires { config.old.waits ≡ false }
-    ensures up_next { IsDemandedNext config.old.commands config.old.at result config.new }
-    ensures names { NamesObject config.old.objects result }
+    ensures up_next { IsDemandedNext config.old.commands config.old.at next.new config.new }
+    ensures names { NamesObject config.old.objects next.new }
     ensures commands { config.new.commands ≡ config.old.commands }
     ensures objects { config.new.objects ≡ config.old.objects }
     ensures regions { CountsAhead config.old config.new }
 {
     loop {
         match config.next() {
-            Demand::Read { object } => return NextDemand::Read { object },
-            Demand::Write { object, value } => return NextDemand::Write { object, value },
-            Demand::Bump { object, amount } => return NextDemand::Bump { object, amount },
+            Demand::Read { object } => {
+                *next = NextDemand::Read { object };
+                return;
+            }
+            Demand::Write { object, value } => {
+                *next = NextDemand::Write { object, value };
+                return;
+            }
+            Demand::Bump { object, amount } => {
+                *next = NextDemand::Bump { object, amount };
+                return;
+            }
             Demand::Safe | Demand::Pause => {}
-            Demand::Ended { end } => return NextDemand::Ended { end },
+            Demand::Ended { end } => {
+                *next = NextDemand::Ended { end };
+                return;
+            }
         }
     }
 }
@@ -79,7 +91,8 @@ impl ThreadReplay {
         ensures { IfOk result (λ replay. IsReplayOf (commands_of script.now thread) (starting_configuration script.now.fuel) (length script.now.objects) log.now [] replay) }
     {
         let mut config = Config::new(alloc, script, thread)?;
-        let up_next = ask(&mut config);
+        let mut up_next = NextDemand::Ended { end: End::Spent };
+        ask(&mut config, &mut up_next);
         Ok(ThreadReplay {
             config,
             up_next,
@@ -195,7 +208,7 @@ impl ThreadReplay {
     {
         self.accesses += 1;
         self.gap += 1;
-        self.up_next = ask(&mut self.config);
+        ask(&mut self.config, &mut self.up_next);
     }
 
     /// Makes an event.
