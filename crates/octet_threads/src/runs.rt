@@ -90,7 +90,9 @@ impl Runner {
         }
     }
 
-    // Runs the thread to its end, and counts it then.
+    // Runs the thread to its end, and counts it then. Never a part of its caller, where each access would
+    // first fetch the heap and the gate from a closure: a twentieth more for objects of one thread.
+    #[inline(never)]
     fn run<R: Threads + Wait + Sync, G: HeapGate>(
         &mut self,
         rt: &R,
