@@ -1,5 +1,5 @@
 -- Threads that stay where their needs say, as lists and counts grow.
-use Rattle.std.proofs.Common.{◌≡◌, ◌≢◌, ℕ, suc, ◌<◌, ◌⊎◌, inl, inr, Bool, true, false, List, length, Option, Some, None, get_or, slice_get, slice_set, eqb, nat_le, refl, sym, ap, ◌∙◌, subst, arith}
+use Rattle.std.proofs.Common.{◌≡◌, ◌≢◌, ℕ, suc, ◌<◌, ◌≤◌, ◌⊎◌, inl, inr, Bool, true, false, List, length, Option, Some, None, get_or, slice_get, slice_set, eqb, nat_le, refl, sym, ap, ◌∙◌, subst, arith}
 use Rattle.std.proofs.lemmas.Bool.{cases_eq, cases_lt, le-leb, lt-leb, ne_eqb}
 use Rattle.std.proofs.lemmas.List.{get_or-set_same, get_or-set_other}
 use Rattle.std.proofs.lemmas.Option.{same_Some, slice_get-get_or, slice_get_within}
@@ -157,9 +157,9 @@ after_draw l list due next is_next taken thread (DrawsReach count) is =
       | inr above ↦ inr (le-leb count next (omega arith) ∙ sym (le-leb count l.draws above), λ b. absurd (omega arith))
     ]
 
--- after one more event of a thread
+-- after more events of a thread
 module _ (l after : Lists) (by count : ℕ) (old new : WaitingList) (due : ThreadSet)
-    (events : after.events.items ≡ slice_set l.events.items by count) (count_is : count ≡ suc (get_or l.events.items by 0)) (within : by < length l.events.items)
+    (events : after.events.items ≡ slice_set l.events.items by count) (no_fewer : get_or l.events.items by 0 ≤ count) (within : by < length l.events.items)
     (lists : after.at_events.items ≡ slice_set l.at_events.items by new) (was : slice_get l.at_events.items by ≡ Some old)
     (draws : after.draws ≡ l.draws) (at_draws : after.at_draws ≡ l.at_draws)
     (taken : (thread at : ℕ) → Awaits old thread at → (has due thread ≡ true) ⊎ ((count < at) × Awaits new thread at)) where

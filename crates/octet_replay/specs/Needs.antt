@@ -1,5 +1,5 @@
 -- What each thread waits for, and how far the threads and the draws have come.
-use Rattle.std.specs.Prelude.{◌≡◌, ℕ, suc, ◌<◌, Bool, true, false, if◌then◌else◌, ◌==◌, nat_le, List, length, replicate, Some, None, slice_get, slice_index, slice_set}
+use Rattle.std.specs.Prelude.{◌≡◌, ℕ, suc, ◌+◌, ◌<◌, Bool, true, false, if◌then◌else◌, ◌==◌, nat_le, List, length, replicate, Some, None, slice_get, slice_index, slice_set}
 use Rattle.octet_replay.specs.declared.need.Need.{Need}
 use Rattle.octet_replay.specs.declared.need.Need.TheVariants.{Free, Events, DrawsAre, DrawsReach, Never}
 
@@ -42,3 +42,7 @@ after_step w thread draw next = record {
   events = slice_set w.events thread (suc (slice_index w.events thread));
   draws = if draw then suc w.draws else w.draws;
 }
+
+-- after so many more events of the thread, which has the same need
+abbrev pub after_events : NeedsAndCounts → ℕ → ℕ → NeedsAndCounts
+after_events w thread more = record w { events = slice_set w.events thread (more + slice_index w.events thread) }

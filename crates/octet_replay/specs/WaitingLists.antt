@@ -45,10 +45,7 @@ pub record Keeps (counts : NeedsAndCounts) (before after : Lists) : Type 0 where
   pub counts_are : counts_of after ≡ counts
   pub as_many : length after.at_events.items ≡ length before.at_events.items
 
--- after one more event of a thread, and after one more draw
-abbrev pub with_event : NeedsAndCounts → ℕ → NeedsAndCounts
-with_event w thread = record w { events = slice_set w.events thread (suc (slice_index w.events thread)) }
-
+-- after one more draw
 abbrev pub with_draw : NeedsAndCounts → NeedsAndCounts
 with_draw w = record w { draws = suc w.draws }
 

@@ -1,9 +1,9 @@
 //! Which threads may step, and what the others wait for.
 ghost use Rattle.std.specs.Prelude.{◌≡◌, ◌≢◌, ◌<◌, ◌≤◌, ◌+◌, ℕ, suc, true, false, replicate, length, slice_get, slice_set, slice_index, Some, All, IfOk, IfSome, IsNone};
 ghost use Rattle.octet_model.specs.declared.limits.TheConstants.{MAX_THREADS};
-ghost use Rattle.octet_replay.specs.Needs.{after_step, is_met, is_ready, no_counts, IsLowestReady, NamesThread};
+ghost use Rattle.octet_replay.specs.Needs.{after_events, after_step, is_met, is_ready, no_counts, IsLowestReady, NamesThread};
 ghost use Rattle.octet_replay.specs.ThreadSet.{has};
-ghost use Rattle.octet_replay.specs.WaitingLists.{counts_of, with_draw, with_event, ArePlacedBut, IsListed, IsPlaced, IsSized, Keeps};
+ghost use Rattle.octet_replay.specs.WaitingLists.{counts_of, with_draw, ArePlacedBut, IsListed, IsPlaced, IsSized, Keeps};
 
 use crate::Need;
 use crate::thread_set::ThreadSet;
@@ -124,18 +124,17 @@ impl Lists {
         }
     }
 
-    // Counts an event of a thread, and places the threads that waited for it.
+    // Counts events of a thread, and places the threads that waited for them.
     #[inline(always)]
-    fn count_event(&mut self, thread: u8)
+    fn count_events(&mut self, thread: u8, more: u64)
         requires sized { IsSized self.old }
         requires within { thread < length self.old.needs.items }
-        requires room { slice_index self.old.events.items thread < u64.MAX }
-        requires placed { ArePlacedBut self.old thread }
+        requires room { slice_index self.old.events.items thread + more ≤ u64.MAX }
         ensures sized { IsSized self.new }
-        ensures kept { Keeps (with_event (counts_of self.old) thread) self.old self.new }
-        ensures placed { ArePlacedBut self.new thread }
+        ensures kept { Keeps (after_events (counts_of self.old) thread more) self.old self.new }
+        ensures placed { (any : ℕ) → IsPlaced self.old any → IsPlaced self.new any }
     {
-        let count = self.events[thread as usize] + 1;
+        let count = self.events[thread as usize] + more;
         self.events[thread as usize] = count;
         let due = self.at_events[thread as usize].take_due(count);
         self.place_all(due);
@@ -168,7 +167,7 @@ impl Lists {
         ensures placed { (any : ℕ) → IsPlaced self.new any }
     {
         self.needs[thread as usize] = next;
-        self.count_event(thread);
+        self.count_events(thread, 1);
         if draw {
             self.count_draw();
         }
@@ -253,5 +252,15 @@ impl Waits {
         ensures { self.new ≡ after_step self.old thread draw next }
     {
         self.lists.step(thread, draw, next);
+    }
+
+    /// Counts events of a thread that goes on to have the need that it has. Takes no memory.
+    #[inline(always)]
+    pub fn count(&mut self, thread: u8, events: u64)
+        requires within { thread < length self.old.needs }
+        requires room { slice_index self.old.events thread + events ≤ u64.MAX }
+        ensures { self.new ≡ after_events self.old thread events }
+    {
+        self.lists.count_events(thread, events);
     }
 }

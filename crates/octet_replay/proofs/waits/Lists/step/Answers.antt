@@ -11,16 +11,17 @@ use Rattle.octet_replay.proofs.Placing.{need_placed}
 use Rattle.octet_replay.proofs.waits.Lists.step.Goals as goal
 use Rattle.octet_replay.proofs.waits.Lists.step.Goals.{then-draw, else-draw}
 
-pub count_event-requires-clause-placed : goal.count_event-requires-clause-placed
-count_event-requires-clause-placed c thread differ =
+counted : (c : goal.After-settle) → ArePlacedBut c.count_events.new.self c.args.thread
+counted c thread differ =
     let l = c.args.self.now in
-    need_placed l (record l { needs = with_item l.needs c.args.thread c.args.next }) c.args.thread c.args.next refl refl (λ other need is. is) refl refl thread differ (c.requires.placed thread)
+    c.count_events.ensures.placed thread
+    (need_placed l (record l { needs = with_item l.needs c.args.thread c.args.next }) c.args.thread c.args.next refl refl (λ other need is. is) refl refl thread differ (c.requires.placed thread))
 
 pub settle-requires-clause-sized : goal.settle-requires-clause-sized
 settle-requires-clause-sized c =
     elim c.if-draw.branch [
       | then-draw w ↦ subst (λ (l : Lists). IsSized l) (sym w.self-is) w.count_draw.ensures.sized
-      | else-draw w ↦ subst (λ (l : Lists). IsSized l) (sym w.self-is) c.count_event.ensures.sized
+      | else-draw w ↦ subst (λ (l : Lists). IsSized l) (sym w.self-is) c.count_events.ensures.sized
     ]
 
 -- the need that was written is still the thread's
@@ -31,7 +32,7 @@ settle-requires-clause-its c =
     let within : thread < length (slice_set l.needs.items thread c.args.next) = omega (arith, length-set l.needs.items thread c.args.next, c.requires.within) in
     let written : slice_get (slice_set l.needs.items thread c.args.next) thread ≡ Some c.args.next =
     slice_get-get_or (slice_set l.needs.items thread c.args.next) thread c.args.next within ∙ ap (λ (n : Need). Some n) (get_or-set_same l.needs.items thread c.args.next c.args.next c.requires.within) in
-    let event = ap (λ (w : NeedsAndCounts). slice_get w.needs thread) c.count_event.ensures.kept.counts_are ∙ written in
+    let event = ap (λ (w : NeedsAndCounts). slice_get w.needs thread) c.count_events.ensures.kept.counts_are ∙ written in
     elim c.if-draw.branch [
       | then-draw w ↦ ap (λ (x : Lists). slice_get x.needs.items thread) w.self-is ∙ ap (λ (w : NeedsAndCounts). slice_get w.needs thread) w.count_draw.ensures.kept.counts_are ∙ event
       | else-draw w ↦ ap (λ (x : Lists). slice_get x.needs.items thread) w.self-is ∙ event
@@ -40,8 +41,8 @@ settle-requires-clause-its c =
 placed_but : (c : goal.After-settle) → ArePlacedBut c.if-draw.self c.args.thread
 placed_but c =
     elim c.if-draw.branch [
-      | then-draw w ↦ subst (λ (l : Lists). ArePlacedBut l c.args.thread) (sym w.self-is) (w.count_draw.ensures.placed c.args.thread c.count_event.ensures.placed)
-      | else-draw w ↦ subst (λ (l : Lists). ArePlacedBut l c.args.thread) (sym w.self-is) c.count_event.ensures.placed
+      | then-draw w ↦ subst (λ (l : Lists). ArePlacedBut l c.args.thread) (sym w.self-is) (w.count_draw.ensures.placed c.args.thread (counted c))
+      | else-draw w ↦ subst (λ (l : Lists). ArePlacedBut l c.args.thread) (sym w.self-is) (counted c)
     ]
 
 pub returns-clause-placed : goal.returns-clause-placed

@@ -4,13 +4,13 @@ use Rattle.std.proofs.lemmas.Option.{slice_get-get_or}
 use Rattle.std.specs.Vec.{with_item}
 use Rattle.octet_replay.specs.declared.waiting.WaitingList.{WaitingList}
 use Rattle.octet_replay.proofs.Placing.{after_event, placed_or_due}
-use Rattle.octet_replay.proofs.waits.Lists.count_event.Goals as goal
+use Rattle.octet_replay.proofs.waits.Lists.count_events.Goals as goal
 
 pub returns-clause-placed : goal.returns-clause-placed
-returns-clause-placed c thread differ =
+returns-clause-placed c thread was_placed =
     let l = c.args.self.now in
     let by = c.args.thread in
-    let count = c.index.result.now + 1 in
+    let count = c.index.result.now + c.args.more in
     let in_events : by < length l.events.items = omega arith in
     let in_lists : by < length l.at_events.items = omega arith in
     let was : slice_get l.at_events.items by ≡ Some c.index_mut-2.result.now =
@@ -19,7 +19,7 @@ returns-clause-placed c thread differ =
     elim (placed_or_due l after c.take_due-due.result refl refl
     (after_event l after by count c.index_mut-2.result.now c.take_due-due.new.self c.take_due-due.result refl
     (omega (arith, c.index.ensures, get_or_default l.events.items by c.index.result.now 0 in_events)) in_events refl was refl refl c.take_due-due.ensures)
-    thread (c.requires.placed thread differ)) [
+    thread was_placed) [
       | inl due ↦ c.place_all.ensures.placed thread due.0 due.1
       | inr stays ↦ c.place_all.ensures.others thread stays
     ]
