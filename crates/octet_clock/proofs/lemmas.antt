@@ -1,7 +1,7 @@
 pub mod AlikeStates
 pub mod Readers
 pub mod LogsAlone
-pub mod LowestAlone
+pub mod FrontsAlone
 pub mod FrontLaws
 pub mod DrawsMade
 pub mod DrawLaws

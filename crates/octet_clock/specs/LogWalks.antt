@@ -1,16 +1,16 @@
 -- How far threads have come that walk their logs alone.
-use Rattle.std.specs.Prelude.{◌≡◌, ℕ, Bool, nat_lt, List, [], ◌∷◌, ◌++◌, length, Some, slice_get}
+use Rattle.std.specs.Prelude.{◌≡◌, ℕ, ◌+◌, ◌<◌, Bool, nat_lt, List, [], ◌∷◌, ◌++◌, length, Some, slice_get}
 use Rattle.octet_model.specs.declared.event.Event.{Event}
 use Rattle.octet_model.specs.declared.log.ThreadLog.{ThreadLog}
-use Rattle.octet_model.specs.Machine.{journal_of, Next, Wants, Finished, Operation, event_made}
+use Rattle.octet_model.specs.Machine.{journal_of, Next, Wants, Finished, MakeRead, Operation, event_made, after, IsFront}
 use Rattle.octet_model.specs.Journals.{access_count, mark_count, gap_after, due_mark, mark_first}
 use Rattle.octet_replay.specs.declared.need.Need.{Need}
-use Rattle.octet_replay.specs.Replayed.{is_draw}
+use Rattle.octet_replay.specs.Replayed.{is_draw, AwaitsNext}
 use Rattle.octet_replay.specs.Threads.{need_of}
 use Rattle.octet_clock.specs.declared.log_walk.LogWalk.{LogWalk}
 use Rattle.octet_clock.specs.declared.log_walk.Progress.{Progress}
-use Rattle.octet_clock.specs.Following.{state_reached, Follows}
-use Rattle.octet_clock.specs.Untied.{any_access, by_log_alone, lowest_alone, opening_alone}
+use Rattle.octet_clock.specs.Following.{counted}
+use Rattle.octet_clock.specs.Untied.{any_access, by_log_alone, opening_alone}
 
 -- the counts are those of the journal
 pub record HasProgress (journal : List Event) (p : Progress) : Type 0 where
@@ -42,9 +42,20 @@ pub record AreFirstNeeds (log : List ThreadLog) (needs : List Need) : Type 0 whe
   pub as_many : length needs ≡ length log
   pub each : (thread : ℕ) (need : Need) → slice_get needs thread ≡ Some need → need ≡ need_of (by_log_alone log thread [])
 
--- the threads have come as far as the first steps of the lowest front lead
+-- after so many more accesses
+abbrev pub with_accesses : Progress → ℕ → Progress
+with_accesses p more = record { marks = p.marks; accesses = more + p.accesses; gap = more + p.gap }
+
+-- so many accesses are next, one after the other
+abbrev pub AreAccesses : ThreadLog → Progress → ℕ → Type 0
+AreAccesses log p many = (made : ℕ) → made < many → next_by_progress log (with_accesses p made) ≡ Wants (MakeRead 0)
+
+-- the threads have come as far as some front by the log alone leads, which has a step for each event that is counted
 pub record WalksAt (log : List ThreadLog) (walk : LogWalk) : Type 0 where
+  pub front : List ℕ
+  pub is_front : IsFront (by_log_alone log) (opening_alone log) front
+  pub steps : counted walk.waits ≡ length front
+  pub awaits : AwaitsNext (by_log_alone log) (after (by_log_alone log) (opening_alone log) front) walk.waits
   pub as_many : length walk.threads.items ≡ length log
-  pub follows : Follows (by_log_alone log) (opening_alone log) (lowest_alone log) walk.waits
   pub each : (thread : ℕ) (p : Progress) → slice_get walk.threads.items thread ≡ Some p
-      → HasProgress (journal_of (state_reached (by_log_alone log) (opening_alone log) (lowest_alone log) walk.waits).journals thread) p
+      → HasProgress (journal_of (after (by_log_alone log) (opening_alone log) front).journals thread) p

@@ -4,7 +4,7 @@ use Rattle.octet_model.specs.declared.event.Event.{Event}
 use Rattle.octet_model.specs.declared.log.ThreadLog.{ThreadLog}
 use Rattle.octet_model.specs.Machine.{Next, Wants, Finished, NothingFits, MakeRead, Behavior, PlainState, starting_state, IsOrder}
 use Rattle.octet_model.specs.Journals.{access_count, mark_count, gap_after, due_mark, mark_first}
-use Rattle.octet_model.specs.Orders.{thread_log_of, event_total, lowest_front}
+use Rattle.octet_model.specs.Orders.{thread_log_of}
 
 -- an access, where the log has one left. Which access it is decides nothing here, so that the read of one object stands for each
 abbrev pub any_access : Bool → Bool → Next
@@ -28,7 +28,3 @@ opening_alone log = starting_state [] log
 -- untied: some list of steps by the log alone makes all its accesses and marks
 abbrev pub IsUntied : List ThreadLog → Type 0
 IsUntied log = (order : List ℕ) × IsOrder (by_log_alone log) (opening_alone log) order
-
--- always the lowest thread steps that may by the log alone
-abbrev pub lowest_alone : List ThreadLog → List ℕ
-lowest_alone log = lowest_front (by_log_alone log) (event_total log) (opening_alone log)

@@ -1,12 +1,12 @@
 //! Whether the marks of a log let all its events be made, whatever the script.
 ghost use Rattle.std.specs.Prelude.{◌≡◌, ◌<◌, ◌≤◌, ◌^◌, ◌↔◌, ℕ, suc, [], true, false, length, slice_get, Some, IfOk, IsTrue};
 ghost use Rattle.octet_model.specs.declared.limits.TheConstants.{MAX_ACCESSES};
-ghost use Rattle.octet_model.specs.Orders.{thread_log_of};
-ghost use Rattle.octet_replay.specs.Needs.{is_ready, IsLowestReady};
+ghost use Rattle.octet_model.specs.Orders.{event_total, thread_log_of};
+ghost use Rattle.octet_replay.specs.Needs.{is_ready};
 ghost use Rattle.octet_replay.specs.Threads.{need_of};
 ghost use Rattle.octet_clock.specs.Following.{counted};
-ghost use Rattle.octet_clock.specs.LogWalks.{next_by_progress, Advances, AreFirstNeeds, HasMadeAll, HasProgress, WalksAt, WantsSome};
-ghost use Rattle.octet_clock.specs.Untied.{IsUntied, lowest_alone};
+ghost use Rattle.octet_clock.specs.LogWalks.{next_by_progress, Advances, AreAccesses, AreFirstNeeds, HasMadeAll, HasProgress, WalksAt, WantsSome};
+ghost use Rattle.octet_clock.specs.Untied.{IsUntied};
 
 use octet_model::{Event, List, Log, OutOfMemory, ThreadLog};
 use octet_replay::{Need, Waits, due_mark, is_draw};
@@ -44,6 +44,18 @@ impl Progress {
             Need::Free
         } else {
             Need::Never
+        }
+    }
+
+    // How many accesses are next, before a mark or the end.
+    #[inline(always)]
+    fn accesses_ahead(&self, log: &ThreadLog) -> u32
+        ensures { AreAccesses log.now self.now result }
+    {
+        let left = log.accesses.saturating_sub(self.accesses);
+        match log.marks.get(self.marks) {
+            Some(next) => left.min(next.gap.saturating_sub(self.gap)),
+            None => left,
         }
     }
 
@@ -103,13 +115,34 @@ impl LogWalk {
         })
     }
 
-    // Makes the next event of the lowest thread that may step.
+    // Makes all but one of the accesses that are next for a thread: they wait for nothing.
+    #[inline(always)]
+    fn skip(&mut self, log: &Log, thread: u8)
+        requires at { WalksAt log.now.threads self.old }
+        requires ready { is_ready self.old.waits thread ≡ true }
+        ensures at { WalksAt log.now.threads self.new }
+        ensures ready { is_ready self.new.waits thread ≡ true }
+        ensures no_fewer { counted self.old.waits ≤ counted self.new.waits }
+    {
+        let of_log = &log.threads.as_slice()[thread as usize];
+        let ahead = self.threads[thread as usize].accesses_ahead(of_log);
+        if ahead < 2 {
+            return;
+        }
+        let more = ahead - 1;
+        let progress = &mut self.threads[thread as usize];
+        progress.accesses += more;
+        progress.gap += more;
+        self.waits.count(thread, more as u64);
+    }
+
+    // Makes the next event of a thread that may step.
     #[inline(always)]
     fn step(&mut self, log: &Log, thread: u8)
         requires at { WalksAt log.now.threads self.old }
-        requires lowest { IsLowestReady self.old.waits thread }
+        requires ready { is_ready self.old.waits thread ≡ true }
         ensures at { WalksAt log.now.threads self.new }
-        ensures within { counted self.old.waits < length (lowest_alone log.now.threads) }
+        ensures within { counted self.new.waits ≤ event_total log.now.threads }
         ensures more { counted self.new.waits ≡ suc (counted self.old.waits) }
     {
         let of_log = &log.threads.as_slice()[thread as usize];
@@ -119,13 +152,14 @@ impl LogWalk {
         self.waits.step(thread, draw, next);
     }
 
-    // Steps on until no thread may step.
+    // Goes on until no thread may step.
     fn run(&mut self, log: &Log)
         requires { WalksAt log.now.threads self.old }
         ensures at { WalksAt log.now.threads self.new }
         ensures halted { (thread : ℕ) → is_ready self.new.waits thread ≡ false }
     {
         while let Some(thread) = self.waits.lowest() {
+            self.skip(log, thread);
             self.step(log, thread);
         }
     }
@@ -148,7 +182,7 @@ impl LogWalk {
 /// Whether some list of steps makes all accesses and marks of the log, where each mark waits for
 /// what it names and the accesses are those of any script. Only such a log can be replayed, and
 /// of such a log each replay goes on until it ends or the script demands otherwise. Takes time in
-/// proportion to the log's events.
+/// proportion to the log's marks.
 pub fn untied(alloc: Global, log: &Log) -> Result<bool, OutOfMemory>
     ensures { IfOk result (λ untied. IsTrue untied ↔ IsUntied log.now.threads) }
 {

@@ -25,7 +25,7 @@ use Rattle.octet_clock.specs.Laws.{FrontsArePrefixes, FrontIsOfLog, LawfulLogIsU
 use Rattle.octet_clock.specs.Untied.{any_access, by_log_alone, opening_alone}
 use Rattle.octet_clock.proofs.lemmas.AlikeStates.{enabled_alike}
 use Rattle.octet_clock.proofs.lemmas.LogsAlone.{StandsAlike, alike, by_counts, front_alone, lawful_is_untied, untied_leads_on}
-use Rattle.octet_clock.proofs.lemmas.LowestAlone.{IsNextAlone, next_alone, all_within}
+use Rattle.octet_clock.proofs.lemmas.FrontsAlone.{IsNextAlone, next_alone, all_within}
 
 -- what follows a front is a front from there
 pub front_split : (V : Behavior) (front rest : List ℕ) (s : PlainState) → IsFront V s (front ++ rest) → IsFront V (after V s front) rest

@@ -1,7 +1,7 @@
-use Rattle.std.proofs.Common.{ℕ, ◌-◌, ◌<◌, ◌∙◌, length, get_or, ap, arith, refl, subst}
+use Rattle.std.proofs.Common.{ℕ, ◌-◌, ◌<◌, ◌∙◌, length, get_or, ap, arith}
 use Rattle.std.proofs.lemmas.Option.{slice_get-get_or}
 use Rattle.octet_clock.specs.declared.clock.Clock.{Clock}
-use Rattle.octet_clock.specs.Clock.{count_in, IsRaised}
+use Rattle.octet_clock.specs.Clock.{count_in}
 use Rattle.octet_clock.proofs.pasts.KeptMarks.{kept_in_order, past_before_marks, past_after_mark}
 use Rattle.octet_clock.proofs.marks.Marks.clock_after.Goals.{then-earlier-eq0, else-earlier-eq0}
 use Rattle.octet_clock.proofs.marks.Marks.clock_after.Goals as goal

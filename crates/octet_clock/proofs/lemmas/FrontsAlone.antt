@@ -1,4 +1,4 @@
--- A log alone: what is next for its threads, and its lowest front, which comes to its end.
+-- A log alone: what is next for its threads, and how far its fronts lead.
 use Rattle.std.proofs.Common.{◌≡◌, ℕ, suc, ◌+◌, ◌≤◌, Bool, true, false, nat_lt, List, [], ◌∷◌, ◌++◌, length, Option, Some, None, IsTrue, slice_get, refl, sym, ◌∙◌, subst, arith}
 use Rattle.std.proofs.lemmas.Bool.{ltb-true}
 use Rattle.std.proofs.lemmas.List.{length-map}
@@ -9,13 +9,14 @@ use Rattle.octet_model.specs.declared.event.Mark.{Mark}
 use Rattle.octet_model.specs.declared.log.ThreadLog.{ThreadLog}
 use Rattle.octet_model.specs.Machine.{Journals, journal_of, PlainState, Operation, MakeMark, MakeRead, MakeWrite, MakeUpdate, Wants, Behavior, event_made, may_step, step, after, IsFront}
 use Rattle.octet_model.specs.Journals.{access_count, mark_count, gap_after, due_mark, mark_first}
-use Rattle.octet_model.specs.Orders.{thread_log_of, event_total, IsLowestFront}
+use Rattle.octet_model.specs.Orders.{thread_log_of, event_total}
 use Rattle.octet_model.proofs.lemmas.Steps.{as_many_step}
 use Rattle.octet_model.proofs.lemmas.Fronts.{no_journal}
-use Rattle.octet_model.proofs.lemmas.LowestFronts.{IsWithin, due_within, each_journal, comes_to_end, is_lowest}
-use Rattle.octet_model.proofs.lemmas.Plays.{total, total_cons}
+use Rattle.octet_model.proofs.lemmas.LogsOfJournals.{as_many_after}
+use Rattle.octet_model.proofs.lemmas.LowestFronts.{IsWithin, due_within, each_journal}
+use Rattle.octet_model.proofs.lemmas.Plays.{total, total_cons, total_after, total_none}
 use Rattle.octet_model.proofs.lemmas.Splits.{accesses_split, marks_split, length_parts}
-use Rattle.octet_clock.specs.Untied.{any_access, by_log_alone, opening_alone, lowest_alone}
+use Rattle.octet_clock.specs.Untied.{any_access, by_log_alone, opening_alone}
 
 -- what is next by a log alone: its due mark, or else an access, where one is left
 abbrev pub IsNextAlone : Option Mark → Bool → Operation → Type 0
@@ -85,8 +86,10 @@ total_within (j ∷ js) [] many within = absurd (omega arith)
 total_within (j ∷ js) (l ∷ log) many within =
     omega (arith, total_cons j js, sum_by-cons (λ (thread : ThreadLog). thread.accesses + length thread.marks) l log, length_parts j, (within 0).accesses, (within 0).marks, total_within js log (omega arith) (λ t. within (suc t)))
 
--- the lowest front of a log alone has steps enough
-pub lowest_alone_is_lowest : (log : List ThreadLog) → IsLowestFront (by_log_alone log) (opening_alone log) (lowest_alone log)
-lowest_alone_is_lowest log =
-    is_lowest (by_log_alone log) (event_total log) (opening_alone log)
-    (comes_to_end (by_log_alone log) (AllWithin log) (event_total log) (step_within log) (λ s within. total_within s.journals log within.many within.each) (event_total log) (opening_alone log) (starts_within log) (omega arith))
+-- a front has no more steps than the log has events
+pub front_is_short : (log : List ThreadLog) (front : List ℕ) → IsFront (by_log_alone log) (opening_alone log) front → length front ≤ event_total log
+front_is_short log front is =
+    let V = by_log_alone log in
+    let last = after V (opening_alone log) front in
+    let many : length last.journals ≡ length log = as_many_after V front (opening_alone log) ∙ length-map log (λ (l : ThreadLog). []) in
+    omega (arith, total_after V front (opening_alone log) is, total_none log, total_within last.journals log many (all_within log front is))
