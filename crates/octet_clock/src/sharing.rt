@@ -1,6 +1,6 @@
 //! The quick yes of the check: where every object is one thread's own or only read, nothing conflicts.
 ghost use Rattle.std.specs.Prelude.{◌≡◌, true, length, IfOk, IfSome, OnOk};
-ghost use Rattle.octet_clock.specs.Sharing.{AllowsMore, HasNoConflict, HasRoom, TakesAccess, TakesEvent, TakesEvents};
+ghost use Rattle.octet_clock.specs.Sharing.{sharing_of, Allows, AllowsMore, HasNoConflict, HasRoom, TakesAccess, TakesEvent, TakesEvents};
 
 use octet_model::{Event, List, OutOfMemory};
 use std::alloc::Global;
@@ -60,9 +60,42 @@ impl Objects {
         Ok(())
     }
 
+    // Whether there may be such an access beside those so far, with nothing to note: mostly there may.
+    #[inline(always)]
+    fn allows(&self, thread: usize, object: u16, writing: bool) -> bool
+        ensures { result ≡ true → Allows (sharing_of self.now.sharing.items object) thread writing }
+    {
+        match self.sharing.get(object as usize) {
+            Some(
+                Sharing::OwnedBy {
+                    thread: owner,
+                    written,
+                },
+            ) => *owner == thread && (*written || !writing),
+            Some(Sharing::ReadShared) => !writing,
+            Some(Sharing::Unused) | None => false,
+        }
+    }
+
     // Takes in an access. Answers whether it conflicts with no earlier one.
     #[inline(always)]
     fn take_access(
+        &mut self,
+        thread: usize,
+        object: u16,
+        writing: bool,
+    ) -> Result<bool, OutOfMemory>
+        ensures { IfOk result (λ apart. apart ≡ true → TakesAccess self.old.sharing.items thread object writing self.new.sharing.items) }
+    {
+        if self.allows(thread, object, writing) {
+            return Ok(true);
+        }
+        self.note_access(thread, object, writing)
+    }
+
+    // Takes in an access that changes how its object is used.
+    #[inline(never)]
+    fn note_access(
         &mut self,
         thread: usize,
         object: u16,
