@@ -42,9 +42,6 @@ EachOf words seats = (number : ℕ) (none : Seat) → number < length seats → 
 abbrev pub IsFreshSeat : Words → ℕ → Seat → Type 0
 IsFreshSeat words number seat = BelongsTo words seat × IsFresh number seat
 
-abbrev pub AreFresh : Words → ℕ → List Seat → Type 0
-AreFresh words number seats = AreInRow (IsFreshSeat words) number seats
-
 -- while seats join: likewise
 abbrev pub IsNumberedSeat : Words → ℕ → Seat → Type 0
 IsNumberedSeat words number seat = BelongsTo words seat × ((view seat).number ≡ number)

@@ -4,6 +4,7 @@ use Rattle.std.proofs.lemmas.List.{length-map}
 use Rattle.atomic_table.specs.Table.{Final, Seen}
 use Rattle.octet_model.specs.declared.script.Script.{Script}
 use Rattle.octet_model.specs.declared.log.Log.{Log}
+use Rattle.octet_seats.specs.Rows.{AreInRow}
 use Rattle.octet_parallel.specs.State.{PlayerState, FieldState, player_of, unbegun, words}
 use Rattle.octet_parallel.specs.declared.words.Seat.{Seat}
 use Rattle.octet_parallel.specs.declared.words.Words.{Words}
@@ -14,7 +15,7 @@ use Rattle.octet_seats.proofs.lemmas.Cells.{all_cells}
 use Rattle.octet_seats.proofs.lemmas.Rows.{row_of, row_so, each_of, same_members}
 use Rattle.octet_seats.proofs.lemmas.Seats.{left_at}
 use Rattle.octet_parallel.specs.Rule.{HasLeft, IsRuled}
-use Rattle.octet_parallel.specs.Seats.{view, BelongsTo, IsSeatOf, IsFresh, IsFreshSeat, AreFresh, EachFresh, EachOf, IsNumberedSeat, AreNumbered, state_left, Closes}
+use Rattle.octet_parallel.specs.Seats.{view, BelongsTo, IsSeatOf, IsFresh, IsFreshSeat, EachFresh, EachOf, IsNumberedSeat, AreNumbered, state_left, Closes}
 use Rattle.octet_parallel.proofs.seats.Spread.{get_cell}
 use Rattle.octet_parallel.proofs.steps.Keeping.{many_cells}
 
@@ -67,11 +68,11 @@ parted w xs seats seat is each all = from (subst (EachOf w) is each) (ap (λ (l 
       all = one-add (length seats) ∙ all;
     }
 
-each : (w : Words) (seat : Seat) (seats : List Seat) → BelongsTo w seat → IsFresh 0 seat → (view seat).players_made ≡ w.players → (view seat).joined ≡ [] → AreFresh w 1 seats → EachFresh w (seat ∷ seats)
+each : (w : Words) (seat : Seat) (seats : List Seat) → BelongsTo w seat → IsFresh 0 seat → (view seat).players_made ≡ w.players → (view seat).joined ≡ [] → AreInRow (IsFreshSeat w) 1 seats → EachFresh w (seat ∷ seats)
 each w seat seats own new players_made joined others = each_of (λ t s. IsSeatOf w s × IsFresh t s) (seat ∷ seats) (
   ((own, (λ _. players_made), λ _. joined), new),
   row_so (IsFreshSeat w) (λ t s. IsSeatOf w s × IsFresh t s) 1 seats (λ t s h both. let n : (view s).number ≡ t = both.1.0 in ((both.0, (λ z. absurd (omega arith)), λ z. absurd (omega arith)), both.1)) others,
 )
 
-pub each_fresh : (w : Words) (xs seats : List Seat) (seat : Seat) → xs ≡ seat ∷ seats → BelongsTo w seat → IsFresh 0 seat → (view seat).players_made ≡ w.players → (view seat).joined ≡ [] → AreFresh w 1 seats → EachFresh w xs
+pub each_fresh : (w : Words) (xs seats : List Seat) (seat : Seat) → xs ≡ seat ∷ seats → BelongsTo w seat → IsFresh 0 seat → (view seat).players_made ≡ w.players → (view seat).joined ≡ [] → AreInRow (IsFreshSeat w) 1 seats → EachFresh w xs
 each_fresh w xs seats seat is own new players_made joined others = subst (EachFresh w) (sym is) (each w seat seats own new players_made joined others)

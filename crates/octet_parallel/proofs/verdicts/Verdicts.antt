@@ -1,5 +1,5 @@
 -- What the journals that the players made tell of the lowest order.
-use Rattle.std.proofs.Common.{inl, inr, ℕ, ◌<◌, ⊎_elim, All, List, length, Some, None, sym, ◌∙◌, subst, arith}
+use Rattle.std.proofs.Common.{inl, inr, ℕ, ◌<◌, ⊎_elim, All, List, ◌≡◌, ◌++◌, length, take, Some, None, sym, ◌∙◌, subst, arith}
 use Rattle.octet_model.specs.declared.log.Log.{Log}
 use Rattle.octet_model.specs.declared.log.ThreadLog.{ThreadLog}
 use Rattle.octet_model.specs.declared.script.Script.{Script}
@@ -11,6 +11,8 @@ use Rattle.octet_clock.specs.Ordered.{AreOfLawfulOrder}
 use Rattle.octet_clock.proofs.lemmas.FrontLaws.{no_front_is_amiss, one_order_tells, one_order_gives}
 use Rattle.octet_parallel.specs.declared.finished.Finished as finished
 use Rattle.std.specs.List.{AllZip}
+use Rattle.std.proofs.Math.ListN.{drop}
+use Rattle.std.proofs.lemmas.List.{take_at}
 use Rattle.std.proofs.lemmas.List.Elements.{AllZip-get_or, length_all_zip}
 use Rattle.octet_parallel.specs.declared.field.Field.{Field}
 use Rattle.octet_parallel.specs.declared.player.Player.{Player}
@@ -45,3 +47,10 @@ each_ended field xs ys begun same played number none h =
     let here : number < length xs = omega (arith, h, length_all_zip IsSamePlayer xs ys same) in
     let mine = played number none h in
     (mine.own, AllZip-get_or IsSamePlayer xs ys number none none same here ∙ (begun number none here).1.0, mine.ended)
+
+-- the players of a new field that were handed to those that play them, and handed back when all had played
+pub handed_back : (field : Field) (new made ran back : List Player) (many : ℕ) → EachUnbegun field new → made ≡ new → length made ≡ many → AllZip IsSamePlayer made ran → All (HasPlayed field) ran
+    → back ≡ take many (ran ++ drop (length ran) made) → EachEnded field back
+handed_back field new made ran back many begun are_new long zip played is =
+    let as_many : length ran ≡ many = sym (length_all_zip IsSamePlayer made ran zip) ∙ long in
+    subst (EachEnded field) (sym (is ∙ take_at ran (drop (length ran) made) many as_many)) (each_ended field made ran (subst (EachUnbegun field) (sym are_new) begun) zip played)

@@ -1,6 +1,7 @@
 use Rattle.std.proofs.Common.{rules, ◌≡◌, ◌∙◌, ◌++◌, ◌∷◌, [], sym, ap, subst}
+use Rattle.octet_seats.specs.Rows.{AreInRow}
 use Rattle.octet_parallel.specs.Views.{PlayerView}
-use Rattle.octet_parallel.specs.Seats.{IsFreshSeat, AreFresh}
+use Rattle.octet_parallel.specs.Seats.{IsFreshSeat}
 use Rattle.octet_seats.proofs.lemmas.Rows.{row_more}
 use Rattle.octet_parallel.proofs.seats.Ending.{each_fresh}
 use Rattle.octet_parallel.proofs.words.Words.split_all.Goals as goal
@@ -11,7 +12,7 @@ loop-preserved c = let i = c.loop.invariant in let f = c.split.ensures.first.1 i
   (ap (λ (v : PlayerView). v.number) f ∙ i.1.0, ap (λ (v : PlayerView). v.player) f ∙ i.1.1, ap (λ (v : PlayerView). v.trail) f ∙ i.1.2),
   ap (λ (v : PlayerView). v.players_made) f ∙ search rules,
   ap (λ (v : PlayerView). v.joined) f ∙ i.3,
-  subst (AreFresh c.args.self.now 1) (sym e) (row_more (IsFreshSeat c.args.self.now) 1 c.loop.counter c.loop.seats.items c.split.result i.4 (search rules) (
+  subst (AreInRow (IsFreshSeat c.args.self.now) 1) (sym e) (row_more (IsFreshSeat c.args.self.now) 1 c.loop.counter c.loop.seats.items c.split.result i.4 (search rules) (
     g.0,
     (ap (λ (v : PlayerView). v.number) g.1 ∙ i.2, ap (λ (v : PlayerView). v.player) g.1, ap (λ (v : PlayerView). v.trail) g.1),
   )),
