@@ -1,7 +1,6 @@
 //! The line that says why a replay was refused.
 ghost use Rattle.std.specs.Prelude.{◌≡◌, ◌++◌, IfOk, OnOk};
 ghost use Rattle.std.specs.List.{flat_map};
-ghost use Rattle.std.specs.Fmt.{decimal};
 ghost use Rattle.octet_model.specs.Texts.{value_word};
 ghost use Rattle.octet_replay.specs.Line.{fit_line};
 ghost use Rattle.octet_replay.specs.declared.fault.ReplayFault.TheVariants.{ThreadsDiffer, Stuck, Misfit};

@@ -1,5 +1,5 @@
 //! Logs that are replayed or refused, made by hand.
-ghost use Rattle.std.specs.Prelude.{◌≡◌, ◌∷◌, ◌^◌, ◌<◌, [], replicate, IfOk, IsTrue};
+ghost use Rattle.std.specs.Prelude.{◌≡◌, ◌∷◌, [], IfOk, IsTrue};
 ghost use Rattle.octet_model.specs.Log.{is_log};
 ghost use Rattle.octet_model.specs.Script.{is_script};
 
@@ -14,10 +14,8 @@ use std::process::Abort;
 use std::test::*;
 
 fn object_x(alloc: Global, start: u64) -> Result<Object, OutOfMemory> {
-    Ok(Object {
-        name: Name::new(alloc, b"x")?,
-        start,
-    })
+    let name = Name::new(alloc, b"x")?;
+    Ok(Object { name, start })
 }
 
 fn script_of(
@@ -96,6 +94,12 @@ fn shared_reads(alloc: Global) -> Result<Script, OutOfMemory> {
 
 const NO_MARKS: &[Gapped] = &[];
 
+fn gapped(gap: u32, mark: Mark) -> Gapped
+    ensures { result ≡ record { gap = gap; mark = mark } }
+{
+    Gapped { gap, mark }
+}
+
 fn thread_log(alloc: Global, accesses: u32, marks: &[Gapped]) -> Result<ThreadLog, OutOfMemory>
     ensures { IfOk result (λ log. log ≡ record { accesses = accesses; marks = marks.now }) }
 {
@@ -159,13 +163,8 @@ const AFTER_THE_WRITE: Gapped = Gapped {
 fn lawful_orders_are_replayed(rt: HostRuntime) -> Result<(), Fail> {
     let alloc = rt.alloc();
     let log = log_of_one(alloc, 1, NO_MARKS);
-    assert_said(
-        &rt,
-        alloc,
-        read(alloc),
-        log,
-        b"thread 0 done 5\nobject x 5\n",
-    )?;
+    let text = b"thread 0 done 5\nobject x 5\n";
+    assert_said(&rt, alloc, read(alloc), log, text)?;
     let log = log_of_one(alloc, 1, NO_MARKS);
     let text = b"thread 0 spent 0\nobject x 0\n";
     assert_said(&rt, alloc, loop_of_reads(alloc), log, text)?;
@@ -178,22 +177,11 @@ fn lawful_orders_are_replayed(rt: HostRuntime) -> Result<(), Fail> {
 #[test]
 fn stuck_threads_are_refused(rt: HostRuntime) -> Result<(), Fail> {
     let alloc = rt.alloc();
-    let after_the_read = Gapped {
-        gap: 0,
-        mark: Mark::Join { from: 1, upto: 1 },
-    };
+    let after_the_read = gapped(0, Mark::Join { from: 1, upto: 1 });
     let log = log_of_two(alloc, 1, &[after_the_read], 1, &[AFTER_THE_WRITE]);
-    assert_said(
-        &rt,
-        alloc,
-        write_and_read(alloc),
-        log,
-        b"fit: stuck at 0 0\n",
-    )?;
-    let draw = Gapped {
-        gap: 0,
-        mark: Mark::Draw { number: 1 },
-    };
+    let text = b"fit: stuck at 0 0\n";
+    assert_said(&rt, alloc, write_and_read(alloc), log, text)?;
+    let draw = gapped(0, Mark::Draw { number: 1 });
     let log = log_of_one(alloc, 1, &[draw, draw]);
     assert_said(&rt, alloc, read(alloc), log, b"fit: stuck at 1\n")
 }
@@ -217,40 +205,22 @@ const ONE_FOR_TWO: &[u8] = b"fit: thread 1 wants 2 accesses, found 1\n";
 #[test]
 fn misfits_come_before_stuck_threads(rt: HostRuntime) -> Result<(), Fail> {
     let alloc = rt.alloc();
-    let never = Gapped {
-        gap: 1,
-        mark: Mark::Join { from: 0, upto: 9 },
-    };
+    let never = gapped(1, Mark::Join { from: 0, upto: 9 });
     let log = log_of_two(alloc, 1, NO_MARKS, 2, &[never]);
     assert_said(&rt, alloc, write_and_read(alloc), log, ONE_FOR_TWO)?;
-    let never = Gapped {
-        gap: 0,
-        mark: Mark::Fence { number: 1 },
-    };
+    let never = gapped(0, Mark::Fence { number: 1 });
     let log = log_of_two(alloc, 1, &[never], 2, NO_MARKS);
     assert_said(&rt, alloc, write_and_read(alloc), log, ONE_FOR_TWO)
 }
 
 fn shared_log(alloc: Global) -> Result<Log, OutOfMemory> {
     let first = [
-        Gapped {
-            gap: 0,
-            mark: Mark::Join { from: 0, upto: 0 },
-        },
-        Gapped {
-            gap: 1,
-            mark: Mark::Fence { number: 1 },
-        },
+        gapped(0, Mark::Join { from: 0, upto: 0 }),
+        gapped(1, Mark::Fence { number: 1 }),
     ];
     let second = [
-        Gapped {
-            gap: 0,
-            mark: Mark::Join { from: 1, upto: 1 },
-        },
-        Gapped {
-            gap: 0,
-            mark: Mark::Draw { number: 1 },
-        },
+        gapped(0, Mark::Join { from: 1, upto: 1 }),
+        gapped(0, Mark::Draw { number: 1 }),
     ];
     let mut threads = List::new(alloc);
     threads.push(thread_log(alloc, 0, NO_MARKS)?)?;
@@ -276,35 +246,6 @@ fn assert_lists<T: Debug + PartialEq>(rt: &impl Abort, lists: &List<List<T>>, wa
     }
 }
 
-fn assert_journals(
-    rt: &impl Abort,
-    alloc: Global,
-    script: Result<Script, OutOfMemory>,
-    log: Result<Log, OutOfMemory>,
-    wanted: &[&[Event]],
-) -> Result<(), Fail> {
-    assert_lists(rt, &journals(alloc, &script?, &log?)?, wanted);
-    Ok(())
-}
-
-#[test]
-fn journals_have_marks_and_values(rt: HostRuntime) -> Result<(), Fail> {
-    let alloc = rt.alloc();
-    let first = [
-        marked(Mark::Join { from: 0, upto: 0 }),
-        READ_9,
-        marked(Mark::Fence { number: 1 }),
-        READ_9,
-    ];
-    let second = [
-        marked(Mark::Join { from: 1, upto: 1 }),
-        marked(Mark::Draw { number: 1 }),
-        READ_9,
-    ];
-    let (script, log) = (shared_reads(alloc), shared_log(alloc));
-    assert_journals(&rt, alloc, script, log, &[&[], &first, &second])
-}
-
 fn update(before: u64, after: u64) -> Event {
     Event::Update {
         object: 0,
@@ -316,11 +257,7 @@ fn update(before: u64, after: u64) -> Event {
 const AFTER_BOTH: Mark = Mark::Join { from: 0, upto: 2 };
 
 fn log_of_bumps(alloc: Global) -> Result<Log, OutOfMemory> {
-    let after_both = Gapped {
-        gap: 0,
-        mark: AFTER_BOTH,
-    };
-    log_of_two(alloc, 2, NO_MARKS, 1, &[after_both])
+    log_of_two(alloc, 2, NO_MARKS, 1, &[gapped(0, AFTER_BOTH)])
 }
 
 #[test]
@@ -334,56 +271,18 @@ fn updates_add_to_what_the_object_has(rt: HostRuntime) -> Result<(), Fail> {
     assert_said(&rt, alloc, script, log, text)?;
     let first = [update(5, 7), update(7, 9)];
     let second = [marked(AFTER_BOTH), update(9, 12)];
-    let (script, log) = (two_bumps_and_one(alloc, 5), log_of_bumps(alloc));
-    assert_journals(&rt, alloc, script, log, &[&first, &second])
-}
-
-#[test]
-fn replayer_gives_the_events_one_by_one(rt: HostRuntime) -> Result<(), Fail> {
-    let alloc = rt.alloc();
-    let log = shared_log(alloc)?;
-    let mut replayer = Replayer::new(alloc, &shared_reads(alloc)?, &log)?;
-    for (thread, event) in [
-        (1, marked(Mark::Join { from: 0, upto: 0 })),
-        (1, READ_9),
-        (2, marked(Mark::Join { from: 1, upto: 1 })),
-        (2, marked(Mark::Draw { number: 1 })),
-        (1, marked(Mark::Fence { number: 1 })),
-        (1, READ_9),
-        (2, READ_9),
-    ] {
-        assert_eq!(rt; replayer.step(), Stepped::Made { thread, event });
-    }
-    for _ in 0..2 {
-        assert_eq!(rt; replayer.step(), Stepped::Halted);
-    }
-    replayer.run();
-    let outcome = replayer.end(alloc)?;
-    assert_eq!(rt; outcome.ends.as_slice(), [End::Done; 3].as_slice());
-    assert_lists(&rt, &outcome.reads, &[&[], &[9, 9], &[9]]);
-    assert_eq!(rt; outcome.heap.as_slice(), [9].as_slice());
-    Ok(())
-}
-
-fn assert_traced(
-    rt: &impl Abort,
-    tracer: &mut Tracer<'_>,
-    wanted: &[(u8, u32, Event)],
-) -> Result<(), Fail> {
-    for told in wanted {
-        let (thread, event, made) = *told;
-        assert_eq!(rt; tracer.next(), Some((Place { thread, event }, made)));
-    }
-    assert_eq!(rt; tracer.next(), None);
+    let made = journals(alloc, &two_bumps_and_one(alloc, 5)?, &log_of_bumps(alloc)?)?;
+    assert_lists(&rt, &made, &[&first, &second]);
     Ok(())
 }
 
 #[test]
-fn traces_tell_each_event_with_its_place(rt: HostRuntime) -> Result<(), Fail> {
+fn events_are_told_one_by_one(rt: HostRuntime) -> Result<(), Fail> {
     let alloc = rt.alloc();
-    let log = shared_log(alloc)?;
-    let mut tracer = Tracer::new(alloc, &shared_reads(alloc)?, &log)?;
-    let trace = [
+    let (script, log) = (shared_reads(alloc)?, shared_log(alloc)?);
+    let mut replayer = Replayer::new(alloc, &script, &log)?;
+    let mut tracer = Tracer::new(alloc, &script, &log)?;
+    for (thread, number, event) in [
         (1, 0, marked(Mark::Join { from: 0, upto: 0 })),
         (1, 1, READ_9),
         (2, 0, marked(Mark::Join { from: 1, upto: 1 })),
@@ -391,77 +290,23 @@ fn traces_tell_each_event_with_its_place(rt: HostRuntime) -> Result<(), Fail> {
         (1, 2, marked(Mark::Fence { number: 1 })),
         (1, 3, READ_9),
         (2, 2, READ_9),
-    ];
-    assert_traced(&rt, &mut tracer, &trace)?;
-    let outcome = tracer.end(alloc)?;
-    assert_lists(&rt, &outcome.reads, &[&[], &[9, 9], &[9]]);
+    ] {
+        assert_eq!(rt; replayer.step(), Stepped::Made { thread, event });
+        let place = Place {
+            thread,
+            event: number,
+        };
+        assert_eq!(rt; tracer.next(), Some((place, event)));
+    }
+    for _ in 0..2 {
+        assert_eq!(rt; replayer.step(), Stepped::Halted);
+        assert_eq!(rt; tracer.next(), None);
+    }
+    replayer.run();
+    for outcome in [replayer.end(alloc)?, tracer.end(alloc)?] {
+        assert_eq!(rt; outcome.ends.as_slice(), [End::Done; 3].as_slice());
+        assert_lists(&rt, &outcome.reads, &[&[], &[9, 9], &[9]]);
+        assert_eq!(rt; outcome.heap.as_slice(), [9].as_slice());
+    }
     Ok(())
-}
-
-#[test]
-fn traces_end_where_threads_are_stuck(rt: HostRuntime) -> Result<(), Fail> {
-    let alloc = rt.alloc();
-    let never = Gapped {
-        gap: 1,
-        mark: Mark::Join { from: 0, upto: 9 },
-    };
-    let log = log_of_two(alloc, 1, NO_MARKS, 1, &[never])?;
-    let mut tracer = Tracer::new(alloc, &write_and_read(alloc)?, &log)?;
-    let write = Event::Write {
-        object: 0,
-        value: 7,
-    };
-    let read = Event::Read {
-        object: 0,
-        value: 7,
-    };
-    assert_traced(&rt, &mut tracer, &[(0, 0, write), (1, 0, read)])?;
-    let stuck = matches!(tracer.end(alloc), Err(ReplayFault::Stuck { .. }));
-    assert!(rt; stuck);
-    Ok(())
-}
-
-#[test]
-fn waits_follow_what_is_counted(rt: HostRuntime) -> Result<(), Fail> {
-    let alloc = rt.alloc();
-    let mut needs = List::new(alloc);
-    needs.push(Need::Events { of: 1, count: 1 })?;
-    needs.push(Need::Free)?;
-    let mut waits = Waits::new(alloc, &needs)?;
-    assert_eq!(rt; waits.lowest(), Some(1));
-    waits.step(1, false, Need::Never);
-    assert_eq!(rt; waits.lowest(), Some(0));
-    waits.step(0, false, Need::Never);
-    assert_eq!(rt; waits.lowest(), None);
-    Ok(())
-}
-
-fn repeated(alloc: Global, mark: Gapped, count: usize) -> Result<List<Gapped>, OutOfMemory>
-    ensures { IfOk result (λ marks. marks ≡ replicate count mark) }
-{
-    Ok(List::from_vec(vec![in alloc; mark; count]?))
-}
-
-// Two threads, the second with marks that wait for nothing.
-fn log_of_many_marks(alloc: Global, count: usize) -> Result<Log, OutOfMemory>
-    requires { count < 2 ^ 31 }
-{
-    let mark = Gapped {
-        gap: 0,
-        mark: Mark::Join { from: 0, upto: 0 },
-    };
-    let mut threads = List::new(alloc);
-    threads.push(thread_log(alloc, 1, NO_MARKS)?)?;
-    threads.push(ThreadLog {
-        accesses: 1,
-        marks: repeated(alloc, mark, count)?,
-    })?;
-    Ok(Log { threads })
-}
-
-#[test]
-fn many_marks_are_replayed(rt: HostRuntime) -> Result<(), Fail> {
-    let alloc = rt.alloc();
-    let log = log_of_many_marks(alloc, 10_000);
-    assert_said(&rt, alloc, write_and_read(alloc), log, READ_7)
 }
