@@ -1,6 +1,5 @@
 //! Accesses, each with its region.
 ghost use Rattle.std.specs.Prelude.{◌≡◌};
-ghost use Rattle.std.specs.Option.{option_copied};
 ghost use Rattle.octet_model.specs.HappensBefore.{is_write, object_of};
 
 use crate::Region;

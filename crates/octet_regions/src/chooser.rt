@@ -1,14 +1,11 @@
 //! The serial choice: of the threads whose next region has no region left before it, always the
 //! lowest one's is taken.
 ghost use Rattle.std.specs.Prelude.{◌≡◌, ◌+◌, ◌^◌, ◌<◌, ◌≤◌, ◌∷◌, ◌++◌, [], ℕ, List, length, IfOk, OnOk};
-ghost use Rattle.octet_regions.specs.Before.{IsRegion};
-ghost use Rattle.octet_regions.specs.code.Bounds.{bound_in};
-ghost use Rattle.octet_regions.specs.Choice.{IsChosen, IsFree, IsSerialChoice};
+ghost use Rattle.octet_regions.specs.Choice.{IsChosen};
 ghost use Rattle.octet_regions.specs.code.Chooser.{AreEmptyQueues, AreQueuesOf, AreWithin, ChosenIs, FitQueues, FreeIs, HasChosen, IsBehind, KeepsChoice, left_of, LowestBehind};
 ghost use Rattle.octet_regions.specs.Accesses.{accesses_of};
 ghost use Rattle.octet_replay.specs.ReplayState.{HasHalted};
 ghost use Rattle.octet_regions.specs.declared.access.Access.{Access as AccessOf};
-ghost use Rattle.octet_regions.specs.declared.region.Region.{Region as RegionOf};
 
 use crate::Region;
 use crate::bounds::Bounds;

@@ -18,19 +18,14 @@ fn objects_x_y_and_z(alloc: Global) -> Result<List<Object>, OutOfMemory>
     ensures names { IfOk result (λ objects. map (λ o. o.name) objects ≡ codes "x" ∷ codes "y" ∷ codes "z" ∷ []) }
     ensures length { IfOk result (λ objects. length objects ≡ 3) }
 {
+    let start = 1;
     let mut objects = List::new(alloc);
-    objects.push(Object {
-        name: Name::new(alloc, b"x")?,
-        start: 1,
-    })?;
-    objects.push(Object {
-        name: Name::new(alloc, b"y")?,
-        start: 1,
-    })?;
-    objects.push(Object {
-        name: Name::new(alloc, b"z")?,
-        start: 1,
-    })?;
+    let name = Name::new(alloc, b"x")?;
+    objects.push(Object { name, start })?;
+    let name = Name::new(alloc, b"y")?;
+    objects.push(Object { name, start })?;
+    let name = Name::new(alloc, b"z")?;
+    objects.push(Object { name, start })?;
     Ok(objects)
 }
 
@@ -88,30 +83,6 @@ fn joined(gap: u32, from: u8, upto: u64) -> Gapped
     }
 }
 
-fn two_threads(alloc: Global, first: &[Command], second: &[Command]) -> Result<Script, OutOfMemory>
-    requires { IsTrue (list_all (is_thread 3) (first.now ∷ second.now ∷ [])) }
-{
-    let mut threads = List::new(alloc);
-    threads.push(commands_of(alloc, first)?)?;
-    threads.push(commands_of(alloc, second)?)?;
-    script_of(alloc, threads)
-}
-
-fn log_of_two(
-    alloc: Global,
-    accesses: u32,
-    marks: &[Gapped],
-    others_accesses: u32,
-    others_marks: &[Gapped],
-) -> Result<Log, OutOfMemory>
-    requires { IsTrue (is_log (record { accesses = accesses; marks = marks.now } ∷ record { accesses = others_accesses; marks = others_marks.now } ∷ [])) }
-{
-    let mut threads = List::new(alloc);
-    threads.push(thread_log(alloc, accesses, marks)?)?;
-    threads.push(thread_log(alloc, others_accesses, others_marks)?)?;
-    Ok(Log { threads })
-}
-
 // What is found of two threads, each by its commands, its count of accesses and its marks.
 fn found(
     alloc: Global,
@@ -125,9 +96,14 @@ fn found(
     requires commands { IsTrue (list_all (is_thread 3) (first.now ∷ second.now ∷ [])) }
     requires log { IsTrue (is_log (record { accesses = accesses; marks = marks.now } ∷ record { accesses = others_accesses; marks = others_marks.now } ∷ [])) }
 {
-    let script = two_threads(alloc, first, second)?;
-    let log = log_of_two(alloc, accesses, marks, others_accesses, others_marks)?;
-    regions(alloc, &script, &log)
+    let mut of_threads = List::new(alloc);
+    of_threads.push(commands_of(alloc, first)?)?;
+    of_threads.push(commands_of(alloc, second)?)?;
+    let script = script_of(alloc, of_threads)?;
+    let mut threads = List::new(alloc);
+    threads.push(thread_log(alloc, accesses, marks)?)?;
+    threads.push(thread_log(alloc, others_accesses, others_marks)?)?;
+    regions(alloc, &script, &Log { threads })
 }
 
 fn three_threads(
@@ -149,6 +125,10 @@ const fn region(thread: u8, number: u32) -> Region {
     Region { thread, number }
 }
 
+const fn hop(before: Region, after: Region) -> Hop {
+    Hop { before, after }
+}
+
 fn is_order(serial: &Serial, order: &[Region]) -> bool {
     match serial {
         Serial::Order { regions } => regions.as_slice() == order,
@@ -163,25 +143,23 @@ fn is_cycle(serial: &Serial, cycle: &[Hop]) -> bool {
     }
 }
 
-// Thread 0 reads x before thread 1 writes it, and y after thread 1 wrote that.
+// Thread 0 reads x before thread 1 writes it, and y after thread 1 wrote that: a cycle, and none where
+// thread 0 begins a region between its reads.
 #[test]
 fn a_cycle_of_two(rt: HostRuntime) -> Result<(), Fail> {
-    let first = [READ_X, Command::Safe, READ_Y];
+    let alloc = rt.alloc();
     let second = [Command::Set { to: 0, number: 2 }, WRITE_X, WRITE_Y];
     let marks = [joined(1, 1, 4)];
     let others = [joined(0, 0, 1), joined(1, 0, 1)];
-    let serial = found(rt.alloc(), &first, 2, &marks, &second, 2, &others)?;
-    let hops = [
-        Hop {
-            before: region(1, 0),
-            after: region(0, 0),
-        },
-        Hop {
-            before: region(0, 0),
-            after: region(1, 0),
-        },
-    ];
+    let first = [READ_X, Command::Safe, READ_Y];
+    let serial = found(alloc, &first, 2, &marks, &second, 2, &others)?;
+    let (reads, writes) = (region(0, 0), region(1, 0));
+    let hops = [hop(writes, reads), hop(reads, writes)];
     assert!(rt; is_cycle(&serial, hops.as_slice()));
+    let first = [READ_X, REGION, Command::Safe, READ_Y];
+    let serial = found(alloc, &first, 2, &marks, &second, 2, &others)?;
+    let order = [reads, writes, region(0, 1)];
+    assert!(rt; is_order(&serial, order.as_slice()));
     Ok(())
 }
 
@@ -197,30 +175,9 @@ fn a_way_to_a_cycle(rt: HostRuntime) -> Result<(), Fail> {
     threads.push(thread_log(alloc, 3, &[joined(2, 2, 4)])?)?;
     threads.push(thread_log(alloc, 2, &[joined(0, 1, 1), joined(1, 1, 1)])?)?;
     let serial = regions(alloc, &script, &Log { threads })?;
-    let hops = [
-        Hop {
-            before: region(2, 0),
-            after: region(1, 0),
-        },
-        Hop {
-            before: region(1, 0),
-            after: region(2, 0),
-        },
-    ];
+    let (reads, writes) = (region(1, 0), region(2, 0));
+    let hops = [hop(writes, reads), hop(reads, writes)];
     assert!(rt; is_cycle(&serial, hops.as_slice()));
-    Ok(())
-}
-
-// The cycle of two is none where thread 0 begins a region between its reads.
-#[test]
-fn a_region_between_two_reads(rt: HostRuntime) -> Result<(), Fail> {
-    let first = [READ_X, REGION, Command::Safe, READ_Y];
-    let second = [Command::Set { to: 0, number: 2 }, WRITE_X, WRITE_Y];
-    let marks = [joined(1, 1, 4)];
-    let others = [joined(0, 0, 1), joined(1, 0, 1)];
-    let serial = found(rt.alloc(), &first, 2, &marks, &second, 2, &others)?;
-    let order = [region(0, 0), region(1, 0), region(0, 1)];
-    assert!(rt; is_order(&serial, order.as_slice()));
     Ok(())
 }
 

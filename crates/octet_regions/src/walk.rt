@@ -1,5 +1,5 @@
 //! The walk to a cycle, where the serial choice ends with regions left.
-ghost use Rattle.std.specs.Prelude.{◌≡◌, ◌≢◌, ◌<◌, ◌≤◌, ℕ, List, Some, length, true, false, IfOk};
+ghost use Rattle.std.specs.Prelude.{◌≡◌, ◌≢◌, ◌<◌, ◌≤◌, ℕ, List, Some, true, false, IfOk};
 ghost use Rattle.octet_regions.specs.Choice.{IsCycle, IsHop};
 ghost use Rattle.octet_regions.specs.code.Chooser.{FitQueues, IsBehind, IsStuck, LowestBehind};
 ghost use Rattle.octet_regions.specs.code.Earlier.{region_of, Conflicts, KeepsLast, RegionsRise};
