@@ -33,12 +33,8 @@ impl Gathering {
         if thread >= self.threads.len() {
             return;
         }
-        let reach = self.threads[thread];
-        self.threads[thread] = Reach {
-            count: reach.count.max(count),
-            taken_in: reach.taken_in,
-            searched: reach.searched,
-        };
+        let known = self.threads[thread].count;
+        self.threads[thread].count = known.max(count);
     }
 
     // What a mark has before it: of a Join the events that it names, of a Draw the draws before
@@ -57,24 +53,14 @@ impl Gathering {
         requires { thread < length self.old.threads.items }
         ensures { gathered self.new ≡ with_taken_in (gathered self.old) thread cursor }
     {
-        let reach = self.threads[thread];
-        self.threads[thread] = Reach {
-            count: reach.count,
-            taken_in: cursor,
-            searched: reach.searched,
-        };
+        self.threads[thread].taken_in = cursor;
     }
 
     fn move_searched(&mut self, thread: usize, cursor: Cursor)
         requires { thread < length self.old.threads.items }
         ensures { gathered self.new ≡ with_searched (gathered self.old) thread cursor }
     {
-        let reach = self.threads[thread];
-        self.threads[thread] = Reach {
-            count: reach.count,
-            taken_in: reach.taken_in,
-            searched: cursor,
-        };
+        self.threads[thread].searched = cursor;
     }
 
     // Takes in what the next mark has before it, if that mark is among the thread's gathered events.
@@ -97,13 +83,17 @@ impl Gathering {
     }
 
     // Searches past the next mark, unless that is a draw which is not known to lie in the past. One
-    // that is known to is gathered, with the events before it.
+    // that is known to is gathered, with the events before it. Where no draw lies in the past there is
+    // nothing to search for.
     fn pass_next(&mut self, logs: &[ThreadLog], thread: usize) -> bool
         requires here { thread < length self.old.threads.items }
         requires there { thread < length logs.now }
         ensures advances { Advances logs.now (gathered self.old) result (gathered self.new) }
         ensures settled { result ≡ false → (journals : Journals) (of now : ℕ) → AreOfLog journals logs.now → IsPartOfPast journals of now (gathered self.old) → HasDraws journals (gathered self.old) thread }
     {
+        if self.draws == 0 {
+            return false;
+        }
         let reach = self.threads[thread];
         let Some(next) = reach.searched.next(&logs[thread]) else {
             return false;
@@ -118,19 +108,6 @@ impl Gathering {
         true
     }
 
-    // Searches past the next mark likewise, where a draw lies in the past.
-    fn search_next(&mut self, logs: &[ThreadLog], thread: usize) -> bool
-        requires here { thread < length self.old.threads.items }
-        requires there { thread < length logs.now }
-        ensures advances { Advances logs.now (gathered self.old) result (gathered self.new) }
-        ensures settled { result ≡ false → (journals : Journals) (of now : ℕ) → AreOfLog journals logs.now → IsPartOfPast journals of now (gathered self.old) → HasDraws journals (gathered self.old) thread }
-    {
-        if self.draws == 0 {
-            return false;
-        }
-        self.pass_next(logs, thread)
-    }
-
     // Goes past all marks of a thread that can be passed now. False where there is none.
     fn pass_all(&mut self, logs: &[ThreadLog], thread: usize) -> bool
         requires here { thread < length self.old.threads.items }
@@ -142,7 +119,7 @@ impl Gathering {
         'taking: while self.take_next(logs, thread) {
             has_passed = true;
         }
-        'searching: while self.search_next(logs, thread) {
+        'searching: while self.pass_next(logs, thread) {
             has_passed = true;
         }
         has_passed

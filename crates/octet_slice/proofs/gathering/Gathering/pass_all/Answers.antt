@@ -17,12 +17,12 @@ searching-init c = record {
 
 pub searching-preserved : goal.searching-preserved
 searching-preserved c = record {
-  advances = advances_on c.args.logs.now (gathered c.args.self.now) (gathered c.searching.self) (gathered c.search_next.new.self) c.searching.has_passed c.searching.invariant.advances c.searching-test.ensures.advances;
+  advances = advances_on c.args.logs.now (gathered c.args.self.now) (gathered c.searching.self) (gathered c.pass_next.new.self) c.searching.has_passed c.searching.invariant.advances c.searching-test.ensures.advances;
   marks = λ never. absurd cc;
 }
 
 pub returns-clause-advances : goal.returns-clause-advances
-returns-clause-advances c = advances_still c.args.logs.now (gathered c.args.self.now) (gathered c.searching.self) (gathered c.search_next.new.self) c.searching.has_passed c.searching.invariant.advances c.searching-test.ensures.advances
+returns-clause-advances c = advances_still c.args.logs.now (gathered c.args.self.now) (gathered c.searching.self) (gathered c.pass_next.new.self) c.searching.has_passed c.searching.invariant.advances c.searching-test.ensures.advances
 
 pub returns-clause-settled : goal.returns-clause-settled
 returns-clause-settled c never journals of now are part =

@@ -1,8 +1,12 @@
 use Rattle.std.proofs.Common.{◌≡◌, suc, ◌+◌, arith, inl, inr, ap, ◌∙◌}
 use Rattle.octet_slice.specs.code.Reached.{gathered, raised, with_searched}
 use Rattle.octet_slice.proofs.Passing.{passes_it}
+use Rattle.octet_slice.proofs.Settling.{no_draws}
 use Rattle.octet_slice.proofs.gathering.Gathering.pass_next.Goals as goal
 use Rattle.octet_slice.proofs.gathering.Gathering.pass_next.Goals.{in-Draw+else-number-self, in_default-mark}
+
+pub returns-then-self-eq0-clause-settled : goal.returns-then-self-eq0-clause-settled
+returns-then-self-eq0-clause-settled c = λ has_passed journals of now are part. no_draws journals c.args.logs.now (gathered c.args.self.now) c.args.thread are c.if-self-eq0.true
 
 pub returns-clause-advances : goal.returns-clause-advances
 returns-clause-advances c =
