@@ -106,21 +106,6 @@ fn found(
     regions(alloc, &script, &Log { threads })
 }
 
-fn three_threads(
-    alloc: Global,
-    first: &[Command],
-    second: &[Command],
-    third: &[Command],
-) -> Result<Script, OutOfMemory>
-    requires { IsTrue (list_all (is_thread 3) (first.now ∷ second.now ∷ third.now ∷ [])) }
-{
-    let mut threads = List::new(alloc);
-    threads.push(commands_of(alloc, first)?)?;
-    threads.push(commands_of(alloc, second)?)?;
-    threads.push(commands_of(alloc, third)?)?;
-    script_of(alloc, threads)
-}
-
 const fn region(thread: u8, number: u32) -> Region {
     Region { thread, number }
 }
@@ -169,7 +154,11 @@ fn a_way_to_a_cycle(rt: HostRuntime) -> Result<(), Fail> {
     let alloc = rt.alloc();
     let second = [READ_X, WRITE_Z, READ_Y];
     let third = [Command::Set { to: 0, number: 2 }, WRITE_X, WRITE_Y];
-    let script = three_threads(alloc, &[READ_Z], &second, &third)?;
+    let mut of_threads = List::new(alloc);
+    of_threads.push(commands_of(alloc, &[READ_Z])?)?;
+    of_threads.push(commands_of(alloc, &second)?)?;
+    of_threads.push(commands_of(alloc, &third)?)?;
+    let script = script_of(alloc, of_threads)?;
     let mut threads = List::new(alloc);
     threads.push(thread_log(alloc, 1, &[joined(0, 1, 2)])?)?;
     threads.push(thread_log(alloc, 3, &[joined(2, 2, 4)])?)?;
