@@ -1,18 +1,12 @@
--- What a recorder's steps need, and what they leave.
+-- What an access needs of its recorder, and what a recorder's steps leave.
 use Rattle.std.specs.Prelude.{◌≡◌, ℕ, ◌<◌}
-use Rattle.octet_state.specs.declared.phase.Due.TheVariants.{Nothing}
-use Rattle.octet_rule.specs.Seats.{view, IsSeatOf, objects_of}
+use Rattle.octet_rule.specs.Seats.{IsSeatOf, objects_of}
 use Rattle.octet_rule.specs.declared.words.Words.{Words}
 use Rattle.octet_heap.specs.declared.heap.Heap.{Heap}
 use Rattle.octet_heap.specs.declared.pending_access.PendingAccess.{PendingAccess}
 use Rattle.octet_heap.specs.declared.poll.Poll.{Poll}
 use Rattle.octet_heap.specs.declared.recorder.Recorder.{Recorder}
 use Rattle.octet_heap.specs.Waiting.{accesses_after}
-
--- it has one of the seats of these words, whose thread owes nothing
-pub record CanStep (words : Words) (recorder : Recorder) : Type 0 where
-  pub own : IsSeatOf words recorder.seat
-  pub owes_nothing : (view recorder.seat).thread.due ≡ Nothing
 
 -- it has one of the heap's seats, there is the object of this access, and there is room for one more
 pub record CanAccess (heap : Heap) (access : PendingAccess) (recorder : Recorder) : Type 0 where

@@ -44,7 +44,7 @@ impl Heap {
         ensures comes { Comes access (view recorder.old.seat) result 3 (view recorder.new.seat) }
         ensures leaves { Leaves access result (view recorder.new.seat) }
     {
-        match recorder.raise(&self.words, access.object, seen) {
+        match self.words.raise(&mut recorder.seat, access.object, seen) {
             Tried::Won => self.access(recorder, access),
             Tried::Lost { found } => pending_changed(seen, found),
         }
@@ -92,7 +92,10 @@ impl Heap {
         ensures comes { Comes access (view recorder.old.seat) result 18 (view recorder.new.seat) }
         ensures leaves { Leaves access result (view recorder.new.seat) }
     {
-        match recorder.claim(&self.words, access.object, access.mode, seen) {
+        match self
+            .words
+            .claim(&mut recorder.seat, access.object, &access.mode, seen)
+        {
             Tried::Won => self.ask_on(recorder, access, state, 0),
             Tried::Lost { found } => pending_changed(seen, found),
         }

@@ -7,8 +7,8 @@ ghost use Rattle.octet_rule.specs.Conditions.{MayLoad, MayPass, HoldsWord, MayDr
 ghost use Rattle.octet_rule.specs.Entering.{Enters};
 ghost use Rattle.octet_heap.specs.Waiting.{accesses_after_load};
 ghost use Rattle.octet_rule.specs.Rule.{Steps};
-ghost use Rattle.octet_heap.specs.Recorders.{CanStep, KeepsSeat};
-ghost use Rattle.octet_rule.specs.Seats.{view, threads_of, objects_of};
+ghost use Rattle.octet_heap.specs.Recorders.{KeepsSeat};
+ghost use Rattle.octet_rule.specs.Seats.{view, CanStep, threads_of, objects_of};
 ghost use Rattle.octet_safe.specs.Replies.{Asks, Looks};
 
 use crate::pending_access::PendingAccess;
@@ -22,7 +22,7 @@ impl Recorder {
     /// Loads the state of the object, and makes the access where that lets the thread pass.
     #[inline(always)]
     pub(crate) fn enter(&mut self, words: &Words, access: PendingAccess) -> Entered
-        requires can { CanStep words.now self.old }
+        requires can { CanStep words.now self.old.seat }
         requires object { access.object < objects_of words.now }
         requires phase { MayLoad access.object access.mode (view self.old.seat).journal (view self.old.seat).thread.phase }
         requires more { self.old.log.accesses < self.old.fuel }
@@ -40,7 +40,7 @@ impl Recorder {
     }
 
     pub(crate) fn read(&mut self, words: &Words, object: u16) -> u64
-        requires can { CanStep words.now self.old }
+        requires can { CanStep words.now self.old.seat }
         requires object { object < objects_of words.now }
         requires phase { MayPass object ForRead (view self.old.seat).thread.phase }
         requires more { self.old.log.accesses < self.old.fuel }
@@ -53,7 +53,7 @@ impl Recorder {
     }
 
     pub(crate) fn write(&mut self, words: &Words, object: u16, value: u64)
-        requires can { CanStep words.now self.old }
+        requires can { CanStep words.now self.old.seat }
         requires object { object < objects_of words.now }
         requires phase { MayPass object ForWrite (view self.old.seat).thread.phase }
         requires more { self.old.log.accesses < self.old.fuel }
@@ -66,7 +66,7 @@ impl Recorder {
 
     /// Answers the value before.
     pub(crate) fn bump(&mut self, words: &Words, object: u16, amount: u64) -> u64
-        requires can { CanStep words.now self.old }
+        requires can { CanStep words.now self.old.seat }
         requires object { object < objects_of words.now }
         requires phase { MayPass object ForUpdate (view self.old.seat).thread.phase }
         requires more { self.old.log.accesses < self.old.fuel }
@@ -79,7 +79,7 @@ impl Recorder {
     }
 
     pub(crate) fn fence(&mut self, words: &Words)
-        requires can { CanStep words.now self.old }
+        requires can { CanStep words.now self.old.seat }
         requires phase { MayFence (view self.old.seat).thread.phase }
         requires more { self.old.log.accesses < self.old.fuel }
         ensures keeps { KeepsSeat words.now self.old.log.accesses self.old self.new }
@@ -90,7 +90,7 @@ impl Recorder {
     }
 
     pub(crate) fn draw(&mut self, words: &Words)
-        requires can { CanStep words.now self.old }
+        requires can { CanStep words.now self.old.seat }
         requires phase { MayDraw (view self.old.seat).thread.phase }
         requires more { self.old.log.accesses < self.old.fuel }
         ensures keeps { KeepsSeat words.now self.old.log.accesses self.old self.new }
@@ -109,7 +109,7 @@ impl Recorder {
         from: u8,
         upto: u64,
     ) -> Tried
-        requires can { CanStep words.now self.old }
+        requires can { CanStep words.now self.old.seat }
         requires object { object < objects_of words.now }
         requires phase { HoldsWord object ForRead seen (view self.old.seat).thread.phase }
         requires shares { decision (view self.old.seat) ≡ ShareIt from upto }
@@ -127,7 +127,7 @@ impl Recorder {
     }
 
     pub(crate) fn ask(&mut self, words: &Words, whom: u8) -> Reply
-        requires can { CanStep words.now self.old }
+        requires can { CanStep words.now self.old.seat }
         requires whom { whom < threads_of words.now }
         requires phase { AsksNext (view self.old.seat).threads (view self.old.seat).number whom (view self.old.seat).thread.phase }
         requires more { self.old.log.accesses < self.old.fuel }
@@ -142,7 +142,7 @@ impl Recorder {
     }
 
     pub(crate) fn look(&mut self, words: &Words, whom: u8) -> Reply
-        requires can { CanStep words.now self.old }
+        requires can { CanStep words.now self.old.seat }
         requires whom { whom < threads_of words.now }
         requires phase { HasAsked (view self.old.seat).number whom (view self.old.seat).thread.phase }
         requires more { self.old.log.accesses < self.old.fuel }

@@ -19,7 +19,7 @@ use Rattle.octet_state.specs.Table.{is_changed_by, decided}
 use Rattle.octet_state.specs.Asking.{answers}
 use Rattle.octet_state.specs.State.{ProtocolState, state_of}
 use Rattle.octet_state.specs.Intermediate.{change_of, change_by}
-use Rattle.octet_state.specs.Steps.{Kind, made, ended_by, ToAsk, ToLook, ToLoad, ToClaim, ToDraw, ToShare, state_in, settling, moved, loaded, mode_of, wins, claimed, lost, joined_by_share, one_done, one_asked, drawn_of, step}
+use Rattle.octet_state.specs.Steps.{Kind, made, ended_by, ToAsk, ToLook, ToLoad, ToClaim, ToDraw, ToShare, state_in, settling, target, moved, loaded, mode_of, wins, claimed, lost, joined_by_share, one_done, one_asked, drawn_of, step}
 use Rattle.std.proofs.lemmas.Nat.{pow_below}
 use Rattle.std.proofs.lemmas.Bool.{ne_eqb}
 use Rattle.octet_state.proofs.lemmas.Packing.{state_back}
@@ -103,12 +103,23 @@ looked_done whom v told w took is = (
   grows (ToLook whom) v told w (Marked (Join whom (unpacked_status told).upto)) took (ap (λ (b : Bool). if b then Some (Marked (Join whom (unpacked_status told).upto)) else None) is),
 )
 
--- a claim that finds another word than the thread has loaded
+-- an exchange that finds another word than the thread has loaded
+loses : (object seen : ℕ) (mode : Mode) (v : SeatView) (told : ℕ) → HoldsWord object mode seen v.thread.phase → told ≢ seen → wins told v.thread.phase ≡ false
+loses object seen mode v told holds other = let want = holding object mode seen v.thread.phase holds in
+    ap (wins told) want.wants ∙ ne_eqb told (packed_state want.seen) (λ e. other (e ∙ sym want.is_word))
+
 pub claim_lost : (object seen : ℕ) (mode : Mode) (v : SeatView) (told : ℕ) (w : SeatView) → Steps ToClaim v told w → HoldsWord object mode seen v.thread.phase → told ≢ seen
     → w.thread ≡ moved (lost v.thread.phase) Glance v.thread
-claim_lost object seen mode v told w took holds other = let want = holding object mode seen v.thread.phase holds in
-    let loses : wins told v.thread.phase ≡ false = ap (wins told) want.wants ∙ ne_eqb told (packed_state want.seen) (λ e. other (e ∙ sym want.is_word)) in
-    ap (λ (x : SeatView). x.thread) took.moves ∙ ap (λ (b : Bool). if b then moved (claimed v.thread.phase) Nothing v.thread else moved (lost v.thread.phase) Glance v.thread) loses
+claim_lost object seen mode v told w took holds other = ap (λ (x : SeatView). x.thread) took.moves
+    ∙ ap (λ (b : Bool). if b then moved (claimed v.thread.phase) Nothing v.thread else moved (lost v.thread.phase) Glance v.thread) (loses object seen mode v told holds other)
+
+pub share_lost : (object seen : ℕ) (v : SeatView) (told : ℕ) (w : SeatView) → Steps ToShare v told w → HoldsWord object Read seen v.thread.phase → told ≢ seen
+    → (w.thread ≡ moved (lost v.thread.phase) Glance v.thread) × (w.journal ≡ v.journal)
+share_lost object seen v told w took holds other = let is = loses object seen Read v told holds other in (
+  ap (λ (x : SeatView). x.thread) took.moves
+      ∙ ap (λ (b : Bool). if b then moved (Sharing (target v.thread.phase) None) Nothing v.thread else moved (lost v.thread.phase) Glance v.thread) is,
+  stays ToShare v told w took (ap (λ (b : Bool). if b then joined_by_share v.thread.phase else None) is),
+)
 
 -- where the table says to share, the state is another's read-exclusive one, so a share that goes through makes a Join
 neither : (b : Bool) (x y : Act) → is_share x ≡ false → is_share y ≡ false → IsTrue (is_share (if b then x else y)) → ⊥

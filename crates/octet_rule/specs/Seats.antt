@@ -1,11 +1,14 @@
 -- What a clause says of words and seats.
 use Rattle.std.specs.Prelude.{◌≡◌, ℕ, ◌<◌, List, [], map, length, slice_index_or}
 use Rattle.octet_model.specs.declared.event.Event.{Event}
+use Rattle.octet_state.specs.declared.phase.Due.TheVariants.{Nothing}
 use Rattle.octet_state.specs.declared.phase.Phase.TheVariants.{Off}
 use Rattle.octet_state.specs.State.{ProtocolState, thread_of, unstarted}
+use Rattle.octet_state.specs.Steps.{Kind}
 use Rattle.octet_state.specs.Soundness.{IsSound}
 use Rattle.octet_seats.specs.Rows.{AreInRow}
 use Rattle.octet_rule.specs.Views.{SeatView}
+use Rattle.octet_rule.specs.Rule.{Steps}
 use Rattle.octet_rule.specs.Conditions.{IsResting}
 use Rattle.octet_rule.specs.declared.words.Seat.{Seat}
 use Rattle.octet_rule.specs.declared.words.Words.{Words}
@@ -30,6 +33,16 @@ BelongsTo words seat = (seat.inner.table_id ≡ words.table.shared.table_id) × 
 abbrev pub IsSeatOf : Words → Seat → Type 0
 IsSeatOf words seat = (seat.inner.table_id ≡ words.table.shared.table_id) × ((view seat).threads ≡ words.threads)
     × ((view seat).number ≡ 0 → (view seat).seats_made ≡ words.threads) × ((view seat).number ≡ 0 → (view seat).joined ≡ [])
+
+-- it is, and its thread owes nothing
+pub record CanStep (words : Words) (seat : Seat) : Type 0 where
+  pub own : IsSeatOf words seat
+  pub owes_nothing : (view seat).thread.due ≡ Nothing
+
+-- it still is after this step, which was told this word
+pub record TakesStep (words : Words) (k : Kind) (before : Seat) (told : ℕ) (after : Seat) : Type 0 where
+  pub own : IsSeatOf words after
+  pub step : Steps k (view before) told (view after)
 
 -- the seat of this thread, which has taken no step
 abbrev pub IsFresh : ℕ → Seat → Type 0

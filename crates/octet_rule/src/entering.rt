@@ -6,7 +6,7 @@ ghost use Rattle.octet_state.specs.NextStep.{access_of};
 ghost use Rattle.octet_rule.specs.Rule.{Steps};
 ghost use Rattle.octet_rule.specs.Conditions.{MayLoad, MayPass};
 ghost use Rattle.octet_rule.specs.Entering.{Enters};
-ghost use Rattle.octet_rule.specs.Seats.{view, IsSeatOf, objects_of};
+ghost use Rattle.octet_rule.specs.Seats.{view, IsSeatOf, CanStep, objects_of};
 
 use crate::entered::Entered;
 use crate::view::View;
@@ -20,9 +20,8 @@ impl Words {
     /// write writes and what an update adds.
     #[inline(always)]
     pub fn enter(&self, seat: &mut Seat, object: u16, mode: &Mode, value: u64) -> Entered
-        requires own { IsSeatOf self.now seat.old }
+        requires can { CanStep self.now seat.old }
         requires object { object < objects_of self.now }
-        requires due { (view seat.old).thread.due ≡ Nothing }
         requires phase { MayLoad object mode.now (view seat.old).journal (view seat.old).thread.phase }
         ensures own { IsSeatOf self.now seat.new }
         ensures steps { Enters object mode.now value (view seat.old) result (view seat.new) }

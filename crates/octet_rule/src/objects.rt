@@ -1,14 +1,13 @@
 //! Steps on the states of objects, and on their cells.
 ghost use Rattle.std.specs.Prelude.{◌≡◌, ◌+◌, ◌-◌, ◌*◌, ◌/◌, ◌<◌, Some, length, IsTrue, IsFalse};
 ghost use Rattle.octet_state.specs.declared.act.Mode.TheVariants.{Read as ForRead, Write as ForWrite, Update as ForUpdate};
-ghost use Rattle.octet_state.specs.declared.phase.Due.TheVariants.{Nothing};
 ghost use Rattle.octet_state.specs.Table.{is_changed_by};
 ghost use Rattle.octet_state.specs.Words.{packed_state, unpacked_state};
 ghost use Rattle.octet_state.specs.Steps.{ToLoad, ToRead, ToWrite, ToBump, ToClaim, ToSettle, state_in, settling};
 ghost use Rattle.atomic_table.specs.Table.{Allows};
-ghost use Rattle.octet_rule.specs.Rule.{IsRuled, Acts, operation_on, Steps};
+ghost use Rattle.octet_rule.specs.Rule.{IsRuled, Acts, operation_on};
 ghost use Rattle.octet_rule.specs.Conditions.{MayLoad, MayPass, HoldsWord, MaySettle, decision, is_take, found_by, IsLost};
-ghost use Rattle.octet_rule.specs.Seats.{view, IsSeatOf, objects_of};
+ghost use Rattle.octet_rule.specs.Seats.{view, CanStep, TakesStep, objects_of};
 
 use crate::tried::Tried;
 use crate::view::View;
@@ -20,18 +19,16 @@ impl Words {
     /// Loads the state of an object for an access. Answers its word, which no thread finds to be
     /// its own intermediate state.
     pub fn load(&self, seat: &mut Seat, object: u16, mode: &Mode) -> u64
-        requires own { IsSeatOf self.now seat.old }
+        requires can { CanStep self.now seat.old }
         requires object { object < objects_of self.now }
-        requires due { (view seat.old).thread.due ≡ Nothing }
         requires phase { MayLoad object mode.now (view seat.old).journal (view seat.old).thread.phase }
-        ensures own { IsSeatOf self.now seat.new }
-        ensures step { Steps (ToLoad object mode.now) (view seat.old) result (view seat.new) }
+        ensures step { TakesStep self.now (ToLoad object mode.now) seat.old result seat.new }
         ensures packed { unpacked_state result ≡ Some (state_in (unpacked_state result)) }
         ensures foreign { IsFalse (is_changed_by (state_in (unpacked_state result)) (view seat.old).number) }
     {
         let place = self.state_place(object);
         let word = self.load_by_mode(&mut seat.inner, place, mode);
-        let state = states::state_of(word);
+        let state = states::state_in(word, seat.thread);
         let act = decide(&state, seat.thread, mode, seat.count);
         let (phase, due) = act.after_load(&state, object, *mode);
         seat.phase = phase;
@@ -41,12 +38,10 @@ impl Words {
 
     /// Reads the cell.
     pub fn read(&self, seat: &mut Seat, object: u16) -> u64
-        requires own { IsSeatOf self.now seat.old }
+        requires can { CanStep self.now seat.old }
         requires object { object < objects_of self.now }
-        requires due { (view seat.old).thread.due ≡ Nothing }
         requires phase { MayPass object ForRead (view seat.old).thread.phase }
-        ensures own { IsSeatOf self.now seat.new }
-        ensures step { Steps ToRead (view seat.old) result (view seat.new) }
+        ensures { TakesStep self.now ToRead seat.old result seat.new }
     {
         let place = self.cell_place(object);
         let value = self
@@ -60,12 +55,10 @@ impl Words {
 
     /// Writes the cell.
     pub fn write(&self, seat: &mut Seat, object: u16, value: u64)
-        requires own { IsSeatOf self.now seat.old }
+        requires can { CanStep self.now seat.old }
         requires object { object < objects_of self.now }
-        requires due { (view seat.old).thread.due ≡ Nothing }
         requires phase { MayPass object ForWrite (view seat.old).thread.phase }
-        ensures own { IsSeatOf self.now seat.new }
-        ensures step { Steps (ToWrite value) (view seat.old) value (view seat.new) }
+        ensures { TakesStep self.now (ToWrite value) seat.old value seat.new }
     {
         let place = self.cell_place(object);
         self.table
@@ -77,12 +70,10 @@ impl Words {
 
     /// Adds the amount to the cell, modulo 2^64, in one access. Answers the value before.
     pub fn bump(&self, seat: &mut Seat, object: u16, amount: u64) -> u64
-        requires own { IsSeatOf self.now seat.old }
+        requires can { CanStep self.now seat.old }
         requires object { object < objects_of self.now }
-        requires due { (view seat.old).thread.due ≡ Nothing }
         requires phase { MayPass object ForUpdate (view seat.old).thread.phase }
-        ensures own { IsSeatOf self.now seat.new }
-        ensures step { Steps (ToBump amount) (view seat.old) result (view seat.new) }
+        ensures { TakesStep self.now (ToBump amount) seat.old result seat.new }
     {
         let place = self.cell_place(object);
         let before = self
@@ -96,13 +87,11 @@ impl Words {
 
     /// Takes the object, where its word is still the one that was loaded.
     pub fn claim(&self, seat: &mut Seat, object: u16, mode: &Mode, seen: u64) -> Tried
-        requires own { IsSeatOf self.now seat.old }
+        requires can { CanStep self.now seat.old }
         requires object { object < objects_of self.now }
-        requires due { (view seat.old).thread.due ≡ Nothing }
         requires phase { HoldsWord object mode.now seen (view seat.old).thread.phase }
         requires takes { IsTrue (is_take (decision (view seat.old))) }
-        ensures own { IsSeatOf self.now seat.new }
-        ensures step { Steps ToClaim (view seat.old) (found_by seen result) (view seat.new) }
+        ensures step { TakesStep self.now ToClaim seat.old (found_by seen result) seat.new }
         ensures lost { IsLost seen result }
     {
         let place = self.state_place(object);
@@ -123,12 +112,10 @@ impl Words {
 
     /// Gives the object the state that it has from then on.
     pub fn settle(&self, seat: &mut Seat, object: u16)
-        requires own { IsSeatOf self.now seat.old }
+        requires can { CanStep self.now seat.old }
         requires object { object < objects_of self.now }
-        requires due { (view seat.old).thread.due ≡ Nothing }
         requires phase { MaySettle (view seat.old).threads object (view seat.old).thread.phase }
-        ensures own { IsSeatOf self.now seat.new }
-        ensures step { Steps ToSettle (view seat.old) (packed_state (settling (view seat.old).number (length (view seat.old).journal) (view seat.old).thread.phase)) (view seat.new) }
+        ensures { TakesStep self.now ToSettle seat.old (packed_state (settling (view seat.old).number (length (view seat.old).journal) (view seat.old).thread.phase)) seat.new }
     {
         let place = self.state_place(object);
         let settled = seat.phase.settled(seat.thread, seat.events);

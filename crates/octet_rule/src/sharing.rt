@@ -2,11 +2,9 @@
 ghost use Rattle.std.specs.Prelude.{◌≡◌, ◌+◌, ◌*◌, ◌<◌, IsTrue};
 ghost use Rattle.octet_state.specs.declared.act.Act.TheVariants.{Raise as RaiseIt};
 ghost use Rattle.octet_state.specs.declared.act.Mode.TheVariants.{Read as ForRead};
-ghost use Rattle.octet_state.specs.declared.phase.Due.TheVariants.{Nothing};
 ghost use Rattle.octet_state.specs.Steps.{ToDraw, ToFence, ToRaise, ToShare, mode_of};
-ghost use Rattle.octet_rule.specs.Rule.{Steps};
 ghost use Rattle.octet_rule.specs.Conditions.{MayDraw, MayFence, HoldsWord, decision, is_share, found_by, IsLost};
-ghost use Rattle.octet_rule.specs.Seats.{view, IsSeatOf, objects_of};
+ghost use Rattle.octet_rule.specs.Seats.{view, CanStep, TakesStep, objects_of};
 
 use crate::plays;
 use crate::tried::Tried;
@@ -17,11 +15,9 @@ impl Words {
     /// Draws the next number for the object that it makes read-shared. Answers the number that
     /// was drawn last.
     pub fn draw(&self, seat: &mut Seat) -> u64
-        requires own { IsSeatOf self.now seat.old }
-        requires due { (view seat.old).thread.due ≡ Nothing }
+        requires can { CanStep self.now seat.old }
         requires phase { MayDraw (view seat.old).thread.phase }
-        ensures own { IsSeatOf self.now seat.new }
-        ensures step { Steps ToDraw (view seat.old) result (view seat.new) }
+        ensures { TakesStep self.now ToDraw seat.old result seat.new }
     {
         let last = self
             .table
@@ -40,11 +36,9 @@ impl Words {
     /// Loads the counter. Answers the number that was drawn last; the thread then knows all draws
     /// up to it.
     pub fn fence(&self, seat: &mut Seat) -> u64
-        requires own { IsSeatOf self.now seat.old }
-        requires due { (view seat.old).thread.due ≡ Nothing }
+        requires can { CanStep self.now seat.old }
         requires phase { MayFence (view seat.old).thread.phase }
-        ensures own { IsSeatOf self.now seat.new }
-        ensures step { Steps ToFence (view seat.old) result (view seat.new) }
+        ensures { TakesStep self.now ToFence seat.old result seat.new }
     {
         let last = self.table.shared.load::<plays::Fence>(&mut seat.inner, 0);
         seat.phase = seat.phase.passing();
@@ -56,13 +50,11 @@ impl Words {
     /// Makes its read-exclusive object write-exclusive, where its word is still the one that was
     /// loaded.
     pub fn raise(&self, seat: &mut Seat, object: u16, seen: u64) -> Tried
-        requires own { IsSeatOf self.now seat.old }
+        requires can { CanStep self.now seat.old }
         requires object { object < objects_of self.now }
-        requires due { (view seat.old).thread.due ≡ Nothing }
         requires phase { HoldsWord object (mode_of (view seat.old).thread.phase) seen (view seat.old).thread.phase }
         requires raises { decision (view seat.old) ≡ RaiseIt }
-        ensures own { IsSeatOf self.now seat.new }
-        ensures step { Steps ToRaise (view seat.old) (found_by seen result) (view seat.new) }
+        ensures step { TakesStep self.now ToRaise seat.old (found_by seen result) seat.new }
         ensures lost { IsLost seen result }
     {
         let place = self.state_place(object);
@@ -84,13 +76,11 @@ impl Words {
     /// Begins to make another's read-exclusive object read-shared, where its word is still the
     /// one that was loaded.
     pub fn share(&self, seat: &mut Seat, object: u16, seen: u64) -> Tried
-        requires own { IsSeatOf self.now seat.old }
+        requires can { CanStep self.now seat.old }
         requires object { object < objects_of self.now }
-        requires due { (view seat.old).thread.due ≡ Nothing }
         requires phase { HoldsWord object ForRead seen (view seat.old).thread.phase }
         requires shares { IsTrue (is_share (decision (view seat.old))) }
-        ensures own { IsSeatOf self.now seat.new }
-        ensures step { Steps ToShare (view seat.old) (found_by seen result) (view seat.new) }
+        ensures step { TakesStep self.now ToShare seat.old (found_by seen result) seat.new }
         ensures lost { IsLost seen result }
     {
         let place = self.state_place(object);

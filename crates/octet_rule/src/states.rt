@@ -6,16 +6,6 @@ ghost use Rattle.octet_state.specs.Steps.{state_in};
 use octet_model::MAX_THREADS;
 use octet_state::StateWord;
 
-/// The state that a word holds.
-pub(crate) fn state_of(word: u64) -> StateWord
-    ensures { result ≡ state_in (unpacked_state word) }
-{
-    match StateWord::unpack(word) {
-        Some(state) => state,
-        None => StateWord::WrEx { owner: 0 },
-    }
-}
-
 /// The state that a word holds: there is one. Mostly it is write-exclusive of the thread itself, which
 /// one comparison tells.
 #[inline(always)]

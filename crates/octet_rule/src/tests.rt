@@ -1,19 +1,20 @@
 //! Threads at work on one object, step by step. Where a step finds other words than is said
 //! here, the thread gives up.
-ghost use Rattle.std.specs.Prelude.{◌≡◌, ◌+◌, ◌<◌, ◌∷◌, [], IfOk, IfSome, IsTrue, true};
+ghost use Rattle.std.specs.Prelude.{◌≡◌, ◌<◌, IfSome, IsSome, IsTrue, true};
 ghost use Rattle.octet_model.specs.Journals.{access_count};
 ghost use Rattle.octet_state.specs.declared.act.Mode.TheVariants.{Read as ForRead};
 ghost use Rattle.octet_state.specs.declared.phase.Due.TheVariants.{Nothing};
-ghost use Rattle.octet_state.specs.declared.phase.Phase.TheVariants.{Off, Idle, Claimed};
+ghost use Rattle.octet_state.specs.declared.phase.Phase.TheVariants.{Idle, Claimed};
 ghost use Rattle.octet_state.specs.declared.state_word.StateWord.TheVariants.{WrEx};
 ghost use Rattle.octet_state.specs.Steps.{most_accesses};
-ghost use Rattle.octet_rule.specs.Conditions.{MayPass, IsResting};
-ghost use Rattle.octet_rule.specs.Seats.{view, threads_of, objects_of, starts_of, IsSeatOf, RestsAs, Closes};
+ghost use Rattle.octet_rule.specs.Conditions.{MayPass};
+ghost use Rattle.octet_rule.specs.Seats.{view, threads_of, objects_of, IsSeatOf, IsFresh, RestsAs};
 
 use super::*;
 use octet_model::{List, OutOfMemory};
 use octet_state::{Act, Mode, Phase, StateWord, StatusWord, Whom, decide};
 use std::alloc::Global;
+use std::process::Abort;
 use std::test::*;
 
 /// Loads the state of an object, and takes it where another thread has it that is blocked. Whether
@@ -49,122 +50,58 @@ fn reach(words: &Words, seat: &mut Seat, object: u16, mode: &Mode) -> bool
     }
 }
 
-/// Writes an object that it reaches.
-fn write(words: &Words, seat: &mut Seat, object: u16, value: u64) -> bool
-    requires own { IsSeatOf words.now seat.old }
-    requires object { object < objects_of words.now }
-    requires idle { ((view seat.old).thread.due ≡ Nothing) × ((view seat.old).thread.phase ≡ Idle) }
-    requires room { access_count (view seat.old).journal < most_accesses }
-    ensures own { IsSeatOf words.now seat.new }
-    ensures same { (view seat.new).number ≡ (view seat.old).number }
-    ensures idle { IsTrue result → ((view seat.new).thread.due ≡ Nothing) × ((view seat.new).thread.phase ≡ Idle) }
-{
-    if !reach(words, seat, object, &Mode::Write) {
-        return false;
-    }
-    words.write(seat, object, value);
-    true
-}
-
-/// Adds to an object that it reaches. Answers the value before.
-fn bump(words: &Words, seat: &mut Seat, object: u16, amount: u64) -> Option<u64>
-    requires own { IsSeatOf words.now seat.old }
-    requires object { object < objects_of words.now }
-    requires idle { ((view seat.old).thread.due ≡ Nothing) × ((view seat.old).thread.phase ≡ Idle) }
-    requires room { access_count (view seat.old).journal < most_accesses }
-    ensures own { IsSeatOf words.now seat.new }
-    ensures same { (view seat.new).number ≡ (view seat.old).number }
-    ensures idle { IfSome result (λ _. ((view seat.new).thread.due ≡ Nothing) × ((view seat.new).thread.phase ≡ Idle)) }
-{
-    if !reach(words, seat, object, &Mode::Update) {
-        return None;
-    }
-    Some(words.bump(seat, object, amount))
-}
-
-/// Thread 0 writes its object, and thread 1 takes it over.
-fn taken_over(
-    words: Words,
-    alloc: Global,
-    mut first: Seat,
-    mut second: Seat,
-) -> Result<List<u64>, OutOfMemory>
-    requires words { (threads_of words ≡ 2) × (objects_of words ≡ 1) }
-    requires first { IsSeatOf words first × RestsAs 0 first }
-    requires second { IsSeatOf words second × RestsAs 1 second }
-    requires due { ((view first).thread.due ≡ Nothing) × ((view second).thread.due ≡ Nothing) }
-    requires fresh { ((view first).journal ≡ []) × ((view second).journal ≡ []) }
-{
-    words.unblock(&mut first);
-    if !write(&words, &mut first, 0, 7) {
-        return Ok(List::new(alloc));
-    }
-    words.block(&mut first);
-    words.unblock(&mut second);
-    if !write(&words, &mut second, 0, 9) {
-        return Ok(List::new(alloc));
-    }
-    words.block(&mut second);
-    let mut seats = List::new(alloc);
-    seats.push(first)?;
-    seats.push(second)?;
-    words.close(alloc, seats)
-}
-
-#[test]
-fn a_thread_takes_an_object_over(rt: HostRuntime) -> Result<(), OutOfMemory> {
-    let starts = List::from_vec(Vec::from_slice(rt.alloc(), &[4])?);
-    let (words, seats) = Words::new(rt.alloc(), 2, &starts)?;
-    let mut seats = seats.into_vec();
-    let second = seats.remove(1);
-    let first = seats.remove(0);
-    let values = taken_over(words, rt.alloc(), first, second)?;
-    assert_eq!(rt; values.as_slice(), [9].as_slice());
-    Ok(())
-}
-
 /// A new thread adds to the object, and is then blocked. Answers the value before.
 fn added(words: &Words, seat: &mut Seat, amount: u64) -> Option<u64>
     requires words { objects_of words.now ≡ 1 }
     requires own { IsSeatOf words.now seat.old }
-    requires off { (view seat.old).thread.phase ≡ Off }
-    requires due { (view seat.old).thread.due ≡ Nothing }
-    requires fresh { (view seat.old).journal ≡ [] }
+    requires fresh { IsFresh (view seat.old).number seat.old }
+    ensures own { IsSeatOf words.now seat.new }
+    ensures rests { IsSome result → RestsAs (view seat.old).number seat.new }
 {
     words.unblock(seat);
-    let before = bump(words, seat, 0, amount)?;
+    if !reach(words, seat, 0, &Mode::Update) {
+        return None;
+    }
+    let before = words.bump(seat, 0, amount);
     words.block(seat);
     Some(before)
 }
 
-/// A new thread reads the object.
-fn found(words: &Words, seat: &mut Seat) -> Option<u64>
-    requires words { objects_of words.now ≡ 1 }
-    requires own { IsSeatOf words.now seat.old }
-    requires off { (view seat.old).thread.phase ≡ Off }
-    requires due { (view seat.old).thread.due ≡ Nothing }
-    requires fresh { (view seat.old).journal ≡ [] }
+/// Thread 0 adds to its object, which thread 1 and then thread 2 takes over. Answers the last value.
+fn taken_over<R: Abort>(
+    rt: &R,
+    words: Words,
+    alloc: Global,
+    mut first: Seat,
+    mut second: Seat,
+    mut third: Seat,
+) -> Result<List<u64>, OutOfMemory>
+    requires words { (threads_of words ≡ 3) × (objects_of words ≡ 1) }
+    requires first { IsSeatOf words first × IsFresh 0 first }
+    requires second { IsSeatOf words second × IsFresh 1 second }
+    requires third { IsSeatOf words third × IsFresh 2 third }
 {
-    words.unblock(seat);
-    if !reach(words, seat, 0, &Mode::Read) {
-        return None;
-    }
-    Some(words.read(seat, 0))
+    let start = added(&words, &mut first, 2).expect(rt, "an update");
+    let between = added(&words, &mut second, 3).expect(rt, "an update");
+    let last = added(&words, &mut third, 5).expect(rt, "an update");
+    assert_eq!(rt; [start, between, last], [u64::MAX, 1, 4]);
+    let mut seats = List::new(alloc);
+    seats.push(first)?;
+    seats.push(second)?;
+    seats.push(third)?;
+    words.close(alloc, seats)
 }
 
-// Threads 0 and 1 add to the object, which thread 1 and then thread 2 takes over.
 #[test]
-fn bumps_add_up_and_wrap(rt: HostRuntime) -> Result<(), OutOfMemory> {
+fn threads_take_an_object_over(rt: HostRuntime) -> Result<(), OutOfMemory> {
     let starts = List::from_vec(Vec::from_slice(rt.alloc(), &[u64::MAX])?);
     let (words, seats) = Words::new(rt.alloc(), 3, &starts)?;
     let mut seats = seats.into_vec();
-    let mut third = seats.remove(2);
-    let mut second = seats.remove(1);
-    let mut first = seats.remove(0);
-    let start = added(&words, &mut first, 2);
-    let between = added(&words, &mut second, 3);
-    let last = found(&words, &mut third);
-    assert_eq!(rt; [start, between, last], [Some(u64::MAX), Some(1), Some(4)]);
+    let third = seats.remove(2);
+    let second = seats.remove(1);
+    let first = seats.remove(0);
+    let values = taken_over(&rt, words, rt.alloc(), first, second, third)?;
+    assert_eq!(rt; values.as_slice(), [9].as_slice());
     Ok(())
 }
 
@@ -178,10 +115,7 @@ fn ask_owner(words: &Words, seat: &mut Seat, object: u16) -> Option<u8>
     ensures asked { IfSome result (λ owner. (owner < threads_of words.now) × ((view seat.new).thread.due ≡ Nothing) × ((view seat.new).thread.phase ≡ Claimed object ForRead (WrEx owner) 0 true)) }
 {
     let word = words.load(seat, object, &Mode::Read);
-    let Some(state) = StateWord::unpack(word) else {
-        return None;
-    };
-    let StateWord::WrEx { owner } = state else {
+    let Some(StateWord::WrEx { owner }) = StateWord::unpack(word) else {
         return None;
     };
     if owner >= words.threads || owner == seat.thread() {
@@ -224,9 +158,7 @@ fn share_and_read(words: &Words, seat: &mut Seat, object: u16) -> Option<(u64, u
     ensures own { IsSeatOf words.now seat.new }
 {
     let word = words.load(seat, object, &Mode::Read);
-    let Some(state) = StateWord::unpack(word) else {
-        return None;
-    };
+    let state = StateWord::unpack(word)?;
     let Act::Share { .. } = decide(&state, seat.thread(), &Mode::Read, seat.count()) else {
         return None;
     };
@@ -261,28 +193,23 @@ fn fence_and_read(words: &Words, seat: &mut Seat, object: u16) -> Option<(u64, u
 /// shows the request, and the value read.
 fn hand_over(words: &Words, owner: &mut Seat, reader: &mut Seat) -> Option<(u64, u64)>
     requires words { objects_of words.now ≡ 1 }
-    requires own { IsSeatOf words.now owner.old × IsSeatOf words.now reader.old }
-    requires off { ((view owner.old).thread.phase ≡ Off) × ((view reader.old).thread.phase ≡ Off) }
-    requires due { ((view owner.old).thread.due ≡ Nothing) × ((view reader.old).thread.due ≡ Nothing) }
-    requires fresh { ((view owner.old).journal ≡ []) × ((view reader.old).journal ≡ []) }
+    requires owner { IsSeatOf words.now owner.old × IsFresh 0 owner.old }
+    requires reader { IsSeatOf words.now reader.old × IsFresh 1 reader.old }
     ensures own { IsSeatOf words.now owner.new × IsSeatOf words.now reader.new }
 {
     words.unblock(owner);
-    if !write(words, owner, 0, 7) {
+    if !reach(words, owner, 0, &Mode::Write) {
         return None;
     }
+    words.write(owner, 0, 7);
     words.unblock(reader);
-    let Some(asked) = ask_owner(words, reader, 0) else {
-        return None;
-    };
+    let asked = ask_owner(words, reader, 0)?;
     let status = words.glance(owner);
     if StatusWord::unpack(status).asked == 0 {
         return None;
     }
     words.answer(owner);
-    let Some(value) = read_after_answer(words, reader, 0, asked) else {
-        return None;
-    };
+    let value = read_after_answer(words, reader, 0, asked)?;
     Some((status, value))
 }
 

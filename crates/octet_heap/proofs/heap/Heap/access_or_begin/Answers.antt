@@ -26,7 +26,7 @@ returns-in-Ready-clause-polls c = let access = access_to c.args.object c.args.mo
 
 pub returns-in-Pending-clause-polls : goal.returns-in-Pending-clause-polls
 returns-in-Pending-clause-polls c = let access = access_to c.args.object c.args.mode c.args.value in
-    let v = seat_of c.args.worker.now in let u = view c.load-poll.new.recorder.seat in let w = view c.safe_point.new.self.seat in
+    let v = seat_of c.args.worker.now in let u = view c.load-poll.new.recorder.seat in let w = view c.safe_point.new.seat in
     let about = subst (λ (p : Phase). IsAbout v.threads (Some access) p) (sym c.requires.idle.0) tt in
     polls_by access (Some access) v w c.load-poll.result.0 about refl
     (subst (λ (a : Poll). IsPoll access v a w) (sym c.in-Pending.is)
@@ -47,4 +47,4 @@ returns-in-Ready-clause-slow c = let access : PendingAccess = record { object = 
 pub returns-in-Pending-clause-slow : goal.returns-in-Pending-clause-slow
 returns-in-Pending-clause-slow c = let access : PendingAccess = record { object = c.args.object; mode = c.args.mode; value = c.args.value } in
     let v = seat_of c.args.worker.now in
-    ap (λ (a : Poll). slow_after a (is_fast access v (steps_since v (view c.safe_point.new.self.seat))) c.args.worker.now.slow) (sym c.in-Pending.is)
+    ap (λ (a : Poll). slow_after a (is_fast access v (steps_since v (view c.safe_point.new.seat))) c.args.worker.now.slow) (sym c.in-Pending.is)

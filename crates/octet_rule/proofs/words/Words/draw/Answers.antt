@@ -4,7 +4,7 @@ use Rattle.octet_rule.proofs.Known.{grows, few_after, few_drawn}
 use Rattle.octet_rule.proofs.words.Words.draw.Goals as goal
 
 pub fetch_add-last-requires : goal.fetch_add-last-requires
-fetch_add-last-requires c = (search rules, search rules, draws _ _ _ _ _ (search rules) c.requires.due c.requires.phase)
+fetch_add-last-requires c = (search rules, search rules, draws _ _ _ _ _ (search rules) c.requires.can.owes_nothing c.requires.phase)
 
 pub overflow_add-number : goal.overflow_add-number
 overflow_add-number c = let few = few_drawn _ _ _ c.fetch_add-last.ensures.2.1 in omega arith

@@ -10,7 +10,7 @@ use Rattle.octet_rule.proofs.MadeAtOnce.{at_once, waits_on, both_move, both_grow
 use Rattle.octet_rule.proofs.words.Words.enter.Goals as goal
 
 pub load_by_mode-word-requires-clause-allowed : goal.load_by_mode-word-requires-clause-allowed
-load_by_mode-word-requires-clause-allowed c = loads _ _ _ _ _ (search rules) _ c.args.object c.args.mode.now c.requires.due c.requires.phase (search rules) (search rules) (search rules)
+load_by_mode-word-requires-clause-allowed c = loads _ _ _ _ _ (search rules) _ c.args.object c.args.mode.now c.requires.can.owes_nothing c.requires.phase (search rules) (search rules) (search rules)
 
 pub state_in-state-requires-clause-packed : goal.state_in-state-requires-clause-packed
 state_in-state-requires-clause-packed c = is_packed _ _ _ _ _ c.load_by_mode-word.ensures.step.1
@@ -34,7 +34,7 @@ invariant_of-seat c = let took = c.load_by_mode-word.ensures.step.1 in let acces
       live = live ∙ seat.live;
       numbered = number ∙ seat.numbered;
       phased = ap (λ (x : Thread). x.phase) is;
-      owes = ap (λ (x : Thread). x.due) is ∙ (sym c.requires.due ∙ seat.owes);
+      owes = ap (λ (x : Thread). x.due) is ∙ (sym c.requires.can.owes_nothing ∙ seat.owes);
       knows = ap (λ (x : Thread). x.count) is ∙ seat.knows;
       has_made = more ∙ ap (λ (n : ℕ). n + 1) seat.has_made;
       few = (let has = seat.has_made in omega arith, let t = seat.few.1 in omega arith, let t = seat.few.2 in omega arith);
