@@ -1,13 +1,12 @@
 //! A run on the shared heap: what the gate is shown of each worker before its accesses is what the
 //! log that was written has there.
-use crate::tests::done_over;
+use crate::tests::log_left;
 use octet_base::Gate;
 use octet_heap::Worker;
-use octet_log::{Loaded, decode};
+use octet_log::decode;
 use octet_model::{Gapped, MAX_LOG_FILE, Mark, OutOfMemory, ThreadLog};
 use octet_threads::HeapGate;
 use std::alloc::Global;
-use std::process::Abort;
 use std::sync::Wait;
 use std::sync::atomic::{AtomicU32, AtomicU64, Ordering};
 use std::test::Fail as Failed;
@@ -132,23 +131,14 @@ fn misnoted(notes: &Notes, thread: usize, log: &ThreadLog) -> Option<usize> {
     None
 }
 
-/// The log that a run writes.
-fn noted_run<R: Threads + Wait + Sync + Abort>(
-    rt: &R,
-    alloc: Global,
-    notes: &Notes,
-) -> Result<Loaded, Failed> {
-    let recorded = done_over(rt, alloc, WRITERS, "run S L", notes)?;
-    assert!(rt; recorded.log.len() <= MAX_LOG_FILE as usize);
-    Ok(decode(alloc, recorded.log.as_slice())?)
-}
-
 /// No body over the locked machine passes: its threads have no workers to show.
 #[test]
 fn run_uses_the_shared_heap(rt: HostRuntime) -> Result<(), Failed> {
     let alloc = rt.alloc();
     let notes = Notes::new(alloc)?;
-    let loaded = noted_run(&rt, alloc, &notes)?;
+    let written = log_left(&rt, alloc, WRITERS, b"", "run S L", &notes)?;
+    assert!(rt; written.len() <= MAX_LOG_FILE as usize);
+    let loaded = decode(alloc, written.as_slice())?;
     let threads = loaded.log.threads.as_slice();
     assert_eq!(rt; threads.len(), THREADS);
     for (thread, log) in threads.iter().enumerate() {

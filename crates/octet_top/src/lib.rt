@@ -5,21 +5,15 @@
 mod atomicity_tests;
 mod commands;
 mod convert;
-#[cfg(test)]
-mod convert_tests;
 mod deliver;
 mod event_text;
 mod fitting;
 #[cfg(test)]
 mod heap_tests;
-#[cfg(test)]
-mod hostile_tests;
 mod inputs;
 mod live;
 #[cfg(test)]
 mod live_tests;
-#[cfg(test)]
-mod pair_tests;
 mod parallel;
 mod picks;
 mod profile;
@@ -27,13 +21,9 @@ mod program;
 mod recording;
 mod refusal;
 mod regions;
-#[cfg(test)]
-mod regions_tests;
 mod reply;
 mod request;
 mod slice;
-#[cfg(test)]
-mod slice_tests;
 mod stop;
 #[cfg(test)]
 mod tests;

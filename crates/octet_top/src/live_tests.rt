@@ -1,12 +1,12 @@
 //! A run writes its log while its threads run: one of them goes on only once a piece of another was
 //! added.
-ghost use Rattle.std.specs.Prelude.{◌≡◌, None, IfOk, IsSome};
+ghost use Rattle.std.specs.Prelude.{◌≡◌, None, IsSome};
 ghost use Rattle.octet_base.specs.Desk.{Takes, Begins, Adds, Finishes, Says};
 
 use crate::serve;
+use crate::tests::{desk_with, words_of};
 use octet_base::{Desk, DeskFault, Gate, MemoryDesk};
 use octet_heap::Worker;
-use octet_model::{List, OutOfMemory};
 use octet_threads::HeapGate;
 use std::alloc::Global;
 use std::sync::Wait;
@@ -100,18 +100,6 @@ impl<'a> HeapGate for Held<'a> {
     fn note(&self, _thread: u8, _worker: &Worker) {}
 }
 
-fn desk_with<'a>(
-    alloc: Global,
-    script: &[u8],
-    adds: &'a AtomicU32,
-) -> Result<Counting<'a>, OutOfMemory>
-    ensures { IfOk result (λ counting. (⟦<MemoryDesk as Desk>⟧.state counting.desk).begun ≡ None) }
-{
-    let mut desk = MemoryDesk::new(alloc, List::new(alloc));
-    desk.put(alloc, "S", script)?;
-    Ok(Counting { desk, adds })
-}
-
 /// No body that holds the log back until the threads have ended passes.
 #[test]
 fn log_is_written_while_threads_run(rt: HostRuntime) -> Result<(), Failed> {
@@ -122,12 +110,17 @@ fn log_is_written_while_threads_run(rt: HostRuntime) -> Result<(), Failed> {
         has_passed: AtomicBool::new(false),
         gave_up: AtomicBool::new(false),
     };
-    let mut counting = desk_with(alloc, APART, &adds)?;
-    let mut words = Vec::new(alloc);
-    for word in ["run", "S", "L"] {
-        words.push(String::from_str(alloc, word)?)?;
-    }
-    let status = serve(&rt, alloc, &words, &mut counting, &gate);
+    let mut counting = Counting {
+        desk: desk_with(alloc, APART, b"", &[])?,
+        adds: &adds,
+    };
+    let status = serve(
+        &rt,
+        alloc,
+        &words_of(alloc, "run S L")?,
+        &mut counting,
+        &gate,
+    );
     let passed = gate.has_passed.load(Ordering::SeqCst);
     let gave_up = gate.gave_up.load(Ordering::SeqCst);
     assert_eq!(rt; (status, passed, gave_up), (0, true, false));

@@ -1,11 +1,8 @@
 //! Runs by threads beside each other, through the top call.
-use crate::tests::{bytes_of, done_over, gated_over_log, repeats};
-use octet_base::{Gate, OpenGate};
+use crate::tests::log_left;
+use octet_base::Gate;
 use octet_heap::Worker;
-use octet_model::OutOfMemory;
 use octet_threads::HeapGate;
-use std::alloc::Global;
-use std::process::Abort;
 use std::sync::Wait;
 use std::sync::atomic::{AtomicBool, Ordering};
 use std::test::Fail as Failed;
@@ -77,97 +74,27 @@ const APART: &[u8] =
     b"object x 0\nobject y 0\nthread\nset r0 1\nwrite x r0\nthread\nset r0 2\nwrite y r0\n";
 
 /// The second thread's one mark is `Join(0, 0)`.
-const APART_LOG: &str =
-    "4f43544c 01 02 00000001 00000000 00000001 00000001 01 00000000 00 0000000000000000";
+const APART_LOG: &[u8] =
+    b"OCTL\x01\x02\x00\x00\x00\x01\x00\x00\x00\x00\x00\x00\x00\x01\x00\x00\x00\x01\x01\x00\x00\x00\x00\x00\x00\x00\x00\x00\x00\x00\x00\x00";
 
-fn both_passed<R: Abort>(rt: &R, gate: &TwoFlags, line: &str) {
-    let gave_up = gate.gave_up.load(Ordering::SeqCst);
-    assert_eq!(rt; (gate.are_up(), gave_up), (true, false), "{line}");
-}
+/// Each with whether the gate is shown workers.
+const BESIDE: &[(&str, bool)] = &[
+    ("run S L", true),
+    ("locked S L", false),
+    ("gen 1 G L", true),
+    ("parallel S K", false),
+];
 
-/// No body that runs the threads one after another, and none that leaves the gate out, passes.
+/// No body that runs or replays the threads one after another, none that leaves the gate out, and
+/// none that runs a generated script in rounds or under the lock, where no worker is shown, passes.
 #[test]
 fn threads_run_beside_each_other(rt: HostRuntime) -> Result<(), Failed> {
-    let alloc = rt.alloc();
-    for line in ["run S L", "locked S L"] {
+    for &(line, shown) in BESIDE {
         let gate = TwoFlags::new();
-        done_over(&rt, alloc, APART, line, &gate)?;
-        both_passed(&rt, &gate, line);
-    }
-    Ok(())
-}
-
-/// Nor does one that runs a generated script in rounds, nor under the lock, where no worker is shown.
-#[test]
-fn generated_threads_run_beside_each_other(rt: HostRuntime) -> Result<(), Failed> {
-    let gate = TwoFlags::new();
-    done_over(&rt, rt.alloc(), b"", "gen 1 S L", &gate)?;
-    both_passed(&rt, &gate, "gen 1 S L");
-    assert!(rt; gate.shown.load(Ordering::SeqCst));
-    Ok(())
-}
-
-/// Nor does one that replays the threads one after another.
-#[test]
-fn threads_are_replayed_beside_each_other(rt: HostRuntime) -> Result<(), Failed> {
-    let alloc = rt.alloc();
-    let log = bytes_of(alloc, APART_LOG)?;
-    let gate = TwoFlags::new();
-    gated_over_log(&rt, alloc, APART, log.as_slice(), "parallel S L", &gate)?;
-    both_passed(&rt, &gate, "parallel S L");
-    Ok(())
-}
-
-/// The second thread reads `x` once it has seen that the first one has set the flag.
-const FLAG: &[u8] =
-    b"object x 0\nobject flag 0\nthread\nset r0 42\nwrite x r0\nset r1 1\nwrite flag r1\nthread\nset r2 1\nwhile r2\nread r3 flag\nsame r2 r3 r4\nsafe\nend\nread r5 x\n";
-
-fn sixteen_threads(alloc: Global) -> Result<Vec<u8>, OutOfMemory> {
-    let mut script = Vec::from_slice(alloc, b"object x 0\n")?;
-    for _thread in 0..16 {
-        script.extend_from_slice(b"thread\nset r0 100\nset r1 1\nwhile r0\nread r2 x\n")?;
-        script.extend_from_slice(b"write x r0\nsafe\nsub r0 r0 r1\nend\n")?;
-    }
-    Ok(script)
-}
-
-/// Whether the second line ends with the number, unless its thread is spent.
-fn second_reads_last(said: &[u8], number: &str) -> bool {
-    let Ok(said) = std::str::from_utf8(said) else {
-        return false;
-    };
-    match said.lines().nth(1) {
-        Some(line) => !line.starts_with("thread 1 done") || line.ends_with(number),
-        None => false,
-    }
-}
-
-fn contended_run_repeats<R: Threads + Wait + Sync + Abort>(
-    rt: &R,
-    alloc: Global,
-    script: &[u8],
-    line: &str,
-) -> Result<(), Failed> {
-    let recorded = done_over(rt, alloc, script, line, &OpenGate)?;
-    let said = recorded.said.as_slice();
-    repeats(rt, alloc, script, recorded.log.as_slice(), said)?;
-    let is_right = script.len() != FLAG.len() || second_reads_last(said, " 42");
-    assert!(rt; is_right, "{line}");
-    Ok(())
-}
-
-/// What is said by a run of the script, whose log a replay repeats and a check finds ordered.
-#[test]
-fn contended_runs_repeat(rt: HostRuntime) -> Result<(), Failed> {
-    let alloc = rt.alloc();
-    let sixteen = sixteen_threads(alloc)?;
-    for (script, line) in [
-        (FLAG, "run S L"),
-        (FLAG, "locked S L"),
-        (sixteen.as_slice(), "run S L"),
-        (sixteen.as_slice(), "locked S L"),
-    ] {
-        contended_run_repeats(&rt, alloc, script, line)?;
+        log_left(&rt, rt.alloc(), APART, APART_LOG, line, &gate)?;
+        let gave_up = gate.gave_up.load(Ordering::SeqCst);
+        let found = (gate.are_up(), gave_up, gate.shown.load(Ordering::SeqCst));
+        assert_eq!(rt; found, (true, false, shown), "{line}");
     }
     Ok(())
 }
