@@ -2,8 +2,6 @@
 //! `replay SCRIPT LOG` and `verify SCRIPT LOG`; and the check that other commands begin with.
 ghost use Rattle.std.specs.Prelude.{◌≡◌, IfOk};
 ghost use Rattle.octet_clock.specs.declared.verdict.Verdict.TheVariants as verdict;
-ghost use Rattle.octet_top.specs.declared.request.ScriptTask.TheVariants.{Tidy};
-ghost use Rattle.octet_top.specs.declared.request.LogTask.TheVariants.{Show};
 ghost use Rattle.octet_top.specs.declared.request.PairTask.TheVariants.{Replay, Parallel, Verify};
 ghost use Rattle.octet_top.specs.Answer.{answer_of, verdict_said};
 ghost use Rattle.octet_top.specs.Commands.{ScriptAnswers, LogAnswers, PairReplays};
@@ -12,26 +10,39 @@ ghost use Rattle.octet_top.specs.Checked.{IsChecked};
 use crate::inputs::{Pair, Refusal, Source};
 use crate::refusal::does_not_fit;
 use crate::reply::{Reply, Status};
+use crate::request::{LogTask, ScriptTask};
 use octet_clock::Verdict;
-use octet_log::Loaded;
+use octet_log::{Loaded, show};
 use octet_model::{OutOfMemory, Place, outcome_text};
 use octet_replay::ReplayFault;
 use octet_script::print;
 use std::alloc::Global;
 
-/// The script's canonical text is said.
-pub(crate) fn tidy(alloc: Global, source: &Source) -> Result<Reply, OutOfMemory>
-    ensures { IfOk result (λ reply. ScriptAnswers Tidy source.now (answer_of reply)) }
+/// Of a script its canonical text is said.
+pub(crate) fn answer_script(
+    alloc: Global,
+    task: ScriptTask,
+    source: &Source,
+) -> Result<Reply, OutOfMemory>
+    ensures { IfOk result (λ reply. ScriptAnswers task source.now (answer_of reply)) }
 {
-    let text = print(alloc, &source.script)?;
+    let text = match task {
+        ScriptTask::Tidy => print(alloc, &source.script)?,
+    };
     Ok(Reply::saying(alloc, Status::Done, text))
 }
 
-/// The log's text is said.
-pub(crate) fn show(alloc: Global, loaded: &Loaded) -> Result<Reply, OutOfMemory>
-    ensures { IfOk result (λ reply. LogAnswers Show loaded.now (answer_of reply)) }
+/// Of a log its text is said.
+pub(crate) fn answer_log(
+    alloc: Global,
+    task: LogTask,
+    loaded: &Loaded,
+) -> Result<Reply, OutOfMemory>
+    ensures { IfOk result (λ reply. LogAnswers task loaded.now (answer_of reply)) }
 {
-    let text = octet_log::show(alloc, &loaded.log)?;
+    let text = match task {
+        LogTask::Show => show(alloc, &loaded.log)?,
+    };
     Ok(Reply::saying(alloc, Status::Done, text))
 }
 
@@ -50,13 +61,16 @@ pub(crate) fn replay(alloc: Global, pair: &Pair) -> Result<Reply, OutOfMemory>
 }
 
 /// Whether the log orders all conflicts is said.
+#[tactic(auto, using(crate::proofs::answering::Checking::verified_not, crate::proofs::answering::Checking::verified_ordered))]
 pub(crate) fn verify(alloc: Global, pair: &Pair) -> Result<Reply, OutOfMemory>
     ensures { IfOk result (λ reply. PairReplays Verify pair.now (answer_of reply)) }
 {
-    match octet_clock::verify(alloc, &pair.source.script, &pair.loaded.log) {
-        Ok(verdict) => say_verdict(alloc, verdict),
-        Err(ReplayFault::OutOfMemory) => Err(OutOfMemory),
-        Err(fault) => does_not_fit(alloc, &fault),
+    match check_order(alloc, pair) {
+        Ok(()) => {
+            let line = Vec::from_slice(alloc, b"ordered\n")?;
+            Ok(Reply::saying(alloc, Status::Done, line))
+        }
+        Err(refusal) => refusal,
     }
 }
 
@@ -80,18 +94,6 @@ pub(crate) fn replay_ordered(alloc: Global, pair: &Pair) -> Result<Reply, OutOfM
     match check_order(alloc, pair) {
         Ok(()) => replay(alloc, pair),
         Err(refusal) => refusal,
-    }
-}
-
-fn say_verdict(alloc: Global, verdict: Verdict) -> Result<Reply, OutOfMemory>
-    ensures { IfOk result (λ reply. answer_of reply ≡ verdict_said verdict) }
-{
-    match verdict {
-        Verdict::Ordered => {
-            let line = Vec::from_slice(alloc, b"ordered\n")?;
-            Ok(Reply::saying(alloc, Status::Done, line))
-        }
-        Verdict::Unordered { first, second } => say_unordered(alloc, first, second),
     }
 }
 

@@ -3,14 +3,18 @@ ghost use Rattle.std.specs.Prelude.{◌≡◌, ◌≤◌, length, IfOk};
 ghost use Rattle.octet_log.specs.v2.Pieces.{marks_in};
 ghost use Rattle.octet_log.specs.declared.limits.TheConstants.{MAX_MARKS};
 ghost use Rattle.octet_top.specs.Request.{name_in};
+ghost use Rattle.octet_top.specs.Checked.{IsFittingTaken};
 ghost use Rattle.octet_top.specs.Inputs.{Comes, Ends, IsTaken, IsParsed, IsDecoded, IsScriptRead, IsLogRead, IsChosen, IsScriptChosen, IsPairRead, TakesOne, TakesBoth, WasRefused};
 ghost use Rattle.octet_top.specs.Profile.{object_named};
 
-use crate::refusal::{log_refused, no_such_object, read_failed, script_refused, too_long};
+use crate::refusal::{
+    log_refused, no_such_object, read_failed, script_refused, too_long, wrong_script,
+};
 use crate::reply::Reply;
 use octet_base::{Desk, DeskFault};
 use octet_log::{Loaded, LogFault, decode};
 use octet_model::{List, MAX_LOG_FILE, MAX_SCRIPT_FILE, OutOfMemory, Script};
+use octet_replay::fit;
 use octet_script::{ScriptFault, parse};
 use std::alloc::Global;
 
@@ -147,7 +151,7 @@ fn read_chosen<D: Desk>(
 }
 
 /// Takes and reads a script and then a log.
-pub(crate) fn read_pair<D: Desk>(
+fn read_pair<D: Desk>(
     alloc: Global,
     desk: &mut D,
     script_name: &str,
@@ -166,6 +170,26 @@ pub(crate) fn read_pair<D: Desk>(
                 loaded,
             }),
             Err(refusal) => Err(refusal),
+        },
+        Err(refusal) => Err(refusal),
+    }
+}
+
+/// Takes and reads a script and then a log, which is of that script or has no digest.
+pub(crate) fn read_fitting<D: Desk>(
+    alloc: Global,
+    desk: &mut D,
+    script_name: &str,
+    log_name: &str,
+    object_name: Option<&str>,
+) -> Result<Pair, Refusal>
+    ensures taken { IsFittingTaken script_name.now log_name.now (name_in object_name.entry) (D.state desk.old) result (D.state desk.new) }
+    ensures few { IfOk result (λ pair. marks_in pair.loaded.log.threads ≤ MAX_MARKS) }
+{
+    match read_pair(alloc, desk, script_name, log_name, object_name) {
+        Ok(pair) => match fit(pair.source.text.as_slice(), &pair.loaded) {
+            Ok(()) => Ok(pair),
+            Err(fault) => Err(wrong_script(alloc, &fault)),
         },
         Err(refusal) => Err(refusal),
     }

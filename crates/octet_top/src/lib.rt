@@ -7,7 +7,6 @@ mod commands;
 mod convert;
 mod deliver;
 mod event_text;
-mod fitting;
 #[cfg(test)]
 mod heap_tests;
 mod inputs;
@@ -18,7 +17,6 @@ mod parallel;
 mod picks;
 mod profile;
 mod program;
-mod recording;
 mod refusal;
 mod regions;
 mod reply;

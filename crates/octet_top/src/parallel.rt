@@ -9,8 +9,7 @@ ghost use Rattle.octet_top.specs.Commands.{PairReplays};
 ghost use Rattle.octet_top.specs.Replies.{Replies};
 
 use crate::commands::replay_ordered;
-use crate::fitting::read_fitting;
-use crate::inputs::Pair;
+use crate::inputs::{Pair, read_fitting};
 use crate::reply::{Reply, Status};
 use octet_base::{Desk, Gate};
 use octet_clock::untied;

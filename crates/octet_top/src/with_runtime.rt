@@ -3,7 +3,7 @@
 ghost use Rattle.std.specs.Prelude.{◌≡◌, IfOk, None, Some};
 ghost use Rattle.octet_top.specs.Answer.{answer_of, file_of};
 ghost use Rattle.octet_top.specs.Request.{shown, shown_task, Run};
-ghost use Rattle.octet_top.specs.Commands.{RunAnswers, IsGeneration};
+ghost use Rattle.octet_top.specs.Commands.{RunAnswers, IsGeneration, Records};
 ghost use Rattle.octet_top.specs.Replies.{Replies};
 ghost use Rattle.octet_top.specs.Serving.{IsServed};
 
@@ -11,16 +11,17 @@ use crate::deliver::deliver;
 use crate::inputs::{Source, read_script};
 use crate::live::serve_live;
 use crate::parallel::replay_on_threads;
-use crate::recording::record;
+use crate::picks::picks_of;
 use crate::reply::{Output, Reply};
 use crate::request::{Request, RunTask};
 use crate::without_runtime::reply_alone;
 use octet_base::Desk;
 use octet_gen::make;
 use octet_log::encode_v1;
-use octet_model::{List, OutOfMemory, outcome_text};
+use octet_machine::play;
+use octet_model::{List, OutOfMemory, Recorded, Script, outcome_text};
 use octet_script::print;
-use octet_threads::{HeapGate, run};
+use octet_threads::{HeapGate, run, run_locked};
 use std::alloc::Global;
 use std::sync::Wait;
 use std::thread::Threads;
@@ -97,6 +98,23 @@ fn run_source<R: Threads + Wait + Sync, G: HeapGate>(
     let text = outcome_text(alloc, &source.script, &recorded.outcome)?;
     let bytes = encode_v1(alloc, &recorded.log)?;
     Reply::writing(alloc, log_name, bytes, text)
+}
+
+/// A faithful recording of the script: by threads over a machine behind one lock, which pass the gate
+/// before each access, or by picks, on the calling thread.
+fn record<R: Threads + Wait + Sync, G: HeapGate>(
+    rt: &R,
+    alloc: Global,
+    task: RunTask<'_>,
+    script: &Script,
+    gate: &G,
+) -> Result<Recorded, OutOfMemory>
+    ensures { IfOk result (λ recorded. Records (shown_task task.entry) script.now recorded.log recorded.outcome) }
+{
+    match task {
+        RunTask::Locked => run_locked(rt, alloc, script, gate),
+        RunTask::Turns { picks } => play(rt, alloc, script, &picks_of(alloc, picks)?),
+    }
 }
 
 /// The number's script is run: its canonical text and then the log's bytes are written, and the

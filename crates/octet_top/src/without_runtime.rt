@@ -2,13 +2,12 @@
 ghost use Rattle.std.specs.Prelude.{◌≡◌, IfOk, Some};
 ghost use Rattle.octet_top.specs.Answer.{answer_of};
 ghost use Rattle.octet_top.specs.Request.{shown_alone, alone_in, name_in, OfScript, OfLog, OfPair, Convert};
-ghost use Rattle.octet_top.specs.Commands.{ScriptAnswers, LogAnswers, PairReplays};
+ghost use Rattle.octet_top.specs.Commands.{PairReplays};
 ghost use Rattle.octet_top.specs.Replies.{Replies};
 
-use crate::commands::{replay, replay_ordered, show, tidy, verify};
+use crate::commands::{answer_log, answer_script, replay, replay_ordered, verify};
 use crate::convert::convert;
-use crate::fitting::read_fitting;
-use crate::inputs::{Pair, Source, read_log, read_script};
+use crate::inputs::{Pair, read_fitting, read_log, read_script};
 use crate::profile::profile;
 use crate::refusal::not_a_command;
 use crate::regions::regions;
@@ -18,25 +17,8 @@ use crate::slice::slice;
 use crate::stop::stop;
 use crate::trace::trace;
 use octet_base::Desk;
-use octet_log::Loaded;
 use octet_model::OutOfMemory;
 use std::alloc::Global;
-
-fn answer_script(alloc: Global, task: ScriptTask, source: &Source) -> Result<Reply, OutOfMemory>
-    ensures { IfOk result (λ reply. ScriptAnswers task source.now (answer_of reply)) }
-{
-    match task {
-        ScriptTask::Tidy => tidy(alloc, source),
-    }
-}
-
-fn answer_log(alloc: Global, task: LogTask, loaded: &Loaded) -> Result<Reply, OutOfMemory>
-    ensures { IfOk result (λ reply. LogAnswers task loaded.now (answer_of reply)) }
-{
-    match task {
-        LogTask::Show => show(alloc, loaded),
-    }
-}
 
 fn replay_pair(alloc: Global, task: PairTask, pair: &Pair) -> Result<Reply, OutOfMemory>
     ensures { IfOk result (λ reply. PairReplays task pair.now (answer_of reply)) }

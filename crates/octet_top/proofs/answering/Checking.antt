@@ -17,8 +17,9 @@ use Rattle.octet_regions.specs.declared.serial.Serialized.{Serialized}
 use Rattle.octet_regions.specs.Accesses.{accesses_of}
 use Rattle.octet_regions.specs.Choice.{IsSerial}
 use Rattle.octet_regions.specs.Runs.{Shows}
-use Rattle.octet_top.specs.Answer.{Answer, answer_of, does_not_fit, serial_said}
-use Rattle.octet_top.specs.Commands.{Fitting, SerialSays, WhereOrdered}
+use Rattle.octet_top.specs.declared.request.PairTask.TheVariants.{Verify}
+use Rattle.octet_top.specs.Answer.{Answer, answer_of, does_not_fit, serial_said, verdict_said}
+use Rattle.octet_top.specs.Commands.{Fitting, PairReplays, SerialSays, WhereOrdered}
 use Rattle.octet_top.specs.Checked.{IsChecked, RefusesOrder}
 
 -- the check refuses
@@ -29,6 +30,16 @@ order_refused Next pair answer (inr (first, second, verified, is)) = inr (verifi
 pub check_refused : (Next : Answer → Type 0) (pair : Pair) (refusal : Result Reply NoMemory) → IsChecked pair (Err refusal) → IfOk refusal (λ reply. Fitting does_not_fit (WhereOrdered Next pair) pair.source.script pair.loaded.log.threads (answer_of reply))
 check_refused Next pair (Ok reply) refused = order_refused Next pair (answer_of reply) refused
 check_refused Next pair (Err none) refused = tt
+
+-- which `verify` says
+pub verified_not : (pair : Pair) (refusal : Result Reply NoMemory) → IsChecked pair (Err refusal) → IfOk refusal (λ reply. PairReplays Verify pair (answer_of reply))
+verified_not pair (Ok reply) (inl fault) = inl fault
+verified_not pair (Ok reply) (inr (first, second, verified, is)) = inr (verified.lawful, (Unordered first second, verified, is))
+verified_not pair (Err none) refused = tt
+
+-- and so it does where it passes
+pub verified_ordered : (pair : Pair) (answer : Answer) → IsVerified pair.source.script pair.loaded.log.threads Ordered → answer ≡ verdict_said Ordered → PairReplays Verify pair answer
+verified_ordered pair answer verified is = inr (verified.lawful, (Ordered, verified, is))
 
 -- or it passes, and the command goes on
 after_check : (Next : Answer → Type 0) (pair : Pair) (answer : Answer) → IsVerified pair.source.script pair.loaded.log.threads Ordered → Fitting does_not_fit Next pair.source.script pair.loaded.log.threads answer

@@ -2,7 +2,7 @@ use Rattle.std.proofs.Common.{◌∙◌, map, ap}
 use Rattle.std.specs.Char.{digit_value}
 use Rattle.octet_top.specs.Request.{shown_task}
 use Rattle.octet_top.proofs.answering.Recorded.{recorded_by_picks}
-use Rattle.octet_top.proofs.recording.record.Goals as goal
+use Rattle.octet_top.proofs.with_runtime.record.Goals as goal
 
 pub returns-in_ok-picks_of-in-Turns : goal.returns-in_ok-picks_of-in-Turns
 returns-in_ok-picks_of-in-Turns g c =

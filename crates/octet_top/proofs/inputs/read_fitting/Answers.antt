@@ -1,6 +1,6 @@
 use Rattle.std.proofs.Common.{ℕ, List, inl, inr, subst}
 use Rattle.octet_replay.specs.Fit.{IsOfScript, IsOfAnother}
-use Rattle.octet_top.proofs.fitting.read_fitting.Goals as goal
+use Rattle.octet_top.proofs.inputs.read_fitting.Goals as goal
 
 pub returns-in-Ok-fit-clause-taken : goal.returns-in-Ok-fit-clause-taken
 returns-in-Ok-fit-clause-taken g c =
