@@ -1,6 +1,6 @@
 //! The threads of a script on the memory that they share, and whose step is next.
 ghost use Rattle.std.specs.Prelude.{◌≡◌, ◌<◌, length, Some, None};
-ghost use Rattle.octet_state.specs.declared.phase.Phase.TheVariants.{Idle, Want, Pass, Claimed, Sharing};
+ghost use Rattle.octet_state.specs.declared.phase.Phase.TheVariants.{Idle, Want, Pass, Claimed};
 ghost use Rattle.octet_machine.specs.Machine.{is_access, is_at_rest, next_waits, wanted};
 ghost use Rattle.octet_machine.specs.Memory.{thread_in};
 ghost use Rattle.octet_machine.specs.Run.{machine_in, IsHeld, IsNext, StandsIn, Steps};
@@ -95,7 +95,16 @@ impl Run {
                 None
             }
             Phase::Idle => self.take_up(me),
-            Phase::Want { object, mode, seen } => self.go_on_wanting(me, object, mode, seen),
+            Phase::Want {
+                object,
+                mode,
+                seen: None,
+            } => self.memory.load(me, object, mode),
+            Phase::Want {
+                object,
+                mode,
+                seen: Some(seen),
+            } => self.exchange(me, object, mode, seen),
             Phase::Pass { object, mode } => {
                 self.access(me, object, mode);
                 None
@@ -111,40 +120,20 @@ impl Run {
                 done,
                 asked,
             } => self.pursue(me, object, mode, prior, done, asked),
-            Phase::Sharing { object, drawn } => {
-                self.go_on_sharing(me, object, drawn);
+            Phase::Sharing {
+                object,
+                drawn: None,
+            } => {
+                self.memory.draw(me, object);
                 None
             }
-        }
-    }
-
-    // A load, or the exchange of the state that was loaded.
-    fn go_on_wanting(
-        &mut self,
-        me: u8,
-        object: u16,
-        mode: Mode,
-        seen: Option<StateWord>,
-    ) -> Option<Why>
-        requires { StandsIn self.old me (Want object mode seen) }
-        ensures steps { Steps me self.old self.new }
-        ensures waits { result ≡ next_waits (machine_in self.old) me }
-    {
-        match seen {
-            None => self.memory.load(me, object, mode),
-            Some(seen) => self.exchange(me, object, mode, seen),
-        }
-    }
-
-    // A draw, or the settling after it.
-    fn go_on_sharing(&mut self, me: u8, object: u16, drawn: Option<u64>)
-        requires { StandsIn self.old me (Sharing object drawn) }
-        ensures steps { Steps me self.old self.new }
-        ensures waits { next_waits (machine_in self.old) me ≡ None }
-    {
-        match drawn {
-            None => self.memory.draw(me, object),
-            Some(number) => self.memory.settle_share(me, object, number),
+            Phase::Sharing {
+                object,
+                drawn: Some(number),
+            } => {
+                self.memory.settle_share(me, object, number);
+                None
+            }
         }
     }
 

@@ -1,6 +1,7 @@
 //! Worked runs, each by its picks and then by rounds until all threads have ended.
-ghost use Rattle.std.specs.Prelude.{◌≡◌, ◌≤◌, ◌∷◌, [], length, map, codes, IfOk, IsTrue};
+ghost use Rattle.std.specs.Prelude.{◌≡◌, ◌≤◌, ◌∷◌, [], length, IfOk, IsTrue};
 ghost use Rattle.std.specs.List.{list_all};
+ghost use Rattle.octet_model.specs.declared.command.Command.TheVariants.{Set, Write};
 ghost use Rattle.octet_model.specs.Script.{is_thread};
 
 use crate::{Machine, Turned, play};
@@ -11,28 +12,6 @@ use octet_state::Why;
 use std::alloc::Global;
 use std::sync::Wait;
 use std::test::Fail;
-
-fn one_object(alloc: Global, x: u64) -> Result<List<Object>, OutOfMemory>
-    ensures names { IfOk result (λ objects. map (λ o. o.name) objects ≡ codes "x" ∷ []) }
-    ensures length { IfOk result (λ objects. length objects ≡ 1) }
-{
-    let mut objects = List::new(alloc);
-    let name = Name::new(alloc, b"x")?;
-    objects.push(Object { name, start: x })?;
-    Ok(objects)
-}
-
-fn two_objects(alloc: Global, x: u64, y: u64) -> Result<List<Object>, OutOfMemory>
-    ensures names { IfOk result (λ objects. map (λ o. o.name) objects ≡ codes "x" ∷ codes "y" ∷ []) }
-    ensures length { IfOk result (λ objects. length objects ≡ 2) }
-{
-    let mut objects = List::new(alloc);
-    let name = Name::new(alloc, b"x")?;
-    objects.push(Object { name, start: x })?;
-    let name = Name::new(alloc, b"y")?;
-    objects.push(Object { name, start: y })?;
-    Ok(objects)
-}
 
 fn two_threads(
     alloc: Global,
@@ -60,43 +39,35 @@ fn three_threads(
     Ok(threads)
 }
 
-fn script_with_x(objects: List<Object>, threads: List<List<Command>>) -> Script
-    requires names { map (λ o. o.name) objects ≡ codes "x" ∷ [] }
-    requires one { length objects ≡ 1 }
+fn script_with_x(alloc: Global, x: u64, threads: List<List<Command>>) -> Result<Script, OutOfMemory>
     requires some_thread { 1 ≤ length threads }
     requires few_threads { length threads ≤ 16 }
     requires valid { IsTrue (list_all (is_thread 1) threads) }
 {
-    Script {
+    let mut objects = List::new(alloc);
+    let name = Name::new(alloc, b"x")?;
+    objects.push(Object { name, start: x })?;
+    Ok(Script {
         fuel: 16384,
         objects,
         threads,
-    }
+    })
 }
 
-fn script_with_x_and_y(objects: List<Object>, threads: List<List<Command>>) -> Script
-    requires names { map (λ o. o.name) objects ≡ codes "x" ∷ codes "y" ∷ [] }
-    requires two { length objects ≡ 2 }
-    requires some_thread { 1 ≤ length threads }
-    requires few_threads { length threads ≤ 16 }
-    requires valid { IsTrue (list_all (is_thread 2) threads) }
+fn write_of(number: u64) -> [Command; 2]
+    ensures { result ≡ Set 0 number ∷ Write 0 0 ∷ [] }
 {
-    Script {
-        fuel: 16384,
-        objects,
-        threads,
-    }
+    [
+        Command::Set { to: 0, number },
+        Command::Write { object: 0, from: 0 },
+    ]
 }
 
 // Thread 0 writes x, and thread 1 reads it.
 fn writes_and_reads(alloc: Global) -> Result<Script, OutOfMemory> {
-    let write_x = [
-        Command::Set { to: 0, number: 7 },
-        Command::Write { object: 0, from: 0 },
-    ];
     let read_x = [Command::Read { to: 0, object: 0 }];
-    let threads = two_threads(alloc, &write_x, &read_x)?;
-    Ok(script_with_x(one_object(alloc, 5)?, threads))
+    let threads = two_threads(alloc, &write_of(7), &read_x)?;
+    script_with_x(alloc, 5, threads)
 }
 
 // Thread 1 reads x twice, and thread 2 once.
@@ -107,7 +78,7 @@ fn shares(alloc: Global) -> Result<Script, OutOfMemory> {
     ];
     let once = [Command::Read { to: 0, object: 0 }];
     let threads = three_threads(alloc, &[], &twice, &once)?;
-    Ok(script_with_x(one_object(alloc, 9)?, threads))
+    script_with_x(alloc, 9, threads)
 }
 
 // Thread 0 wants y while thread 1 wants x.
@@ -122,7 +93,16 @@ fn crosses(alloc: Global) -> Result<Script, OutOfMemory> {
         Command::Write { object: 0, from: 0 },
     ];
     let threads = two_threads(alloc, &write_y, &write_both)?;
-    Ok(script_with_x_and_y(two_objects(alloc, 0, 0)?, threads))
+    let mut objects = List::new(alloc);
+    let name = Name::new(alloc, b"x")?;
+    objects.push(Object { name, start: 0 })?;
+    let name = Name::new(alloc, b"y")?;
+    objects.push(Object { name, start: 0 })?;
+    Ok(Script {
+        fuel: 16384,
+        objects,
+        threads,
+    })
 }
 
 // Thread 1 takes x while thread 0 pauses.
@@ -133,26 +113,14 @@ fn pauses(alloc: Global) -> Result<Script, OutOfMemory> {
         Command::Pause,
         Command::Write { object: 0, from: 0 },
     ];
-    let write_once = [
-        Command::Set { to: 0, number: 2 },
-        Command::Write { object: 0, from: 0 },
-    ];
-    let threads = two_threads(alloc, &write_twice, &write_once)?;
-    Ok(script_with_x(one_object(alloc, 0)?, threads))
+    let threads = two_threads(alloc, &write_twice, &write_of(2))?;
+    script_with_x(alloc, 0, threads)
 }
 
 // Threads 1 and 2 both claim x.
 fn races(alloc: Global) -> Result<Script, OutOfMemory> {
-    let write_one = [
-        Command::Set { to: 0, number: 1 },
-        Command::Write { object: 0, from: 0 },
-    ];
-    let write_two = [
-        Command::Set { to: 0, number: 2 },
-        Command::Write { object: 0, from: 0 },
-    ];
-    let threads = three_threads(alloc, &[], &write_one, &write_two)?;
-    Ok(script_with_x(one_object(alloc, 0)?, threads))
+    let threads = three_threads(alloc, &[], &write_of(1), &write_of(2))?;
+    script_with_x(alloc, 0, threads)
 }
 
 // Thread 0 adds 2 to x twice, and thread 1 adds 3.
@@ -167,7 +135,7 @@ fn bumps(alloc: Global) -> Result<Script, OutOfMemory> {
         Command::Bump { object: 0, from: 0 },
     ];
     let threads = two_threads(alloc, &bump_twice, &bump_once)?;
-    Ok(script_with_x(one_object(alloc, 5)?, threads))
+    script_with_x(alloc, 5, threads)
 }
 
 // A script that is run.
@@ -192,24 +160,15 @@ fn script_of(alloc: Global, case: Case) -> Result<Script, OutOfMemory> {
     }
 }
 
-fn push_word(text: &mut Vec<u8>, word: &str, number: u64) -> Result<(), OutOfMemory> {
-    text.extend_from_slice(word.as_bytes())?;
-    push_number(text, number)
-}
-
 // The marks of a thread, each with its gap.
-fn push_marks(text: &mut Vec<u8>, marks: &[Gapped]) -> Result<(), OutOfMemory> {
-    for gapped in marks {
-        push_word(text, " [", gapped.gap as u64)?;
-        match gapped.mark {
-            Mark::Join { from, upto } => {
-                push_word(text, " join ", from as u64)?;
-                push_word(text, " ", upto)?;
-            }
-            Mark::Draw { number } => push_word(text, " draw ", number)?,
-            Mark::Fence { number } => push_word(text, " fence ", number)?,
-        }
-        text.extend_from_slice(b"]")?;
+fn push_marks(alloc: Global, text: &mut Vec<u8>, marks: &[Gapped]) -> Result<(), OutOfMemory> {
+    for Gapped { gap, mark } in marks.iter().copied() {
+        let line = match mark {
+            Mark::Join { from, upto } => format!(in alloc; " [{} join {} {}]", gap, from, upto)?,
+            Mark::Draw { number } => format!(in alloc; " [{} draw {}]", gap, number)?,
+            Mark::Fence { number } => format!(in alloc; " [{} fence {}]", gap, number)?,
+        };
+        text.extend_from_slice(line.as_bytes())?;
     }
     Ok(())
 }
@@ -226,7 +185,7 @@ fn played_text<R: Wait>(
     let mut text = Vec::new(alloc);
     for thread in recorded.log.threads.as_slice() {
         push_number(&mut text, thread.accesses as u64)?;
-        push_marks(&mut text, thread.marks.as_slice())?;
+        push_marks(alloc, &mut text, thread.marks.as_slice())?;
         text.extend_from_slice(b"\n")?;
     }
     let outcome = outcome_text(alloc, script, &recorded.outcome)?;
@@ -342,15 +301,5 @@ fn tells_what_a_thread_wants(rt: HostRuntime) -> Result<(), Fail> {
         let last = machine.threads() - 1;
         assert_eq!(rt; machine.wants(last), wanted);
     }
-    Ok(())
-}
-
-#[test]
-fn knows_its_script(rt: HostRuntime) -> Result<(), Fail> {
-    let alloc = rt.alloc();
-    let script = pauses(alloc)?;
-    let machine = Machine::new(alloc, &script)?;
-    assert!(rt; machine.is_of(&script));
-    assert!(rt; !machine.is_of(&races(alloc)?));
     Ok(())
 }
