@@ -36,10 +36,10 @@ pub record DrainsOne (thread : ℕ) (kept : Option DeskFault) (drain : DrainView
   pub rings : drain'.rings ≡ drain.rings
 
 -- what was received of each thread meanwhile was
-pub record Drains (threads : ℕ) (drain : DrainView) (before : DeskState) (kept : Option DeskFault) (drain' : DrainView) (after : DeskState) : Type 0 where
+pub record Drains (threads : ℕ) (kept : Option DeskFault) (drain : DrainView) (before : DeskState) (kept' : Option DeskFault) (drain' : DrainView) (after : DeskState) : Type 0 where
   pub pieces : List Piece
   pub are : ArePieces threads pieces
-  pub adds : AddsPieces pieces before kept after
+  pub goes : GoesOn kept pieces before kept' after
   pub received : (thread : ℕ) → thread < threads → received_of drain' thread ≡ received_of drain thread ++ marks_of thread pieces
   pub as_many : length drain'.received ≡ length drain.received
   pub rings : drain'.rings ≡ drain.rings

@@ -1,18 +1,17 @@
 -- What a run begins with.
-use Rattle.std.specs.Prelude.{◌≡◌, ℕ, ◌≤◌, [], All, length, vec_capacity}
+use Rattle.std.specs.Prelude.{◌≡◌, ℕ, [], All, length, None}
 use Rattle.octet_model.specs.declared.script.Script.{Script}
 use Rattle.octet_ring.specs.Views.{received_of}
-use Rattle.octet_threads.specs.declared.drainer.TheConstants.{PIECE}
 use Rattle.octet_threads.specs.declared.live.Opened.{Opened}
 use Rattle.octet_threads.specs.Runners.{AreOf, IsAtRest, IsHeapOf}
 use Rattle.octet_threads.specs.Work.{SendEach}
 
--- a heap for the script, a runner at rest for each of its threads, which sends by the ring of its thread, nothing received, and room for a piece
+-- a heap for the script, a runner at rest for each of its threads, which sends by the ring of its thread, nothing received, and nothing refused
 pub record IsOpened (script : Script) (opened : Opened) : Type 0 where
   pub heap : IsHeapOf script opened.heap
   pub runners : AreOf script opened.runners.items
   pub rest : All (IsAtRest opened.heap) opened.runners.items
-  pub send : SendEach opened.drain.rings opened.runners.items
-  pub as_many : length opened.drain.received ≡ length opened.runners.items
-  pub none : (thread : ℕ) → received_of opened.drain thread ≡ []
-  pub room : PIECE ≤ vec_capacity opened.marks
+  pub send : SendEach opened.drainer.drain.rings opened.runners.items
+  pub as_many : length opened.drainer.drain.received ≡ length opened.runners.items
+  pub none : (thread : ℕ) → received_of opened.drainer.drain thread ≡ []
+  pub kept : opened.drainer.kept ≡ None

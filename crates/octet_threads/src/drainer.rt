@@ -1,5 +1,5 @@
 //! The drainer: takes the marks that workers send, and adds them to a file in pieces.
-ghost use Rattle.std.specs.Prelude.{◌≡◌, ◌<◌, ◌≤◌, ◌++◌, ◌∷◌, [], length, slice_set, vec_capacity, IsSome, Some, None};
+ghost use Rattle.std.specs.Prelude.{◌≡◌, ◌<◌, ◌≤◌, ◌++◌, ◌∷◌, [], length, slice_set, vec_capacity, IsSome};
 ghost use Rattle.octet_model.specs.declared.limits.TheConstants.{MAX_THREADS};
 ghost use Rattle.octet_ring.specs.Views.{received_of, known_of};
 ghost use Rattle.octet_threads.specs.declared.drainer.TheConstants.{PIECE};
@@ -18,6 +18,17 @@ use std::time::Duration;
 
 /// How many marks a piece has at most.
 pub(crate) const PIECE: usize = 256;
+
+/// The ends of the workers' rings, room for the marks of a piece, and why no more is added, where a
+/// piece was refused.
+#[derive(Drop)]
+pub(crate) struct Drainer {
+    pub(crate) alloc: Global,
+    pub(crate) drain: Drain,
+    pub(crate) marks: Vec<Gapped>,
+    pub(crate) kept: Option<DeskFault>,
+    ghost room: { PIECE ≤ vec_capacity marks },
+}
 
 /// Adds some marks of a thread as a piece. Answers why not, where it is refused.
 pub(crate) fn add_piece<D: Desk>(
@@ -38,111 +49,87 @@ pub(crate) fn add_piece<D: Desk>(
     desk.add(alloc, bytes.as_slice()).err()
 }
 
-/// Takes marks of a thread, as many as a piece may have.
-pub(crate) fn take_piece(drain: &mut Drain, thread: u8, marks: &mut Vec<Gapped>)
-    requires thread { thread < length drain.old.received }
-    requires room { PIECE ≤ vec_capacity marks.old }
-    ensures room { vec_capacity marks.new ≡ vec_capacity marks.old }
-    ensures few { length marks.new.items ≤ PIECE }
-    ensures rings { drain.new.rings ≡ drain.old.rings }
-    ensures received { drain.new.received ≡ slice_set drain.old.received thread (received_of drain.old thread ++ marks.new.items) }
-    ensures some { 0 < known_of drain.old thread → 0 < length marks.new.items }
-{
-    marks.clear();
-    for _ in 0..PIECE {
-        match drain.take(thread) {
-            Some(mark) => marks.push_reserved(mark),
-            None => return,
+impl Drainer {
+    // Takes marks of a thread, as many as a piece may have.
+    fn take_piece(&mut self, thread: u8)
+        requires { thread < length self.old.drain.received }
+        ensures few { length self.new.marks.items ≤ PIECE }
+        ensures rings { self.new.drain.rings ≡ self.old.drain.rings }
+        ensures received { self.new.drain.received ≡ slice_set self.old.drain.received thread (received_of self.old.drain thread ++ self.new.marks.items) }
+        ensures some { 0 < known_of self.old.drain thread → 0 < length self.new.marks.items }
+        ensures kept { self.new.kept ≡ self.old.kept }
+    {
+        self.marks.clear();
+        for _ in 0..PIECE {
+            match self.drain.take(thread) {
+                Some(mark) => self.marks.push_reserved(mark),
+                None => return,
+            }
         }
     }
-}
 
-/// Adds what a thread has sent.
-pub(crate) fn add_sent<D: Desk>(
-    alloc: Global,
-    desk: &mut D,
-    drain: &mut Drain,
-    thread: u8,
-    marks: &mut Vec<Gapped>,
-) -> Option<DeskFault>
-    requires begun { IsSome (D.state desk.old).begun }
-    requires thread { thread < length drain.old.received }
-    requires few { length drain.old.received ≤ MAX_THREADS }
-    requires room { PIECE ≤ vec_capacity marks.old }
-    ensures room { vec_capacity marks.new ≡ vec_capacity marks.old }
-    ensures drains { DrainsOne thread None drain.old (D.state desk.old) result drain.new (D.state desk.new) }
-    ensures begun { (D.state desk.new).begun ≡ (D.state desk.old).begun }
-{
-    for _ in 0..PIECES_IN_A_ROW {
-        take_piece(drain, thread, marks);
-        if marks.is_empty() {
-            return None;
-        }
-        if let Some(fault) = add_piece(alloc, desk, thread, marks.as_slice()) {
-            return Some(fault);
+    /// Adds what a thread has sent.
+    pub(crate) fn add_sent<D: Desk>(&mut self, desk: &mut D, thread: u8)
+        requires begun { IsSome (D.state desk.old).begun }
+        requires thread { thread < length self.old.drain.received }
+        requires few { length self.old.drain.received ≤ MAX_THREADS }
+        ensures drains { DrainsOne thread self.old.kept self.old.drain (D.state desk.old) self.new.kept self.new.drain (D.state desk.new) }
+        ensures begun { (D.state desk.new).begun ≡ (D.state desk.old).begun }
+    {
+        for _ in 0..PIECES_IN_A_ROW {
+            if self.kept.is_some() {
+                return;
+            }
+            self.take_piece(thread);
+            if self.marks.is_empty() {
+                return;
+            }
+            self.kept = add_piece(self.alloc, desk, thread, self.marks.as_slice());
         }
     }
-    None
-}
 
-/// Adds what the threads have sent, of each in turn.
-fn add_round<D: Desk>(
-    alloc: Global,
-    desk: &mut D,
-    drain: &mut Drain,
-    threads: u8,
-    marks: &mut Vec<Gapped>,
-) -> Option<DeskFault>
-    requires begun { IsSome (D.state desk.old).begun }
-    requires threads { threads ≡ length drain.old.received }
-    requires few { threads ≤ MAX_THREADS }
-    requires room { PIECE ≤ vec_capacity marks.old }
-    ensures room { vec_capacity marks.new ≡ vec_capacity marks.old }
-    ensures drains { Drains threads drain.old (D.state desk.old) result drain.new (D.state desk.new) }
-    ensures begun { (D.state desk.new).begun ≡ (D.state desk.old).begun }
-{
-    for thread in 0..threads {
-        if let Some(fault) = add_sent(alloc, desk, drain, thread, marks) {
-            return Some(fault);
+    // Adds what the threads have sent, of each in turn.
+    fn add_round<D: Desk>(&mut self, desk: &mut D, threads: u8)
+        requires begun { IsSome (D.state desk.old).begun }
+        requires threads { threads ≡ length self.old.drain.received }
+        requires few { threads ≤ MAX_THREADS }
+        ensures drains { Drains threads self.old.kept self.old.drain (D.state desk.old) self.new.kept self.new.drain (D.state desk.new) }
+        ensures begun { (D.state desk.new).begun ≡ (D.state desk.old).begun }
+    {
+        for thread in 0..threads {
+            self.add_sent(desk, thread);
         }
     }
-    None
-}
 
-/// Adds what the threads send, until all have ended or a piece is refused, or where none begins in a
-/// while: it may be that no thread can be made, and that they begin once this returns. May wait.
-pub(crate) fn drain_all<R: Wait, D: Desk>(
-    rt: &R,
-    alloc: Global,
-    desk: &mut D,
-    drain: &mut Drain,
-    threads: u8,
-    marks: &mut Vec<Gapped>,
-    crew: &Crew,
-) -> Option<DeskFault>
-    requires begun { IsSome (D.state desk.old).begun }
-    requires threads { threads ≡ length drain.old.received }
-    requires few { threads ≤ MAX_THREADS }
-    requires room { PIECE ≤ vec_capacity marks.old }
-    ensures room { vec_capacity marks.new ≡ vec_capacity marks.old }
-    ensures drains { Drains threads drain.old (D.state desk.old) result drain.new (D.state desk.new) }
-    ensures begun { (D.state desk.new).begun ≡ (D.state desk.old).begun }
-{
-    let time = Duration::from_micros(u64::from(DRAINER_REST));
-    let mut rests = 0;
-    for _ in rt.forever() {
-        let ended = crew.ended();
-        let is_last = ended >= u32::from(threads) || rests >= RESTS_BEFORE_START;
-        if let Some(fault) = add_round(alloc, desk, drain, threads, marks) {
-            return Some(fault);
+    /// Adds what the threads send, until all have ended or a piece is refused, or where none begins in
+    /// a while: it may be that no thread can be made, and that they begin once this returns. May wait.
+    pub(crate) fn drain_all<R: Wait, D: Desk>(
+        &mut self,
+        rt: &R,
+        desk: &mut D,
+        threads: u8,
+        crew: &Crew,
+    )
+        requires begun { IsSome (D.state desk.old).begun }
+        requires threads { threads ≡ length self.old.drain.received }
+        requires few { threads ≤ MAX_THREADS }
+        ensures drains { Drains threads self.old.kept self.old.drain (D.state desk.old) self.new.kept self.new.drain (D.state desk.new) }
+        ensures begun { (D.state desk.new).begun ≡ (D.state desk.old).begun }
+    {
+        let time = Duration::from_micros(u64::from(DRAINER_REST));
+        let mut rests = 0;
+        for _ in rt.forever() {
+            let ended = crew.ended();
+            let is_last = ended >= u32::from(threads) || rests >= RESTS_BEFORE_START;
+            self.add_round(desk, threads);
+            if is_last || self.kept.is_some() {
+                return;
+            }
+            if !crew.has_begun() {
+                rests += 1;
+            }
+            crew.wait_for_end(rt, ended, time);
         }
-        if is_last {
-            return None;
-        }
-        if !crew.has_begun() {
-            rests += 1;
-        }
-        crew.wait_for_end(rt, ended, time);
+        unreachable!()
     }
-    unreachable!()
 }

@@ -1,5 +1,5 @@
 //! Runs of the script by threads that share one heap, whose log is written while they run.
-ghost use Rattle.std.specs.Prelude.{◌≡◌, ◌≢◌, ℕ, ◌<◌, ◌≤◌, [], All, length, vec_capacity, IfOk, OnErr, IsSome, Some};
+ghost use Rattle.std.specs.Prelude.{◌≡◌, ◌≢◌, ℕ, ◌<◌, ◌≤◌, [], All, length, IfOk, OnErr, IsSome, Some, None};
 ghost use Rattle.std.specs.List.{AllZip};
 ghost use Rattle.std.specs.Thread.{IsSync};
 ghost use Rattle.octet_base.specs.Desk.{Rose};
@@ -8,7 +8,6 @@ ghost use Rattle.octet_model.specs.declared.limits.TheConstants.{MAX_THREADS};
 ghost use Rattle.octet_model.specs.Orders.{IsFaithful};
 ghost use Rattle.octet_ring.specs.declared.limits.TheConstants.{MAX_ROOM};
 ghost use Rattle.octet_ring.specs.Views.{received_of, AreFresh};
-ghost use Rattle.octet_threads.specs.declared.drainer.TheConstants.{PIECE};
 ghost use Rattle.octet_threads.specs.Runners.{AreOf, HasEnded, IsAtRest, IsHeapOf, IsSame};
 ghost use Rattle.octet_threads.specs.Feeds.{Drains, end_of};
 ghost use Rattle.octet_threads.specs.Work.{IsSameWork, SendEach, marks_made, IsOfThread, Writes};
@@ -16,17 +15,16 @@ ghost use Rattle.octet_threads.specs.Opened.{IsOpened};
 ghost use Rattle.octet_threads.specs.Live.{IsWritten, IsPartlyWritten};
 
 use crate::crew::Crew;
-use crate::drainer::{PIECE, drain_all};
+use crate::drainer::{Drainer, PIECE};
 use crate::feed::Feed;
 use crate::gate::HeapGate;
-use crate::left::add_all_left;
 use crate::recording::finish_run;
 use crate::runner::Runner;
 use crate::running::runners;
 use crate::runs::run_all;
 use octet_base::{Desk, DeskFault};
 use octet_heap::Heap;
-use octet_model::{Gapped, OutOfMemory, Recorded, Script};
+use octet_model::{OutOfMemory, Recorded, Script};
 use octet_ring::{Drain, MAX_ROOM, Sender, rings};
 use std::alloc::Global;
 use std::sync::Wait;
@@ -39,14 +37,13 @@ pub struct Live {
     pub kept: Option<DeskFault>,
 }
 
-/// All that a run needs: the heap, a runner for each thread, each with the end of a ring, the other ends,
-/// and room for the marks of a piece.
+/// All that a run needs: the heap, a runner for each thread, each with the end of a ring, and a drainer
+/// with the other ends.
 #[derive(Drop)]
 pub(crate) struct Opened {
     pub(crate) heap: Heap,
     pub(crate) runners: Vec<Runner>,
-    pub(crate) drain: Drain,
-    pub(crate) marks: Vec<Gapped>,
+    pub(crate) drainer: Drainer,
 }
 
 // Lets a runner send by a ring.
@@ -78,13 +75,17 @@ fn open(alloc: Global, script: &Script) -> Result<Opened, OutOfMemory>
     let (heap, workers) = Heap::new(alloc, script)?;
     let mut runners = runners(alloc, script, &heap, workers.into_vec())?;
     let (senders, drain) = rings(alloc, script.thread_count(), MAX_ROOM)?;
-    let marks = Vec::with_capacity(alloc, PIECE)?;
     connect_all(&drain, runners.as_mut_slice(), senders.into_vec());
+    let drainer = Drainer {
+        alloc,
+        drain,
+        marks: Vec::with_capacity(alloc, PIECE)?,
+        kept: None,
+    };
     Ok(Opened {
         heap,
         runners,
-        drain,
-        marks,
+        drainer,
     })
 }
 
@@ -93,65 +94,58 @@ fn open(alloc: Global, script: &Script) -> Result<Opened, OutOfMemory>
 // not begun for ever.
 fn run_beside<R: Threads + Wait + Sync, G: HeapGate, D: Desk>(
     rt: &R,
-    alloc: Global,
     heap: &Heap,
     gate: &G,
     desk: &mut D,
-    drain: &mut Drain,
-    marks: &mut Vec<Gapped>,
+    drainer: &mut Drainer,
     runners: &mut [Runner],
-) -> Option<DeskFault>
+)
     requires begun { IsSome (D.state desk.old).begun }
-    requires threads { (length runners.old ≡ length drain.old.received) × (length runners.old ≤ MAX_THREADS) }
+    requires threads { (length runners.old ≡ length drainer.old.drain.received) × (length runners.old ≤ MAX_THREADS) }
     requires rest { All (IsAtRest heap.now) runners.old }
-    requires room { PIECE ≤ vec_capacity marks.old }
     ensures ended { All (HasEnded heap.now) runners.new }
     ensures same { AllZip IsSame runners.old runners.new }
-    ensures room { vec_capacity marks.new ≡ vec_capacity marks.old }
-    ensures drains { Drains (length runners.old) drain.old (D.state desk.old) result drain.new (D.state desk.new) }
+    ensures drains { Drains (length runners.old) drainer.old.kept drainer.old.drain (D.state desk.old) drainer.new.kept drainer.new.drain (D.state desk.new) }
     ensures begun { (D.state desk.new).begun ≡ (D.state desk.old).begun }
 {
     let crew = Crew::new();
     let shared = &crew;
     let threads = runners.len() as u8;
-    let (_, kept) = join_mut(
+    join_mut(
         rt,
         &mut || -> ()
             requires { IsSync R.row × IsSync G.row × All (IsAtRest heap.now) runners.now }
             ensures { All (HasEnded heap.entry.now) runners.exit.now × AllZip IsSame runners.entry.now runners.exit.now }
         { run_all(rt, heap, gate, shared, runners) },
-        &mut || -> Option<DeskFault>
-            requires { IsSome (D.state desk.now).begun × (threads ≡ length drain.now.received) × (threads ≤ MAX_THREADS) × (PIECE ≤ vec_capacity marks.now) }
-            ensures { Drains threads drain.entry.now (D.state desk.entry.now) result drain.exit.now (D.state desk.exit.now) × (vec_capacity marks.exit.now ≡ vec_capacity marks.entry.now) × ((D.state desk.exit.now).begun ≡ (D.state desk.entry.now).begun) }
-        { drain_all(rt, alloc, desk, drain, threads, marks, shared) },
+        &mut || -> ()
+            requires { IsSome (D.state desk.now).begun × (threads ≡ length drainer.now.drain.received) × (threads ≤ MAX_THREADS) }
+            ensures { Drains threads drainer.entry.now.kept drainer.entry.now.drain (D.state desk.entry.now) drainer.exit.now.kept drainer.exit.now.drain (D.state desk.exit.now) × ((D.state desk.exit.now).begun ≡ (D.state desk.entry.now).begun) }
+        { drainer.drain_all(rt, desk, threads, shared) },
     );
-    kept
 }
 
 // Runs them all, and adds all their marks.
 fn run_written<R: Threads + Wait + Sync, G: HeapGate, D: Desk>(
     rt: &R,
-    alloc: Global,
     heap: &Heap,
     gate: &G,
     desk: &mut D,
-    drain: &mut Drain,
-    marks: &mut Vec<Gapped>,
+    drainer: &mut Drainer,
     runners: &mut [Runner],
-) -> Option<DeskFault>
+)
     requires begun { IsSome (D.state desk.old).begun }
-    requires threads { (length runners.old ≡ length drain.old.received) × (length runners.old ≤ MAX_THREADS) }
-    requires none { (thread : ℕ) → received_of drain.old thread ≡ [] }
-    requires send { SendEach drain.old.rings runners.old }
+    requires threads { (length runners.old ≡ length drainer.old.drain.received) × (length runners.old ≤ MAX_THREADS) }
+    requires none { (thread : ℕ) → received_of drainer.old.drain thread ≡ [] }
+    requires kept { drainer.old.kept ≡ None }
+    requires send { SendEach drainer.old.drain.rings runners.old }
     requires rest { All (IsAtRest heap.now) runners.old }
-    requires room { PIECE ≤ vec_capacity marks.old }
     ensures ended { All (HasEnded heap.now) runners.new }
     ensures same { AllZip IsOfThread runners.old runners.new }
-    ensures writes { Writes (length runners.old) (marks_made runners.new) (D.state desk.old) result (D.state desk.new) }
+    ensures writes { Writes (length runners.old) (marks_made runners.new) (D.state desk.old) drainer.new.kept (D.state desk.new) }
     ensures begun { (D.state desk.new).begun ≡ (D.state desk.old).begun }
 {
-    let kept = run_beside(rt, alloc, heap, gate, desk, drain, marks, runners);
-    add_all_left(alloc, desk, drain, runners, marks, kept)
+    run_beside(rt, heap, gate, desk, drainer, runners);
+    drainer.add_all_left(desk, runners);
 }
 
 /// Runs the script as `run` does, and adds its log's marks to the file that is begun while the threads
@@ -188,19 +182,10 @@ pub fn run_live<R: Threads + Wait + Sync, G: HeapGate, D: Desk>(
     let Opened {
         heap,
         mut runners,
-        mut drain,
-        mut marks,
+        mut drainer,
     } = opened;
-    let kept = run_written(
-        rt,
-        alloc,
-        &heap,
-        gate,
-        desk,
-        &mut drain,
-        &mut marks,
-        runners.as_mut_slice(),
-    );
+    run_written(rt, &heap, gate, desk, &mut drainer, runners.as_mut_slice());
+    let kept = drainer.kept;
     match finish_run(alloc, script, heap, runners) {
         Ok(recorded) => Ok(Live { recorded, kept }),
         Err(_) => Err(OutOfMemory),

@@ -1,7 +1,6 @@
 //! What is recorded of a run whose threads have all ended.
-ghost use Rattle.std.specs.Prelude.{◌≡◌, ◌<◌, All, length, map, IfOk, IsTrue};
+ghost use Rattle.std.specs.Prelude.{◌≡◌, ◌<◌, All, length, map, IfOk};
 ghost use Rattle.octet_model.specs.Journals.{log_of};
-ghost use Rattle.octet_model.specs.Log.{is_log};
 ghost use Rattle.octet_model.specs.Orders.{IsFaithful};
 ghost use Rattle.octet_heap.specs.Seated.{journals_of};
 ghost use Rattle.octet_interp.specs.Demands.{next_demand};
@@ -46,28 +45,6 @@ fn workers_of(alloc: Global, runners: Vec<Runner>) -> Result<List<Worker>, OutOf
     Ok(workers)
 }
 
-// The log and the outcome that a closed heap and the ends come to.
-fn recording(script: &Script, closed: Closed, ends: List<End>) -> Recorded
-    requires valid { IsTrue (is_log closed.logs) }
-    requires faithful { IsFaithful script.now closed.logs (record { ends = ends; reads = closed.reads; heap = closed.heap }) }
-    ensures log { result.log.threads ≡ closed.logs }
-    ensures faithful { IsFaithful script.now result.log.threads result.outcome }
-    ensures ends { result.outcome.ends ≡ ends }
-    ensures reads { result.outcome.reads ≡ closed.reads }
-    ensures heap { result.outcome.heap ≡ closed.heap }
-{
-    Recorded {
-        log: Log {
-            threads: closed.logs,
-        },
-        outcome: Outcome {
-            ends,
-            reads: closed.reads,
-            heap: closed.heap,
-        },
-    }
-}
-
 /// Ends the run, and answers its log and its outcome.
 pub(crate) fn finish_run(
     alloc: Global,
@@ -86,6 +63,8 @@ pub(crate) fn finish_run(
 {
     let ends = ends_of(alloc, runners.as_slice())?;
     let workers = workers_of(alloc, runners)?;
-    let closed = heap.close(alloc, workers)?;
-    Ok(recording(script, closed, ends))
+    let Closed { logs, reads, heap } = heap.close(alloc, workers)?;
+    let log = Log { threads: logs };
+    let outcome = Outcome { ends, reads, heap };
+    Ok(Recorded { log, outcome })
 }

@@ -25,15 +25,6 @@ fn is_access(demand: Demand) -> bool {
 }
 
 impl Runner {
-    // Marks the thread as running.
-    fn start(&mut self, heap: &Heap)
-        requires { IsAtRest heap.now self.old }
-        ensures work { IsAtWork heap.now self.new }
-        ensures same { IsSame self.old self.new }
-    {
-        heap.unblock(&mut self.worker);
-    }
-
     // Carries out one demand of the thread, and sends the marks that were made, if they are to be sent.
     fn step<R: Threads + Wait + Sync, G: HeapGate>(
         &mut self,
@@ -105,7 +96,7 @@ impl Runner {
         ensures same { IsSame self.old self.new }
     {
         crew.begin();
-        self.start(heap);
+        heap.unblock(&mut self.worker);
         let mut backoff = AccessBackoff::new();
         for _ in rt.forever() {
             if let Demand::Ended { .. } = self.step(rt, heap, gate, &mut backoff) {

@@ -1,6 +1,5 @@
 //! Scripts run by threads beside each other.
-ghost use Rattle.std.specs.Prelude.{◌≡◌, ◌≤◌, ◌∷◌, [], length, map, codes, IfOk, IsTrue};
-ghost use Rattle.std.specs.List.{list_all};
+ghost use Rattle.std.specs.Prelude.{IsTrue};
 ghost use Rattle.octet_model.specs.Script.{is_thread};
 
 use crate::{HeapGate, run, run_locked};
@@ -40,19 +39,16 @@ impl InOrder {
             &self.second
         }
     }
-
-    // Only the thread itself counts on.
-    fn count(&self, passed: &AtomicU32, access: u32) {
-        if passed.load(Ordering::SeqCst) != access {
-            self.went_wrong.store(true, Ordering::SeqCst);
-        }
-        passed.store(access.saturating_add(1), Ordering::SeqCst);
-    }
 }
 
 impl Gate for InOrder {
     fn pass<R: Threads + Wait + Sync>(&self, _rt: &R, thread: u8, access: u32) {
-        self.count(self.pass_count(thread), access);
+        // Only the thread itself counts on.
+        let passed = self.pass_count(thread);
+        if passed.load(Ordering::SeqCst) != access {
+            self.went_wrong.store(true, Ordering::SeqCst);
+        }
+        passed.store(access.saturating_add(1), Ordering::SeqCst);
     }
 }
 
@@ -66,42 +62,29 @@ impl HeapGate for InOrder {
     }
 }
 
-fn two_objects(alloc: Global, x: u64, y: u64) -> Result<List<Object>, OutOfMemory>
-    ensures names { IfOk result (λ objects. map (λ o. o.name) objects ≡ codes "x" ∷ codes "y" ∷ []) }
-    ensures length { IfOk result (λ objects. length objects ≡ 2) }
+fn script_with_x_and_y(
+    alloc: Global,
+    x: u64,
+    y: u64,
+    first: &[Command],
+    second: &[Command],
+) -> Result<Script, OutOfMemory>
+    requires first { IsTrue (is_thread 2 first.now) }
+    requires second { IsTrue (is_thread 2 second.now) }
 {
     let mut objects = List::new(alloc);
     let name = Name::new(alloc, b"x")?;
     objects.push(Object { name, start: x })?;
     let name = Name::new(alloc, b"y")?;
     objects.push(Object { name, start: y })?;
-    Ok(objects)
-}
-
-fn two_threads(
-    alloc: Global,
-    first: &[Command],
-    second: &[Command],
-) -> Result<List<List<Command>>, OutOfMemory>
-    ensures { IfOk result (λ threads. threads ≡ first.now ∷ second.now ∷ []) }
-{
     let mut threads = List::new(alloc);
     threads.push(List::from_vec(Vec::from_slice(alloc, first)?))?;
     threads.push(List::from_vec(Vec::from_slice(alloc, second)?))?;
-    Ok(threads)
-}
-
-fn script_with_x_and_y(objects: List<Object>, threads: List<List<Command>>) -> Script
-    requires names { map (λ o. o.name) objects ≡ codes "x" ∷ codes "y" ∷ [] }
-    requires two { length objects ≡ 2 }
-    requires threads { length threads ≡ 2 }
-    requires valid { IsTrue (list_all (is_thread 2) threads) }
-{
-    Script {
+    Ok(Script {
         fuel: DEFAULT_FUEL,
         objects,
         threads,
-    }
+    })
 }
 
 // Each thread writes x a hundred times.
@@ -119,15 +102,13 @@ pub(crate) fn writes_in_contention(alloc: Global) -> Result<Script, OutOfMemory>
         },
         Command::Close,
     ];
-    let threads = two_threads(alloc, &writes, &writes)?;
-    Ok(script_with_x_and_y(two_objects(alloc, 0, 0)?, threads))
+    script_with_x_and_y(alloc, 0, 0, &writes, &writes)
 }
 
 // Thread 1 reads what nobody has touched.
 pub(crate) fn reads_untouched(alloc: Global) -> Result<Script, OutOfMemory> {
     let read_y = [Command::Read { to: 0, object: 1 }];
-    let threads = two_threads(alloc, &[], &read_y)?;
-    Ok(script_with_x_and_y(two_objects(alloc, 0, 3)?, threads))
+    script_with_x_and_y(alloc, 0, 3, &[], &read_y)
 }
 
 // Both threads add to x, and thread 0 takes y past the end of a u64.
@@ -142,8 +123,7 @@ fn adds_to_both(alloc: Global) -> Result<Script, OutOfMemory> {
         Command::Set { to: 0, number: 3 },
         Command::Bump { object: 0, from: 0 },
     ];
-    let threads = two_threads(alloc, &first, &second)?;
-    Ok(script_with_x_and_y(two_objects(alloc, 5, u64::MAX)?, threads))
+    script_with_x_and_y(alloc, 5, u64::MAX, &first, &second)
 }
 
 // A line for each thread with its accesses and its marks, one for each thread with what it read,
@@ -167,29 +147,32 @@ fn text_of(alloc: Global, recorded: &Recorded) -> Result<Vec<u8>, OutOfMemory> {
     Ok(text)
 }
 
-#[test]
-pub(crate) fn reads_untouched_whatever_the_schedule(rt: HostRuntime) -> Result<(), Fail> {
-    let alloc = rt.alloc();
-    let script = reads_untouched(alloc)?;
-    let expected =
-        "0 []\n1 [Gapped { gap: 0, mark: Join { from: 0, upto: 0 } }]\n[]\n[3]\n[Done, Done] [0, 3]";
-    let recorded = run(&rt, alloc, &script, &OpenGate)?;
-    assert_eq!(rt; text_of(alloc, &recorded)?.as_slice(), expected.as_bytes());
-    let recorded = run_locked(&rt, alloc, &script, &OpenGate)?;
-    assert_eq!(rt; text_of(alloc, &recorded)?.as_slice(), expected.as_bytes());
-    Ok(())
+// On the heap, or else over one machine behind a lock.
+fn run_either<R: Threads + Wait + Sync, G: HeapGate>(
+    rt: &R,
+    alloc: Global,
+    script: &Script,
+    gate: &G,
+    on_heap: bool,
+) -> Result<Recorded, OutOfMemory> {
+    if on_heap {
+        run(rt, alloc, script, gate)
+    } else {
+        run_locked(rt, alloc, script, gate)
+    }
 }
 
 #[test]
-fn updates_add_up_whatever_the_schedule(rt: HostRuntime) -> Result<(), Fail> {
+fn outcome_is_known_whatever_the_schedule(rt: HostRuntime) -> Result<(), Fail> {
     let alloc = rt.alloc();
-    let script = adds_to_both(alloc)?;
+    let script = reads_untouched(alloc)?;
+    let adding = adds_to_both(alloc)?;
     for on_heap in [true, false] {
-        let recorded = if on_heap {
-            run(&rt, alloc, &script, &OpenGate)?
-        } else {
-            run_locked(&rt, alloc, &script, &OpenGate)?
-        };
+        let recorded = run_either(&rt, alloc, &script, &OpenGate, on_heap)?;
+        let expected =
+            "0 []\n1 [Gapped { gap: 0, mark: Join { from: 0, upto: 0 } }]\n[]\n[3]\n[Done, Done] [0, 3]";
+        assert_eq!(rt; text_of(alloc, &recorded)?.as_slice(), expected.as_bytes());
+        let recorded = run_either(&rt, alloc, &adding, &OpenGate, on_heap)?;
         assert_eq!(rt; recorded.outcome.heap.as_slice(), [12u64, 1].as_slice());
     }
     Ok(())
@@ -201,11 +184,7 @@ fn each_access_passes_the_gate_once(rt: HostRuntime) -> Result<(), Fail> {
     let script = writes_in_contention(alloc)?;
     for (on_heap, shown) in [(true, 200), (false, 0)] {
         let gate = InOrder::new();
-        let recorded = if on_heap {
-            run(&rt, alloc, &script, &gate)?
-        } else {
-            run_locked(&rt, alloc, &script, &gate)?
-        };
+        let recorded = run_either(&rt, alloc, &script, &gate, on_heap)?;
         assert!(rt; !gate.went_wrong.load(Ordering::SeqCst));
         assert_eq!(rt; gate.first.load(Ordering::SeqCst), 100);
         assert_eq!(rt; gate.second.load(Ordering::SeqCst), 100);

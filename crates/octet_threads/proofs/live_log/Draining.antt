@@ -42,11 +42,11 @@ drains_none thread kept drain state = record {
 }
 
 -- after other marks some more were received of the thread, and added as a piece
-pub drains_more : (thread : ℕ) (marks : List Gapped) (drain mid next : DrainView) (before between after : DeskState) (kept : Option DeskFault) → thread < length drain.received → 1 ≤ length marks
-    → DrainsOne thread None drain before None mid between
+pub drains_more : (thread : ℕ) (marks : List Gapped) (drain mid next : DrainView) (before between after : DeskState) (first_kept mid_kept kept : Option DeskFault) → thread < length drain.received → 1 ≤ length marks → mid_kept ≡ None
+    → DrainsOne thread first_kept drain before mid_kept mid between
     → next.received ≡ set mid.received thread (received_of mid thread ++ marks) → next.rings ≡ mid.rings → AddsPieces (piece_of thread marks ∷ []) between kept after
-    → DrainsOne thread None drain before kept next after
-drains_more thread marks drain mid next before between after kept there some first received rings adds =
+    → DrainsOne thread first_kept drain before kept next after
+drains_more thread marks drain mid next before between after first_kept mid_kept kept there some unrefused first received rings adds =
     let old = received_of drain thread in
     let had = marks_of thread first.pieces in
     let now : received_of mid thread ≡ old ++ had = ap (λ (l : List (List Gapped)). get_or l thread []) first.received ∙ get_or-set_same drain.received thread (old ++ had) [] there in
@@ -55,7 +55,7 @@ drains_more thread marks drain mid next before between after kept there some fir
     ap (λ (l : List Gapped). l ++ marks) now ∙ (append_assoc old had marks ∙ ap (λ (l : List Gapped). old ++ l) (sym all)) in record {
       pieces = first.pieces ++ piece_of thread marks ∷ [];
       own = own_both thread first.pieces (piece_of thread marks ∷ []) first.own ((refl, some), tt);
-      goes = adds_both first.pieces (piece_of thread marks ∷ []) before between after kept first.goes adds;
+      goes = goes_on first.pieces (piece_of thread marks ∷ []) first_kept None kept before between after (subst (λ (k : Option DeskFault). GoesOn first_kept first.pieces before k between) unrefused first.goes) adds;
       received = received ∙ (ap (λ (l : List (List Gapped)). set l thread (received_of mid thread ++ marks)) first.received
           ∙ (set_twice drain.received thread (old ++ had) (received_of mid thread ++ marks) ∙ ap (λ (l : List Gapped). set drain.received thread l) joined));
       rings = rings ∙ first.rings;
@@ -72,11 +72,11 @@ drains_from thread kept kept' drain start drain' before after received rings one
 }
 
 -- what holds of one thread, holds of all
-pub one_drains : (threads thread : ℕ) (drain drain' : DrainView) (before after : DeskState) (kept : Option DeskFault) → threads ≡ length drain.received → thread < threads → DrainsOne thread None drain before kept drain' after → Drains threads drain before kept drain' after
-one_drains threads thread drain drain' before after kept all there one = record {
+pub one_drains : (threads thread : ℕ) (drain drain' : DrainView) (before after : DeskState) (kept kept' : Option DeskFault) → threads ≡ length drain.received → thread < threads → DrainsOne thread kept drain before kept' drain' after → Drains threads kept drain before kept' drain' after
+one_drains threads thread drain drain' before after kept kept' all there one = record {
   pieces = one.pieces;
   are = own_are threads thread one.pieces there one.own;
-  adds = one.goes;
+  goes = one.goes;
   received = λ other less. elim (cases_eq other thread) [
     | inl same ↦ subst (λ (t : ℕ). received_of drain' t ≡ received_of drain t ++ marks_of t one.pieces) (sym same)
         (ap (λ (l : List (List Gapped)). get_or l thread []) one.received ∙ get_or-set_same drain.received thread (received_of drain thread ++ marks_of thread one.pieces) [] (omega (arith, there, all)))
@@ -88,14 +88,14 @@ one_drains threads thread drain drain' before after kept all there one = record 
   rings = one.rings;
 }
 
-pub drain_nothing : (threads : ℕ) (drain : DrainView) (state : DeskState) → Drains threads drain state None drain state
-drain_nothing threads drain state = record { pieces = []; are = tt; adds = (refl, refl); received = λ thread there. sym (append-nil (received_of drain thread)); as_many = refl; rings = refl }
+pub drain_nothing : (threads : ℕ) (kept : Option DeskFault) (drain : DrainView) (state : DeskState) → Drains threads kept drain state kept drain state
+drain_nothing threads kept drain state = record { pieces = []; are = tt; goes = goes_nowhere kept state; received = λ thread there. sym (append-nil (received_of drain thread)); as_many = refl; rings = refl }
 
-pub drains_on : (threads : ℕ) (drain mid next : DrainView) (before between after : DeskState) (kept : Option DeskFault) → Drains threads drain before None mid between → Drains threads mid between kept next after → Drains threads drain before kept next after
-drains_on threads drain mid next before between after kept first more = record {
+pub drains_on : (threads : ℕ) (drain mid next : DrainView) (before between after : DeskState) (kept kept' kept'' : Option DeskFault) → Drains threads kept drain before kept' mid between → Drains threads kept' mid between kept'' next after → Drains threads kept drain before kept'' next after
+drains_on threads drain mid next before between after kept kept' kept'' first more = record {
   pieces = first.pieces ++ more.pieces;
   are = are_both threads first.pieces more.pieces first.are more.are;
-  adds = adds_both first.pieces more.pieces before between after kept first.adds more.adds;
+  goes = goes_on first.pieces more.pieces kept kept' kept'' before between after first.goes more.goes;
   received = λ thread there. more.received thread there
       ∙ (ap (λ (l : List Gapped). l ++ marks_of thread more.pieces) (first.received thread there)
       ∙ (append_assoc (received_of drain thread) (marks_of thread first.pieces) (marks_of thread more.pieces)
@@ -230,12 +230,12 @@ left_of_next i threads own kept kept' kept'' drain mid next before between after
 
 -- what was received meanwhile, and then what was left
 pub all_written : (threads : ℕ) (own : ℕ → List Gapped) (kept kept' : Option DeskFault) (drain mid : DrainView) (before between after : DeskState) → ((thread : ℕ) → received_of drain thread ≡ [])
-    → Drains threads drain before kept mid between → AddsAllLeft threads own kept mid between kept' after → Writes threads own before kept' after
+    → Drains threads None drain before kept mid between → AddsAllLeft threads own kept mid between kept' after → Writes threads own before kept' after
 all_written threads own kept kept' drain mid before between after none drained left =
     let ps = drained.pieces in let qs = left.pieces in record {
       pieces = ps ++ qs;
       are = are_both threads ps qs drained.are left.are;
-      adds = goes_both ps qs kept kept' before between after drained.adds left.goes;
+      adds = goes_both ps qs kept kept' before between after drained.goes left.goes;
       each = λ thread there. (let old = left.each thread there in
           let received : received_of mid thread ≡ marks_of thread ps = drained.received thread there ∙ ap (λ (l : List Gapped). l ++ marks_of thread ps) (none thread) in
           subst (λ (l : List Gapped). HasFront (own thread) l kept') (ap (λ (l : List Gapped). l ++ marks_of thread qs) received ∙ sym (marks_of-append thread ps qs)) old);

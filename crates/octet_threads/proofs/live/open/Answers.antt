@@ -1,4 +1,4 @@
-use Rattle.std.proofs.Common.{rules, ◌≡◌, ◌∙◌, inl, inr, ℕ, List, [], All, length, replicate, get_or, sym, ap, subst, arith}
+use Rattle.std.proofs.Common.{rules, ◌≡◌, ◌∙◌, inl, inr, ℕ, List, [], All, length, replicate, get_or, refl, sym, ap, subst, arith}
 use Rattle.std.specs.List.{AllZip}
 use Rattle.std.proofs.Math.ListN.{drop}
 use Rattle.std.proofs.lemmas.Bool.{cases_lt}
@@ -36,5 +36,5 @@ returns c =
       send = subst (SendEach c.in_ok-senders.drain.rings) (sym all) c.connect_all.ensures.send;
       as_many = received ∙ (length-replicate c.thread_count.result [] ∙ (c.thread_count.ensures.count ∙ (sym c.in_ok-runners.ensures.of.as_many ∙ (length_all_zip IsSameWork made last zip ∙ ap (λ (l : List Runner). length l) (sym all)))));
       none = λ thread. ap (λ (l : List (List Gapped)). get_or l thread []) c.in_ok-senders.ensures.drain.0 ∙ none_received c.thread_count.result thread;
-      room = search rules;
+      kept = refl;
     }

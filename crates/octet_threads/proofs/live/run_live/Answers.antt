@@ -16,13 +16,13 @@ use Rattle.octet_threads.proofs.live.run_live.Goals as goal
 pub returns-in_default-clause-partly : goal.returns-in_default-clause-partly
 returns-in_default-clause-partly g c = nothing_added c.args.script.now (g.D.Desk.state c.args.desk.now)
 
-pub run_written-kept-requires-clause-send : goal.run_written-kept-requires-clause-send
-run_written-kept-requires-clause-send g c κs within = subst (SendEach c.in-Ok.opened.drain.rings) (sym c.as_mut_slice.ensures.value) c.in-Ok.ensures.send
+pub run_written-requires-clause-send : goal.run_written-requires-clause-send
+run_written-requires-clause-send g c κs within = subst (SendEach c.in-Ok.opened.drainer.drain.rings) (sym c.as_mut_slice.ensures.value) c.in-Ok.ensures.send
 
 pub finish_run-requires-clause-runners : goal.finish_run-requires-clause-runners
 finish_run-requires-clause-runners g c =
     let made = c.in-Ok.opened.runners.items in
-    let ran = c.run_written-kept.new.runners in
+    let ran = c.run_written.new.runners in
     let zip : AllZip IsOfThread made ran = search rules in
     let long : length made ≡ c.in-Ok.opened.runners.len = search rules in
     let many : length ran ≡ c.in-Ok.opened.runners.len = sym (length_all_zip IsOfThread made ran zip) ∙ long in
@@ -31,26 +31,26 @@ finish_run-requires-clause-runners g c =
 pub returns-in-Ok-finish_run-clause-written : goal.returns-in-Ok-finish_run-clause-written
 returns-in-Ok-finish_run-clause-written g c =
     let made = c.in-Ok.opened.runners.items in
-    let ran = c.run_written-kept.new.runners in
+    let ran = c.run_written.new.runners in
     let value : c.as_mut_slice.result.now ≡ made = search rules in
     let zip : AllZip IsOfThread made ran = search rules in
     let long : length made ≡ c.in-Ok.opened.runners.len = search rules in
     let many : length ran ≡ c.in-Ok.opened.runners.len = sym (length_all_zip IsOfThread made ran zip) ∙ long in
     let all = take_at ran (drop (length ran) made) c.in-Ok.opened.runners.len many in
-    log_written ran c.in-Ok-finish_run.recorded.log.threads (length c.as_mut_slice.result.now) c.run_written-kept.result _ _
-    (c.in-Ok-finish_run.ensures.log ∙ ap (λ (l : List Runner). log_of (journals_of (workers_in l))) all) (ap (λ (l : List Runner). length l) value ∙ length_all_zip IsOfThread made ran zip) c.run_written-kept.ensures.writes
+    log_written ran c.in-Ok-finish_run.recorded.log.threads (length c.as_mut_slice.result.now) c.run_written.new.drainer.kept _ _
+    (c.in-Ok-finish_run.ensures.log ∙ ap (λ (l : List Runner). log_of (journals_of (workers_in l))) all) (ap (λ (l : List Runner). length l) value ∙ length_all_zip IsOfThread made ran zip) c.run_written.ensures.writes
 
 pub returns-in-Ok-finish_run-clause-failed : goal.returns-in-Ok-finish_run-clause-failed
-returns-in-Ok-finish_run-clause-failed g c = failed_rose c.run_written-kept.ensures.writes.pieces _ _ c.run_written-kept.result c.run_written-kept.ensures.writes.adds
+returns-in-Ok-finish_run-clause-failed g c = failed_rose c.run_written.ensures.writes.pieces _ _ c.run_written.new.drainer.kept c.run_written.ensures.writes.adds
 
 pub returns-in-Ok-finish_run-clause-kept : goal.returns-in-Ok-finish_run-clause-kept
-returns-in-Ok-finish_run-clause-kept g c = is_write_answer c.run_written-kept.ensures.writes.pieces _ _ c.run_written-kept.result c.run_written-kept.ensures.writes.adds
+returns-in-Ok-finish_run-clause-kept g c = is_write_answer c.run_written.ensures.writes.pieces _ _ c.run_written.new.drainer.kept c.run_written.ensures.writes.adds
 
 pub returns-clause-partly : goal.returns-clause-partly
 returns-clause-partly g c =
     let made = c.in-Ok.opened.runners.items in
-    let ran = c.run_written-kept.new.runners in
+    let ran = c.run_written.new.runners in
     let value : c.as_mut_slice.result.now ≡ made = search rules in
     let zip : AllZip IsOfThread made ran = search rules in
-    partly_written c.args.script.now c.in-Ok.opened.heap ran (length c.as_mut_slice.result.now) c.run_written-kept.result _ _ c.in-Ok.ensures.heap (still_of c.args.script.now made ran c.in-Ok.ensures.runners zip) c.run_written-kept.ensures.ended
-    (ap (λ (l : List Runner). length l) value ∙ length_all_zip IsOfThread made ran zip) c.run_written-kept.ensures.writes
+    partly_written c.args.script.now c.in-Ok.opened.heap ran (length c.as_mut_slice.result.now) c.run_written.new.drainer.kept _ _ c.in-Ok.ensures.heap (still_of c.args.script.now made ran c.in-Ok.ensures.runners zip) c.run_written.ensures.ended
+    (ap (λ (l : List Runner). length l) value ∙ length_all_zip IsOfThread made ran zip) c.run_written.ensures.writes

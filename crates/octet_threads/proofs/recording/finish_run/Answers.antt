@@ -12,14 +12,17 @@ pub close-requires-clause-still : goal.close-requires-clause-still
 close-requires-clause-still c =
     subst (λ (l : List Worker). EachRests c.args.heap l) (sym c.in_ok-workers.ensures) (each_rests c.args.script.now c.args.heap c.args.runners.items c.requires.heap c.requires.runners c.requires.ended)
 
-pub recording-requires-clause-valid : goal.recording-requires-clause-valid
-recording-requires-clause-valid c =
-    let closes = subst (λ (l : List Worker). IsClosed c.args.heap l c.in_ok-closed.closed) c.in_ok-workers.ensures c.in_ok-closed.ensures in
-    valid c.args.script.now c.args.heap c.args.runners.items c.requires.heap c.requires.runners c.requires.ended c.in_ok-closed.closed closes
+pub invariant_of-log : goal.invariant_of-log
+invariant_of-log c =
+    let closed = c.in_ok-logs.field-0 in
+    let closes = subst (λ (l : List Worker). IsClosed c.args.heap l closed) c.in_ok-workers.ensures c.in_ok-logs.ensures in record {
+      valid = valid c.args.script.now c.args.heap c.args.runners.items c.requires.heap c.requires.runners c.requires.ended closed closes;
+    }
 
-pub recording-requires-clause-faithful : goal.recording-requires-clause-faithful
-recording-requires-clause-faithful c =
-    let closes = subst (λ (l : List Worker). IsClosed c.args.heap l c.in_ok-closed.closed) c.in_ok-workers.ensures c.in_ok-closed.ensures in
+pub returns-clause-faithful : goal.returns-clause-faithful
+returns-clause-faithful c =
+    let closed = c.in_ok-logs.field-0 in
+    let closes = subst (λ (l : List Worker). IsClosed c.args.heap l closed) c.in_ok-workers.ensures c.in_ok-logs.ensures in
     let told : c.in_ok-ends.ends ≡ ends_in c.args.runners.items = c.in_ok-ends.ensures ∙ ap (λ (l : List Runner). ends_in l) c.as_slice.ensures.value in
-    subst (λ (ends : List End). IsFaithful c.args.script.now c.in_ok-closed.closed.logs (record { ends = ends; reads = c.in_ok-closed.closed.reads; heap = c.in_ok-closed.closed.heap })) (sym told)
-    (faithful c.args.script.now c.args.heap c.args.runners.items c.requires.heap c.requires.runners c.requires.ended c.in_ok-closed.closed closes)
+    subst (λ (ends : List End). IsFaithful c.args.script.now closed.logs (record { ends = ends; reads = closed.reads; heap = closed.heap })) (sym told)
+    (faithful c.args.script.now c.args.heap c.args.runners.items c.requires.heap c.requires.runners c.requires.ended closed closes)

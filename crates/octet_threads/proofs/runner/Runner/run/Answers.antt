@@ -3,10 +3,10 @@ use Rattle.std.specs.Option.{ForSome}
 use Rattle.octet_model.specs.declared.event.Event.{Event}
 use Rattle.octet_model.specs.Journals.{gapped_marks}
 use Rattle.octet_threads.specs.Feeds.{HasSent}
-use Rattle.octet_threads.proofs.runner.Runner.start.Goals as goal
+use Rattle.octet_threads.proofs.runner.Runner.run.Goals as goal
 
 pub invariant_of-self : goal.invariant_of-self
-invariant_of-self c =
+invariant_of-self g c =
     let self = c.args.self.now in record {
       fits = search rules;
       idle = self.idle;
