@@ -1,5 +1,5 @@
 -- When each thread stands among those that may step, or on the list of what it waits for.
-use Rattle.std.specs.Prelude.{◌≡◌, ◌≢◌, ℕ, suc, ◌<◌, ◌≤◌, true, length, Some, slice_get, slice_index, slice_set}
+use Rattle.std.specs.Prelude.{◌≡◌, ◌≢◌, ℕ, suc, ◌<◌, ◌≤◌, true, length, Some, slice_get, slice_index}
 use Rattle.octet_model.specs.declared.limits.TheConstants.{MAX_THREADS}
 use Rattle.octet_replay.specs.declared.need.Need.{Need}
 use Rattle.octet_replay.specs.declared.need.Need.TheVariants.{Events, DrawsAre, DrawsReach}

@@ -1,7 +1,6 @@
 -- The next step of waiting lists that follow a lowest front, and their end.
-use Rattle.std.proofs.Common.{◌≡◌, ℕ, zero, suc, ◌≤◌, Bool, false, if◌then◌else◌, List, [], ◌∷◌, length, take, IsTrue, sym, ap, ◌∙◌, subst}
-use Rattle.std.proofs.lemmas.List.{take_all}
-use Rattle.octet_model.specs.Machine.{PlainState, Behavior, Operation, draws_after, next_of, may_step, step, after, IsFront}
+use Rattle.std.proofs.Common.{◌≡◌, ℕ, suc, ◌≤◌, Bool, false, if◌then◌else◌, List, length, take, IsTrue, sym, ap, ◌∙◌, subst}
+use Rattle.octet_model.specs.Machine.{PlainState, Behavior, Operation, draws_after, next_of, may_step, step, after}
 use Rattle.octet_model.proofs.lemmas.Steps.{Makes, what_it_makes}
 use Rattle.octet_replay.specs.declared.need.Need.{Need}
 use Rattle.octet_replay.specs.Needs.{NeedsAndCounts, after_step, is_ready, IsLowestReady}
@@ -10,12 +9,6 @@ use Rattle.octet_replay.specs.Threads.{need_of}
 use Rattle.octet_replay.proofs.lemmas.Awaiting.{OneMore, one_more, ready_may, awaits_after, one_counted}
 use Rattle.octet_replay.proofs.lemmas.Halting.{no_step_left}
 use Rattle.octet_clock.specs.Following.{counted, state_reached, Follows}
-
--- the first steps of a front are a front
-pub front_take : (V : Behavior) (k : ℕ) (front : List ℕ) (s : PlainState) → IsFront V s front → IsFront V s (take k front)
-front_take V zero front s is = tt
-front_take V (suc k) [] s is = tt
-front_take V (suc k) (t ∷ front) s is = (is.0, front_take V k front (step V s t) is.1)
 
 module _ (V : Behavior) (start : PlainState) (front : List ℕ) (w : NeedsAndCounts) (follows : Follows V start front w) where
   abbrev s : PlainState
@@ -51,6 +44,3 @@ module _ (V : Behavior) (start : PlainState) (front : List ℕ) (w : NeedsAndCou
   module _ (none : (t : ℕ) → is_ready w t ≡ false) where
     pub all_counted : length front ≤ counted w
     all_counted = no_step_left V (counted w) front start follows.lowest (λ t. sym (ready_may V s w follows.awaits t) ∙ none t)
-
-    pub is_whole : state_reached V start front w ≡ after V start front
-    is_whole = ap (λ (l : List ℕ). after V start l) (take_all (counted w) front all_counted)

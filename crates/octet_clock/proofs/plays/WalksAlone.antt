@@ -1,6 +1,6 @@
 -- The walk of a log alone: its steps, its end, and what that tells.
 use Rattle.std.proofs.Common.{◌≡◌, ℕ, zero, suc, ◌+◌, ◌-◌, ◌^◌, ◌<◌, ◌≤◌, ◌↔◌, inl, inr, Bool, true, false, if◌then◌else◌, nat_lt, List, [], ◌∷◌, ◌++◌, length, replicate, Option, Some, None, IsTrue, get_or, slice_get, slice_index, slice_set, refl, sym, ap, ◌∙◌, subst, arith, length-set, length-append, append-nil}
-use Rattle.std.proofs.lemmas.Bool.{cases_eq, lt-ltb, ltb-true, ne_eqb, eqb-true}
+use Rattle.std.proofs.lemmas.Bool.{cases_eq, ltb-true, eqb-true}
 use Rattle.std.proofs.lemmas.List.{length-map, length-replicate, get_or-set_same, set-get_or, set-set}
 use Rattle.std.proofs.lemmas.Option.{same_Some, slice_get_within, slice_get-get_or}
 use Rattle.std.proofs.lemmas.List.Sums.{sum_by-set}
@@ -10,7 +10,6 @@ use Rattle.octet_model.specs.declared.event.Event.{Event}
 use Rattle.octet_model.specs.declared.event.Event.TheVariants.{Marked}
 use Rattle.octet_model.specs.declared.event.Mark.{Mark}
 use Rattle.octet_model.specs.declared.event.Mark.TheVariants.{Join, Draw, Fence}
-use Rattle.octet_model.specs.declared.log.Gapped.{Gapped}
 use Rattle.octet_model.specs.declared.log.ThreadLog.{ThreadLog}
 use Rattle.octet_model.specs.Machine.{Journals, journal_of, PlainState, Operation, MakeMark, MakeRead, MakeWrite, MakeUpdate, Wants, Behavior, is_enabled, event_made, draws_after, next_of, may_step, step, after, IsFront, AllFinished, IsOrder}
 use Rattle.octet_model.specs.Journals.{due_mark, mark_first}
@@ -136,19 +135,6 @@ first_names log valid needs are k d lt =
     (subst (λ (n : ℕ). NamesThread n (need_of (next_by_progress own first))) (sym are.as_many) (names_thread log valid k (omega (arith, are.as_many)) first))
 
 -- ---- accesses that are next
-access_next : (mark : Option Mark) (more mark_left : Bool) → mark ≡ None → more ≡ true → mark_first mark (any_access more mark_left) ≡ Wants (MakeRead 0)
-access_next mark more mark_left none is = λ i. mark_first (none i) (any_access (is i) mark_left)
-
--- so many are next where so many are left, and as many come before the next mark
-pub are_accesses : (log : ThreadLog) (p : Progress) (many : ℕ) → many ≤ log.accesses - p.accesses
-    → ((next : Gapped) → slice_get log.marks p.marks ≡ Some next → many ≤ next.gap - p.gap) → AreAccesses log p many
-are_accesses log p many left before made lt =
-    access_next (due_mark (slice_get log.marks p.marks) (made + p.gap)) (nat_lt (made + p.accesses) log.accesses) (nat_lt p.marks (length log.marks)) (none (slice_get log.marks p.marks) before) (lt-ltb (made + p.accesses) log.accesses (omega arith))
-  where
-    none : (o : Option Gapped) → ((next : Gapped) → o ≡ Some next → many ≤ next.gap - p.gap) → due_mark o (made + p.gap) ≡ None
-    none None gaps = refl
-    none (Some next) gaps = ap {B = Option Mark} (λ (b : Bool). if b then Some next.mark else None) (ne_eqb next.gap (made + p.gap) (λ e. omega (arith, gaps next refl)))
-
 module _ (log : ThreadLog) (p : Progress) (is : next_by_progress log p ≡ Wants (MakeRead 0)) where
   no_mark : due log p ≡ None
   no_mark = (next_here log p (MakeRead 0) is).0
