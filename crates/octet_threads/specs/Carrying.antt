@@ -1,21 +1,16 @@
 -- What a clause says of a worker that carries out the demands of its thread.
-use Rattle.std.specs.Prelude.{◌≡◌, ◌<◌, Bool, true, false, None}
+use Rattle.std.specs.Prelude.{◌≡◌, ◌<◌, true, None}
 use Rattle.octet_model.specs.Journals.{access_count}
 use Rattle.octet_model.specs.Thread.{Configuration, starting_configuration}
 use Rattle.octet_interp.specs.declared.demand.Demand.{Demand}
-use Rattle.octet_interp.specs.declared.demand.Demand.TheVariants.{Read, Write, Bump, Ended}
+use Rattle.octet_interp.specs.declared.demand.Demand.TheVariants.{Ended}
 use Rattle.octet_interp.specs.Demands.{ThreadState, next_demand}
 use Rattle.octet_interp.specs.Laws.{IsJournalOf}
 use Rattle.octet_state.specs.declared.phase.Phase.TheVariants.{Blocked}
+use Rattle.octet_machine.specs.Machine.{is_access}
 use Rattle.octet_heap.specs.declared.heap.Heap.{Heap}
 use Rattle.octet_heap.specs.declared.worker.Worker.{Worker}
 use Rattle.octet_heap.specs.Workers.{seat_of, IsIdle}
-
-abbrev pub is_access : Demand → Bool
-is_access (Read object) = true
-is_access (Write object value) = true
-is_access (Bump object amount) = true
-is_access _ = false
 
 -- the thread may make one more access, or demands none
 abbrev pub HasAccessLeft : Heap → Worker → ThreadState → Type 0

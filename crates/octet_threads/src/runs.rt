@@ -17,13 +17,6 @@ use std::thread;
 use std::thread::Threads;
 use std::time::Duration;
 
-fn is_access(demand: Demand) -> bool {
-    match demand {
-        Demand::Read { .. } | Demand::Write { .. } | Demand::Bump { .. } => true,
-        _ => false,
-    }
-}
-
 impl Runner {
     // Carries out one demand of the thread, and sends the marks that were made, if they are to be sent.
     fn step<R: Threads + Wait + Sync, G: HeapGate>(
@@ -72,8 +65,9 @@ impl Runner {
         ensures rested { (self.new ≡ self.old) ⊎ HasRested self.old self.new }
         ensures same { IsSame self.old self.new }
     {
-        if !is_access(self.config.peek()) {
-            return;
+        match self.config.peek() {
+            Demand::Read { .. } | Demand::Write { .. } | Demand::Bump { .. } => {}
+            Demand::Safe | Demand::Pause | Demand::Ended { .. } => return,
         }
         let time = backoff.recover();
         if let Some(rung) = crew.stop() {

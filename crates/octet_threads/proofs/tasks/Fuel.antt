@@ -13,7 +13,7 @@ use Rattle.octet_interp.specs.Demands.{ThreadState, next_demand, after_demand}
 use Rattle.octet_interp.specs.Laws.{Agrees, IsJournalOf}
 use Rattle.octet_interp.proofs.Runs.{one_fuel, along}
 use Rattle.octet_interp.proofs.Agreement.{agrees, follows}
-use Rattle.octet_threads.specs.Carrying.{is_access as demands_access}
+use Rattle.octet_machine.specs.Machine.{is_access as demands_access}
 
 fuel_falls : (commands : List Command) (c : Configuration) → (settled commands c).fuel ≤ c.fuel
 fuel_falls commands c =
