@@ -27,13 +27,16 @@ use Rattle.octet_model.specs.Journals.{due_mark, next_access, mark_first}
 use Rattle.octet_model.specs.Log.{is_log}
 use Rattle.octet_model.specs.Validity.{IsMark}
 use Rattle.octet_replay.specs.declared.need.Need.{Need}
+use Rattle.octet_replay.specs.declared.next_step.NextStep.{NextStep}
+use Rattle.octet_replay.specs.declared.next_step.NextStep.TheVariants.{Mark as ToMark}
 use Rattle.octet_replay.specs.declared.thread.ThreadReplay.{ThreadReplay}
 use Rattle.octet_replay.specs.declared.state.Replay.{Replay}
 use Rattle.octet_replay.specs.NextDemand.{demand_of, NamesObject}
 use Rattle.octet_replay.specs.Needs.{NeedsAndCounts, after_step, no_counts, is_ready, IsLowestReady, NamesThread}
+use Rattle.octet_replay.specs.NextSteps.{as_next, AccessesWithin}
 use Rattle.octet_replay.specs.ReplayState.{ReplayState, state_at, plain_state, regions_of, HasHalted, IsNextStep, IsNextThread}
-use Rattle.octet_replay.specs.Replayed.{state_of, is_draw, AreNeedsOf, AreReplaysOf, CanMake, IsAt, MakesEvent, StandsAt}
-use Rattle.octet_replay.specs.Threads.{need_of, next_by_counts, next_event, Grown, HasRoomFor, IsReplayOf, StandsFor, WritesWithin}
+use Rattle.octet_replay.specs.Replayed.{state_of, is_draw, AreNeedsOf, AreReplaysOf, CanMake, IsAt, IsNextAt, IsNextOf, MakesEvent, StandsAt}
+use Rattle.octet_replay.specs.Threads.{need_of, next_by_counts, next_event, DemandsWithin, Grown, HasRoomFor, IsReplayOf, StandsFor, WritesWithin}
 use Rattle.octet_replay.proofs.lemmas.Awaiting as awaiting
 use Rattle.octet_replay.proofs.lemmas.Awaiting.{OneMore, one_more, draws_counted, awaits_after, awaits_at_start}
 use Rattle.octet_replay.proofs.lemmas.EventsMade.{DoAlike, do_alike, same_length}
@@ -197,7 +200,7 @@ module _ (r : Replay) (at : IsAt r) where
           ∙ journals_are r.script.value r.log.value.threads (plain_state (state_of r)) r.threads.items r.heap.items r.waits at.stands t lowest.is_met x there event is;
     }
 
-    module _ (r' : Replay) (m : MakesEvent r t event r') where
+    module _ (next : NextStep) (r' : Replay) (m : MakesEvent r t event next r') where
       within : t < length r.waits.events
       within =
           omega (arith, at.stands.waits.counts, at.stands.as_many, slice_get_within r.threads.items t x there)
@@ -381,12 +384,42 @@ at_start r script log is_script is_log agree none stands =
 pub thread_read : (r : Replay) → IsAt r → (t : ℕ) → is_ready r.waits t ≡ true → (x : ThreadReplay) → x ≡ get_or r.threads.items t x → slice_get r.threads.items t ≡ Some x
 thread_read r at t ready x is = slice_get-get_or r.threads.items t x (ready_within r at t ready) ∙ ap (λ (z : ThreadReplay). Some z) (sym is)
 
--- the thread's log and the event that were read
+-- the thread's log and what is next for it, as they were read
 module _ (r : Replay) (at : IsAt r) (t : ℕ) (ready : is_ready r.waits t ≡ true) (log : Log) (logs : List ThreadLog) (own : ThreadLog) (of_log : log ≡ r.log.value) (logs_are : logs ≡ log.threads) (own_is : own ≡ get_or logs t own) where
   pub own_log_read : own ≡ thread_log_of r.log.value.threads t
   own_log_read = log_read r.log.value.threads t own (own_is ∙ ap (λ (ls : List ThreadLog). get_or ls t own) (logs_are ∙ ap (λ (l : Log). l.threads) of_log)) (within_log r at t ready)
 
-  pub event_read : (x : ThreadReplay) (now : List ℕ) (o found : Option Event) → now ≡ r.heap.items → o ≡ next_event (next_by_counts own x) now → o ≡ found
-      → next_event (next_by_counts (thread_log_of r.log.value.threads t) x) r.heap.items ≡ found
-  event_read x now o found same is found_is =
-      ap (λ (l : ThreadLog). next_event (next_by_counts l x) r.heap.items) (sym own_log_read) ∙ ap (next_event (next_by_counts own x)) (sym same) ∙ sym is ∙ found_is
+  pub next_read : (x : ThreadReplay) (next : NextStep) → x ≡ get_or r.threads.items t x → as_next next ≡ next_by_counts own x → ((objects : ℕ) → DemandsWithin objects x → AccessesWithin objects next) → IsNextAt r t next
+  next_read x next x_is is within z at_z =
+      subst (λ (y : ThreadReplay). IsNextOf (thread_log_of r.log.value.threads t) y next) (same_Some x z (sym (thread_read r at t ready x x_is) ∙ at_z))
+      (subst (λ (l : ThreadLog). IsNextOf l x next) own_log_read (record { is = is; within = within }))
+
+-- a thread that may step, and what is next for it
+module _ (r : Replay) (at : IsAt r) (t : ℕ) (ready : is_ready r.waits t ≡ true) (next : NextStep) (its : IsNextAt r t next) where
+  pub thread_here : (x : ThreadReplay) × (slice_get r.threads.items t ≡ Some x)
+  thread_here =
+      elim (slice_get_cases r.threads.items t).1 [
+        | inl there ↦ (there.0, there.2)
+        | inr past ↦ absurd (omega (arith, past.0, ready_within r at t ready))
+      ]
+
+  pub access_within : (now : List ℕ) → now ≡ r.heap.items → AccessesWithin (length now) next
+  access_within now same =
+      subst (λ (heap : List ℕ). AccessesWithin (length heap) next) (sym same)
+      ((its thread_here.0 thread_here.1).within (length r.heap.items)
+      (names_objects r.script.value r.log.value.threads (plain_state (state_of r)) r.threads.items r.heap.items r.waits at.stands t thread_here.0 thread_here.1))
+
+  pub event_found : (now : List ℕ) (o found : Option Event) → now ≡ r.heap.items → o ≡ next_event (as_next next) now → o ≡ found
+      → next_event (next_by_counts (thread_log_of r.log.value.threads t) thread_here.0) r.heap.items ≡ found
+  event_found now o found same is found_is =
+      ap (λ (n : Next). next_event n r.heap.items) (sym (its thread_here.0 thread_here.1).is) ∙ ap (next_event (as_next next)) (sym same) ∙ sym is ∙ found_is
+
+  pub mark_found : (mark : Mark) → next ≡ ToMark mark → next_event (next_by_counts (thread_log_of r.log.value.threads t) thread_here.0) r.heap.items ≡ Some (Marked mark)
+  mark_found mark is = event_found r.heap.items (next_event (as_next next) r.heap.items) (Some (Marked mark)) refl refl (ap (λ (n : NextStep). next_event (as_next n) r.heap.items) is)
+
+-- what is next for a thread after its event
+pub next_after : (r : Replay) (t : ℕ) (event : Event) (next : NextStep) (r' : Replay) → MakesEvent r t event next r' → IsNextAt r' t next
+next_after r t event next r' m z at_z =
+    let same = get_same r.threads.items t m.becomes z (ap (λ (xs : List ThreadReplay). slice_get xs t) (sym m.threads) ∙ at_z) in
+    subst (λ (logs : List ThreadLog). IsNextOf (thread_log_of logs t) z next) (λ i. (sym m.log i).value.threads)
+    (subst (λ (y : ThreadReplay). IsNextOf (thread_log_of r.log.value.threads t) y next) same m.next_is)

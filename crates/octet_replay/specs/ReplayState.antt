@@ -1,5 +1,5 @@
 -- How far a replayer has followed the lowest order, and what its next step is.
-use Rattle.std.specs.Prelude.{◌≡◌, ℕ, suc, ◌<◌, List, length, take, slice_index, IsTrue, IsFalse}
+use Rattle.std.specs.Prelude.{◌≡◌, ℕ, suc, ◌<◌, ◌≤◌, List, length, take, slice_index, IsTrue, IsFalse}
 use Rattle.octet_model.specs.declared.event.Event.{Event}
 use Rattle.octet_model.specs.declared.script.Script.{Script}
 use Rattle.octet_model.specs.declared.log.Log.{Log}
@@ -49,6 +49,13 @@ pub record IsNextThread (r : ReplayState) (thread : ℕ) : Type 0 where
 abbrev pub StepsTo : ReplayState → Stepped → ReplayState → Type 0
 StepsTo before (Made thread event) after = IsNextStep before thread event × (after ≡ record before { steps = suc before.steps })
 StepsTo before Halted after = HasHalted before × (after ≡ before)
+
+-- one step more, or several
+pub record GoesOn (before after : ReplayState) : Type 0 where
+  pub same_script : after.script ≡ before.script
+  pub same_log : after.log ≡ before.log
+  pub more : before.steps < after.steps
+  pub within : after.steps ≤ length (lowest_order before.script before.log.threads)
 
 -- how many `region` commands a thread has run before its next access, or before its end where it makes none more
 abbrev pub regions_of : ReplayState → ℕ → ℕ

@@ -16,9 +16,11 @@ use Rattle.octet_replay.specs.declared.need.Need.{Need}
 use Rattle.octet_replay.specs.declared.thread.ThreadReplay.{ThreadReplay}
 use Rattle.octet_replay.specs.declared.state.Replay.{Replay}
 use Rattle.octet_replay.specs.NextDemand.{demand_of}
+use Rattle.octet_replay.specs.declared.next_step.NextStep.{NextStep}
 use Rattle.octet_replay.specs.Needs.{NeedsAndCounts, after_step, is_ready, NamesThread}
+use Rattle.octet_replay.specs.NextSteps.{as_next, AccessesWithin}
 use Rattle.octet_replay.specs.ReplayState.{ReplayState, plain_state}
-use Rattle.octet_replay.specs.Threads.{need_of, next_by_counts, Grown, HasCounts, HasRoomFor, IsReplayOf, StandsFor, WritesWithin}
+use Rattle.octet_replay.specs.Threads.{need_of, next_by_counts, DemandsWithin, Grown, HasCounts, HasRoomFor, IsReplayOf, StandsFor, WritesWithin}
 use Rattle.octet_replay.specs.Judged.{Finds}
 
 -- what contracts of a replayer see: as many steps were made as the threads have made events
@@ -71,12 +73,22 @@ pub record CanMake (r : Replay) (thread : ℕ) (event : Event) : Type 0 where
   pub events : suc (slice_index r.waits.events thread) < 2 ^ 64
   pub draws : is_draw event ≡ true → suc r.waits.draws < 2 ^ 64
 
--- after the thread's event
-pub record MakesEvent (before : Replay) (thread : ℕ) (event : Event) (after : Replay) : Type 0 where
+-- what is next for a thread with this log; an access names one of the objects where what it demands does
+pub record IsNextOf (log : ThreadLog) (t : ThreadReplay) (next : NextStep) : Type 0 where
+  pub is : as_next next ≡ next_by_counts log t
+  pub within : (objects : ℕ) → DemandsWithin objects t → AccessesWithin objects next
+
+-- what is next for the thread, by its log
+abbrev pub IsNextAt : Replay → ℕ → NextStep → Type 0
+IsNextAt r thread next = (t : ThreadReplay) → slice_get r.threads.items thread ≡ Some t → IsNextOf (thread_log_of r.log.value.threads thread) t next
+
+-- after the thread's event, with what is next for it then
+pub record MakesEvent (before : Replay) (thread : ℕ) (event : Event) (next : NextStep) (after : Replay) : Type 0 where
   pub was : ThreadReplay
   pub becomes : ThreadReplay
   pub is_there : slice_get before.threads.items thread ≡ Some was
   pub grown : Grown was event becomes
+  pub next_is : IsNextOf (thread_log_of before.log.value.threads thread) becomes next
   pub threads : after.threads.items ≡ slice_set before.threads.items thread becomes
   pub heap : after.heap.items ≡ heap_after (operation_of event) before.heap.items
   pub waits : after.waits ≡ after_step before.waits thread (is_draw event) (need_of (next_by_counts (thread_log_of before.log.value.threads thread) becomes))

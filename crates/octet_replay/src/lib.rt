@@ -30,7 +30,7 @@ pub use need::Need;
 pub use next_step::NextStep;
 pub use order::{journals, replay};
 pub use replayer::Replayer;
-pub use state::is_draw;
+pub use state::{change_heap, is_draw};
 pub use stepped::Stepped;
 pub use thread::{ThreadReplay, due_mark};
 pub use tracer::Tracer;

@@ -4,12 +4,14 @@ ghost use Rattle.octet_model.specs.declared.limits.TheConstants.{MAX_FUEL};
 ghost use Rattle.octet_model.specs.Machine.{heap_after, no_events};
 ghost use Rattle.octet_model.specs.Orders.{thread_log_of};
 ghost use Rattle.octet_model.specs.Plays.{operation_of};
-ghost use Rattle.octet_replay.specs.Replayed.{is_draw, state_of, AreNeedsOf, AreReplaysOf, CanMake, IsAt, MakesEvent};
-ghost use Rattle.octet_replay.specs.ReplayState.{regions_of, HasHalted, IsNextThread, IsNotBegun, StepsTo};
+ghost use Rattle.octet_replay.specs.Needs.{IsLowestReady};
+ghost use Rattle.octet_replay.specs.Replayed.{is_draw, state_of, AreNeedsOf, AreReplaysOf, CanMake, IsAt, IsNextAt, MakesEvent};
+ghost use Rattle.octet_replay.specs.ReplayState.{regions_of, GoesOn, HasHalted, IsNextThread, IsNotBegun, StepsTo};
+ghost use Rattle.octet_replay.specs.declared.stepped.Stepped.TheVariants.{Made};
 ghost use Rattle.octet_replay.specs.Threads.{WritesWithin};
 
 use crate::thread::ThreadReplay;
-use crate::{Need, ReplayFault, Stepped, Waits};
+use crate::{Need, NextStep, ReplayFault, Stepped, Waits};
 use octet_model::{Event, List, Log, Mark, OutOfMemory, Script, ThreadLog};
 use std::alloc::Global;
 use std::snapshot::Snapshot;
@@ -37,8 +39,9 @@ pub fn is_draw(event: Event) -> bool
     }
 }
 
-// A write changes its object's value, and so does an update.
-fn write(heap: &mut Vec<u64>, event: Event)
+/// Changes the heap by an event: a write and an update change their object's value, and no other does.
+#[inline(always)]
+pub fn change_heap(heap: &mut Vec<u64>, event: Event)
     requires { WritesWithin (length heap.old.items) event }
     ensures { heap.new.items ≡ heap_after (operation_of event) heap.old.items }
 {
@@ -113,20 +116,46 @@ impl Replay {
         })
     }
 
-    // Makes the event of a thread that may step, by its log.
+    // Makes the event of a thread that may step, by its log, and finds what is next for it.
     #[inline(always)]
-    fn make(&mut self, thread: u8, event: Event, log: &ThreadLog)
+    fn make(&mut self, thread: u8, event: Event, log: &ThreadLog) -> NextStep
         requires can { CanMake self.old thread event }
         requires of_log { log.now ≡ thread_log_of self.old.log.value.threads thread }
-        ensures { MakesEvent self.old thread event self.new }
+        ensures { MakesEvent self.old thread event result self.new }
     {
         // What depends on the event's kind stands together, so that the kind is looked at once.
         let draw = is_draw(event);
-        write(&mut self.heap, event);
+        change_heap(&mut self.heap, event);
         let it = &mut self.threads[thread as usize];
         it.make(event);
-        let next = it.need(log);
-        self.waits.step(thread, draw, next);
+        let next = it.next(log);
+        self.waits.step(thread, draw, next.need());
+        next
+    }
+
+    // Makes what is next for the lowest thread that may step, and finds what is next for it then.
+    #[inline(always)]
+    fn make_next(&mut self, thread: u8, next: NextStep, log: &ThreadLog) -> (Event, NextStep)
+        requires at { IsAt self.old }
+        requires lowest { IsLowestReady self.old.waits thread }
+        requires its { IsNextAt self.old thread next }
+        requires of_log { log.now ≡ thread_log_of self.old.log.value.threads thread }
+        ensures steps { StepsTo (state_of self.old) (Made thread result.0) (state_of self.new) }
+        ensures at { IsAt self.new }
+        ensures its { IsNextAt self.new thread result.1 }
+        ensures same_log { self.new.log ≡ self.old.log }
+    {
+        // Most steps are marks. They go a way of their own, on which no kind is looked at again.
+        if let NextStep::Mark { mark } = next {
+            let event = Event::Marked { mark };
+            let after = self.make(thread, event, log);
+            return (event, after);
+        }
+        let Some(event) = next.event(&self.heap) else {
+            unreachable!()
+        };
+        let after = self.make(thread, event, log);
+        (event, after)
     }
 
     /// Makes the next step of the lowest order, if a thread may step. Inlined down to the waiting
@@ -143,11 +172,8 @@ impl Replay {
             return Stepped::Halted;
         };
         let of_log = &log.threads.as_slice()[thread as usize];
-        let it = &self.threads[thread as usize];
-        let Some(event) = it.next_event(of_log, &self.heap) else {
-            unreachable!()
-        };
-        self.make(thread, event, of_log);
+        let next = self.threads[thread as usize].next(of_log);
+        let (event, _) = self.make_next(thread, next, of_log);
         Stepped::Made { thread, event }
     }
 
@@ -175,6 +201,27 @@ impl Replay {
         self.threads[thread as usize].config.regions()
     }
 
+    // Steps on while the thread is the lowest that may step, and keeps what is next for it from
+    // one step to the next.
+    fn go_on(&mut self, thread: u8, log: &Log)
+        requires at { IsAt self.old }
+        requires lowest { IsLowestReady self.old.waits thread }
+        requires of_log { log.now ≡ self.old.log.value }
+        ensures goes_on { GoesOn (state_of self.old) (state_of self.new) }
+        ensures at { IsAt self.new }
+        ensures same_log { self.new.log ≡ self.old.log }
+    {
+        let of_log = &log.threads.as_slice()[thread as usize];
+        let mut next = self.threads[thread as usize].next(of_log);
+        loop {
+            let (_, after) = self.make_next(thread, next, of_log);
+            match self.waits.lowest() {
+                Some(lowest) if lowest == thread => next = after,
+                _ => return,
+            }
+        }
+    }
+
     /// Steps on until no thread may step.
     pub(crate) fn run(&mut self, log: &Log)
         requires at { IsAt self.old }
@@ -184,6 +231,8 @@ impl Replay {
         ensures same_script { self.new.script.value ≡ self.old.script.value }
         ensures same_log { self.new.log ≡ self.old.log }
     {
-        while let Stepped::Made { .. } = self.step(log) {}
+        while let Some(thread) = self.waits.lowest() {
+            self.go_on(thread, log);
+        }
     }
 }

@@ -5,7 +5,7 @@ ghost use Rattle.octet_model.specs.Orders.{commands_of};
 ghost use Rattle.octet_model.specs.Thread.{starting_configuration};
 ghost use Rattle.octet_replay.specs.NextDemand.{demand_of, CountsAhead, IsDemandedNext, NamesObject};
 ghost use Rattle.octet_replay.specs.NextSteps.{as_next, AccessesWithin};
-ghost use Rattle.octet_replay.specs.Threads.{accesses_made, end_told, need_of, next_by_counts, next_event, values_of, Counted, DemandsWithin, Grown, HasRoomFor, IsReplayOf, StandsFor};
+ghost use Rattle.octet_replay.specs.Threads.{accesses_made, end_told, need_of, next_by_counts, values_of, Counted, DemandsWithin, Grown, HasRoomFor, IsReplayOf, StandsFor};
 
 use crate::{Need, NextStep};
 use octet_interp::{Config, Demand};
@@ -138,41 +138,11 @@ impl ThreadReplay {
         }
     }
 
-    /// The event that is next by the log, where a read would take its value from the heap now.
-    #[inline(always)]
-    pub(crate) fn next_event(&self, log: &ThreadLog, heap: &[u64]) -> Option<Event>
-        requires { DemandsWithin (length heap.now) self.now }
-        ensures { result ≡ next_event (next_by_counts log.now self.now) heap.now }
-    {
-        match self.next(log) {
-            NextStep::Mark { mark } => Some(Event::Marked { mark }),
-            NextStep::Read { object } => Some(Event::Read {
-                object,
-                value: heap[object as usize],
-            }),
-            NextStep::Write { object, value } => Some(Event::Write { object, value }),
-            NextStep::Bump { object, amount } => {
-                let before = heap[object as usize];
-                Some(Event::Update {
-                    object,
-                    before,
-                    after: before.wrapping_add(amount),
-                })
-            }
-            NextStep::Finished | NextStep::NothingFits => None,
-        }
-    }
-
     /// What the thread waits for before the step that is next by the log.
-    #[inline(always)]
     pub(crate) fn need(&self, log: &ThreadLog) -> Need
         ensures { result ≡ need_of (next_by_counts log.now self.now) }
     {
-        match self.next(log) {
-            NextStep::Mark { mark } => Need::of_mark(mark),
-            NextStep::Read { .. } | NextStep::Write { .. } | NextStep::Bump { .. } => Need::Free,
-            NextStep::Finished | NextStep::NothingFits => Need::Never,
-        }
+        self.next(log).need()
     }
 
     /// How the thread ended, where it demands its end; spent where it demands more.
