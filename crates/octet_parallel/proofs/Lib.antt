@@ -2,3 +2,5 @@ mod steps
 mod seats
 mod players
 mod verdicts
+mod solo
+mod uses

@@ -11,3 +11,5 @@ pub mod Draws
 pub mod Tracks
 pub mod Calls
 pub mod Judging
+pub mod Apart
+pub mod Alone

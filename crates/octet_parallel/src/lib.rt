@@ -2,6 +2,8 @@
 //! beside the others, on words that all share. An event that needs others waits for them.
 #![tactic(auto)]
 
+mod alone;
+mod apart;
 mod crew;
 mod draws;
 mod fate;

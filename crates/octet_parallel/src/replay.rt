@@ -1,9 +1,12 @@
-//! A log that is replayed on threads, and judged by the journals that they made.
+//! A log that is replayed on threads, and judged by what they made.
 ghost use Rattle.std.specs.Prelude.{◌≡◌, length, IfOk};
 ghost use Rattle.octet_clock.specs.Untied.{IsUntied};
+ghost use Rattle.octet_parallel.specs.Apart.{AreApart};
 ghost use Rattle.octet_parallel.specs.Judging.{IsJudged};
 ghost use Rattle.octet_parallel.specs.Calls.{IsFinishedReplay};
 
+use crate::alone::{are_through, outcome_of, play_alone};
+use crate::apart::are_apart;
 use crate::crew::Crew;
 use crate::field::Field;
 use crate::finished::Finished;
@@ -20,8 +23,47 @@ use std::thread::Threads;
 /// where it is not or has not. Each player has a thread of its own while threads are to be had and
 /// are of use; some rounds, or all that is left, may be played on one thread. A player that has to
 /// wait for another looks again for a while, and then sleeps. Before each access it passes the gate,
-/// unless that is open. May wait: nothing says that the players come to an end.
+/// unless that is open. Where the gate is open and no thread of the script writes what another one
+/// names, each is replayed by itself. May wait: nothing says that the players come to an end.
 pub fn parallel<R: Threads + Wait + Sync, G: Gate>(
+    rt: &R,
+    alloc: Global,
+    script: &Script,
+    log: &Log,
+    gate: &G,
+) -> Result<Option<Outcome>, OutOfMemory>
+    requires threads { length script.now.threads ≡ length log.now.threads }
+    requires untied { IsUntied log.now.threads }
+    ensures { IfOk result (λ outcome. IsJudged script.now log.now.threads outcome) }
+{
+    if gate.is_open() && are_apart(alloc, script)? {
+        return replay_apart(rt, alloc, script, log);
+    }
+    replay_together(rt, alloc, script, log, gate)
+}
+
+// Each thread by itself.
+fn replay_apart<R: Threads + Sync>(
+    rt: &R,
+    alloc: Global,
+    script: &Script,
+    log: &Log,
+) -> Result<Option<Outcome>, OutOfMemory>
+    requires threads { length script.now.threads ≡ length log.now.threads }
+    requires untied { IsUntied log.now.threads }
+    requires apart { AreApart script.now }
+    ensures { IfOk result (λ outcome. IsJudged script.now log.now.threads outcome) }
+{
+    let threads = play_alone(rt, alloc, script, log)?;
+    if !are_through(&threads) {
+        return Ok(None);
+    }
+    let outcome = outcome_of(alloc, script, threads)?;
+    Ok(Some(outcome))
+}
+
+// By players that wait for each other.
+fn replay_together<R: Threads + Wait + Sync, G: Gate>(
     rt: &R,
     alloc: Global,
     script: &Script,

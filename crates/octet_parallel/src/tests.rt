@@ -262,6 +262,12 @@ fn orders_that_a_log_gives_are_replayed(rt: HostRuntime) -> Result<(), Fail> {
         Some(Some(text))
     );
     assert_eq!(rt; gate.passed.load(Ordering::SeqCst), 3);
+    // With an open gate each of these readers is replayed by itself.
+    let text = Vec::from_slice(alloc, READ_TWICE)?;
+    assert_eq!(rt;
+        replayed(&rt, alloc, &script, &log, &OpenGate)?,
+        Some(Some(text))
+    );
     Ok(())
 }
 

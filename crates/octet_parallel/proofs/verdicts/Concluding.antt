@@ -10,6 +10,7 @@ use Rattle.octet_model.specs.Machine.{Journals, journal_of, next_of, Finished}
 use Rattle.octet_model.specs.Orders.{by_log, commands_of, end_of, ends_of, values_read, IsLawfulFront}
 use Rattle.octet_replay.specs.NextDemand.{demand_of}
 use Rattle.octet_replay.specs.Threads.{end_told, values_of}
+use Rattle.octet_replay.specs.declared.thread.ThreadReplay.{ThreadReplay}
 use Rattle.octet_parallel.specs.declared.fate.Fate.{Fate}
 use Rattle.octet_parallel.specs.declared.fate.Fate.TheVariants.{Playing, Amiss, Stopped}
 use Rattle.octet_parallel.specs.declared.finished.Finished as finished
@@ -59,18 +60,23 @@ some_player : (players : List Player) → 0 < length players → Player
 some_player [] h = absurd (omega arith)
 some_player (q ∷ players) h = q
 
-ends_are : (fuel : ℕ) (commands : List (List Command)) (players : List Player) (journals : Journals) → length players ≡ length commands → length players ≡ length journals
-    → ((t : ℕ) (none : Player) → t < length players
-    → demanded (get_or commands t []) (configuration_after (get_or commands t []) (starting_configuration fuel) (journal_of journals t)) ≡ demand_of (get_or players t none).replay.up_next)
-    → map (λ (p : Player). end_told p.replay) players ≡ ends_of fuel commands journals
-ends_are fuel [] [] journals same as_many demands = refl
-ends_are fuel [] (x ∷ players) journals same as_many demands = absurd (omega arith)
-ends_are fuel (c ∷ commands) [] journals same as_many demands = absurd (omega arith)
-ends_are fuel (c ∷ commands) (x ∷ players) [] same as_many demands = absurd (omega arith)
-ends_are fuel (c ∷ commands) (x ∷ players) (j ∷ journals) same as_many demands =
-    let first : demanded c (configuration_after c (starting_configuration fuel) j) ≡ demand_of x.replay.up_next = demands 0 x (omega arith) in
-    let rest = ends_are fuel commands players journals (omega arith) (omega arith) (λ t none h. demands (suc t) none (omega arith)) in
-    ap (λ (es : List End). end_told x.replay ∷ es) rest ∙ ap (λ (d : AccessOrEnd). end_of d ∷ ends_of fuel commands journals) (sym first)
+-- the ends of replayed threads are those that their journals tell
+pub ends_are : {A : Type 0} (replay_of : A → ThreadReplay) (fuel : ℕ) (commands : List (List Command)) (threads : List A) (journals : Journals) → length threads ≡ length commands → length threads ≡ length journals
+    → ((t : ℕ) (none : A) → t < length threads
+    → demanded (get_or commands t []) (configuration_after (get_or commands t []) (starting_configuration fuel) (journal_of journals t)) ≡ demand_of (replay_of (get_or threads t none)).up_next)
+    → map (λ (x : A). end_told (replay_of x)) threads ≡ ends_of fuel commands journals
+ends_are replay_of fuel [] [] journals same as_many demands = refl
+ends_are replay_of fuel [] (x ∷ threads) journals same as_many demands = absurd (omega arith)
+ends_are replay_of fuel (c ∷ commands) [] journals same as_many demands = absurd (omega arith)
+ends_are replay_of fuel (c ∷ commands) (x ∷ threads) [] same as_many demands = absurd (omega arith)
+ends_are replay_of fuel (c ∷ commands) (x ∷ threads) (j ∷ journals) same as_many demands =
+    let first : demanded c (configuration_after c (starting_configuration fuel) j) ≡ demand_of (replay_of x).up_next = demands 0 x (omega arith) in
+    let rest = ends_are replay_of fuel commands threads journals (omega arith) (omega arith) (λ t none h. demands (suc t) none (omega arith)) in
+    ap (λ (es : List End). end_told (replay_of x) ∷ es) rest ∙ ap (λ (d : AccessOrEnd). end_of d ∷ ends_of fuel commands journals) (sym first)
+
+pub same_outcome : {e e' : List End} {p p' : List (List ℕ)} {h h' : List ℕ} → e ≡ e' → p ≡ p' → h ≡ h'
+    → ◌≡◌ {A = Outcome} (record { ends = e; reads = p; heap = h }) (record { ends = e'; reads = p'; heap = h' })
+same_outcome e p h = rw (e, p, h) refl
 
 module _ (field : Field) (players : List Player) (all : length players ≡ field.words.players) (ended : EachEnded field players) where
   -- the seats of the players are those of the field
@@ -171,7 +177,7 @@ module _ (field : Field) (players : List Player) (all : length players ≡ field
 
       ends_told : map (λ (p : Player). end_told p.replay) players ≡ ends_of s.script.fuel s.script.threads (plain s).journals
       ends_told =
-          ends_are s.script.fuel s.script.threads players (plain s).journals (sym many ∙ closes.sound.as_many ∙ sym closes.sound.agree) (sym (many_journals s closes.sound ∙ many))
+          ends_are (λ (p : Player). p.replay) s.script.fuel s.script.threads players (plain s).journals (sym many ∙ closes.sound.as_many ∙ sym closes.sound.agree) (sym (many_journals s closes.sound ∙ many))
           (λ t none h.
           let e = ended t none h in
           (λ i. demanded (commands_of (closes.is_script i) (sym (numbered t none h) i)) (configuration_after (commands_of (closes.is_script i) (sym (numbered t none h) i)) (starting_configuration ((closes.is_script i).fuel)) (journal_at t none h i)))
@@ -186,7 +192,3 @@ module _ (field : Field) (players : List Player) (all : length players ≡ field
             journals = journals ∙ journals_are;
             outcome = same_outcome (ends ∙ ends_told) (reads ∙ reads_are) (heap ∙ sym closes.cells ∙ sym closes.sound.heap);
           })
-        where
-          same_outcome : {e e' : List End} {p p' : List (List ℕ)} {h h' : List ℕ} → e ≡ e' → p ≡ p' → h ≡ h'
-              → ◌≡◌ {A = Outcome} (record { ends = e; reads = p; heap = h }) (record { ends = e'; reads = p'; heap = h' })
-          same_outcome e p h = rw (e, p, h) refl

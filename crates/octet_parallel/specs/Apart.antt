@@ -1,0 +1,109 @@
+-- Scripts of which no thread writes an object that another one names.
+use Rattle.std.specs.Prelude.{◌≡◌, ◌≢◌, ◌<◌, ◌&&◌, ℕ, Bool, true, false, IsTrue, IsFalse}
+use Rattle.std.specs.Prelude.{List, [], Option, Some, None, get_or, slice_get}
+use Rattle.octet_model.specs.declared.command.Command.{Command}
+use Rattle.octet_model.specs.declared.command.Command.TheVariants.{Read, Write, Bump}
+use Rattle.octet_model.specs.declared.script.Script.{Script}
+use Rattle.octet_model.specs.Orders.{commands_of}
+use Rattle.octet_parallel.specs.declared.apart.Use.{Use}
+
+-- the object that a command names, if it is an access
+abbrev pub object_named : Command → Option ℕ
+object_named (Read to object) = Some object
+object_named (Write object from) = Some object
+object_named (Bump object from) = Some object
+object_named _ = None
+
+-- a write or a bump
+abbrev pub is_writer : Command → Bool
+is_writer (Write object from) = true
+is_writer (Bump object from) = true
+is_writer _ = false
+
+-- one of the commands names the object
+pub record Names (commands : List Command) (object : ℕ) : Type 0 where
+  pub place : ℕ
+  pub command : Command
+  pub stands : slice_get commands place ≡ Some command
+  pub named : object_named command ≡ Some object
+
+-- one of the commands writes it
+pub record Writes (commands : List Command) (object : ℕ) : Type 0 where
+  pub place : ℕ
+  pub command : Command
+  pub stands : slice_get commands place ≡ Some command
+  pub named : object_named command ≡ Some object
+  pub writer : IsTrue (is_writer command)
+
+-- apart: what a thread writes, no other thread names
+abbrev pub AreApart : Script → Type 0
+AreApart script = (thread other object : ℕ) → thread ≢ other
+    → Writes (commands_of script thread) object → ¬ Names (commands_of script other) object
+
+-- how an object is used, as far as it is kept
+abbrev pub use_of : List Use → ℕ → Use
+use_of uses object = get_or uses object (record { first = None; by_others = false; is_written = false })
+
+-- a use by the thread, a write or a read, is among those that are kept of an object
+pub record Covers (kept : Use) (thread : ℕ) (writes : Bool) : Type 0 where
+  pub named : kept.by_others ≡ false → kept.first ≡ Some thread
+  pub written : writes ≡ true → kept.is_written ≡ true
+
+-- two threads name the object
+pub record AreTwoNaming (threads : List (List Command)) (object : ℕ) : Type 0 where
+  pub one : ℕ
+  pub other : ℕ
+  pub differ : one ≢ other
+  pub by_one : Names (get_or threads one []) object
+  pub by_other : Names (get_or threads other []) object
+
+-- what is kept of the object is seen in these threads
+pub record IsSeenIn (threads : List (List Command)) (object : ℕ) (kept : Use) : Type 0 where
+  pub named : (thread : ℕ) → kept.first ≡ Some thread → Names (get_or threads thread []) object
+  pub by_two : kept.by_others ≡ true → AreTwoNaming threads object
+  pub written : kept.is_written ≡ true → (thread : ℕ) × Writes (get_or threads thread []) object
+
+-- what is kept of each object is seen in them
+abbrev pub AreSeenIn : List (List Command) → List Use → Type 0
+AreSeenIn threads uses = (object : ℕ) → IsSeenIn threads object (use_of uses object)
+
+-- one more use was added, and all that were there still are
+pub record AddsUse (before : Use) (thread : ℕ) (writes : Bool) (after : Use) : Type 0 where
+  pub seen : (threads : List (List Command)) (object : ℕ) → Names (get_or threads thread []) object
+      → (writes ≡ true → Writes (get_or threads thread []) object) → IsSeenIn threads object before
+      → IsSeenIn threads object after
+  pub kept : (other : ℕ) (wrote : Bool) → Covers before other wrote → Covers after other wrote
+  pub added : Covers after thread writes
+
+-- the command of the thread is known, where it is an access
+abbrev pub Knows : List Use → ℕ → Command → Type 0
+Knows uses thread command = (object : ℕ) → object_named command ≡ Some object
+    → Covers (use_of uses object) thread (is_writer command)
+
+-- what was known still is
+abbrev pub KeepsKnown : List Use → List Use → Type 0
+KeepsKnown before after = (thread : ℕ) (command : Command) → Knows before thread command → Knows after thread command
+
+-- a command of the thread was taken in
+pub record TakesCommand (before : List Use) (thread : ℕ) (command : Command) (after : List Use) : Type 0 where
+  pub seen : (threads : List (List Command)) (place : ℕ) → slice_get (get_or threads thread []) place ≡ Some command
+      → AreSeenIn threads before → AreSeenIn threads after
+  pub kept : KeepsKnown before after
+  pub added : Knows after thread command
+
+-- the thread's first `upto` commands were taken in
+pub record TakesCommands (before : List Use) (thread : ℕ) (commands : List Command) (upto : ℕ) (after : List Use) : Type 0 where
+  pub seen : (threads : List (List Command)) → get_or threads thread [] ≡ commands
+      → AreSeenIn threads before → AreSeenIn threads after
+  pub kept : KeepsKnown before after
+  pub added : (place : ℕ) (command : Command) → place < upto → slice_get commands place ≡ Some command
+      → Knows after thread command
+
+-- all commands of the first `upto` threads are known
+abbrev pub KnowsThreads : List Use → List (List Command) → ℕ → Type 0
+KnowsThreads uses threads upto = (thread place : ℕ) (command : Command) → thread < upto
+    → slice_get (get_or threads thread []) place ≡ Some command → Knows uses thread command
+
+-- not both written and named by several threads
+abbrev pub IsUnshared : Use → Type 0
+IsUnshared kept = IsFalse (kept.is_written && kept.by_others)
