@@ -56,6 +56,13 @@ def recorded(name, content, log_bytes, said):
 ONE = script("object x 5 / thread / read r0 x")
 HANDOVER = example("handover.octet")
 
+# Thread 0 has x to itself, thread 1 has y, and threads 1 and 2 read z.
+APART = script(
+    "object x 1 / object y 10 / object z 7 / thread / read r0 x / add r0 r0 r0 / write x r0 / read r1 x"
+    " / thread / read r0 z / bump y r0 / read r1 y / thread / read r2 z"
+)
+APART_SAID = text("thread 0 done 1 2", "thread 1 done 7 17", "thread 2 done 7", "object x 2", "object y 17", "object z 7")
+
 # Scripts that leave the same log in whatever order their threads run: name, script, what is said, threads of the log.
 SAME_RUNS = [
     ("one thread", ONE, text("thread 0 done 5", "object x 5"), (1,)),
@@ -304,7 +311,17 @@ LOGS = (
         log((2,), (2, join(0, 0, 2), join(1, 0, 2))),
         text("thread 0 done", "thread 1 done 1 42", "object x 42", "object flag 1"),
     )
+    + recorded("threads that share nothing that is written", APART, log((3,), (3, join(0, 0, 3)), (1, join(0, 1, 2))), APART_SAID)
+    + recorded("the same without marks", APART, log((3,), (3,), (1,)), APART_SAID)
     + [
+        judged(
+            "parallel", "a thread alone makes too few accesses", APART, log((3,), (4, join(0, 0, 3)), (1, join(0, 1, 2))),
+            text("fit: thread 1 wants 4 accesses, found 3"), 4,
+        ),
+        judged(
+            "parallel", "a thread alone would make more accesses", APART, log((2,), (3,), (1,)),
+            text("fit: thread 0 wants 2 accesses, found 3"), 4,
+        ),
         judged("replay", "without its mark", HANDOVER, HANDOVER_UNMARKED, HANDOVER_SAID),
         judged("verify", "without its mark", HANDOVER, HANDOVER_UNMARKED, text("unordered 0:0 1:0"), 9),
         judged("replay", "bumps without marks", COUNTED, COUNTED_UNMARKED, COUNTED_SAID),
