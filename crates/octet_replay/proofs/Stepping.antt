@@ -13,14 +13,14 @@ use Rattle.octet_model.specs.declared.object.Object.{Object}
 use Rattle.octet_model.specs.declared.script.Script.{Script}
 use Rattle.octet_model.specs.declared.log.Log.{Log}
 use Rattle.octet_model.specs.declared.log.ThreadLog.{ThreadLog}
-use Rattle.octet_model.specs.Thread.{AccessOrEnd, ToRead, ToWrite, ToBump, ToEnd, starting_configuration}
-use Rattle.octet_model.specs.Machine.{Journals, journal_of, PlainState, Next, Wants, Finished, NothingFits, Operation, is_enabled, event_made, heap_after, appended, no_events, next_of, may_proceed, may_step, step, after}
+use Rattle.octet_model.specs.Thread.{AccessOrEnd, ToRead, ToWrite, ToBump, ToEnd, added, starting_configuration}
+use Rattle.octet_model.specs.Machine.{Journals, journal_of, PlainState, Next, Wants, Finished, NothingFits, Operation, is_enabled, event_made, heap_after, appended, no_events, next_of, may_proceed, may_step, step, after, MakeRead, MakeWrite, MakeUpdate}
 use Rattle.octet_model.specs.Orders.{commands_of, thread_log_of, by_log, starting_heap, opening_state, lowest_order}
 use Rattle.octet_model.specs.Plays.{operation_of}
 use Rattle.octet_model.proofs.lemmas.Steps.{Makes, makes_from, same_journal, as_many_step, other_step}
 use Rattle.octet_model.proofs.lemmas.Fronts.{no_journal}
 use Rattle.octet_model.proofs.lemmas.LogsOfJournals.{as_many_after}
-use Rattle.octet_model.proofs.lemmas.LowestFronts.{lowest_order_is_lowest}
+use Rattle.octet_model.proofs.lemmas.LowestFronts.{is_next, lowest_order_is_lowest}
 use Rattle.octet_model.proofs.lemmas.Splits.{length_parts}
 use Rattle.octet_model.specs.declared.event.Mark.{Mark}
 use Rattle.octet_model.specs.Journals.{due_mark, next_access, mark_first}
@@ -28,17 +28,19 @@ use Rattle.octet_model.specs.Log.{is_log}
 use Rattle.octet_model.specs.Validity.{IsMark}
 use Rattle.octet_replay.specs.declared.need.Need.{Need}
 use Rattle.octet_replay.specs.declared.next_step.NextStep.{NextStep}
-use Rattle.octet_replay.specs.declared.next_step.NextStep.TheVariants.{Mark as ToMark}
+use Rattle.octet_replay.specs.declared.next_step.NextStep.TheVariants.{Mark as ToMark, Read as NextRead, Write as NextWrite, Bump as NextBump, Finished as IsThrough, NothingFits as FitsNothing}
+use Rattle.octet_replay.specs.declared.thread.NextDemand.{NextDemand}
+use Rattle.octet_replay.specs.declared.thread.NextDemand.TheVariants.{Read as DemandsRead, Write as DemandsWrite, Bump as DemandsBump, Ended}
 use Rattle.octet_replay.specs.declared.thread.ThreadReplay.{ThreadReplay}
 use Rattle.octet_replay.specs.declared.state.Replay.{Replay}
 use Rattle.octet_replay.specs.NextDemand.{demand_of, NamesObject}
 use Rattle.octet_replay.specs.Needs.{NeedsAndCounts, after_step, no_counts, is_ready, IsLowestReady, NamesThread}
 use Rattle.octet_replay.specs.NextSteps.{as_next, AccessesWithin}
-use Rattle.octet_replay.specs.ReplayState.{ReplayState, state_at, plain_state, regions_of, HasHalted, IsNextStep, IsNextThread}
+use Rattle.octet_replay.specs.ReplayState.{ReplayState, state_at, plain_state, regions_of, HasHalted, IsLowestStep, IsNextStep, IsNextThread}
 use Rattle.octet_replay.specs.Replayed.{state_of, is_draw, AreNeedsOf, AreReplaysOf, CanMake, IsAt, IsNextAt, IsNextOf, MakesEvent, StandsAt}
 use Rattle.octet_replay.specs.Threads.{need_of, next_by_counts, next_event, DemandsWithin, Grown, HasRoomFor, IsReplayOf, StandsFor, WritesWithin}
 use Rattle.octet_replay.proofs.lemmas.Awaiting as awaiting
-use Rattle.octet_replay.proofs.lemmas.Awaiting.{OneMore, one_more, draws_counted, awaits_after, awaits_at_start}
+use Rattle.octet_replay.proofs.lemmas.Awaiting.{OneMore, one_more, none_below, draws_counted, awaits_after, awaits_at_start}
 use Rattle.octet_replay.proofs.lemmas.EventsMade.{DoAlike, do_alike, same_length}
 use Rattle.octet_replay.proofs.lemmas.Growing.{by_counts, came_here, grows, stands_for, writes_within, has_room}
 use Rattle.octet_replay.proofs.lemmas.Valid.{few_accesses, few_marks, due_is_valid}
@@ -60,6 +62,36 @@ makes_none : (s : PlainState) (next : Next) (heap : List ℕ) → may_proceed s 
 makes_none s Finished heap may is = cc
 makes_none s NothingFits heap may is = cc
 makes_none s (Wants operation) heap may is = cc
+
+-- an access that is next names an object of those that its thread's demand names
+module _ (objects : ℕ) (due : Option Mark) (a m : Bool) where
+  reads_within : (d : NextDemand) (object : ℕ) → NamesObject objects d → demand_of d ≡ ToRead object → object < objects
+  reads_within (DemandsRead o) object names is = subst (λ (n : ℕ). n < objects) (let same : o ≡ object = cc in same) names
+  reads_within (DemandsWrite o v) object names is = absurd cc
+  reads_within (DemandsBump o v) object names is = absurd cc
+  reads_within (Ended end) object names is = absurd cc
+
+  writes_to : (d : NextDemand) (object value : ℕ) → NamesObject objects d → demand_of d ≡ ToWrite object value → object < objects
+  writes_to (DemandsRead o) object value names is = absurd cc
+  writes_to (DemandsWrite o v) object value names is = subst (λ (n : ℕ). n < objects) (let same : o ≡ object = cc in same) names
+  writes_to (DemandsBump o v) object value names is = absurd cc
+  writes_to (Ended end) object value names is = absurd cc
+
+  bumps_within : (d : NextDemand) (object amount : ℕ) → NamesObject objects d → demand_of d ≡ ToBump object amount → object < objects
+  bumps_within (DemandsRead o) object amount names is = absurd cc
+  bumps_within (DemandsWrite o v) object amount names is = absurd cc
+  bumps_within (DemandsBump o v) object amount names is = subst (λ (n : ℕ). n < objects) (let same : o ≡ object = cc in same) names
+  bumps_within (Ended end) object amount names is = absurd cc
+
+  next_within : (d : NextDemand) → NamesObject objects d → (next : NextStep) → as_next next ≡ mark_first due (next_access (demand_of d) a m) → AccessesWithin objects next
+  next_within d names (ToMark mark) is = tt
+  next_within d names (NextRead object) is = reads_within d object names (is_next due (demand_of d) a m (MakeRead object) (sym is)).0
+  next_within d names (NextWrite object value) is = writes_to d object value names (is_next due (demand_of d) a m (MakeWrite object value) (sym is)).0
+  next_within d names (NextBump object amount) is =
+      let bumps = (is_next due (demand_of d) a m (MakeUpdate object (added amount)) (sym is)).0 in
+      bumps_within d object bumps.0 names bumps.1
+  next_within d names IsThrough is = tt
+  next_within d names FitsNothing is = tt
 
 module _ (script : Script) (log : List ThreadLog) (s : PlainState) (threads : List ThreadReplay) (heap : List ℕ) (w : NeedsAndCounts) (stands : StandsAt script log s threads heap w) where
   -- a thread may step exactly where its need is met
@@ -171,6 +203,28 @@ module _ (r : Replay) (at : IsAt r) where
       one_more (by_log r.script.value r.log.value.threads) (sum r.waits.events) (lowest_order r.script.value r.log.value.threads) (opening_state r.script.value)
       (lowest_order_is_lowest r.script.value r.log.value.threads at.agree) t (sym (ready t) ∙ lowest.is_met) (λ u below. sym (ready u) ∙ lowest.lowest u below) in
       record { there = omega (arith, within_log t lowest.is_met, at.agree); within = more.within; is_of = more.is_of; may = sym (ready t) ∙ lowest.is_met }
+
+  -- the thread of the next step is the lowest whose need is met
+  pub lowest_ready : (t : ℕ) → IsNextThread (state_of r) t → IsLowestReady r.waits t
+  lowest_ready t next =
+      let ready = ready_may r.script.value r.log.value.threads (plain_state (state_of r)) r.threads.items r.heap.items r.waits at.stands in
+      record {
+        is_met = ready t ∙ next.may;
+        lowest = λ u below.
+            ready u
+            ∙ none_below (by_log r.script.value r.log.value.threads) (sum r.waits.events) (lowest_order r.script.value r.log.value.threads) (opening_state r.script.value)
+            (lowest_order_is_lowest r.script.value r.log.value.threads at.agree) next.within u (subst (λ (n : ℕ). u < n) (sym next.is_of) below);
+      }
+
+  -- what is next for a thread, by its counts
+  pub next_at : (t : ℕ) (next : NextStep) → as_next next ≡ next_of (by_log r.script.value r.log.value.threads) (plain_state (state_of r)) t → IsNextAt r t next
+  next_at t next is x there =
+      let own = thread_log_of r.log.value.threads t in
+      let here = is ∙ next_here r.script.value r.log.value.threads (plain_state (state_of r)) r.threads.items r.heap.items r.waits at.stands t x there in
+      record {
+        is = here;
+        within = λ objects names. next_within objects (due_mark (slice_get own.marks x.marks) x.gap) (nat_lt x.accesses own.accesses) (nat_lt x.marks (length own.marks)) x.up_next names next here;
+      }
 
   pub has_thread : (t : ℕ) → t < length r.script.value.threads → t < length r.threads.items
   has_thread t within = omega (arith, at.stands.as_many, as_many_logs, at.agree)
@@ -416,6 +470,15 @@ module _ (r : Replay) (at : IsAt r) (t : ℕ) (ready : is_ready r.waits t ≡ tr
 
   pub mark_found : (mark : Mark) → next ≡ ToMark mark → next_event (next_by_counts (thread_log_of r.log.value.threads t) thread_here.0) r.heap.items ≡ Some (Marked mark)
   mark_found mark is = event_found r.heap.items (next_event (as_next next) r.heap.items) (Some (Marked mark)) refl refl (ap (λ (n : NextStep). next_event (as_next n) r.heap.items) is)
+
+  -- the next step of the lowest order
+  pub lowest_step_is : IsLowestReady r.waits t → IsLowestStep (state_of r) (record { thread = t; next = next })
+  lowest_step_is lowest = record {
+    of_thread = next_thread r at t lowest;
+    is =
+        (its thread_here.0 thread_here.1).is
+        ∙ sym (next_here r.script.value r.log.value.threads (plain_state (state_of r)) r.threads.items r.heap.items r.waits at.stands t thread_here.0 thread_here.1);
+  }
 
 -- what is next for a thread after its event
 pub next_after : (r : Replay) (t : ℕ) (event : Event) (next : NextStep) (r' : Replay) → MakesEvent r t event next r' → IsNextAt r' t next

@@ -4,15 +4,17 @@ use Rattle.octet_model.specs.declared.event.Event.{Event}
 use Rattle.octet_model.specs.declared.script.Script.{Script}
 use Rattle.octet_model.specs.declared.log.Log.{Log}
 use Rattle.octet_model.specs.declared.log.ThreadLog.{ThreadLog}
-use Rattle.octet_model.specs.Machine.{PlainState, journal_of, may_step, appended}
+use Rattle.octet_model.specs.Machine.{PlainState, journal_of, may_step, appended, next_of}
 use Rattle.octet_model.specs.Orders.{by_log, commands_of, lowest_order, state_after}
 use Rattle.octet_model.specs.Thread.{starting_configuration}
 use Rattle.octet_interp.specs.Regions.{regions_before}
 use Rattle.octet_replay.specs.declared.fault.ReplayFault.{ReplayFault}
 use Rattle.octet_replay.specs.declared.fault.ReplayFault.TheVariants.{ThreadsDiffer, OutOfMemory}
+use Rattle.octet_replay.specs.declared.next_step.LowestStep.{LowestStep}
 use Rattle.octet_replay.specs.declared.stepped.Stepped.{Stepped}
 use Rattle.octet_replay.specs.declared.stepped.Stepped.TheVariants.{Made, Halted}
 use Rattle.octet_replay.specs.Judged.{IsThreadsDiffer}
+use Rattle.octet_replay.specs.NextSteps.{as_next}
 
 -- a script, a log, and how many steps of their lowest order were made
 pub record ReplayState : Type 0 where
@@ -44,6 +46,11 @@ pub record IsNextThread (r : ReplayState) (thread : ℕ) : Type 0 where
   pub within : r.steps < length (lowest_order r.script r.log.threads)
   pub is_of : slice_index (lowest_order r.script r.log.threads) r.steps ≡ thread
   pub may : IsTrue (may_step (by_log r.script r.log.threads) (plain_state r) thread)
+
+-- the next step of the lowest order is of the thread, and is what is next for it
+pub record IsLowestStep (r : ReplayState) (step : LowestStep) : Type 0 where
+  pub of_thread : IsNextThread r step.thread
+  pub is : as_next step.next ≡ next_of (by_log r.script r.log.threads) (plain_state r) step.thread
 
 -- one step more, or nothing where no thread may step
 abbrev pub StepsTo : ReplayState → Stepped → ReplayState → Type 0

@@ -27,7 +27,7 @@ pub use fault::ReplayFault;
 pub use fitting::{FitFault, fit, wrong_script_line};
 pub use line::fit_line;
 pub use need::Need;
-pub use next_step::NextStep;
+pub use next_step::{LowestStep, NextStep};
 pub use order::{journals, replay};
 pub use replayer::Replayer;
 pub use state::{change_heap, is_draw};

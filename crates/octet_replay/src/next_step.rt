@@ -21,6 +21,13 @@ pub enum NextStep {
     NothingFits,
 }
 
+/// The next step of the lowest order: the thread that makes it, and what is next for that thread.
+#[derive(Clone, Copy, Debug, PartialEq, Eq)]
+pub struct LowestStep {
+    pub thread: u8,
+    pub next: NextStep,
+}
+
 impl NextStep {
     /// The event that is next, where a read would take its value from the heap now.
     #[inline(always)]

@@ -1,14 +1,17 @@
 //! A replay that is stepped by its caller.
-ghost use Rattle.std.specs.Prelude.{◌≡◌, ◌<◌, ◌≤◌, length, IfErr, IfOk, IfSome, IsNone};
+ghost use Rattle.std.specs.Prelude.{◌≡◌, ◌<◌, ◌≤◌, length, Some, IfErr, IfOk, IfSome, IsNone};
 ghost use Rattle.octet_model.specs.declared.limits.TheConstants.{MAX_FUEL};
 ghost use Rattle.octet_model.specs.Orders.{execution, lowest_order};
 ghost use Rattle.octet_replay.specs.Judged.{HasCause, IsLawful};
-ghost use Rattle.octet_replay.specs.ReplayState.{regions_of, HasHalted, IsNextThread, IsNotBegun, StepsTo};
+ghost use Rattle.octet_replay.specs.ReplayState.{regions_of, HasHalted, IsLowestStep, IsNextThread, IsNotBegun, StepsTo, plain_state};
+ghost use Rattle.octet_replay.specs.NextSteps.{as_next};
+ghost use Rattle.octet_replay.specs.Threads.{next_event};
+ghost use Rattle.octet_replay.specs.declared.stepped.Stepped.TheVariants.{Made};
 
 use crate::ending::end;
 use crate::state::Replay;
-use crate::{ReplayFault, Stepped};
-use octet_model::{Log, Outcome, Script};
+use crate::{LowestStep, ReplayFault, Stepped};
+use octet_model::{Event, Log, Outcome, Script};
 use std::alloc::Global;
 use std::marker::Model;
 
@@ -54,6 +57,29 @@ impl<'a> Replayer<'a> {
         ensures { StepsTo self.old result self.new }
     {
         self.replay.step(self.log)
+    }
+
+    /// The next step of the lowest order, if a thread may step. Takes no memory.
+    #[inline(always)]
+    pub fn lowest_step(&self) -> Option<LowestStep>
+        ensures some { IfSome result (IsLowestStep self.now) }
+        ensures none { IsNone result → HasHalted self.now }
+    {
+        self.replay.lowest_step(self.log)
+    }
+
+    /// Makes the next step of the lowest order, and gives its event and the step after it. Who makes
+    /// all steps is quicker with this than with `step`, since what is next for a thread is found
+    /// once. Takes no memory.
+    #[inline(always)]
+    pub fn make(&mut self, step: LowestStep) -> (Event, Option<LowestStep>)
+        requires { IsLowestStep self.old step }
+        ensures steps { StepsTo self.old (Made step.thread result.0) self.new }
+        ensures event { next_event (as_next step.next) (plain_state self.old).heap ≡ Some result.0 }
+        ensures some { IfSome result.1 (IsLowestStep self.new) }
+        ensures none { IsNone result.1 → HasHalted self.new }
+    {
+        self.replay.make_lowest(step, self.log)
     }
 
     /// The thread that makes the next step of the lowest order. Takes no memory.

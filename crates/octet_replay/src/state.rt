@@ -1,17 +1,18 @@
 //! All threads as far as they are replayed.
-ghost use Rattle.std.specs.Prelude.{◌≡◌, ◌<◌, ◌≤◌, ◌^◌, length, All, IfOk, IfErr, IfSome, IsNone, IsTrue};
+ghost use Rattle.std.specs.Prelude.{◌≡◌, ◌<◌, ◌≤◌, ◌^◌, length, All, Some, IfOk, IfErr, IfSome, IsNone, IsTrue};
 ghost use Rattle.octet_model.specs.declared.limits.TheConstants.{MAX_FUEL};
 ghost use Rattle.octet_model.specs.Machine.{heap_after, no_events};
 ghost use Rattle.octet_model.specs.Orders.{thread_log_of};
 ghost use Rattle.octet_model.specs.Plays.{operation_of};
 ghost use Rattle.octet_replay.specs.Needs.{IsLowestReady};
 ghost use Rattle.octet_replay.specs.Replayed.{is_draw, state_of, AreNeedsOf, AreReplaysOf, CanMake, IsAt, IsNextAt, MakesEvent};
-ghost use Rattle.octet_replay.specs.ReplayState.{regions_of, GoesOn, HasHalted, IsNextThread, IsNotBegun, StepsTo};
+ghost use Rattle.octet_replay.specs.ReplayState.{regions_of, GoesOn, HasHalted, IsLowestStep, IsNextThread, IsNotBegun, StepsTo, plain_state};
+ghost use Rattle.octet_replay.specs.NextSteps.{as_next};
 ghost use Rattle.octet_replay.specs.declared.stepped.Stepped.TheVariants.{Made};
-ghost use Rattle.octet_replay.specs.Threads.{WritesWithin};
+ghost use Rattle.octet_replay.specs.Threads.{next_event, WritesWithin};
 
 use crate::thread::ThreadReplay;
-use crate::{Need, NextStep, ReplayFault, Stepped, Waits};
+use crate::{LowestStep, Need, NextStep, ReplayFault, Stepped, Waits};
 use octet_model::{Event, List, Log, Mark, OutOfMemory, Script, ThreadLog};
 use std::alloc::Global;
 use std::snapshot::Snapshot;
@@ -143,9 +144,11 @@ impl Replay {
         ensures steps { StepsTo (state_of self.old) (Made thread result.0) (state_of self.new) }
         ensures at { IsAt self.new }
         ensures its { IsNextAt self.new thread result.1 }
+        ensures event { next_event (as_next next) self.old.heap.items ≡ Some result.0 }
         ensures same_log { self.new.log ≡ self.old.log }
     {
-        // Most steps are marks. They go a way of their own, on which no kind is looked at again.
+        // In a log of many marks most steps are marks. They go a way of their own, on which no
+        // kind is looked at again.
         if let NextStep::Mark { mark } = next {
             let event = Event::Marked { mark };
             let after = self.make(thread, event, log);
@@ -175,6 +178,46 @@ impl Replay {
         let next = self.threads[thread as usize].next(of_log);
         let (event, _) = self.make_next(thread, next, of_log);
         Stepped::Made { thread, event }
+    }
+
+    /// The next step of the lowest order, if a thread may step.
+    #[inline(always)]
+    pub(crate) fn lowest_step(&self, log: &Log) -> Option<LowestStep>
+        requires at { IsAt self.now }
+        requires of_log { log.now ≡ self.now.log.value }
+        ensures some { IfSome result (IsLowestStep (state_of self.now)) }
+        ensures none { IsNone result → HasHalted (state_of self.now) }
+    {
+        let Some(thread) = self.waits.lowest() else {
+            return None;
+        };
+        let of_log = &log.threads.as_slice()[thread as usize];
+        let next = self.threads[thread as usize].next(of_log);
+        Some(LowestStep { thread, next })
+    }
+
+    /// Makes the next step of the lowest order, and finds the one after it. What is next for the
+    /// thread is known already where it goes on.
+    #[inline(always)]
+    pub(crate) fn make_lowest(&mut self, step: LowestStep, log: &Log) -> (Event, Option<LowestStep>)
+        requires at { IsAt self.old }
+        requires of_log { log.now ≡ self.old.log.value }
+        requires lowest { IsLowestStep (state_of self.old) step }
+        ensures steps { StepsTo (state_of self.old) (Made step.thread result.0) (state_of self.new) }
+        ensures event { next_event (as_next step.next) (plain_state (state_of self.old)).heap ≡ Some result.0 }
+        ensures some { IfSome result.1 (IsLowestStep (state_of self.new)) }
+        ensures none { IsNone result.1 → HasHalted (state_of self.new) }
+        ensures at { IsAt self.new }
+        ensures same_log { self.new.log ≡ self.old.log }
+    {
+        let thread = step.thread;
+        let of_log = &log.threads.as_slice()[thread as usize];
+        let (event, next) = self.make_next(thread, step.next, of_log);
+        let after = match self.waits.lowest() {
+            Some(lowest) if lowest == thread => Some(LowestStep { thread, next }),
+            _ => self.lowest_step(log),
+        };
+        (event, after)
     }
 
     /// The thread that makes the next step of the lowest order.

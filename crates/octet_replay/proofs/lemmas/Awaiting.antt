@@ -44,6 +44,12 @@ module _ (V : Behavior) where
       let rest = one_more k order (step V s u) low.2 t may lower in
       record { within = omega (arith, rest.within); is_of = rest.is_of; steps = rest.steps }
 
+  -- and no lower one may step before it
+  pub none_below : (k : ℕ) (order : List ℕ) (s : PlainState) → IsLowestFront V s order → k < length order → (u : ℕ) → u < get_or order k 0 → IsFalse (may_step V (after V s (take k order)) u)
+  none_below k [] s low within u below = absurd (omega (arith, within))
+  none_below zero (t ∷ order) s low within u below = low.1 u below
+  none_below (suc k) (t ∷ order) s low within u below = none_below k order (step V s t) low.2 (omega (arith, within)) u below
+
 -- ---- what a thread waits for
 same_test : (n d : ℕ) → eqb n d ≡ eqb (suc n) (suc d)
 same_test n d =

@@ -1,5 +1,5 @@
 -- A replay in which no thread may step has made the whole lowest order.
-use Rattle.std.proofs.Common.{◌≡◌, ℕ, zero, suc, ◌≤◌, List, [], ◌∷◌, length, take, IsFalse, refl, sym, subst, arith}
+use Rattle.std.proofs.Common.{◌≡◌, ℕ, zero, suc, ◌≤◌, List, [], ◌∷◌, length, take, IsFalse, refl, arith}
 use Rattle.octet_model.specs.Machine.{PlainState, Behavior, may_step, step, after}
 use Rattle.octet_model.specs.Orders.{by_log, opening_state, lowest_order, IsLowestFront}
 use Rattle.octet_model.proofs.lemmas.LowestFronts.{lowest_order_is_lowest}
@@ -30,7 +30,3 @@ module _ (r : ReplayState) (agree : length r.script.threads ≡ length r.log.thr
   pub all_steps_made : length (lowest_order r.script r.log.threads) ≤ r.steps
   all_steps_made =
       no_step_left (by_log r.script r.log.threads) r.steps (lowest_order r.script r.log.threads) (opening_state r.script) (lowest_order_is_lowest r.script r.log.threads agree) halted
-
--- where nothing has changed, it is still so
-pub halted_after : (before after : ReplayState) → HasHalted before × (after ≡ before) → HasHalted after
-halted_after before after h = subst (λ (x : ReplayState). HasHalted x) (sym h.1) h.0

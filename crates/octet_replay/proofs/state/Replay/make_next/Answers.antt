@@ -1,6 +1,8 @@
-use Rattle.std.proofs.Common.{Some, None, refl}
+use Rattle.std.proofs.Common.{Some, None, sym, ap, ◌∙◌}
 use Rattle.octet_model.specs.declared.event.Event.TheVariants.{Marked}
+use Rattle.octet_replay.specs.NextSteps.{as_next}
 use Rattle.octet_replay.specs.ReplayState.{plain_state}
+use Rattle.octet_replay.specs.Threads.{next_event}
 use Rattle.octet_replay.specs.Replayed.{state_of}
 use Rattle.octet_replay.proofs.Stepping.{next_step, at_after, state_after_event, some_event, can_make, thread_here, access_within, event_found, mark_found, next_after}
 use Rattle.octet_replay.proofs.state.Replay.make_next.Goals as goal
@@ -63,5 +65,6 @@ returns c =
       );
       at = at_after r c.requires.at c.args.thread c.requires.lowest here.0 here.1 c.in-Some.event is c.make-after-2.result c.make-after-2.new.self c.make-after-2.ensures;
       its = next_after r c.args.thread c.in-Some.event c.make-after-2.result c.make-after-2.new.self c.make-after-2.ensures;
+      event = ap (next_event (as_next c.args.next)) (sym c.deref.ensures.value) ∙ sym c.event.ensures ∙ c.in-Some.is;
       same_log = c.make-after-2.ensures.log;
     }
