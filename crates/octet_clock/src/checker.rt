@@ -16,10 +16,10 @@ ghost use Rattle.octet_clock.specs.Verified.{IsJudged};
 use crate::accesses::Accesses;
 use crate::clock::Clock;
 use crate::marks::Marks;
-use crate::sources::{Prefix, clock_after, keep_mark, note_draw};
+use crate::sources::{Prefix, clock_after, joins_known, keep_mark, note_draw};
 use crate::verdict::Verdict;
 use octet_model::{Event, MAX_THREADS, Mark, OutOfMemory, Place};
-use octet_replay::{Replayer, Stepped};
+use octet_replay::{NextStep, Replayer};
 use std::alloc::Global;
 
 /// What is known of the events so far.
@@ -131,6 +131,7 @@ impl Checker {
         Ok(())
     }
 
+    #[inline(always)]
     fn take_mark(&mut self, thread: usize, mark: Mark) -> Result<(), OutOfMemory>
         requires threads { length self.old.marks.items ≤ MAX_THREADS }
         requires thread { thread < length self.old.marks.items }
@@ -139,6 +140,10 @@ impl Checker {
         ensures taken { OnOk result (TakesEvent self.old thread (Marked mark) self.new) }
     {
         let count = self.made.count(thread);
+        if joins_known(&self.marks, thread, mark) {
+            self.made.raise(thread, count + 1);
+            return Ok(());
+        }
         keep_mark(&mut self.marks, &self.draws, thread, count, mark)?;
         let upto = Prefix {
             thread: thread as u8,
@@ -150,6 +155,7 @@ impl Checker {
     }
 
     /// Takes in a thread's next event.
+    #[inline(always)]
     pub(crate) fn take_in(&mut self, thread: usize, event: Event) -> Result<(), OutOfMemory>
         requires threads { length self.old.marks.items ≤ MAX_THREADS }
         requires thread { thread < length self.old.marks.items }
@@ -183,11 +189,22 @@ pub(crate) fn judge(
     ensures { IfOk result (IsJudged replayer.old replayer.new) }
 {
     let mut checker = Checker::new(alloc, threads)?;
-    while let Stepped::Made { thread, event } = replayer.step() {
-        checker.take_in(thread as usize, event)?;
-        if let Verdict::Unordered { .. } = checker.verdict {
-            return Ok(checker.verdict);
-        }
+    let mut upcoming = replayer.lowest_step();
+    while let Some(step) = upcoming {
+        let thread = step.thread as usize;
+        upcoming = if let NextStep::Mark { mark } = step.next {
+            // A mark goes a way of its own: the log alone tells it, and it needs no verdict.
+            let (_, after) = replayer.make(step);
+            checker.take_mark(thread, mark)?;
+            after
+        } else {
+            let (event, after) = replayer.make(step);
+            checker.take_in(thread, event)?;
+            if let Verdict::Unordered { .. } = checker.verdict {
+                return Ok(checker.verdict);
+            }
+            after
+        };
     }
     Ok(checker.verdict)
 }

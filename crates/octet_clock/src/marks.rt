@@ -87,19 +87,24 @@ impl Marks {
         known
     }
 
+    /// How many of another thread's first events the thread knows of since its last kept mark.
+    #[inline(always)]
+    pub(crate) fn last_known(&self, other: usize) -> u32
+        ensures { (journals : List (List Event)) (thread now : ℕ) → KeepsMarks journals thread now self.now → HasPast journals thread now (record { thread = other; count = result }) }
+    {
+        match self.events.len() {
+            0 => 0,
+            kept => self.count_after(kept - 1, other),
+        }
+    }
+
     /// Whether the thread's past has another's first events, or as many of its own.
     #[inline(always)]
     pub(crate) fn knows(&self, thread: usize, first: Prefix) -> bool
         ensures { result ≡ true → (journals : List (List Event)) (now : ℕ) → KeepsMarks journals thread now self.now → (first.thread ≡ thread → first.count ≤ now) → HasPast journals thread now first }
     {
-        if first.thread as usize == thread {
-            return true;
-        }
-        let kept = self.events.len();
-        if kept == 0 {
-            return first.count == 0;
-        }
-        first.count <= self.count_after(kept - 1, first.thread as usize)
+        let other = first.thread as usize;
+        other == thread || first.count <= self.last_known(other)
     }
 
     /// Keeps a mark with the clock after it.

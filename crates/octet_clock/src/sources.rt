@@ -1,5 +1,6 @@
 //! What a mark takes into the past of its thread.
-ghost use Rattle.std.specs.Prelude.{◌≡◌, ◌<◌, ◌≤◌, ◌+◌, ◌^◌, ℕ, suc, List, length, OnOk};
+ghost use Rattle.std.specs.Prelude.{◌≡◌, ◌<◌, ◌≤◌, ◌+◌, ◌^◌, ℕ, suc, true, List, length, OnOk};
+ghost use Rattle.octet_clock.specs.declared.sources.Prefix.{Prefix};
 ghost use Rattle.octet_model.specs.declared.event.Event.{Event};
 ghost use Rattle.octet_model.specs.declared.event.Event.TheVariants.{Marked};
 ghost use Rattle.octet_clock.specs.Past.{IsPastOf};
@@ -72,8 +73,23 @@ fn clock_with(marks: &[Marks], thread: usize, count: u32, first: Prefix) -> Cloc
     own
 }
 
+/// Whether a mark is a `Join` of events that its thread knows of already, as most are where a
+/// thread joins another one again and again. Then nothing is to be kept of it.
+#[inline(always)]
+pub(crate) fn joins_known(marks: &[Marks], thread: usize, mark: Mark) -> bool
+    requires { thread < length marks.now }
+    ensures stay { result ≡ true → (journals : List (List Event)) (play : List ℕ) (index : ℕ) → IsNextStep journals play index thread (Marked mark) → KeepsAllMarks journals play index marks.now → KeepsAllMarks journals play (suc index) marks.now }
+    ensures no_draw { result ≡ true → (draws : List Prefix) (upto : Prefix) → draws_with draws mark upto ≡ draws }
+{
+    match mark {
+        Mark::Join { from, upto } => upto <= u64::from(marks[thread].last_known(from as usize)),
+        Mark::Draw { .. } | Mark::Fence { .. } => false,
+    }
+}
+
 /// Keeps the clock after a mark that a thread makes after `count` events, unless the thread knew
 /// before it all that it takes in.
+#[inline(never)]
 pub(crate) fn keep_mark(
     marks: &mut [Marks],
     draws: &[Prefix],
