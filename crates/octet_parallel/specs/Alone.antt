@@ -48,19 +48,25 @@ abbrev pub HavePlayedAlone : Script → List ThreadLog → List Alone → Type 0
 HavePlayedAlone script log threads =
     (length threads ≡ length log) × ((thread : ℕ) (none : Alone) → thread < length threads → HasPlayedAlone script log thread (slice_index_or threads thread none))
 
--- an object's value after threads that each had a heap of its own: that of a heap in which it is another than at first, or the one at first where there is no such heap
+-- threads each had a heap of its own: this is the object's value in one of them, and another than at first
 pub record ChangesAt (starts : List ℕ) (threads : List Alone) (object value : ℕ) : Type 0 where
   pub thread : ℕ
   pub within : thread < length threads
   pub changed : (none : Alone) → (slice_index (slice_index_or threads thread none).heap.items object ≡ value) × (value ≢ slice_index starts object)
 
+-- it is the value at first, which the object has in all of them
 pub record KeepsAt (starts : List ℕ) (threads : List Alone) (object value : ℕ) : Type 0 where
   pub kept : value ≡ slice_index starts object
   pub by_all : (thread : ℕ) (none : Alone) → thread < length threads → slice_index (slice_index_or threads thread none).heap.items object ≡ slice_index starts object
 
+-- an object's value after the threads: one that a thread changed it to, or the one at first where none did
+abbrev pub IsMergedAt : List ℕ → List Alone → ℕ → ℕ → Type 0
+IsMergedAt starts threads object value = ChangesAt starts threads object value ⊎ KeepsAt starts threads object value
+
+-- the heap after them
 abbrev pub AreMerged : List ℕ → List Alone → List ℕ → Type 0
 AreMerged starts threads heap =
-    (length heap ≡ length starts) × ((object : ℕ) → object < length starts → ChangesAt starts threads object (slice_index heap object) ⊎ KeepsAt starts threads object (slice_index heap object))
+    (length heap ≡ length starts) × ((object : ℕ) → object < length starts → IsMergedAt starts threads object (slice_index heap object))
 
 -- what threads come to that are through, each alone
 pub record IsOutcomeOf (script : Script) (threads : List Alone) (outcome : Outcome) : Type 0 where
@@ -85,7 +91,3 @@ pub record PlaysAlone (log : List ThreadLog) (before after : Alone) : Type 0 whe
 -- its heap has a value for each object
 abbrev pub HasHeapOf : ℕ → Alone → Type 0
 HasHeapOf objects alone = length alone.heap.items ≡ objects
-
--- the value of one object after the threads
-abbrev pub IsMergedAt : List ℕ → List Alone → ℕ → ℕ → Type 0
-IsMergedAt starts threads object value = ChangesAt starts threads object value ⊎ KeepsAt starts threads object value

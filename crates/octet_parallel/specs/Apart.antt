@@ -27,13 +27,10 @@ pub record Names (commands : List Command) (object : ℕ) : Type 0 where
   pub stands : slice_get commands place ≡ Some command
   pub named : object_named command ≡ Some object
 
--- one of the commands writes it
+-- and writes it
 pub record Writes (commands : List Command) (object : ℕ) : Type 0 where
-  pub place : ℕ
-  pub command : Command
-  pub stands : slice_get commands place ≡ Some command
-  pub named : object_named command ≡ Some object
-  pub writer : IsTrue (is_writer command)
+  pub names : Names commands object
+  pub writer : IsTrue (is_writer names.command)
 
 -- apart: what a thread writes, no other thread names
 abbrev pub AreApart : Script → Type 0

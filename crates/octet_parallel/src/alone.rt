@@ -23,7 +23,7 @@ pub(crate) struct Alone {
     pub(crate) is_through: bool,
     pub(crate) script: Snapshot<Script>,
     /// Keeps threads apart, so that no two of them write to one line of memory.
-    pub(crate) apart: [u64; WORDS_APART],
+    pub(crate) padding: [u64; WORDS_APART],
 }
 
 impl Alone {
@@ -40,7 +40,7 @@ impl Alone {
             heap: script.starting_heap(alloc)?,
             is_through: false,
             script: Snapshot::of(script),
-            apart: [0; WORDS_APART],
+            padding: [0; WORDS_APART],
         })
     }
 

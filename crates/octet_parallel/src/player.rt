@@ -21,7 +21,7 @@ pub struct Player {
     pub(crate) replay: ThreadReplay,
     pub(crate) journal: Vec<Event>,
     /// Keeps players apart, so that no two threads write to one line of memory.
-    pub(crate) apart: [u64; WORDS_APART],
+    pub(crate) padding: [u64; WORDS_APART],
 }
 
 /// Takes an event that was made into the journal.

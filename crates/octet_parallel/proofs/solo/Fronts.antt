@@ -15,7 +15,7 @@ use Rattle.octet_replay.proofs.lemmas.EventsMade.{do_alike, same_length}
 use Rattle.octet_replay.proofs.lemmas.Traces.{lowest_order_is_front}
 use Rattle.octet_parallel.specs.Apart.{Names, Writes, AreApart}
 use Rattle.octet_parallel.specs.Alone.{heap_by, MakesAlone}
-use Rattle.octet_parallel.proofs.solo.Named.{names_too, OperationNamed, EventNamed, wants_named, made_named, event_names, event_writes}
+use Rattle.octet_parallel.proofs.solo.Named.{OperationNamed, EventNamed, wants_named, made_named, event_names, event_writes}
 use Rattle.octet_parallel.proofs.solo.Heaps.{TakesAlike, event_alike, heaps_alike, writes_named, written_or_kept}
 use Rattle.octet_parallel.proofs.solo.Making.{heap_more, heap_long, makes_more, each_made}
 
@@ -62,7 +62,7 @@ module _ (script : Script) (log : List ThreadLog) (apart : AreApart script) wher
     takes (MakeMark mark) is = tt
     takes (MakeRead object) is = solo.agrees t object is
     takes (MakeWrite object value) is = tt
-    takes (MakeUpdate object change) is = solo.agrees t object (names_too (commands_of script t) object is)
+    takes (MakeUpdate object change) is = solo.agrees t object is.names
 
     event_alone : event ≡ event_made o H
     event_alone = event_alike o s.heap H (takes o named)

@@ -14,10 +14,6 @@ use Rattle.octet_model.specs.HappensBefore.{object_of, is_write}
 use Rattle.octet_model.specs.Orders.{by_log, commands_of, thread_log_of}
 use Rattle.octet_parallel.specs.Apart.{Names, Writes}
 
--- what writes an object names it
-pub names_too : (commands : List Command) (object : ℕ) → Writes commands object → Names commands object
-names_too commands object w = record { place = w.place; command = w.command; stands = w.stands; named = w.named }
-
 abbrev DemandNamed : List Command → AccessOrEnd → Type 0
 DemandNamed commands (ToRead object) = Names commands object
 DemandNamed commands (ToWrite object value) = Writes commands object
@@ -47,12 +43,12 @@ demand_named commands d (Some (Write object from)) is = go d.fuel
   where
     go : (fuel : ℕ) → DemandNamed commands (elim fuel [ zero ↦ demand_at (Some (Write object from)) (record d { fuel = 0 }) | suc left ↦ ToWrite object (slice_index d.registers from) ])
     go zero = tt
-    go (suc left) = record { place = d.place; command = Write object from; stands = is; named = refl; writer = refl }
+    go (suc left) = record { names = record { place = d.place; command = Write object from; stands = is; named = refl }; writer = refl }
 demand_named commands d (Some (Bump object from)) is = go d.fuel
   where
     go : (fuel : ℕ) → DemandNamed commands (elim fuel [ zero ↦ demand_at (Some (Bump object from)) (record d { fuel = 0 }) | suc left ↦ ToBump object (slice_index d.registers from) ])
     go zero = tt
-    go (suc left) = record { place = d.place; command = Bump object from; stands = is; named = refl; writer = refl }
+    go (suc left) = record { names = record { place = d.place; command = Bump object from; stands = is; named = refl }; writer = refl }
 demand_named commands d (Some other) is = tt
 
 next_named : (commands : List Command) (due : Option Mark) (d : AccessOrEnd) (left marks : Bool) (o : Operation) → DemandNamed commands d → mark_first due (next_access d left marks) ≡ Wants o → OperationNamed commands o
@@ -92,8 +88,8 @@ made_named commands (MakeUpdate object change) heap named = named
 
 pub event_names : (commands : List Command) (e : Event) (object : ℕ) → EventNamed commands e → object_of e ≡ Some object → Names commands object
 event_names commands (ReadMade of value) object named is = let one : of ≡ object = cc in subst (Names commands) one named
-event_names commands (WriteMade of value) object named is = let one : of ≡ object = cc in names_too commands object (subst (Writes commands) one named)
-event_names commands (UpdateMade of before after) object named is = let one : of ≡ object = cc in names_too commands object (subst (Writes commands) one named)
+event_names commands (WriteMade of value) object named is = let one : of ≡ object = cc in (subst (Writes commands) one named).names
+event_names commands (UpdateMade of before after) object named is = let one : of ≡ object = cc in (subst (Writes commands) one named).names
 event_names commands (Marked mark) object named is = absurd cc
 
 pub event_writes : (commands : List Command) (e : Event) (object : ℕ) → EventNamed commands e → object_of e ≡ Some object → IsTrue (is_write e) → Writes commands object

@@ -20,7 +20,7 @@ use Rattle.octet_parallel.specs.declared.alone.Alone.{Alone}
 use Rattle.octet_parallel.specs.Apart.{Names, AreApart}
 use Rattle.octet_parallel.specs.Alone.{heap_by, Stops, HasPlayedAlone, HavePlayedAlone, IsOutcomeOf}
 use Rattle.octet_parallel.specs.Judging.{IsJudged}
-use Rattle.octet_parallel.proofs.solo.Named.{names_too, EventNamed, made_named, wants_named}
+use Rattle.octet_parallel.proofs.solo.Named.{EventNamed, made_named, wants_named}
 use Rattle.octet_parallel.proofs.solo.Making.{one_end, each_made, kept_or_written}
 use Rattle.octet_parallel.proofs.solo.Fronts.{IsSolo, solo_at_last, solo_is_ordered, none_may}
 use Rattle.octet_parallel.proofs.verdicts.Concluding.{ends_are, same_outcome}
@@ -85,7 +85,7 @@ module _ (script : Script) (log : List ThreadLog) (threads : List Alone) (apart 
       each_made (V t) (EventNamed (commands_of script t)) (λ j heap o wants. made_named (commands_of script t) o heap (wants_named script log t j o wants)) alone.journal [] (starting_heap script) alone.made.makes in
       elim (kept_or_written (commands_of script t) alone.journal (starting_heap script) object named) [
         | inl same ↦ absurd (differs (ap (λ (heap : List ℕ). slice_index heap object) alone.made.heap ∙ same))
-        | inr writes ↦ names_too (commands_of script t) object writes
+        | inr writes ↦ writes.names
       ]
 
   -- where the log orders all conflicts, each thread is through alone
@@ -159,9 +159,9 @@ module _ (script : Script) (log : List ThreadLog) (threads : List Alone) (apart 
         | inr keeps ↦ elim (solo.comes object) [
           | inl same ↦ keeps.kept ∙ sym same
           | inr writer ↦
-              let inside : writer.0 < length log = omega (arith, there script.threads writer.0 writer.1.place writer.1.command writer.1.stands, agree) in
+              let inside : writer.0 < length log = omega (arith, there script.threads writer.0 writer.1.names.place writer.1.names.command writer.1.names.stands, agree) in
               let none = some_one threads (omega (arith, inside, played.0)) in
-              keeps.kept ∙ sym (keeps.by_all writer.0 none (omega (arith, inside, played.0))) ∙ sym (left_alone writer.0 object none inside (names_too (commands_of script writer.0) object writer.1))
+              keeps.kept ∙ sym (keeps.by_all writer.0 none (omega (arith, inside, played.0))) ∙ sym (left_alone writer.0 object none inside writer.1.names)
         ]
       ]
 

@@ -28,7 +28,7 @@ module _ (uses : List Use) (thread : ℕ) (command : Command) (object : ℕ) (wr
   with_use adds = record {
     seen = λ threads place stands seen. at_set (IsSeenIn threads) uses object new lt
         (adds.seen threads object (record { place = place; command = command; stands = stands; named = named })
-        (λ is. record { place = place; command = command; stands = stands; named = named; writer = writer ∙ is })
+        (λ is. record { names = record { place = place; command = command; stands = stands; named = named }; writer = writer ∙ is })
         (seen object))
         (λ other differ. seen other);
     kept = λ t c known. at_set (λ o kept. object_named c ≡ Some o → Covers kept t (is_writer c)) uses object new lt
@@ -109,9 +109,9 @@ pub apart_where_unshared : (script : Script) (uses : List Use)
     → All IsUnshared uses → AreApart script
 apart_where_unshared script uses known all thread other object differ writes names =
     let threads = script.threads in
-    let is_one = within threads thread writes.place writes.command writes.stands in
+    let is_one = within threads thread writes.names.place writes.names.command writes.names.stands in
     let is_other = within threads other names.place names.command names.stands in
-    let one = known thread writes.place writes.command is_one writes.stands object writes.named in
+    let one = known thread writes.names.place writes.names.command is_one writes.names.stands object writes.names.named in
     let two = known other names.place names.command is_other names.stands object names.named in
     let kept = use_of uses object in
     shared kept.is_written kept.by_others kept.first thread other (one.written writes.writer) one.named two.named differ

@@ -77,6 +77,6 @@ fn player(
         fate: Fate::Playing,
         replay: ThreadReplay::new(alloc, script, own, number)?,
         journal: Vec::with_capacity(alloc, events)?,
-        apart: [0; WORDS_APART],
+        padding: [0; WORDS_APART],
     })
 }
