@@ -73,8 +73,8 @@ fn clock_with(marks: &[Marks], thread: usize, count: u32, first: Prefix) -> Cloc
     own
 }
 
-/// Whether a mark is a `Join` of events that its thread knows of already, as most are where a
-/// thread joins another one again and again. Then nothing is to be kept of it.
+/// Whether a mark is a `Join` of events that its thread knows of already. Then nothing is to be kept
+/// of it, and one comparison tells so.
 #[inline(always)]
 pub(crate) fn joins_known(marks: &[Marks], thread: usize, mark: Mark) -> bool
     requires { thread < length marks.now }
