@@ -9,7 +9,7 @@ use Rattle.octet_model.proofs.lemmas.Fronts.{no_journal}
 use Rattle.octet_seats.proofs.lemmas.Rows.{take_whole}
 use Rattle.octet_seats.proofs.lemmas.Seats.{first_seat}
 use Rattle.octet_rule.specs.Views.{facts_of}
-use Rattle.octet_rule.specs.Rule.{IsSeenBy, HasLeft, IsUnmade, IsRuled, first_view}
+use Rattle.octet_rule.specs.Rule.{Follows, HasLeft, IsUnmade, IsRuled, first_view}
 
 -- the lines of so many threads that have not started, and of objects that thread 0 owns
 abbrev pub thread_lines : ℕ → List Line
@@ -67,17 +67,20 @@ pub all_laid : (ws starts : List ℕ) (threads objects : ℕ) → objects ≡ le
 all_laid ws starts threads objects e is = is ∙ ((λ i. laid_out (alone 0 ∷ (sym (status_lines threads) i ++ free_lines ((ap (λ (n : ℕ). take n starts) e ∙ take_whole starts) i))))
     ∙ ap (λ l. laid_out (alone 0 ∷ (map status_line (replicate threads resting) ++ l))) (sym (state_lines starts)))
 
--- the rule holds at first
+-- the rule holds at first, after a run of no step
 pub opens : (threads : ℕ) (starts ws : List ℕ) → 0 < threads → threads ≤ 16 → ws ≡ words (opening threads starts) → IsRuled threads starts (table.opening ws [] (first_view threads starts))
-opens threads starts ws more few is = let s = opening threads starts in let sound = opening_is_sound threads starts more few in let many : length s.threads ≡ threads = length-replicate threads unstarted in record {
-  state = s;
+opens threads starts ws more few is = let sound = opening_is_sound threads starts more few in let many : length (opening threads starts).threads ≡ threads = length-replicate threads unstarted in record {
+  some_thread = more;
+  few_threads = few;
+  run = [];
+  is_run = tt;
   lie = is;
-  sound = sound;
-  as_many = many;
-  began = refl;
-  seats = first_seat facts_of (λ y. IsSeenBy y s) (HasLeft s) (IsUnmade s) (length s.threads) (first_view threads starts) refl
-      (record { sound = sound; as_many = many; began = refl; inside = omega arith; stands = all_same threads 0 unstarted; has_made = no_journal (replicate threads unstarted) 0 })
-      (omega arith) (λ t h. (all_same threads t unstarted, no_journal (replicate threads unstarted) t));
+  seats = first_seat facts_of (Follows threads starts []) (HasLeft threads starts []) (IsUnmade threads starts []) threads (first_view threads starts) refl
+      (record {
+        seen = record { sound = sound; as_many = many; began = refl; inside = omega arith; stands = all_same threads 0 unstarted; has_made = no_journal (replicate threads unstarted) 0 };
+        trail = refl;
+      })
+      more (λ t h. record { stands = all_same threads t unstarted; journal = no_journal (replicate threads unstarted) t; trail = refl });
 }
 
 -- as many words as there are lines of eight

@@ -1,10 +1,16 @@
+pub mod Runs
 pub mod Kept
 pub mod Allowed
 pub mod Acting
 pub mod Known
 pub mod Splitting
+pub mod AllOff
 pub mod LaidOut
 pub mod Ending
 pub mod Letting
 pub mod Pairs
 pub mod MadeAtOnce
+pub mod Local
+pub mod Telling
+pub mod Seeing
+pub mod Tracing

@@ -1,20 +1,21 @@
--- The rule: between any two steps the words and the views of all seats are one sound state of the protocol.
-use Rattle.std.specs.Prelude.{◌≡◌, ℕ, ◌+◌, ◌^◌, ◌<◌, List, [], true, false, length, slice_set}
+-- The rule: between any two operations the words are those after a run of the protocol, whose steps are those that the seats know of.
+use Rattle.std.specs.Prelude.{◌≡◌, ℕ, ◌+◌, ◌^◌, ◌<◌, ◌≤◌, List, [], ◌∷◌, ◌++◌, true, false, length, slice_set}
 use mathlib.Core.Option.{some, none}
 use lib.ListN.{get_elem?}
 use Rattle.atomic_table.specs.Table.{State, Me, Step as TableStep, step as table_step}
-use Rattle.octet_model.specs.declared.event.Event.{Event}
+use Rattle.octet_model.specs.declared.limits.TheConstants.{MAX_THREADS}
 use Rattle.octet_model.specs.Machine.{journal_of}
-use Rattle.octet_state.specs.declared.phase.Phase.TheVariants.{Off}
 use Rattle.octet_state.specs.declared.state_word.StateWord.TheVariants.{WrEx, ShInt}
 use Rattle.octet_state.specs.Words.{packed_state, packed_status}
-use Rattle.octet_state.specs.State.{ProtocolState, thread_of, unstarted, words, counter_place, status_place, object_place}
+use Rattle.octet_state.specs.State.{ProtocolState, thread_of, unstarted, words, opening, counter_place, status_place, object_place}
 use Rattle.octet_state.specs.Steps as steps
 use Rattle.octet_state.specs.NextStep.{word_seen}
-use Rattle.octet_state.specs.Steps.{Kind, May, step, ToAnswer, ToBlock, ToUnblock, ToAsk, ToLook, ToLoad, ToRead, ToWrite, ToBump, ToClaim, ToSettle, ToDraw, ToFence, ToRaise, ToShare, target, shown, mode_of, claiming, settling}
+use Rattle.octet_state.specs.Steps.{Kind, May, step, ToAnswer, ToBlock, ToUnblock, ToAsk, ToLook, ToLoad, ToRead, ToWrite, ToBump, ToClaim, ToSettle, ToDraw, ToFence, ToRaise, ToShare, target, shown, mode_of, claiming, settling, ThreadStep, IsRun}
 use Rattle.octet_state.specs.Soundness.{IsSound}
 use Rattle.octet_seats.specs.Seats.{AreSeats}
-use Rattle.octet_rule.specs.Views.{SeatView, facts_of, new_view, stepped_by}
+use Rattle.octet_rule.specs.Views.{SeatView, Left, facts_of, new_view, stepped_by}
+use Rattle.octet_rule.specs.Runs.{state_after, steps_of}
+use Rattle.octet_rule.specs.Conditions.{IsResting}
 
 -- in a sound state the thread of a seat is where the seat knows it to be
 pub record IsSeenBy (v : SeatView) (s : ProtocolState) : Type 0 where
@@ -25,41 +26,51 @@ pub record IsSeenBy (v : SeatView) (s : ProtocolState) : Type 0 where
   pub stands : thread_of s v.number ≡ v.thread
   pub has_made : journal_of s.journals v.number ≡ v.journal
 
--- a thread whose seat has joined thread 0's is off, and has kept its journal
-abbrev pub HasLeft : ProtocolState → ℕ → List Event → Type 0
-HasLeft s number journal = ((thread_of s number).phase ≡ Off) × (journal_of s.journals number ≡ journal)
+-- after a run the thread of a seat is where the seat knows it to be, and the steps that it took are those of the seat's trail
+pub record Follows (threads : ℕ) (starts : List ℕ) (run : List ThreadStep) (v : SeatView) : Type 0 where
+  pub seen : IsSeenBy v (state_after threads starts run)
+  pub trail : steps_of v.number (opening threads starts) run ≡ v.trail
 
--- a thread whose seat is not made yet is off, and has made no event
-abbrev pub IsUnmade : ProtocolState → ℕ → Type 0
-IsUnmade s number = (thread_of s number ≡ unstarted) × (journal_of s.journals number ≡ [])
+-- a thread whose seat has joined thread 0's is off or blocked, and has the journal and the trail that were left
+pub record HasLeft (threads : ℕ) (starts : List ℕ) (run : List ThreadStep) (number : ℕ) (left : Left) : Type 0 where
+  pub rests : IsResting (thread_of (state_after threads starts run) number).phase
+  pub journal : journal_of (state_after threads starts run).journals number ≡ left.journal
+  pub trail : steps_of number (opening threads starts) run ≡ left.trail
 
+-- a thread whose seat is not made yet is off, and has made no event and no step
+pub record IsUnmade (threads : ℕ) (starts : List ℕ) (run : List ThreadStep) (number : ℕ) : Type 0 where
+  pub stands : thread_of (state_after threads starts run) number ≡ unstarted
+  pub journal : journal_of (state_after threads starts run).journals number ≡ []
+  pub trail : steps_of number (opening threads starts) run ≡ []
+
+-- the words are those after a run from the opening. In it each thread has taken the steps that its seat knows of, and no others
 pub record IsRuled (threads : ℕ) (starts : List ℕ) (table : State (Unit {0}) SeatView) : Type 0 where
-  pub state : ProtocolState
-  pub lie : table.words ≡ words state
-  pub sound : IsSound state
-  pub as_many : length state.threads ≡ threads
-  pub began : state.starts ≡ starts
-  pub seats : AreSeats facts_of (λ v. IsSeenBy v state) (HasLeft state) (IsUnmade state) (length state.threads) table.views
+  pub some_thread : 0 < threads
+  pub few_threads : threads ≤ MAX_THREADS
+  pub run : List ThreadStep
+  pub is_run : IsRun (opening threads starts) run
+  pub lie : table.words ≡ words (state_after threads starts run)
+  pub seats : AreSeats facts_of (Follows threads starts run) (HasLeft threads starts run) (IsUnmade threads starts run) threads table.views
 
 -- the view of thread 0's seat at first
 abbrev pub first_view : ℕ → List ℕ → SeatView
 first_view threads starts = new_view 0 threads starts 1
 
--- a table steps from one state to another under the rule: before and after it the words and the views of all seats are those of the state. This seat's view becomes another, and the others stay
-pub record IsRuledStep (s next : ProtocolState) (v w : SeatView) : Type 0 where
+-- a table steps from one state to another under the rule: this seat's thread takes one step, and the run grows by that. The views of the other seats stay
+pub record IsRuledStep (k : Kind) (s : ProtocolState) (v w : SeatView) : Type 0 where
   pub table : State (Unit {0}) SeatView
   pub seat : ℕ
   pub has : get_elem? table.views seat ≡ some v
   pub rule : IsRuled v.threads v.starts table
-  pub is_before : rule.state ≡ s
-  pub rule_after : IsRuled v.threads v.starts record { words = words next; homes = table.homes; views = slice_set table.views seat w }
-  pub is_after : rule_after.state ≡ next
+  pub is_before : state_after v.threads v.starts rule.run ≡ s
+  pub rule_after : IsRuled v.threads v.starts record { words = words (step k v.number s); homes = table.homes; views = slice_set table.views seat w }
+  pub grows : rule_after.run ≡ rule.run ++ record { thread = v.number; kind = k } ∷ []
 
 -- the same, closed to the search for proofs, which seldom need it
-unfoldable pub KeepsRule : ProtocolState → ProtocolState → SeatView → SeatView → Type 0
-KeepsRule s next v w = IsRuledStep s next v w
+unfoldable pub KeepsRule : Kind → ProtocolState → SeatView → SeatView → Type 0
+KeepsRule k s v w = IsRuledStep k s v w
 
--- one step of the protocol by the seat's thread, from one sound state to another, which is told this word. Both states are those of a table under the rule
+-- one step of the protocol by the seat's thread, which is told this word. It is taken in the state after a run from the opening, and is the next of that run
 pub record Steps (k : Kind) (v : SeatView) (told : ℕ) (w : SeatView) : Type 0 where
   pub before : ProtocolState
   pub seen : IsSeenBy v before
@@ -67,7 +78,7 @@ pub record Steps (k : Kind) (v : SeatView) (told : ℕ) (w : SeatView) : Type 0 
   pub word : told ≡ steps.told k v.number before
   pub moves : w ≡ stepped_by k told v
   pub seen_after : IsSeenBy w (step k v.number before)
-  pub ruled : KeepsRule before (step k v.number before) v w
+  pub ruled : KeepsRule k before v w
 
 -- where the state of an object lies, and its cell beside it
 abbrev pub state_place : SeatView → ℕ → ℕ

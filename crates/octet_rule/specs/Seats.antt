@@ -1,13 +1,13 @@
 -- What a clause says of words and seats.
 use Rattle.std.specs.Prelude.{◌≡◌, ℕ, ◌<◌, List, [], map, length, slice_index_or}
-use Rattle.octet_model.specs.declared.event.Event.{Event}
 use Rattle.octet_state.specs.declared.phase.Due.TheVariants.{Nothing}
 use Rattle.octet_state.specs.declared.phase.Phase.TheVariants.{Off}
-use Rattle.octet_state.specs.State.{ProtocolState, thread_of, unstarted}
-use Rattle.octet_state.specs.Steps.{Kind}
+use Rattle.octet_state.specs.State.{ProtocolState, thread_of, unstarted, opening}
+use Rattle.octet_state.specs.Steps.{Kind, ThreadStep, IsRun}
 use Rattle.octet_state.specs.Soundness.{IsSound}
 use Rattle.octet_seats.specs.Rows.{AreInRow}
-use Rattle.octet_rule.specs.Views.{SeatView}
+use Rattle.octet_rule.specs.Views.{SeatView, Left, left_of}
+use Rattle.octet_rule.specs.Runs.{state_after, steps_of, all_off}
 use Rattle.octet_rule.specs.Rule.{Steps}
 use Rattle.octet_rule.specs.Conditions.{IsResting}
 use Rattle.octet_rule.specs.declared.words.Seat.{Seat}
@@ -68,12 +68,20 @@ abbrev pub AreResting : Words → ℕ → List Seat → Type 0
 AreResting words thread seats = AreInRow (IsRestingSeat words) thread seats
 
 -- what a seat leaves that joins thread 0's
-abbrev pub journal_left : Seat → ℕ × List Event
-journal_left seat = ((view seat).number, (view seat).journal)
+abbrev pub left_by : Seat → ℕ × Left
+left_by seat = ((view seat).number, left_of (view seat))
 
--- the cells have these values in one sound state, in which every thread is off and the journals are those of the seats
+-- each seat's trail is what its thread did in this run
+abbrev pub EachFollows : List ℕ → List ThreadStep → List Seat → Type 0
+EachFollows starts run seats = (thread : ℕ) (none : Seat) → thread < length seats → steps_of thread (opening (length seats) starts) run ≡ (view (slice_index_or seats thread none)).trail
+
+-- the cells have these values after a run of the protocol, in which each thread took the steps of its seat's trail and no others, and the journals are those of the seats. With every thread off, that is a sound state
 pub record Closes (starts : List ℕ) (seats : List Seat) (values : List ℕ) : Type 0 where
+  pub run : List ThreadStep
+  pub is_run : IsRun (opening (length seats) starts) run
+  pub trails : EachFollows starts run seats
   pub last : ProtocolState
+  pub after : last ≡ all_off (state_after (length seats) starts run)
   pub sound : IsSound last
   pub began : last.starts ≡ starts
   pub off : (thread : ℕ) → (thread_of last thread).phase ≡ Off

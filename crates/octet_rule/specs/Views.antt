@@ -10,7 +10,12 @@ pub record Taken : Type 0 where
   pub kind : Kind
   pub word : ℕ
 
--- a thread's number, where it stands, its journal, and the steps that it took; how many threads there are, and what the cells had at first. The seat of thread 0 also knows how many seats were made, and the numbers and journals of those that have joined it. A seat that has joined it is spent: it is not live
+-- what a seat leaves that joins thread 0's: its thread's journal, and the steps that it took
+pub record Left : Type 0 where
+  pub journal : List Event
+  pub trail : List Taken
+
+-- a thread's number, where it stands, its journal, and the steps that it took; how many threads there are, and what the cells had at first. The seat of thread 0 also knows how many seats were made, and the numbers of those that have joined it, with what they left. A seat that has joined it is spent: it is not live
 pub record SeatView : Type 0 where
   pub is_live : Bool
   pub number : ℕ
@@ -20,10 +25,10 @@ pub record SeatView : Type 0 where
   pub threads : ℕ
   pub starts : List ℕ
   pub seats_made : ℕ
-  pub joined : List (ℕ × List Event)
+  pub joined : List (ℕ × Left)
 
 -- what it tells of its seat
-abbrev pub facts_of : SeatView → SeatFacts (List Event)
+abbrev pub facts_of : SeatView → SeatFacts Left
 facts_of v = record { is_live = v.is_live; number = v.number; seats_made = v.seats_made; joined = v.joined }
 
 -- a seat whose thread has not started
@@ -45,9 +50,13 @@ split_off v = new_view v.seats_made v.threads v.starts 0
 abbrev pub after_split : SeatView → SeatView
 after_split v = record v { seats_made = suc v.seats_made }
 
+-- what a seat leaves
+abbrev pub left_of : SeatView → Left
+left_of v = record { journal = v.journal; trail = v.trail }
+
 -- the seat of thread 0 after another has joined it, which is spent
 abbrev pub after_join : SeatView → SeatView → SeatView
-after_join v w = record v { joined = v.joined ++ (w.number, w.journal) ∷ [] }
+after_join v w = record v { joined = v.joined ++ (w.number, left_of w) ∷ [] }
 
 abbrev pub spent : SeatView
 spent = record { is_live = false; number = 0; thread = unstarted; journal = []; trail = []; threads = 0; starts = []; seats_made = 0; joined = [] }

@@ -2,7 +2,7 @@
 ghost use Rattle.std.specs.Prelude.{◌≡◌, ◌+◌, ◌*◌, [], length, map, IfOk};
 ghost use Rattle.octet_rule.specs.Conditions.{IsResting};
 ghost use Rattle.octet_rule.specs.Views.{after_join};
-ghost use Rattle.octet_rule.specs.Seats.{view, threads_of, starts_of, BelongsTo, RestsAs, EachRests, AreResting, journal_left, Closes};
+ghost use Rattle.octet_rule.specs.Seats.{view, threads_of, starts_of, BelongsTo, RestsAs, EachRests, AreResting, left_by, Closes};
 
 use crate::plays;
 use crate::words::{Seat, Words};
@@ -45,8 +45,8 @@ impl Words {
         requires first { BelongsTo self.now first × RestsAs 0 first × ((view first).joined ≡ []) }
         requires seats { AreResting self.now 1 seats.items }
         ensures own { BelongsTo self.now result × RestsAs 0 result }
-        ensures first { ((view result).thread ≡ (view first).thread) × ((view result).journal ≡ (view first).journal) }
-        ensures joined { (view result).joined ≡ map journal_left seats.items }
+        ensures first { ((view result).thread ≡ (view first).thread) × ((view result).journal ≡ (view first).journal) × ((view result).trail ≡ (view first).trail) }
+        ensures joined { (view result).joined ≡ map left_by seats.items }
     {
         while !seats.is_empty() {
             let seat = seats.remove(0);

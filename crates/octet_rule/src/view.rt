@@ -25,7 +25,7 @@ impl Model for View {
     ghost view = { λ view. new_view view.number 0 [] 0 };
 }
 
-/// That the words and the views of all seats are one sound state.
+/// That the words are those after a run of the protocol, whose steps are those that the seats know of.
 pub(crate) struct Sound;
 
 impl TableRule<(), View, Key> for Sound {

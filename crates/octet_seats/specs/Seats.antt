@@ -1,5 +1,5 @@
 -- Who has which seat of a table: seat 0 deals the others, and they join it again.
-use Rattle.std.specs.Prelude.{◌≡◌, ◌≢◌, ℕ, suc, ◌<◌, ◌≤◌, List, [], ◌∷◌, ◌++◌, Bool, true, false}
+use Rattle.std.specs.Prelude.{◌≡◌, ◌≢◌, ℕ, suc, ◌<◌, ◌≤◌, ◌⊎◌, List, [], ◌∷◌, ◌++◌, Bool, true, false}
 use mathlib.Core.Option.{some}
 use lib.ListN.{get_elem?}
 
@@ -45,7 +45,20 @@ pub record IsSeated {V A : Type 0} (facts : V → SeatFacts A) (IsSeen : V → T
   pub are_joined : (facts v).number ≡ 0 → AreJoined HasLeft has_joined (facts v).joined
   pub apart : (facts v).number ≡ 0 → AreApart (facts v).joined
 
--- the views of a table of so many seats at most. `IsUnmade` says what holds of a number whose seat isn't made yet
+-- there is a live view of this number
+pub record IsThere {V A : Type 0} (facts : V → SeatFacts A) (views : List V) (number : ℕ) : Type 0 where
+  pub place : ℕ
+  pub view : V
+  pub at : get_elem? views place ≡ some view
+  pub live : (facts view).is_live ≡ true
+  pub numbered : (facts view).number ≡ number
+
+-- this number is among those that have joined
+abbrev pub IsListed : {A : Type 0} → ℕ → List (ℕ × A) → Type 0
+IsListed number [] = ⊥
+IsListed number (seat ∷ seats) = (seat.0 ≡ number) ⊎ IsListed number seats
+
+-- the views of a table of so many seats at most. Each seat that was made is there, or has joined seat 0, which knows of it. `IsUnmade` says what holds of a number whose seat isn't made yet
 pub record AreSeats {V A : Type 0} (facts : V → SeatFacts A) (IsSeen : V → Type 0) (HasLeft : ℕ → A → Type 0) (IsUnmade : ℕ → Type 0) (most : ℕ) (views : List V) : Type 0 where
   pub place_of : ℕ → ℕ
   pub seats_made : ℕ
@@ -53,6 +66,9 @@ pub record AreSeats {V A : Type 0} (facts : V → SeatFacts A) (IsSeen : V → T
   pub few : seats_made ≤ most
   pub not_joined : (number : ℕ) → seats_made ≤ number → has_joined number ≡ false
   pub not_made : (number : ℕ) → seats_made ≤ number → IsUnmade number
+  pub zeroth : IsThere facts views 0
+  pub there : (number : ℕ) → number < seats_made → has_joined number ≡ false → IsThere facts views number
+  pub listed : (number : ℕ) → has_joined number ≡ true → IsListed number (facts zeroth.view).joined
   pub seated : (place : ℕ) (v : V) → get_elem? views place ≡ some v → (facts v).is_live ≡ true → IsSeated facts IsSeen HasLeft place_of seats_made has_joined place v
 
 -- what is so of all numbers but this one stays so

@@ -4,15 +4,23 @@ use mathlib.Core.Option.{some, some-injective, some-ne-none}
 use mathlib.Core.Logic.{dite}
 use native.Mathlib.Decide.{ℕ_discrete}
 use lib.ListN.{get_elem?}
-use Rattle.atomic_table.proofs.Lists.{at_set}
+use Rattle.atomic_table.proofs.Lists.{at_set, set_here, set_else, at_longer, at_last}
 use Rattle.octet_seats.specs.Rows.{AreInRow}
-use Rattle.octet_seats.specs.Seats.{SeatFacts, dealt, after_dealing, after_joining, AreJoined, IsApart, AreApart, IsSeated, AreSeats, Stay}
+use Rattle.octet_seats.specs.Seats.{SeatFacts, dealt, after_dealing, after_joining, AreJoined, IsApart, AreApart, IsSeated, IsThere, IsListed, AreSeats, Stay}
 
 at_end : {T : Type 0} (l : List T) (a b : T) (j : ℕ) → get_elem? (l ++ a ∷ []) j ≡ some b → (get_elem? l j ≡ some b) ⊎ ((j ≡ length l) × (a ≡ b))
 at_end {T} [] a b zero e = inr (refl, some-injective a b e)
 at_end {T} [] a b (suc j) e = absurd (some-ne-none b (sym e))
 at_end {T} (x ∷ xs) a b zero e = inl e
 at_end {T} (x ∷ xs) a b (suc j) e = ⊎_elim (λ p. inl p) (λ p. let q = p.0 in inr (omega arith, p.1)) (at_end xs a b j e)
+
+inside_at : {T : Type 0} (l : List T) (j : ℕ) (a : T) → get_elem? l j ≡ some a → j < length l
+inside_at {T} [] j a e = absurd (some-ne-none a (sym e))
+inside_at {T} (x ∷ xs) zero a e = omega arith
+inside_at {T} (x ∷ xs) (suc j) a e = let h = inside_at xs j a e in omega arith
+
+at_same : {T : Type 0} (l : List T) (i j : ℕ) (a b : T) → get_elem? l i ≡ some a → get_elem? l j ≡ some b → j ≡ i → b ≡ a
+at_same {T} l i j a b at other e = some-injective b a (sym other ∙ (ap (get_elem? l) e ∙ at))
 
 -- f, with the value v at the number t
 abbrev but : {T : Type 0} → (ℕ → T) → ℕ → T → ℕ → T
@@ -47,6 +55,15 @@ module _ {A : Type 0} where
     apart_more HasLeft has_joined ys x here those.2 apart.1,
   )
 
+  listed_end : (number : ℕ) (seats : List (ℕ × A)) (x : ℕ × A) → IsListed number seats → IsListed number (seats ++ x ∷ [])
+  listed_end number [] x is = absurd is
+  listed_end number (y ∷ ys) x (inl e) = inl e
+  listed_end number (y ∷ ys) x (inr is) = inr (listed_end number ys x is)
+
+  listed_last : (seats : List (ℕ × A)) (x : ℕ × A) → IsListed x.0 (seats ++ x ∷ [])
+  listed_last [] x = inl refl
+  listed_last (y ∷ ys) x = inr (listed_last ys x)
+
   -- seats in a row that have joined have left each what is its number's
   pub left_at : {T : Type 0} (number : T → ℕ) (left : T → A) (Holds : ℕ → T → Type 0) (HasLeft : ℕ → A → Type 0) (has_joined : ℕ → Bool) → ((n : ℕ) (x : T) → Holds n x → number x ≡ n)
       → (t : ℕ) (xs : List T) → AreInRow Holds t xs → AreJoined HasLeft has_joined (map (λ (x : T). (number x, left x)) xs) → (k : ℕ) (none : A) → k < length xs → HasLeft (t + k) (get_or (map left xs) k none)
@@ -65,9 +82,15 @@ module _ {V A : Type 0} (facts : V → SeatFacts A) (IsSeen : V → Type 0) (Has
     few = omega arith;
     not_joined = λ t h. refl;
     not_made = unmade;
+    zeroth = here;
+    there = λ t h _. let n : 0 ≡ t = omega arith in subst (IsThere facts (v ∷ [])) n here;
+    listed = λ t e. absurd (let f : false ≡ true = e in cc);
     seated = at_first;
   }
     where
+      here : IsThere facts (v ∷ []) 0
+      here = record { place = 0; view = v; at = refl; live = ap (λ (f : SeatFacts A). f.is_live) is; numbered = ap (λ (f : SeatFacts A). f.number) is }
+
       at_first : (place : ℕ) (w : V) → get_elem? (v ∷ []) place ≡ some w → (facts w).is_live ≡ true → IsSeated facts IsSeen HasLeft (λ t. 0) 1 (λ t. false) place w
       at_first zero w e live = subst (IsSeated facts IsSeen HasLeft (λ t. 0) 1 (λ t. false) 0) (some-injective v w e) record {
         within = let n : (facts v).number ≡ 0 = ap (λ (f : SeatFacts A). f.number) is in omega arith;
@@ -84,6 +107,16 @@ module _ {V A : Type 0} (facts : V → SeatFacts A) (IsSeen : V → Type 0) (Has
     mine : IsSeated facts IsSeen HasLeft r.place_of r.seats_made r.has_joined id v
     mine = r.seated id v at live
 
+    -- where another view takes the place of this one, the seats are those that were
+    module _ (w : V) (is_live : (facts w).is_live ≡ true) (number : (facts w).number ≡ (facts v).number) (joined : (facts w).joined ≡ (facts v).joined) where
+      still_there : (t : ℕ) (it : IsThere facts views t) → (new : IsThere facts (set views id w) t) × ((facts new.view).joined ≡ (facts it.view).joined)
+      still_there t it = dite (ℕ_discrete it.place id)
+          (λ e. let same : it.view ≡ v = at_same views id it.place v it.view at it.at e in (
+            record { place = id; view = w; at = set_here views id w (inside_at views id v at); live = is_live; numbered = number ∙ (ap (λ (z : V). (facts z).number) (sym same) ∙ it.numbered) },
+            joined ∙ ap (λ (z : V). (facts z).joined) (sym same),
+          ))
+          (λ ne. (record { place = it.place; view = it.view; at = set_else views id it.place w ne ∙ it.at; live = it.live; numbered = it.numbered }, refl))
+
     -- seat 0 deals another
     pub seats_dealt : (left right : V) → (facts v).number ≡ 0 → (facts v).seats_made < most → facts left ≡ after_dealing (facts v) → facts right ≡ dealt (facts v)
         → (IsSeen v → IsSeen left) → (IsSeen v → IsUnmade (facts v).seats_made → IsSeen right) → AreSeats facts IsSeen HasLeft IsUnmade most (set views id left ++ right ∷ [])
@@ -96,6 +129,8 @@ module _ {V A : Type 0} (facts : V → SeatFacts A) (IsSeen : V → Type 0) (Has
         let right_number : (facts right).number ≡ (facts v).seats_made = ap (λ (f : SeatFacts A). f.number) is_right in
         let left_joined : (facts left).joined ≡ (facts v).joined = ap (λ (f : SeatFacts A). f.joined) is_left in
         let right_joined : (facts right).joined ≡ [] = ap (λ (f : SeatFacts A). f.joined) is_right in
+        let stays = still_there left (ap (λ (f : SeatFacts A). f.is_live) is_left ∙ live) left_number left_joined in
+        let longer : (t : ℕ) → IsThere facts l t → IsThere facts (l ++ right ∷ []) t = λ t it. record { place = it.place; view = it.view; at = at_longer l (right ∷ []) it.place it.view it.at; live = it.live; numbered = it.numbered } in
         record {
           place_of = place_of;
           seats_made = suc r.seats_made;
@@ -103,6 +138,11 @@ module _ {V A : Type 0} (facts : V → SeatFacts A) (IsSeen : V → Type 0) (Has
           few = omega arith;
           not_joined = λ t h. r.not_joined t (omega arith);
           not_made = λ t h. r.not_made t (omega arith);
+          zeroth = longer 0 (stays 0 r.zeroth).0;
+          there = λ t h here. dite (ℕ_discrete t r.seats_made)
+              (λ e. record { place = length l; view = right; at = at_last l right (length l) refl; live = ap (λ (f : SeatFacts A). f.is_live) is_right; numbered = right_number ∙ (made ∙ sym e) })
+              (λ ne. longer t (stays t (r.there t (omega arith) here)).0);
+          listed = λ t e. subst (λ (m : List (ℕ × A)). IsListed t m) (sym (stays 0 r.zeroth).1) (r.listed t e);
           seated = λ j y e live'. ⊎_elim
               (λ (p : get_elem? l j ≡ some y). ⊎_elim
               (λ (q : (j ≡ id) × (left ≡ y)). subst (λ (z : ℕ × V). IsSeated facts IsSeen HasLeft place_of (suc r.seats_made) r.has_joined z.0 z.1) (λ i. (sym q.0 i, q.1 i)) record {
@@ -145,6 +185,7 @@ module _ {V A : Type 0} (facts : V → SeatFacts A) (IsSeen : V → Type 0) (Has
           let t : ℕ = (facts v).number in let within = mine.within in let few = r.few in
           let number : (facts w).number ≡ t = ap (λ (f : SeatFacts A). f.number) is in
           let joined : (facts w).joined ≡ (facts v).joined = ap (λ (f : SeatFacts A). f.joined) is in
+          let stays = still_there w (ap (λ (f : SeatFacts A). f.is_live) is ∙ live) number joined in
           let not_me : (u : ℕ) → r.has_joined u ≡ true → u ≢ t = λ u g e. let a = mine.here in let b : r.has_joined t ≡ true = subst (λ (z : ℕ). r.has_joined z ≡ true) e g in cc in
           let kept : (seats : List (ℕ × A)) → AreJoined HasLeft r.has_joined seats → AreJoined HasLeftAfter r.has_joined seats =
           joined_later HasLeft HasLeftAfter r.has_joined r.has_joined (λ u g. g) (λ u a g had. stay.left u a (not_me u g) had) in
@@ -155,6 +196,9 @@ module _ {V A : Type 0} (facts : V → SeatFacts A) (IsSeen : V → Type 0) (Has
             few = omega arith;
             not_joined = r.not_joined;
             not_made = λ u h. stay.unmade u (λ e. omega arith) (r.not_made u h);
+            zeroth = (stays 0 r.zeroth).0;
+            there = λ u h here. (stays u (r.there u h here)).0;
+            listed = λ u e. subst (λ (m : List (ℕ × A)). IsListed u m) (sym (stays 0 r.zeroth).1) (r.listed u e);
             seated = λ j y e live'. ⊎_elim
                 (λ (p : (j ≡ id) × (w ≡ y)). subst (λ (z : ℕ × V). IsSeated facts IsSeenAfter HasLeftAfter r.place_of r.seats_made r.has_joined z.0 z.1) (λ i. (sym p.0 i, p.1 i)) record {
                   within = omega arith;
@@ -190,6 +234,15 @@ module _ {V A : Type 0} (facts : V → SeatFacts A) (IsSeen : V → Type 0) (Has
           let differ : (facts v).number ≢ t = λ e. apart (sym its.own ∙ (ap r.place_of (sym e) ∙ mine.own)) in
           let has_joined : ℕ → Bool = but r.has_joined t true in
           let still_joined : (u : ℕ) → r.has_joined u ≡ true → has_joined u ≡ true = λ u g. dite (ℕ_discrete u t) (λ e. ap has_joined e ∙ but_same r.has_joined t true) (λ ne. but_other r.has_joined t true u ne ∙ g) in
+          let zeroth_seated = r.seated r.zeroth.place r.zeroth.view r.zeroth.at r.zeroth.live in
+          let at_zeroth : (facts r.zeroth.view).joined ≡ (facts v).joined = ap (λ (z : V). (facts z).joined)
+          (at_same views id r.zeroth.place v r.zeroth.view at r.zeroth.at (sym zeroth_seated.own ∙ (ap r.place_of (r.zeroth.numbered ∙ sym zeroth) ∙ mine.own))) in
+          let stays_there : (u : ℕ) → u ≢ t → IsThere facts views u → IsThere facts (set (set views id both) other spent) u = λ u ne it.
+          let not_other : it.place ≢ other = λ e. ne (sym it.numbered ∙ ap (λ (z : V). (facts z).number) (at_same views other it.place w it.view there' it.at e)) in
+          dite (ℕ_discrete it.place id)
+              (λ e. let same : it.view ≡ v = at_same views id it.place v it.view at it.at e in
+              record { place = id; view = both; at = set_else (set views id both) other id spent (λ e. apart (sym e)) ∙ set_here views id both (inside_at views id v at); live = ap (λ (f : SeatFacts A). f.is_live) is ∙ live; numbered = number ∙ (ap (λ (z : V). (facts z).number) (sym same) ∙ it.numbered) })
+              (λ else. record { place = it.place; view = it.view; at = set_else (set views id both) other it.place spent not_other ∙ (set_else views id it.place both else ∙ it.at); live = it.live; numbered = it.numbered }) in
           let not_it : (u : ℕ) → r.has_joined u ≡ true → u ≢ t = λ u g e. let a = its.here in let b : r.has_joined t ≡ true = subst (λ (z : ℕ). r.has_joined z ≡ true) e g in cc in
           let kept : (seats : List (ℕ × A)) → AreJoined HasLeft r.has_joined seats → AreJoined HasLeftAfter has_joined seats =
           joined_later HasLeft HasLeftAfter r.has_joined has_joined still_joined (λ u a g had. stay.left u a (not_it u g) had) in
@@ -200,6 +253,11 @@ module _ {V A : Type 0} (facts : V → SeatFacts A) (IsSeen : V → Type 0) (Has
             few = omega arith;
             not_joined = λ u h. but_other r.has_joined t true u (λ e. omega arith) ∙ r.not_joined u h;
             not_made = λ u h. stay.unmade u (λ e. omega arith) (r.not_made u h);
+            zeroth = record { place = id; view = both; at = set_else (set views id both) other id spent (λ e. apart (sym e)) ∙ set_here views id both (inside_at views id v at); live = ap (λ (f : SeatFacts A). f.is_live) is ∙ live; numbered = number ∙ zeroth };
+            there = λ u h here. let ne : u ≢ t = λ e. let a : has_joined u ≡ true = ap has_joined e ∙ but_same r.has_joined t true in cc in stays_there u ne (r.there u h (sym (but_other r.has_joined t true u ne) ∙ here));
+            listed = λ u e. subst (λ (m : List (ℕ × A)). IsListed u m) (sym joined) (dite (ℕ_discrete u t)
+                (λ same. subst (λ (n : ℕ). IsListed n ((facts v).joined ++ (t, left) ∷ [])) (sym same) (listed_last (facts v).joined (t, left)))
+                (λ ne. listed_end u (facts v).joined (t, left) (subst (λ (m : List (ℕ × A)). IsListed u m) at_zeroth (r.listed u (sym (but_other r.has_joined t true u ne) ∙ e)))));
             seated = λ j y e live''. ⊎_elim
                 (λ (p : (j ≡ other) × (spent ≡ y)). absurd (let a : (facts spent).is_live ≡ true = ap (λ (z : V). (facts z).is_live) p.1 ∙ live'' in cc))
                 (λ (p : (j ≢ other) × (get_elem? (set views id both) j ≡ some y)). ⊎_elim
