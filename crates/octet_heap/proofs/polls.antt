@@ -5,3 +5,4 @@ pub mod Paths
 pub mod Fastness
 pub mod Finding
 pub mod Growing
+pub mod Updated

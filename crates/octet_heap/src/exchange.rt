@@ -6,23 +6,23 @@ ghost use Rattle.octet_state.specs.declared.phase.Phase.TheVariants.{Want};
 ghost use Rattle.octet_state.specs.Words.{packed_state};
 ghost use Rattle.octet_rule.specs.Seats.{view};
 ghost use Rattle.octet_state.specs.declared.why.Why.TheVariants.{Changed};
-ghost use Rattle.octet_heap.specs.declared.poll.Poll.TheVariants.{Pending};
-ghost use Rattle.octet_heap.specs.Polls.{Comes};
-ghost use Rattle.octet_heap.specs.Recorders.{CanAccess, KeepsSeatAfter};
-ghost use Rattle.octet_heap.specs.Waiting.{StandsIn, Says, Leaves};
+ghost use Rattle.octet_heap.specs.declared.way.Way.TheVariants.{Waits};
+ghost use Rattle.octet_heap.specs.Recorders.{CanAccess, KeepsSeat};
+ghost use Rattle.octet_heap.specs.Waiting.{StandsIn, Says};
+ghost use Rattle.octet_heap.specs.Ways.{ComesTo, StandsAt};
 
 use crate::heap::Heap;
 use crate::pending_access::PendingAccess;
-use crate::poll::Poll;
 use crate::recorder::Recorder;
+use crate::way::Way;
 use octet_rule::Tried;
 use octet_state::{StateWord, Whom, Why};
 
 // The state is another one than was loaded.
-fn pending_changed(seen: u64, found: u64) -> Poll
-    ensures { result ≡ Pending (Changed seen found) }
+fn waits_changed(seen: u64, found: u64) -> Way
+    ensures { result ≡ Waits (Changed seen found) }
 {
-    Poll::Pending {
+    Way::Waits {
         why: Why::Changed { seen, found },
     }
 }
@@ -35,18 +35,18 @@ impl Heap {
         access: PendingAccess,
         state: StateWord,
         seen: u64,
-    ) -> Poll
+    ) -> Way
         requires can { CanAccess self.now access recorder.old }
         requires stands { StandsIn (Want access.object access.mode (Some state)) (view recorder.old.seat) }
         requires word { packed_state state ≡ seen }
         requires says { Says access state (view recorder.old.seat) RaiseIt }
-        ensures keeps { KeepsSeatAfter self.now.words result recorder.old recorder.new }
-        ensures comes { Comes access (view recorder.old.seat) result 3 (view recorder.new.seat) }
-        ensures leaves { Leaves access result (view recorder.new.seat) }
+        ensures keeps { KeepsSeat self.now.words recorder.old.log.accesses recorder.old recorder.new }
+        ensures comes { ComesTo access (view recorder.old.seat) result 3 (view recorder.new.seat) }
+        ensures stands { StandsAt access result (view recorder.new.seat) }
     {
         match self.words.raise(&mut recorder.seat, access.object, seen) {
-            Tried::Won => self.access(recorder, access),
-            Tried::Lost { found } => pending_changed(seen, found),
+            Tried::Won => Way::Passes,
+            Tried::Lost { found } => waits_changed(seen, found),
         }
     }
 
@@ -59,19 +59,22 @@ impl Heap {
         seen: u64,
         from: u8,
         upto: u64,
-    ) -> Poll
+    ) -> Way
         requires can { CanAccess self.now access recorder.old }
         requires stands { StandsIn (Want access.object access.mode (Some state)) (view recorder.old.seat) }
         requires word { packed_state state ≡ seen }
         requires mode { ForRead ≡ access.mode }
         requires says { Says access state (view recorder.old.seat) (ShareIt from upto) }
-        ensures keeps { KeepsSeatAfter self.now.words result recorder.old recorder.new }
-        ensures comes { Comes access (view recorder.old.seat) result 4 (view recorder.new.seat) }
-        ensures leaves { Leaves access result (view recorder.new.seat) }
+        ensures keeps { KeepsSeat self.now.words recorder.old.log.accesses recorder.old recorder.new }
+        ensures comes { ComesTo access (view recorder.old.seat) result 4 (view recorder.new.seat) }
+        ensures stands { StandsAt access result (view recorder.new.seat) }
     {
         match recorder.share(&self.words, access.object, seen, from, upto) {
-            Tried::Won => self.draw(recorder, access),
-            Tried::Lost { found } => pending_changed(seen, found),
+            Tried::Won => {
+                self.draw(recorder, access);
+                Way::Passes
+            }
+            Tried::Lost { found } => waits_changed(seen, found),
         }
     }
 
@@ -83,21 +86,21 @@ impl Heap {
         state: StateWord,
         seen: u64,
         whom: Whom,
-    ) -> Poll
+    ) -> Way
         requires can { CanAccess self.now access recorder.old }
         requires stands { StandsIn (Want access.object access.mode (Some state)) (view recorder.old.seat) }
         requires word { packed_state state ≡ seen }
         requires says { Says access state (view recorder.old.seat) (TakeIt whom) }
-        ensures keeps { KeepsSeatAfter self.now.words result recorder.old recorder.new }
-        ensures comes { Comes access (view recorder.old.seat) result 18 (view recorder.new.seat) }
-        ensures leaves { Leaves access result (view recorder.new.seat) }
+        ensures keeps { KeepsSeat self.now.words recorder.old.log.accesses recorder.old recorder.new }
+        ensures comes { ComesTo access (view recorder.old.seat) result 18 (view recorder.new.seat) }
+        ensures stands { StandsAt access result (view recorder.new.seat) }
     {
         match self
             .words
             .claim(&mut recorder.seat, access.object, &access.mode, seen)
         {
             Tried::Won => self.ask_on(recorder, access, state, 0),
-            Tried::Lost { found } => pending_changed(seen, found),
+            Tried::Lost { found } => waits_changed(seen, found),
         }
     }
 }

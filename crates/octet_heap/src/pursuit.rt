@@ -5,23 +5,23 @@ ghost use Rattle.octet_state.specs.declared.why.Why.TheVariants.{Unanswered as N
 ghost use Rattle.octet_state.specs.Asking.{whom_to_ask, number_to_ask};
 ghost use Rattle.octet_state.specs.Positions.{NamesThread};
 ghost use Rattle.octet_rule.specs.Seats.{view};
-ghost use Rattle.octet_heap.specs.declared.poll.Poll.TheVariants.{Pending};
-ghost use Rattle.octet_heap.specs.Polls.{Comes};
-ghost use Rattle.octet_heap.specs.Recorders.{CanAccess, KeepsSeatAfter};
-ghost use Rattle.octet_heap.specs.Waiting.{StandsIn, Leaves};
+ghost use Rattle.octet_heap.specs.declared.way.Way.TheVariants.{Waits};
+ghost use Rattle.octet_heap.specs.Recorders.{CanAccess, KeepsSeat};
+ghost use Rattle.octet_heap.specs.Waiting.{StandsIn};
+ghost use Rattle.octet_heap.specs.Ways.{ComesTo, StandsAt};
 
 use crate::heap::Heap;
 use crate::pending_access::PendingAccess;
-use crate::poll::Poll;
 use crate::recorder::Recorder;
+use crate::way::Way;
 use octet_safe::Reply;
 use octet_state::{StateWord, Why};
 
 // A thread has not answered.
-fn pending_unanswered(by: u8, word: u64) -> Poll
-    ensures { result ≡ Pending (NoAnswer by word) }
+fn waits_unanswered(by: u8, word: u64) -> Way
+    ensures { result ≡ Waits (NoAnswer by word) }
 {
-    Poll::Pending {
+    Way::Waits {
         why: Why::Unanswered { by, word },
     }
 }
@@ -34,14 +34,14 @@ impl Heap {
         access: PendingAccess,
         prior: StateWord,
         from: u8,
-    ) -> Poll
+    ) -> Way
         requires can { CanAccess self.now access recorder.old }
         requires stands { StandsIn (Claimed access.object access.mode prior from false) (view recorder.old.seat) }
         requires named { NamesThread (view recorder.old.seat).threads prior }
         requires left { from ≤ number_to_ask (whom_to_ask prior) (view recorder.old.seat).threads }
-        ensures keeps { KeepsSeatAfter self.now.words result recorder.old recorder.new }
-        ensures comes { Comes access (view recorder.old.seat) result 17 (view recorder.new.seat) }
-        ensures leaves { Leaves access result (view recorder.new.seat) }
+        ensures keeps { KeepsSeat self.now.words recorder.old.log.accesses recorder.old recorder.new }
+        ensures comes { ComesTo access (view recorder.old.seat) result 17 (view recorder.new.seat) }
+        ensures stands { StandsAt access result (view recorder.new.seat) }
     {
         let whom = prior.whom_to_ask();
         let me = recorder.seat.thread();
@@ -49,10 +49,11 @@ impl Heap {
             let next = whom.next(me, done);
             match recorder.ask(&self.words, next) {
                 Reply::Given { .. } => {}
-                Reply::Unanswered { word } => return pending_unanswered(next, word),
+                Reply::Unanswered { word } => return waits_unanswered(next, word),
             }
         }
-        self.settle(recorder, access)
+        self.settle(recorder, access);
+        Way::Passes
     }
 
     // Looks at the one that was asked, and asks those that come after it.
@@ -62,19 +63,19 @@ impl Heap {
         access: PendingAccess,
         prior: StateWord,
         done: u8,
-    ) -> Poll
+    ) -> Way
         requires can { CanAccess self.now access recorder.old }
         requires stands { StandsIn (Claimed access.object access.mode prior done true) (view recorder.old.seat) }
         requires named { NamesThread (view recorder.old.seat).threads prior }
         requires left { done < number_to_ask (whom_to_ask prior) (view recorder.old.seat).threads }
-        ensures keeps { KeepsSeatAfter self.now.words result recorder.old recorder.new }
-        ensures comes { Comes access (view recorder.old.seat) result 18 (view recorder.new.seat) }
-        ensures leaves { Leaves access result (view recorder.new.seat) }
+        ensures keeps { KeepsSeat self.now.words recorder.old.log.accesses recorder.old recorder.new }
+        ensures comes { ComesTo access (view recorder.old.seat) result 18 (view recorder.new.seat) }
+        ensures stands { StandsAt access result (view recorder.new.seat) }
     {
         let next = prior.whom_to_ask().next(recorder.seat.thread(), done);
         match recorder.look(&self.words, next) {
             Reply::Given { .. } => self.ask_on(recorder, access, prior, done + 1),
-            Reply::Unanswered { word } => pending_unanswered(next, word),
+            Reply::Unanswered { word } => waits_unanswered(next, word),
         }
     }
 }

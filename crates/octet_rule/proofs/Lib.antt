@@ -2,6 +2,7 @@ pub mod Runs
 pub mod Kept
 pub mod Allowed
 pub mod Acting
+pub mod Changed
 pub mod Known
 pub mod Splitting
 pub mod AllOff

@@ -2,6 +2,8 @@
 //! Each call is one step of the protocol, and takes no memory and no lock.
 #![tactic(auto)]
 
+mod change;
+mod changing;
 mod closing;
 mod entered;
 mod entering;
@@ -19,6 +21,7 @@ mod tried;
 mod view;
 mod words;
 
+pub use change::Change;
 pub use entered::Entered;
 pub use tried::Tried;
 pub use words::{Seat, Words};

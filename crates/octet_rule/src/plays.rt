@@ -5,6 +5,8 @@ ghost use Rattle.std.specs.Prelude.{◌-◌, ◌+◌, ◌/◌, false};
 ghost use Rattle.octet_state.specs.declared.act.Mode.TheVariants.{Read as ForRead, Write as ForWrite, Update as ForUpdate};
 ghost use Rattle.octet_state.specs.Steps.{ToGlance, ToAnswer, ToBlock, ToUnblock, ToAsk, ToLook, ToLoad, ToRead, ToWrite, ToBump, ToClaim, ToSettle, ToDraw, ToFence, ToRaise, ToShare};
 ghost use Rattle.octet_rule.specs.Rule.{Acts};
+ghost use Rattle.octet_rule.specs.Changes.{Changes};
+ghost use Rattle.octet_rule.specs.declared.change.Change.TheVariants.{Add as ByAdd, Sub as BySub, Swap as BySwap, CompareExchange as ByExchange, And as ByAnd, Or as ByOr, Xor as ByXor, Max as ByMax, Min as ByMin};
 ghost use Rattle.octet_rule.specs.Views.{after_split, split_off, after_join, spent};
 
 use crate::view::View;
@@ -81,6 +83,61 @@ pub(crate) struct Bump;
 
 impl Play<(), View> for Bump {
     ghost then = { λ step me told next. Acts (ToBump step.first) step me told next };
+}
+
+/// An update by a change tells for which change it is by its type.
+pub(crate) struct Adds;
+
+impl Play<(), View> for Adds {
+    ghost then = { λ step me told next. Changes (ByAdd step.first) step me told next };
+}
+
+pub(crate) struct Subtracts;
+
+impl Play<(), View> for Subtracts {
+    ghost then = { λ step me told next. Changes (BySub step.first) step me told next };
+}
+
+pub(crate) struct Swaps;
+
+impl Play<(), View> for Swaps {
+    ghost then = { λ step me told next. Changes (BySwap step.first) step me told next };
+}
+
+pub(crate) struct Exchanges;
+
+impl Play<(), View> for Exchanges {
+    ghost then = { λ step me told next. Changes (ByExchange step.first step.second) step me told next };
+}
+
+pub(crate) struct Ands;
+
+impl Play<(), View> for Ands {
+    ghost then = { λ step me told next. Changes (ByAnd step.first) step me told next };
+}
+
+pub(crate) struct Ors;
+
+impl Play<(), View> for Ors {
+    ghost then = { λ step me told next. Changes (ByOr step.first) step me told next };
+}
+
+pub(crate) struct Xors;
+
+impl Play<(), View> for Xors {
+    ghost then = { λ step me told next. Changes (ByXor step.first) step me told next };
+}
+
+pub(crate) struct Maximizes;
+
+impl Play<(), View> for Maximizes {
+    ghost then = { λ step me told next. Changes (ByMax step.first) step me told next };
+}
+
+pub(crate) struct Minimizes;
+
+impl Play<(), View> for Minimizes {
+    ghost then = { λ step me told next. Changes (ByMin step.first) step me told next };
 }
 
 pub(crate) struct Claim;

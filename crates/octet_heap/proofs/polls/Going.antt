@@ -1,5 +1,5 @@
 -- A poll goes on step by step.
-use Rattle.std.proofs.Common.{◌≡◌, ◌∙◌, ℕ, suc, ◌+◌, ◌<◌, ◌≤◌, List, [], ◌∷◌, ◌++◌, Some, None, sym, ap, arith, length, length-append, subst}
+use Rattle.std.proofs.Common.{◌≡◌, ◌∙◌, ℕ, suc, ◌+◌, ◌<◌, ◌≤◌, [], ◌∷◌, ◌++◌, Some, None, sym, ap, arith, length-append, subst}
 use Rattle.octet_state.specs.declared.phase.Phase.{Phase}
 use Rattle.octet_state.specs.declared.phase.Due.TheVariants.{Nothing}
 use Rattle.octet_state.specs.Steps.{Kind, ToLoad}
@@ -11,15 +11,16 @@ use Rattle.octet_heap.specs.declared.poll.Poll.{Poll}
 use Rattle.octet_heap.specs.Walks.{access_task, next_step, after_steps, IsNext}
 use Rattle.octet_heap.specs.Polls.{answer_to, steps_owed, GoesBy, Comes}
 use Rattle.octet_heap.specs.Waiting.{StandsIn}
+use Rattle.octet_heap.specs.declared.poll.Poll.TheVariants.{Pending}
+use Rattle.octet_heap.specs.declared.way.Way.{Way}
+use Rattle.octet_heap.specs.declared.way.Way.TheVariants.{Passes, Waits}
+use Rattle.octet_heap.specs.Ways.{Goes, with_value, ComesTo, Finishes}
+use Rattle.octet_rule.specs.declared.change.Change.{Change}
+use Rattle.octet_heap.specs.Updates.{update_of, amount_made, answer_after, ComesBy, FinishesBy}
+use Rattle.octet_heap.specs.Calls.{access_to}
+use Rattle.octet_state.specs.declared.act.Mode.TheVariants.{Update}
 use Rattle.octet_heap.proofs.lemmas.Walks as walks
 use Rattle.octet_heap.proofs.lemmas.Walks.{after_more, next_by, walks_more}
-
--- fewer than `steps` steps by which the poll goes on
-pub record Goes (access : PendingAccess) (v : SeatView) (steps : ℕ) (w : SeatView) : Type 0 where
-  pub going : List Taken
-  pub goes : GoesBy access v going
-  pub few : length going < steps
-  pub after : w ≡ after_steps going v
 
 -- the next step of a thread that owes nothing, by its phase
 pub next_in : (access : PendingAccess) (v : SeatView) (p : Phase) → StandsIn p v → next_step (access_task access) v ≡ kind_in_phase v.threads v.number v.thread.count (ToLoad access.object access.mode) access.value p
@@ -58,3 +59,20 @@ comes_next access u v w k told n answer took next none c = comes_after access u 
 
 pub comes_sooner : (access : PendingAccess) (v w : SeatView) (m n : ℕ) (answer : Poll) → Comes access v answer m w → m ≤ n → Comes access v answer n w
 comes_sooner access v w m n answer c fits = record { going = c.going; last = c.last; goes = c.goes; is_next = c.is_next; answers = c.answers; few = let few = c.few in omega arith; after = c.after }
+
+pub goes_sooner : (access : PendingAccess) (v w : SeatView) (m n : ℕ) → Goes access v m w → m ≤ n → Goes access v n w
+goes_sooner access v w m n g fits = record { going = g.going; goes = g.goes; few = let few = g.few in omega arith; after = g.after }
+
+-- on the way to the step on the cell
+pub comes_to_after : (access : PendingAccess) (u v w : SeatView) (m n k : ℕ) (way : Way) → ((value : ℕ) → Goes (with_value access value) u m v) → ComesTo access v way n w → m + n ≤ suc k → ComesTo access u way k w
+comes_to_after access u v w m n k Passes g c fits = λ value. goes_on (with_value access value) u v w m n k (g value) (c value) fits
+comes_to_after access u v w m n k (Waits why) g c fits = λ value. comes_after (with_value access value) u v w m n k (Pending why) (g value) (c value) fits
+
+-- and from there
+pub finished : (access : PendingAccess) (u v w : SeatView) (n : ℕ) (way : Way) (answer : Poll) → ComesTo access u way n v → Finishes access way v answer w → Comes access u answer n w
+finished access u v w n Passes answer c done = comes_after access u v w n 1 n answer (c access.value) done (omega arith)
+finished access u v w n (Waits why) answer c done = subst (λ (a : Poll). Comes access u a n w) (sym done.0) (subst (λ (x : SeatView). Comes access u (Pending why) n x) (sym done.1) (c access.value))
+
+pub finished_by : (change : Change) (object : ℕ) (u v w : SeatView) (n : ℕ) (way : Way) (answer : Poll) → ComesTo (update_of object) u way n v → FinishesBy change object way v answer w → ComesBy change object u answer n w
+finished_by change object u v w n Passes answer c done = comes_after (access_to object Update (amount_made change answer)) u v w n 1 n (answer_after change answer) (c (amount_made change answer)) done (omega arith)
+finished_by change object u v w n (Waits why) answer c done = subst (λ (a : Poll). ComesBy change object u a n w) (sym done.0) (subst (λ (x : SeatView). ComesBy change object u (Pending why) n x) (sym done.1) (c 0))

@@ -1,5 +1,5 @@
 -- The stretches after an exchange of a state.
-use Rattle.std.proofs.Common.{◌≡◌, ◌≢◌, ◌∙◌, ℕ, suc, ◌<◌, Bool, true, false, Option, Some, None, sym, ap, eq-eqb}
+use Rattle.std.proofs.Common.{◌≡◌, ◌≢◌, ◌∙◌, ℕ, ◌<◌, Bool, true, false, Option, Some, None, sym, ap, eq-eqb}
 use Rattle.std.specs.Prelude.{if◌then◌else◌}
 use Rattle.std.proofs.lemmas.Bool.{ne_eqb}
 use Rattle.octet_state.specs.declared.act.Mode.{Mode}
@@ -17,12 +17,12 @@ use Rattle.octet_state.specs.NextStep.{changed, word_seen, exchange_of}
 use Rattle.octet_rule.specs.Views.{SeatView}
 use Rattle.octet_rule.specs.Rule.{Steps}
 use Rattle.octet_heap.specs.declared.pending_access.PendingAccess.{PendingAccess}
-use Rattle.octet_heap.specs.declared.poll.Poll.{Poll}
 use Rattle.octet_heap.specs.declared.poll.Poll.TheVariants.{Pending}
 use Rattle.octet_heap.specs.Walks.{access_task, next_step}
 use Rattle.octet_heap.specs.Polls.{answer_by, Comes}
 use Rattle.octet_heap.specs.Waiting.{Says, StandsIn}
-use Rattle.octet_heap.proofs.polls.Going.{next_in, comes_by, comes_next}
+use Rattle.octet_heap.specs.Ways.{Goes}
+use Rattle.octet_heap.proofs.polls.Going.{next_in, comes_by, goes_one}
 
 -- an exchange of the state that was loaded, which finds this word
 won : (object : ℕ) (mode : Mode) (state : StateWord) (seen : ℕ) (p : Phase) → p ≡ Want object mode (Some state) → packed_state state ≡ seen → wins seen p ≡ true
@@ -42,17 +42,17 @@ exchange_next : (access : PendingAccess) (state : StateWord) (v : SeatView) (act
 exchange_next access state v act stands says = next_in access v (Want access.object access.mode (Some state)) stands ∙ ap exchange_of says
 
 module _ (access : PendingAccess) (state : StateWord) (seen : ℕ) (v u : SeatView) (stands : StandsIn (Want access.object access.mode (Some state)) v) (word : packed_state state ≡ seen) where
-  pub raise_comes : (w : SeatView) (n : ℕ) (answer : Poll) → Says access state v Raise → Steps ToRaise v seen u → Comes access u answer n w → Comes access v answer (suc n) w
-  raise_comes w n answer says took c = comes_next access v u w ToRaise seen n answer took (sym (exchange_next access state v Raise stands says))
-      (ap (λ (o : Option Why). answer_by o ToRaise seen) (no_change access.object access.mode state seen v.thread.phase stands.1 word)) c
+  pub raise_goes : Says access state v Raise → Steps ToRaise v seen u → Goes access v 2 u
+  raise_goes says took = goes_one access v u ToRaise seen took (sym (exchange_next access state v Raise stands says))
+      (ap (λ (o : Option Why). answer_by o ToRaise seen) (no_change access.object access.mode state seen v.thread.phase stands.1 word))
 
-  pub share_comes : (w : SeatView) (n from upto : ℕ) (answer : Poll) → Says access state v (Share from upto) → Steps ToShare v seen u → Comes access u answer n w → Comes access v answer (suc n) w
-  share_comes w n from upto answer says took c = comes_next access v u w ToShare seen n answer took (sym (exchange_next access state v (Share from upto) stands says))
-      (ap (λ (o : Option Why). answer_by o ToShare seen) (no_change access.object access.mode state seen v.thread.phase stands.1 word)) c
+  pub share_goes : (from upto : ℕ) → Says access state v (Share from upto) → Steps ToShare v seen u → Goes access v 2 u
+  share_goes from upto says took = goes_one access v u ToShare seen took (sym (exchange_next access state v (Share from upto) stands says))
+      (ap (λ (o : Option Why). answer_by o ToShare seen) (no_change access.object access.mode state seen v.thread.phase stands.1 word))
 
-  pub claim_comes : (w : SeatView) (n : ℕ) (whom : Whom) (answer : Poll) → Says access state v (Take whom) → Steps ToClaim v seen u → Comes access u answer n w → Comes access v answer (suc n) w
-  claim_comes w n whom answer says took c = comes_next access v u w ToClaim seen n answer took (sym (exchange_next access state v (Take whom) stands says))
-      (ap (λ (o : Option Why). answer_by o ToClaim seen) (no_change access.object access.mode state seen v.thread.phase stands.1 word)) c
+  pub claim_goes : (whom : Whom) → Says access state v (Take whom) → Steps ToClaim v seen u → Goes access v 2 u
+  claim_goes whom says took = goes_one access v u ToClaim seen took (sym (exchange_next access state v (Take whom) stands says))
+      (ap (λ (o : Option Why). answer_by o ToClaim seen) (no_change access.object access.mode state seen v.thread.phase stands.1 word))
 
   module _ (found : ℕ) (other : found ≢ seen) where
     pub raise_lost : (n : ℕ) → Says access state v Raise → Steps ToRaise v found u → 2 < n → Comes access v (Pending (Changed seen found)) n u

@@ -20,12 +20,19 @@ use Rattle.octet_heap.specs.declared.poll.Poll.TheVariants.{Pending}
 use Rattle.octet_heap.specs.Walks.{access_task, next_step}
 use Rattle.octet_heap.specs.Polls.{answer_by, Comes}
 use Rattle.octet_heap.specs.Waiting.{HasBegun, IsToLoad, Leaves}
-use Rattle.octet_heap.proofs.polls.Going.{Goes, next_in, goes_one, comes_by}
+use Rattle.octet_heap.specs.Ways.{Goes, with_value}
+use Rattle.octet_heap.proofs.polls.Going.{next_in, goes_one, comes_by}
 
 loads_next : (threads me count : ℕ) (access : PendingAccess) (p : Phase) → IsToLoad access p → kind_in_phase threads me count (ToLoad access.object access.mode) access.value p ≡ ToLoad access.object access.mode
 loads_next threads me count access Idle h = refl
 loads_next threads me count access (Want object mode None) h = λ i. ToLoad (h.0 i) (h.1 i)
 loads_next threads me count access _ h = absurd h
+
+-- the value has no part in it
+pub loads_as : (access : PendingAccess) (value : ℕ) (p : Phase) → IsToLoad access p → IsToLoad (with_value access value) p
+loads_as access value Idle h = tt
+loads_as access value (Want object mode None) h = h
+loads_as access value _ h = absurd h
 
 module _ (access : PendingAccess) (v u : SeatView) (word : ℕ) (state : StateWord) (act : Act) (took : Steps (ToLoad access.object access.mode) v word u)
     (holds : state ≡ state_in (unpacked_state word)) (says : act ≡ decided state v.number access.mode v.thread.count) where

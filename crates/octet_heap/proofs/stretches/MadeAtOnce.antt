@@ -29,7 +29,8 @@ use Rattle.octet_heap.specs.OwnersPath.{value_by}
 use Rattle.octet_heap.specs.Polls.{Comes}
 use Rattle.octet_heap.specs.Waiting.{IsToLoad, Leaves}
 use Rattle.octet_heap.proofs.log.Entries.{keeps, follows}
-use Rattle.octet_heap.proofs.polls.Going.{Goes, comes_after}
+use Rattle.octet_heap.specs.Ways.{Goes}
+use Rattle.octet_heap.proofs.polls.Going.{comes_after}
 use Rattle.octet_heap.proofs.stretches.Loads.{load_goes, load_held}
 use Rattle.octet_heap.proofs.stretches.Stretches.{access_comes}
 

@@ -23,7 +23,8 @@ use Rattle.octet_heap.specs.Polls.{answer_by, Comes}
 use Rattle.octet_heap.specs.Waiting.{StandsIn, HasBegun, Leaves}
 use Rattle.octet_state.specs.declared.act.Whom.{Whom}
 use Rattle.octet_state.proofs.lemmas.Widths.{asks_few}
-use Rattle.octet_heap.proofs.polls.Going.{Goes, next_in, goes_one, comes_by}
+use Rattle.octet_heap.specs.Ways.{Goes}
+use Rattle.octet_heap.proofs.polls.Going.{next_in, goes_one, comes_by}
 
 -- a reply by a test: given exactly where it holds
 test_of_given : (upto : ℕ) (b : Bool) (u n : ℕ) → Given upto ≡ (if b then Given u else Unanswered n) → b ≡ true
