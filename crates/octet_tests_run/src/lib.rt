@@ -1,0 +1,6 @@
+//! Tests of how a run is made and recorded: the protocol in plain memory and over atomic words, its threads, and the
+//! commands of the program.
+#![tactic(auto)]
+
+#[cfg(test)]
+mod samples;
