@@ -1,13 +1,15 @@
 -- The workers of a heap, by their seats.
-use Rattle.std.proofs.Common.{◌≡◌, ◌∙◌, ℕ, zero, suc, ◌<◌, List, [], ◌∷◌, ◌++◌, map, length, Option, None, sym, refl, ap, arith, subst, slice_index_or}
-use Rattle.octet_model.specs.Machine.{Journals}
-use Rattle.octet_model.specs.Journals.{log_of}
+use Rattle.std.proofs.Common.{◌≡◌, ◌∙◌, ℕ, zero, suc, ◌<◌, ◌≤◌, IsTrue, List, [], ◌∷◌, ◌++◌, map, length, Option, None, sym, refl, ap, arith, subst, slice_index_or}
+use Rattle.octet_model.specs.Machine.{Journals, journal_of}
+use Rattle.octet_model.specs.Log.{is_log}
+use Rattle.octet_model.specs.Journals.{access_count, log_of}
 use Rattle.octet_model.specs.Orders.{starting_heap, values_read, ends_of, FitsScript, IsFaithful}
 use Rattle.octet_model.specs.Plays.{IsOneHistory}
 use Rattle.octet_model.proofs.lemmas.Growth.{faithful_from_history}
 use Rattle.octet_state.specs.declared.phase.Phase.TheVariants.{Off}
 use Rattle.octet_state.specs.State.{Thread}
 use Rattle.octet_state.proofs.lemmas.Laws.{off_is_frugal}
+use Rattle.octet_state.proofs.lemmas.ValidLogs.{log_valid}
 use Rattle.octet_rule.specs.declared.words.Seat.{Seat}
 use Rattle.octet_rule.specs.Seats.{view, threads_of, starts_of, objects_of, Closes, EachFresh}
 use Rattle.octet_rule.specs.Seats as rule
@@ -15,17 +17,17 @@ use Rattle.octet_heap.specs.declared.heap.Heap.{Heap}
 use Rattle.octet_heap.specs.declared.closed.Closed.{Closed}
 use Rattle.octet_heap.specs.declared.pending_access.PendingAccess.{PendingAccess}
 use Rattle.octet_heap.specs.declared.worker.Worker.{Worker}
-use Rattle.octet_heap.specs.Standing.{IsAbout, IsAtRest, HasFuel, IsWithin}
-use Rattle.octet_heap.specs.Workers.{seat_of, IsWorkerOf}
+use Rattle.octet_heap.specs.Standing.{begun_of, IsOne, IsAbout, IsAtRest, HasFuel, IsWithin}
+use Rattle.octet_heap.specs.Workers.{seat_of, begun_in, IsWorkerOf}
 use Rattle.octet_heap.specs.Seated.{seats_in, journals_of, ArePlain, EachNew, EachRests}
 use Rattle.octet_heap.specs.Closings.{IsClosed}
 
-plain_more : (fuel : ℕ) (workers : List Worker) (worker : Worker) → ArePlain fuel workers → worker.recorder.fuel ≡ fuel → worker.pending ≡ None → worker.slow ≡ 0 → ArePlain fuel (workers ++ worker ∷ [])
-plain_more fuel [] worker plain is none none_slow = ((is, none, none_slow), tt)
-plain_more fuel (w ∷ workers) worker plain is none none_slow = (plain.0, plain_more fuel workers worker plain.1 is none none_slow)
+plain_more : (fuel : ℕ) (workers : List Worker) (worker : Worker) → ArePlain fuel workers → worker.recorder.fuel ≡ fuel → worker.pending ≡ None → worker.changing ≡ None → worker.slow ≡ 0 → ArePlain fuel (workers ++ worker ∷ [])
+plain_more fuel [] worker plain is none no_change none_slow = ((is, none, no_change, none_slow), tt)
+plain_more fuel (w ∷ workers) worker plain is none no_change none_slow = (plain.0, plain_more fuel workers worker plain.1 is none no_change none_slow)
 
 plain_at : (fuel : ℕ) (workers : List Worker) (thread : ℕ) (none : Worker) → ArePlain fuel workers → thread < length workers
-    → ((slice_index_or workers thread none).recorder.fuel ≡ fuel) × ((slice_index_or workers thread none).pending ≡ None) × ((slice_index_or workers thread none).slow ≡ 0)
+    → ((slice_index_or workers thread none).recorder.fuel ≡ fuel) × ((slice_index_or workers thread none).pending ≡ None) × ((slice_index_or workers thread none).changing ≡ None) × ((slice_index_or workers thread none).slow ≡ 0)
 plain_at fuel [] thread none plain there = absurd (omega (arith, there))
 plain_at fuel (w ∷ workers) zero none plain there = plain.0
 plain_at fuel (w ∷ workers) (suc thread) none plain there = plain_at fuel workers thread none plain.1 (omega (arith, there))
@@ -39,10 +41,10 @@ map_length f [] = refl
 map_length f (x ∷ xs) = ap suc (map_length f xs)
 
 pub seated_more : (fuel : ℕ) (seats : List Seat) (workers : List Worker) (worker : Worker) (seat : Seat) → seats_in workers ≡ seats → ArePlain fuel workers
-    → worker.recorder.seat ≡ seat → worker.recorder.fuel ≡ fuel → worker.pending ≡ None → worker.slow ≡ 0 → (seats_in (workers ++ worker ∷ []) ≡ seats ++ seat ∷ []) × ArePlain fuel (workers ++ worker ∷ [])
-seated_more fuel seats workers worker seat are plain is same none none_slow = (
+    → worker.recorder.seat ≡ seat → worker.recorder.fuel ≡ fuel → worker.pending ≡ None → worker.changing ≡ None → worker.slow ≡ 0 → (seats_in (workers ++ worker ∷ []) ≡ seats ++ seat ∷ []) × ArePlain fuel (workers ++ worker ∷ [])
+seated_more fuel seats workers worker seat are plain is same none no_change none_slow = (
   map_more (λ (w : Worker). w.recorder.seat) workers worker ∙ (λ i. are i ++ is i ∷ []),
-  plain_more fuel workers worker plain same none none_slow,
+  plain_more fuel workers worker plain same none no_change none_slow,
 )
 
 seat_at : (workers : List Worker) (thread : ℕ) (none : Worker) → slice_index_or (seats_in workers) thread none.recorder.seat ≡ (slice_index_or workers thread none).recorder.seat
@@ -60,21 +62,23 @@ each_new heap seats workers are plain fresh thread none there =
     let is : slice_index_or seats thread none.recorder.seat ≡ w.recorder.seat = ap (λ (l : List Seat). slice_index_or l thread none.recorder.seat) (sym are) ∙ seat_at workers thread none in
     let own = subst (λ (s : Seat). rule.IsSeatOf heap.words s × rule.IsFresh thread s) is (fresh thread none.recorder.seat here) in
     let p = plain_at heap.fuel workers thread none plain there in
+    let nothing : begun_in w ≡ None = λ i. begun_of (p.1 i) (p.2 i) in
     let off : (seat_of w).thread.phase ≡ Off = ap (λ (x : Thread). x.phase) own.1.1 in (
       record {
         own = own.0;
         same_fuel = p.0;
         owes_nothing = ap (λ (x : Thread). x.due) own.1.1;
-        about = subst (λ (o : Option PendingAccess). IsAbout (seat_of w).threads o (seat_of w).thread.phase) (sym p.1) (subst IsAtRest (sym off) tt);
-        fuelled = subst (λ (o : Option PendingAccess). HasFuel o w.recorder.log.accesses w.recorder.fuel) (sym p.1) tt;
-        within = subst (IsWithin (objects_of heap.words)) (sym p.1) tt;
+        one = subst (λ (o : Option PendingAccess). IsOne o w.changing) (sym p.1) tt;
+        about = subst (λ (o : Option PendingAccess). IsAbout (seat_of w).threads o (seat_of w).thread.phase) (sym nothing) (subst IsAtRest (sym off) tt);
+        fuelled = subst (λ (o : Option PendingAccess). HasFuel o w.recorder.log.accesses w.recorder.fuel) (sym nothing) tt;
+        within = subst (IsWithin (objects_of heap.words)) (sym nothing) tt;
       },
       own.1.0,
       own.1.1,
       own.1.2,
       own.1.3,
       p.1,
-      p.2,
+      p.3,
     )
 
 pub resting_seats : (heap : Heap) (seats : List Seat) (workers : List Worker) → seats ≡ seats_in workers → length workers ≡ threads_of heap.words → EachRests heap workers → (length seats ≡ threads_of heap.words) × rule.EachRests heap.words seats
@@ -98,10 +102,23 @@ same_journals : (workers : List Worker) → map (λ (seat : Seat). (view seat).j
 same_journals [] = refl
 same_journals (w ∷ workers) = ap (λ (l : Journals). (seat_of w).journal ∷ l) (same_journals workers)
 
-pub all_closed : (heap : Heap) (workers : List Worker) (seats : List Seat) (closed : Closed) → length workers ≡ threads_of heap.words → seats ≡ seats_in workers
+-- no worker has made more accesses than there was fuel for
+within_fuel : (heap : Heap) (workers : List Worker) → ((thread : ℕ) (none : Worker) → thread < length workers → IsWorkerOf heap (slice_index_or workers thread none)) → (thread : ℕ) → access_count (journal_of (journals_of workers) thread) ≤ heap.fuel
+within_fuel heap [] each thread = omega arith
+within_fuel heap (w ∷ workers) each zero = let few = w.recorder.few.0 in omega (arith, few, w.recorder.logged.accesses, (each zero w (omega arith)).same_fuel)
+within_fuel heap (w ∷ workers) each (suc thread) = within_fuel heap workers (λ k none there. each (suc k) none (omega (arith, there))) thread
+
+pub all_closed : (heap : Heap) (workers : List Worker) (seats : List Seat) (closed : Closed) → length workers ≡ threads_of heap.words → EachRests heap workers → seats ≡ seats_in workers
     → closed.logs ≡ log_of (journals_of workers) → closed.reads ≡ map values_read (journals_of workers) → Closes (starts_of heap.words) seats closed.heap → IsClosed heap workers closed
-all_closed heap workers seats closed all are logs reads closes = record {
+all_closed heap workers seats closed all still are logs reads closes = record {
   logs = logs;
+  valid = λ script threads fuel. let s = closes.last in
+      let journals : s.journals ≡ journals_of workers = closes.journals ∙ (ap (map (λ (seat : Seat). (view seat).journal)) are ∙ same_journals workers) in
+      let many : length s.journals ≡ length script.threads = ap (λ (l : Journals). length l) journals ∙ (map_length (λ (w : Worker). (seat_of w).journal) workers ∙ (all ∙ sym threads)) in
+      let fuelled : (thread : ℕ) → access_count (journal_of s.journals thread) ≤ script.fuel = λ thread.
+      subst (λ (js : Journals). access_count (journal_of js thread) ≤ script.fuel) (sym journals)
+      (subst (λ (n : ℕ). access_count (journal_of (journals_of workers) thread) ≤ n) (sym fuel) (within_fuel heap workers (λ k none there. (still k none there).0) thread)) in
+      subst (λ (l : _). IsTrue (is_log l)) (ap log_of journals ∙ sym logs) (log_valid script s closes.sound many fuelled);
   reads = reads;
   cells = subst (λ (l : List Seat). Closes (starts_of heap.words) l closed.heap) are closes;
   faithful = λ script threads starts fit. let s = closes.last in

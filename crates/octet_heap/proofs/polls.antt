@@ -6,3 +6,4 @@ pub mod Fastness
 pub mod Finding
 pub mod Growing
 pub mod Updated
+pub mod Begun

@@ -14,10 +14,10 @@ seats_in workers = map (λ worker. worker.recorder.seat) workers
 abbrev pub journals_of : List Worker → Journals
 journals_of workers = map (λ worker. (seat_of worker).journal) workers
 
--- each has this fuel, and has begun no access and made none
+-- each has this fuel, and has begun no access and no update, and made none
 abbrev pub ArePlain : ℕ → List Worker → Type 0
 ArePlain fuel [] = Unit {0}
-ArePlain fuel (worker ∷ workers) = ((worker.recorder.fuel ≡ fuel) × (worker.pending ≡ None) × (worker.slow ≡ 0)) × ArePlain fuel workers
+ArePlain fuel (worker ∷ workers) = ((worker.recorder.fuel ≡ fuel) × (worker.pending ≡ None) × (worker.changing ≡ None) × (worker.slow ≡ 0)) × ArePlain fuel workers
 
 -- the worker of this thread, which has taken no step
 abbrev pub IsNew : Heap → ℕ → Worker → Type 0

@@ -11,34 +11,39 @@ use Rattle.octet_heap.specs.declared.heap.Heap.{Heap}
 use Rattle.octet_heap.specs.declared.worker.Worker.{Worker}
 use Rattle.octet_heap.specs.Walks.{access_task, after_steps, IsNext}
 use Rattle.octet_heap.specs.Polls.{answer_to, GoesBy, PaysBy}
-use Rattle.octet_heap.specs.Standing.{IsAbout, HasFuel, IsWithin}
+use Rattle.octet_heap.specs.Standing.{begun_of, IsOne, IsAbout, HasFuel, IsWithin}
 
 -- a worker is seen as its seat is
 abbrev pub seat_of : Worker → SeatView
 seat_of worker = view worker.recorder.seat
+
+-- the access that it has begun
+abbrev pub begun_in : Worker → Option PendingAccess
+begun_in worker = begun_of worker.pending worker.changing
 
 -- the worker is one of this heap's, and stands as it does between two calls
 pub record IsWorkerOf (heap : Heap) (worker : Worker) : Type 0 where
   pub own : IsSeatOf heap.words worker.recorder.seat
   pub same_fuel : worker.recorder.fuel ≡ heap.fuel
   pub owes_nothing : (seat_of worker).thread.due ≡ Nothing
-  pub about : IsAbout (seat_of worker).threads worker.pending (seat_of worker).thread.phase
-  pub fuelled : HasFuel worker.pending worker.recorder.log.accesses worker.recorder.fuel
-  pub within : IsWithin (objects_of heap.words) worker.pending
+  pub one : IsOne worker.pending worker.changing
+  pub about : IsAbout (seat_of worker).threads (begun_in worker) (seat_of worker).thread.phase
+  pub fuelled : HasFuel (begun_in worker) worker.recorder.log.accesses worker.recorder.fuel
+  pub within : IsWithin (objects_of heap.words) (begun_in worker)
 
 -- it runs, and has begun no access
 abbrev pub IsIdle : Worker → Type 0
-IsIdle worker = ((seat_of worker).thread.phase ≡ Idle) × (worker.pending ≡ None)
+IsIdle worker = ((seat_of worker).thread.phase ≡ Idle) × (worker.pending ≡ None) × (worker.changing ≡ None)
 
 -- once its access is made it has begun none
 abbrev pub IsIdleIfMade : Poll → Worker → Type 0
 IsIdleIfMade (Ready value) worker = IsIdle worker
 IsIdleIfMade (Pending why) worker = Unit {0}
 
--- an access stays begun until it is made
-abbrev pub pending_after : Poll → Option PendingAccess → Option PendingAccess
-pending_after (Ready value) access = None
-pending_after (Pending why) access = access
+-- an access, or an update, stays begun until it is made
+abbrev pub pending_after : {A : Type 0} → Poll → Option A → Option A
+pending_after (Ready value) begun = None
+pending_after (Pending why) begun = begun
 
 -- the steps of a poll, in the order of its thread's steps: some by which it goes on, one by which it answers, and, where it is pending, the safe point after that one. There are at most nineteen
 pub record IsPoll (access : PendingAccess) (v : SeatView) (answer : Poll) (w : SeatView) : Type 0 where

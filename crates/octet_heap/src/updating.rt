@@ -1,32 +1,28 @@
-//! Updates by a change of the value that they find.
-ghost use Rattle.std.specs.Prelude.{◌≡◌, ◌+◌, ◌<◌, false, Some};
+//! An update by a change of the value that it finds, up to its answer.
+ghost use Rattle.std.specs.Prelude.{◌≡◌, ◌+◌, ◌<◌, false};
 ghost use Rattle.octet_state.specs.declared.act.Mode.TheVariants.{Update as ForUpdate};
 ghost use Rattle.octet_state.specs.declared.phase.Due.TheVariants.{Nothing};
 ghost use Rattle.octet_state.specs.declared.phase.Phase.TheVariants.{Pass};
 ghost use Rattle.octet_state.specs.Steps.{ToBump};
-ghost use Rattle.octet_model.specs.Journals.{access_count};
 ghost use Rattle.octet_rule.specs.Changes.{amount_by, IsLed, EntersToChange, IsLedIfMade};
 ghost use Rattle.octet_rule.specs.Conditions.{MayLoad, MayPass};
 ghost use Rattle.octet_rule.specs.Rule.{Steps};
 ghost use Rattle.octet_rule.specs.Seats.{view, CanStep, objects_of};
-ghost use Rattle.octet_heap.specs.Calls.{CountsSlow};
 ghost use Rattle.octet_heap.specs.OwnersPath.{steps_since};
 ghost use Rattle.octet_heap.specs.Recorders.{CanAccess, KeepsSeat, KeepsSeatAfter};
 ghost use Rattle.octet_heap.specs.SlowPath.{passes_by};
-ghost use Rattle.octet_heap.specs.Updates.{update_of, ComesBy, FinishesBy, EndsWith, PollsToChange};
-ghost use Rattle.octet_heap.specs.Waiting.{StandsIn, HasBegun, IsToLoad, Leaves, accesses_after, accesses_after_load};
+ghost use Rattle.octet_heap.specs.Standing.{update_of};
+ghost use Rattle.octet_heap.specs.Updates.{answer_after, ComesBy, FinishesBy, EndsWith};
+ghost use Rattle.octet_heap.specs.Waiting.{StandsIn, HasBegun, IsToLoad, Leaves, accesses_after_load};
 ghost use Rattle.octet_heap.specs.Ways.{HasLoaded, StandsAt};
 ghost use Rattle.octet_rule.specs.Views.{SeatView};
-ghost use Rattle.octet_heap.specs.Workers.{seat_of, pending_after, IsWorkerOf, IsIdle, IsIdleIfMade};
 
 use crate::attempt::claim_in;
-use crate::calls::{is_idle, slow_by};
 use crate::heap::Heap;
 use crate::pending_access::PendingAccess;
-use crate::poll::Poll;
 use crate::recorder::Recorder;
+use crate::updated::Updated;
 use crate::way::Way;
-use crate::worker::Worker;
 use octet_rule::{Change, Entered, Words};
 use octet_state::{Act, Mode, StateWord, Why};
 
@@ -68,47 +64,47 @@ impl Recorder {
 impl Heap {
     // Makes the update, which the state allows. Answers the value before.
     #[inline(always)]
-    fn change(&self, recorder: &mut Recorder, object: u16, change: Change) -> Poll
+    fn change(&self, recorder: &mut Recorder, object: u16, change: Change) -> Updated
         requires can { CanAccess self.now (update_of object) recorder.old }
         requires stands { StandsIn (Pass object ForUpdate) (view recorder.old.seat) }
-        ensures keeps { KeepsSeatAfter self.now.words result recorder.old recorder.new }
+        ensures keeps { KeepsSeatAfter self.now.words (answer_after change result) recorder.old recorder.new }
         ensures comes { ComesBy change object (view recorder.old.seat) result 1 (view recorder.new.seat) }
         ensures ends { EndsWith object change result (view recorder.new.seat) }
-        ensures leaves { Leaves (update_of object) result (view recorder.new.seat) }
+        ensures leaves { Leaves (update_of object) (answer_after change result) (view recorder.new.seat) }
     {
-        let value = recorder.update(&self.words, object, change);
-        Poll::Ready { value }
+        let before = recorder.update(&self.words, object, change);
+        Updated::Made { before }
     }
 
     // From where a thread has come to: the update, or why it waits.
-    fn finish_change(&self, recorder: &mut Recorder, object: u16, change: Change, way: Way) -> Poll
+    fn finish_change(&self, recorder: &mut Recorder, object: u16, change: Change, way: Way) -> Updated
         requires can { CanAccess self.now (update_of object) recorder.old }
         requires stands { StandsAt (update_of object) way (view recorder.old.seat) }
-        ensures keeps { KeepsSeatAfter self.now.words result recorder.old recorder.new }
+        ensures keeps { KeepsSeatAfter self.now.words (answer_after change result) recorder.old recorder.new }
         ensures finishes { FinishesBy change object way (view recorder.old.seat) result (view recorder.new.seat) }
         ensures ends { EndsWith object change result (view recorder.new.seat) }
-        ensures leaves { Leaves (update_of object) result (view recorder.new.seat) }
+        ensures leaves { Leaves (update_of object) (answer_after change result) (view recorder.new.seat) }
     {
         match way {
             Way::Passes => self.change(recorder, object, change),
-            Way::Waits { why } => Poll::Pending { why },
+            Way::Waits { why } => Updated::Pending { why },
         }
     }
 
     // Loads the state of the object, and does what the table says, as `load` does.
     #[inline(always)]
-    fn load_to_change(&self, recorder: &mut Recorder, object: u16, change: Change) -> (Poll, bool)
+    pub(crate) fn load_to_change(&self, recorder: &mut Recorder, object: u16, change: Change) -> (Updated, bool)
         requires can { CanAccess self.now (update_of object) recorder.old }
         requires due { (view recorder.old.seat).thread.due ≡ Nothing }
         requires loads { IsToLoad (update_of object) (view recorder.old.seat).thread.phase }
-        ensures keeps { KeepsSeatAfter self.now.words result.0 recorder.old recorder.new }
+        ensures keeps { KeepsSeatAfter self.now.words (answer_after change result.0) recorder.old recorder.new }
         ensures comes { ComesBy change object (view recorder.old.seat) result.0 19 (view recorder.new.seat) }
         ensures ends { EndsWith object change result.0 (view recorder.new.seat) }
-        ensures leaves { Leaves (update_of object) result.0 (view recorder.new.seat) }
+        ensures leaves { Leaves (update_of object) (answer_after change result.0) (view recorder.new.seat) }
         ensures passes { result.1 ≡ passes_by (update_of object) (view recorder.old.seat) (steps_since (view recorder.old.seat) (view recorder.new.seat)) }
     {
         match recorder.enter_to_change(&self.words, object, change) {
-            Entered::Made { told } => (Poll::Ready { value: told }, true),
+            Entered::Made { told } => (Updated::Made { before: told }, true),
             Entered::Loaded { word, state, act } => {
                 (
                     self.load_on_to_change(recorder, object, change, word, state, act),
@@ -128,13 +124,13 @@ impl Heap {
         word: u64,
         state: StateWord,
         act: Act,
-    ) -> Poll
+    ) -> Updated
         requires can { CanAccess self.now (update_of object) recorder.old }
         requires loaded { (v : SeatView) × HasLoaded (update_of object) v word state act (view recorder.old.seat) }
-        ensures keeps { KeepsSeatAfter self.now.words result recorder.old recorder.new }
+        ensures keeps { KeepsSeatAfter self.now.words (answer_after change result) recorder.old recorder.new }
         ensures comes { (v : SeatView) → HasLoaded (update_of object) v word state act (view recorder.old.seat) → ComesBy change object v result 19 (view recorder.new.seat) }
         ensures ends { EndsWith object change result (view recorder.new.seat) }
-        ensures leaves { Leaves (update_of object) result (view recorder.new.seat) }
+        ensures leaves { Leaves (update_of object) (answer_after change result) (view recorder.new.seat) }
         ensures passes { (v : SeatView) → HasLoaded (update_of object) v word state act (view recorder.old.seat) → false ≡ passes_by (update_of object) v (steps_since v (view recorder.new.seat)) }
     {
         let access = PendingAccess {
@@ -151,7 +147,7 @@ impl Heap {
                 let way = self.claim(recorder, access, state, word, whom);
                 self.finish_change(recorder, object, change, way)
             }
-            Act::Held { by } => Poll::Pending {
+            Act::Held { by } => Updated::Pending {
                 why: Why::Held { by, word },
             },
             Act::Pass | Act::Fence | Act::Share { .. } => unreachable!(),
@@ -159,14 +155,14 @@ impl Heap {
     }
 
     // From where the thread stands, as `go_on`.
-    fn go_on_to_change(&self, recorder: &mut Recorder, object: u16, change: Change) -> Poll
+    pub(crate) fn go_on_to_change(&self, recorder: &mut Recorder, object: u16, change: Change) -> Updated
         requires can { CanAccess self.now (update_of object) recorder.old }
         requires due { (view recorder.old.seat).thread.due ≡ Nothing }
         requires begun { HasBegun (view recorder.old.seat).threads (update_of object) (view recorder.old.seat).thread.phase }
-        ensures keeps { KeepsSeatAfter self.now.words result recorder.old recorder.new }
+        ensures keeps { KeepsSeatAfter self.now.words (answer_after change result) recorder.old recorder.new }
         ensures comes { ComesBy change object (view recorder.old.seat) result 19 (view recorder.new.seat) }
         ensures ends { EndsWith object change result (view recorder.new.seat) }
-        ensures leaves { Leaves (update_of object) result (view recorder.new.seat) }
+        ensures leaves { Leaves (update_of object) (answer_after change result) (view recorder.new.seat) }
     {
         let access = PendingAccess {
             object,
@@ -180,67 +176,5 @@ impl Heap {
             }
             None => self.load_to_change(recorder, object, change).0,
         }
-    }
-
-    /// Updates the object by a change of the value that it finds, in one access. Answers `Ready` with
-    /// the value before, or `Pending` with the reason; then it has answered the threads that have asked
-    /// this one, and an update of the object stays begun, which `poll_update` makes.
-    #[inline(always)]
-    pub fn update(&self, worker: &mut Worker, object: u16, change: Change) -> Poll
-        requires own { IsWorkerOf self.now worker.old }
-        requires idle { IsIdle worker.old }
-        requires object { object < objects_of self.now.words }
-        requires more { access_count (seat_of worker.old).journal < self.now.fuel }
-        ensures own { IsWorkerOf self.now worker.new }
-        ensures pending { worker.new.pending ≡ pending_after result (Some (update_of object)) }
-        ensures idle { IsIdleIfMade result worker.new }
-        ensures polls { PollsToChange object change (seat_of worker.old) result (seat_of worker.new) }
-        ensures number { (seat_of worker.new).number ≡ (seat_of worker.old).number }
-        ensures counts { access_count (seat_of worker.new).journal ≡ accesses_after result (access_count (seat_of worker.old).journal) }
-        ensures slow { CountsSlow (update_of object) worker.old result worker.new }
-    {
-        let (poll, passes) = self.load_to_change(&mut worker.recorder, object, change);
-        match poll {
-            Poll::Ready { .. } => worker.slow = slow_by(passes, worker.slow),
-            Poll::Pending { .. } => {
-                worker.pending = Some(PendingAccess {
-                    object,
-                    mode: Mode::Update,
-                    value: 0,
-                });
-                octet_safe::safe_point(&self.words, &mut worker.recorder.seat);
-            }
-        }
-        poll
-    }
-
-    /// Goes on with an update that was begun, by this change: until it is made, or until another thread
-    /// has to go first. The change that counts is that of the call that makes it.
-    pub fn poll_update(&self, worker: &mut Worker, object: u16, change: Change) -> Poll
-        requires own { IsWorkerOf self.now worker.old }
-        requires begun { worker.old.pending ≡ Some (update_of object) }
-        ensures own { IsWorkerOf self.now worker.new }
-        ensures pending { worker.new.pending ≡ pending_after result (Some (update_of object)) }
-        ensures idle { IsIdleIfMade result worker.new }
-        ensures polls { PollsToChange object change (seat_of worker.old) result (seat_of worker.new) }
-        ensures number { (seat_of worker.new).number ≡ (seat_of worker.old).number }
-        ensures counts { access_count (seat_of worker.new).journal ≡ accesses_after result (access_count (seat_of worker.old).journal) }
-        ensures slow { CountsSlow (update_of object) worker.old result worker.new }
-    {
-        if is_idle(worker.recorder.seat.phase()) {
-            worker.pending = None;
-            return self.update(worker, object, change);
-        }
-        let poll = self.go_on_to_change(&mut worker.recorder, object, change);
-        match poll {
-            Poll::Ready { .. } => {
-                worker.pending = None;
-                worker.slow += 1;
-            }
-            Poll::Pending { .. } => {
-                octet_safe::safe_point(&self.words, &mut worker.recorder.seat);
-            }
-        }
-        poll
     }
 }

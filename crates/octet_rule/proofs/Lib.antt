@@ -9,7 +9,6 @@ pub mod AllOff
 pub mod LaidOut
 pub mod Ending
 pub mod Letting
-pub mod Pairs
 pub mod MadeAtOnce
 pub mod Local
 pub mod Telling

@@ -15,8 +15,6 @@ mod seat;
 mod sharing;
 mod states;
 mod statuses;
-#[cfg(test)]
-mod tests;
 mod tried;
 mod view;
 mod words;

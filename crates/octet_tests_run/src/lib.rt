@@ -3,4 +3,10 @@
 #![tactic(auto)]
 
 #[cfg(test)]
+mod heap_tests;
+#[cfg(test)]
+mod rule_tests;
+#[cfg(test)]
+mod safe_tests;
+#[cfg(test)]
 mod samples;

@@ -16,7 +16,10 @@ use Rattle.octet_heap.specs.declared.way.Way.{Way}
 use Rattle.octet_heap.specs.declared.way.Way.TheVariants.{Passes, Waits}
 use Rattle.octet_heap.specs.Ways.{Goes, with_value, ComesTo, Finishes}
 use Rattle.octet_rule.specs.declared.change.Change.{Change}
-use Rattle.octet_heap.specs.Updates.{update_of, amount_made, answer_after, ComesBy, FinishesBy}
+use Rattle.octet_heap.specs.Standing.{update_of}
+use Rattle.octet_heap.specs.Updates.{amount_made, answer_after, ComesBy, FinishesBy}
+use Rattle.octet_heap.specs.declared.updated.Updated.{Updated}
+use Rattle.octet_heap.specs.declared.updated.Updated.TheVariants as updated
 use Rattle.octet_heap.specs.Calls.{access_to}
 use Rattle.octet_state.specs.declared.act.Mode.TheVariants.{Update}
 use Rattle.octet_heap.proofs.lemmas.Walks as walks
@@ -73,6 +76,6 @@ pub finished : (access : PendingAccess) (u v w : SeatView) (n : ℕ) (way : Way)
 finished access u v w n Passes answer c done = comes_after access u v w n 1 n answer (c access.value) done (omega arith)
 finished access u v w n (Waits why) answer c done = subst (λ (a : Poll). Comes access u a n w) (sym done.0) (subst (λ (x : SeatView). Comes access u (Pending why) n x) (sym done.1) (c access.value))
 
-pub finished_by : (change : Change) (object : ℕ) (u v w : SeatView) (n : ℕ) (way : Way) (answer : Poll) → ComesTo (update_of object) u way n v → FinishesBy change object way v answer w → ComesBy change object u answer n w
+pub finished_by : (change : Change) (object : ℕ) (u v w : SeatView) (n : ℕ) (way : Way) (answer : Updated) → ComesTo (update_of object) u way n v → FinishesBy change object way v answer w → ComesBy change object u answer n w
 finished_by change object u v w n Passes answer c done = comes_after (access_to object Update (amount_made change answer)) u v w n 1 n (answer_after change answer) (c (amount_made change answer)) done (omega arith)
-finished_by change object u v w n (Waits why) answer c done = subst (λ (a : Poll). ComesBy change object u a n w) (sym done.0) (subst (λ (x : SeatView). ComesBy change object u (Pending why) n x) (sym done.1) (c 0))
+finished_by change object u v w n (Waits why) answer c done = subst (λ (a : Updated). ComesBy change object u a n w) (sym done.0) (subst (λ (x : SeatView). ComesBy change object u (updated.Pending why) n x) (sym done.1) (c 0))

@@ -12,4 +12,4 @@ pub returns : goal.returns
 returns c = let are : c.from_vec.result ≡ seats_in c.args.workers = search rules in
     let logs : c.from_vec-2.result ≡ log_of (journals_of c.args.workers) = search rules in
     let reads : c.from_vec-3.result ≡ map values_read (journals_of c.args.workers) = search rules in
-    all_closed c.args.self c.args.workers c.from_vec.result (record { logs = c.from_vec-2.result; reads = c.from_vec-3.result; heap = c.in_ok-heap.heap }) c.requires.all are logs reads c.in_ok-heap.ensures
+    all_closed c.args.self c.args.workers c.from_vec.result (record { logs = c.from_vec-2.result; reads = c.from_vec-3.result; heap = c.in_ok-heap.heap }) c.requires.all c.requires.still are logs reads c.in_ok-heap.ensures

@@ -4,7 +4,8 @@ use Rattle.octet_state.specs.declared.act.Mode.TheVariants.{Update}
 use Rattle.octet_rule.specs.Seats.{view}
 use Rattle.octet_heap.specs.OwnersPath.{steps_since}
 use Rattle.octet_heap.specs.Calls.{access_to}
-use Rattle.octet_heap.specs.Updates.{update_of, amount_made}
+use Rattle.octet_heap.specs.Standing.{update_of}
+use Rattle.octet_heap.specs.Updates.{amount_made}
 use Rattle.octet_heap.proofs.polls.Going.{comes_to_after, comes_sooner, finished_by}
 use Rattle.octet_heap.proofs.polls.Updated.{passes_as}
 use Rattle.octet_heap.proofs.stretches.Loads.{loads_as}

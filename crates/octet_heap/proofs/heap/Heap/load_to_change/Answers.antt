@@ -6,7 +6,7 @@ use Rattle.octet_heap.specs.declared.poll.Poll.TheVariants.{Ready}
 use Rattle.octet_heap.specs.OwnersPath.{steps_since}
 use Rattle.octet_heap.specs.Polls.{Comes}
 use Rattle.octet_heap.specs.Calls.{access_to}
-use Rattle.octet_heap.specs.Updates.{update_of}
+use Rattle.octet_heap.specs.Standing.{update_of}
 use Rattle.octet_heap.proofs.polls.Updated.{made_ends, passes_as}
 use Rattle.octet_heap.proofs.stretches.Loads.{loads_as}
 use Rattle.octet_heap.proofs.stretches.MadeAtOnce.{made_comes, made_leaves}
