@@ -2,8 +2,9 @@
 """What the definitions and lemmas of the crates read of each other.
 
 `tests/definitions.py headline` lists the files that whoever believes the headline has to read, with the
-definitions of each: all that `RunsFaithfully` (octet_top, `specs/Headline.antt`) says, down to the
-numbers and lists of the standard library. `tests/definitions.py unread` lists the definitions, lemmas and
+definitions of each: all that the clause `headline` of `serve` (octet_top, `src/program.rt`) says, down to
+the numbers and lists of the standard library. Of a type that is declared in Rust these are its fields,
+their types, what its ghost fields promise, and as what contracts see it; of the desk its ghost member. `tests/definitions.py unread` lists the definitions, lemmas and
 imports that nothing reads, `tests/definitions.py literals` the lines of definitions and code in which the
 number of a limit stands, where neither the limit's comment nor the table below names the file, and the
 files that such a comment names in vain; these two end with 1 where there are any. Needs Python 3 alone.
@@ -14,7 +15,7 @@ import re
 import sys
 
 CRATES = pathlib.Path(__file__).resolve().parent.parent / "crates"
-HEADLINE = ("octet_top.specs.Headline", "RunsFaithfully")
+HEADLINE = (CRATES / "octet_top" / "src" / "program.rt", "serve", "headline")
 # A word of the language of definitions, which may have signs in it (`prop→path_p`), or a name with its path, or
 # a sign that stands by itself.
 PART = r"[\w'][^\s(){}\[\],;.\"]*"
@@ -118,30 +119,112 @@ def resolve(module, word, known):
     return None
 
 
-def declared(source):
-    """The file of Rust in which a type that definitions speak of is declared, or None."""
+class Code:
+    """A file of Rust: the types, traits and constants that it declares, with what contracts read of each."""
+
+    ITEM = re.compile(r"^pub(?:\([\w:]+\))? (?:struct|enum|trait|const) (\w+)", re.M)
+
+    def __init__(self, path):
+        self.path, self.crate = path, path.relative_to(CRATES).parts[0]
+        # As code, an attribute says nothing to a contract.
+        text = re.sub(r"//.*|#!?\[[^\]]*\]", "", path.read_text())
+        self.ghosts, self.uses = {}, {}
+        for source, names, _ in USE.findall(re.sub(r"^\s+", "", "\n".join(re.findall(r"^\s*ghost use .*", text, re.M)), flags=re.M)):
+            for each in filter(None, (each.strip() for each in names.split(","))):
+                name, _, other = each.partition(" as ")
+                self.ghosts[(other or name).strip()] = (source.removeprefix("Rattle."), name.strip())
+        for path_of, names, name in re.findall(r"^use ([\w:]+)::(?:\{(.*?)\}|(\w+));", text, re.M | re.S):
+            crate = path_of.split("::")[0]
+            for each in filter(None, (each.strip() for each in [*names.split(","), name])):
+                self.uses[each] = self.crate if crate == "crate" else crate
+        self.body = re.sub(r"^\s*(?:pub )?(?:ghost )?use .*?;", "", text, flags=re.M | re.S)
+        starts = [found.start() for found in re.finditer(r"^\S", self.body, re.M)] + [len(self.body)]
+        parts = [self.body[one:other] for one, other in zip(starts, starts[1:])]
+        self.items = {}
+        for place, part in enumerate(parts):
+            if found := self.ITEM.match(part):
+                self.items[found[1]] = part + self.model_of(found[1])
+
+    def model_of(self, name):
+        """As what contracts see a type, where it says so."""
+        found = re.search(rf"^impl(?:<[^>]*>)? Model for {name}\b.*?^}}", self.body, re.M | re.S)
+        return found[0] if found else ""
+
+    def read_by(self, name):
+        """What an item reads: definitions by module and name, and declared things by file and name."""
+        text = self.items[name]
+        if text.startswith("pub trait"):
+            # What its methods owe is not what a clause says that names its state.
+            text = "".join(re.findall(r"^    ghost .*", text, re.M))
+        ghosts = re.findall(r"ghost [^{]*\{(.*?)\}[,;]", text, re.S)
+        yield from (self.ghosts[word] for ghost in ghosts for word in words_of(ghost) if word in self.ghosts)
+        for word in re.findall(r"\w+", re.sub(r"ghost [^{]*\{.*?\}[,;]", "", text, flags=re.S)):
+            if word != name and (found := self.declaration(word)):
+                yield found
+
+    def declaration(self, word):
+        """The file that declares what a word of Rust names, and its name there, or None."""
+        if word in self.items:
+            return self.path, word
+        return declaration_in(self.uses[word], word) if word in self.uses else None
+
+
+CODE = {}
+
+
+def code_in(path):
+    if path not in CODE:
+        CODE[path] = Code(path)
+    return CODE[path]
+
+
+def declaration_in(crate, name):
+    """Where a crate of this repository declares a type, a trait or a constant, or None."""
+    for path in sorted((CRATES / crate / "src").glob("**/*.rt")):
+        if name in code_in(path).items:
+            return path, name
+    return None
+
+
+def declared(source, name):
+    """The file of Rust that declares what a definition takes from there, and its name there, or None."""
     match = re.match(r"(octet_\w+)\.specs\.declared\.(\w+)\.", source + ".")
     path = match and CRATES / match[1] / "src" / f"{match[2]}.rt"
-    return path if path and path.is_file() else None
+    if not path or not path.is_file():
+        return None
+    # `script.Script.{Script}` names a type, `event.Event.TheVariants.{Read}` a variant of one.
+    return path, source.removesuffix(".TheVariants").split(".")[-1].replace("TheConstants", name)
+
+
+def read_by_clause(path, function, clause):
+    """What a clause of a public function reads, and its parameters' traits."""
+    code, text = code_in(path), re.sub(r"//.*", "", path.read_text())
+    head, _, rest = re.search(rf"pub fn {function}(.*?)^{{", text, re.M | re.S)[1].partition("requires")
+    said = next(each for each in rest.split("ensures") if each.strip().startswith(clause + " "))
+    for word in words_of(said) | words_of(rest.split("ensures")[0]):
+        if word in code.ghosts:
+            yield code.ghosts[word]
+    if re.search(r"\bD\.state\b", said):
+        yield code.declaration(re.search(r"\bD: (\w+)", head)[1])
 
 
 def headline(known):
     """The definitions under the headline, by file."""
-    files, waiting, seen = {}, [HEADLINE], set()
+    path, function, clause = HEADLINE
+    files, waiting, seen = {path: {function}}, list(read_by_clause(*HEADLINE)), set()
     while waiting:
         source, name = waiting.pop()
-        if (source, name) in seen or not source.startswith("octet_"):
+        if (source, name) in seen or not isinstance(source, pathlib.Path) and not source.startswith("octet_"):
             continue
         seen.add((source, name))
-        if (path := declared(source)) is not None:
-            # `script.Script.{Script}` names a type, `event.Event.TheVariants.{Read}` a variant of one.
-            files.setdefault(path, set()).add(source.removesuffix(".TheVariants").split(".")[-1].replace("TheConstants", name))
-            continue
-        module = known.get(source)
-        if module is None or name not in module.items:
-            continue
-        files.setdefault(module.path, set()).add(name)
-        waiting += filter(None, (resolve(module, word, known) for word in words_of(module.items[name])))
+        if isinstance(source, pathlib.Path):
+            files.setdefault(source, set()).add(name)
+            waiting += code_in(source).read_by(name) if name in code_in(source).items else []
+        elif (found := declared(source, name)) is not None:
+            waiting.append(found)
+        elif (module := known.get(source)) is not None and name in module.items:
+            files.setdefault(module.path, set()).add(name)
+            waiting += filter(None, (resolve(module, word, known) for word in words_of(module.items[name])))
     return files
 
 
