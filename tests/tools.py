@@ -203,7 +203,7 @@ def blocks(page, language, heading=None):
 # of files.
 PRINTED = [
     ("HEAP.md", None, "octet_top/src/tool_tests.rt"),
-    ("REPLAY.md", None, "octet_top/src/atomicity_tests.rt"),
+    ("REPLAY.md", None, "octet_tests_replay/src/atomicity_tests.rt"),
     ("THREADS.md", "A loop of your own", "octet_threads/src/loop_tests.rt"),
 ]
 

@@ -11,8 +11,6 @@ mod log_walk;
 mod marks;
 mod sharing;
 mod sources;
-#[cfg(test)]
-mod tests;
 mod verdict;
 mod verified;
 

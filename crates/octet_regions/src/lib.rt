@@ -12,8 +12,6 @@ mod order;
 mod queue;
 mod region;
 mod serial;
-#[cfg(test)]
-mod tests;
 mod walk;
 
 pub use order::{regions, serialize};

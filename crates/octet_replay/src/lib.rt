@@ -15,8 +15,6 @@ mod order;
 mod replayer;
 mod state;
 mod stepped;
-#[cfg(test)]
-mod tests;
 mod thread;
 mod thread_set;
 mod tracer;

@@ -9,8 +9,6 @@ mod gathering;
 pub mod laws;
 mod replaying;
 mod slicing;
-#[cfg(test)]
-mod tests;
 
 pub use finding::{Found, first};
 pub use slicing::{SliceFault, Sliced, slice};

@@ -3,4 +3,12 @@
 #![tactic(auto)]
 
 #[cfg(test)]
+mod atomicity_tests;
+#[cfg(test)]
+mod clock_tests;
+#[cfg(test)]
+mod regions_tests;
+#[cfg(test)]
+mod replay_tests;
+#[cfg(test)]
 mod samples;

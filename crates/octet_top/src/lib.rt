@@ -1,8 +1,6 @@
 //! The program's commands: words, files and a desk in, an exit status out.
 #![tactic(auto)]
 
-#[cfg(test)]
-mod atomicity_tests;
 mod commands;
 mod convert;
 mod deliver;

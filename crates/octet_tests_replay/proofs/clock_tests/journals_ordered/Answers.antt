@@ -1,6 +1,6 @@
 use Rattle.std.proofs.Common.{sym}
 use Rattle.octet_model.specs.Orders.{lowest_order}
-use Rattle.octet_clock.proofs.tests.journals_ordered.Goals as goal
+use Rattle.octet_tests_replay.proofs.clock_tests.journals_ordered.Goals as goal
 
 pub ordered-requires : goal.ordered-requires
 ordered-requires c = record {
