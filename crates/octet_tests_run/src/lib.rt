@@ -3,10 +3,24 @@
 #![tactic(auto)]
 
 #[cfg(test)]
+mod desks;
+#[cfg(test)]
+mod gates;
+#[cfg(test)]
+mod heap_gate_tests;
+#[cfg(test)]
 mod heap_tests;
+#[cfg(test)]
+mod live_tests;
 #[cfg(test)]
 mod rule_tests;
 #[cfg(test)]
 mod safe_tests;
 #[cfg(test)]
 mod samples;
+#[cfg(test)]
+mod thread_tests;
+#[cfg(test)]
+mod tool_tests;
+#[cfg(test)]
+mod top_tests;

@@ -5,12 +5,8 @@ mod commands;
 mod convert;
 mod deliver;
 mod event_text;
-#[cfg(test)]
-mod heap_tests;
 mod inputs;
 mod live;
-#[cfg(test)]
-mod live_tests;
 mod parallel;
 mod picks;
 mod profile;
@@ -21,12 +17,6 @@ mod reply;
 mod request;
 mod slice;
 mod stop;
-#[cfg(test)]
-mod tests;
-#[cfg(test)]
-mod thread_tests;
-#[cfg(test)]
-mod tool_tests;
 mod trace;
 mod with_runtime;
 mod without_runtime;

@@ -1,13 +1,10 @@
 //! Commands over a desk in memory: their texts and files, and what each failed call leaves. Each
 //! call that may want memory succeeds here. What is said of other scripts and logs, and of those that
 //! are cut or lie, the tests of the built program tell.
-ghost use Rattle.std.specs.Prelude.{◌≡◌, None, IfOk};
-
-use crate::{Status, serve};
-use octet_base::{Desk, Fail, MemoryDesk, OpenGate};
-use octet_model::{List, OutOfMemory};
-use octet_threads::HeapGate;
-use std::alloc::{AllocError, Global};
+use crate::desks::{desk_with, words_of};
+use octet_base::OpenGate;
+use octet_top::{Status, serve};
+use std::alloc::Global;
 use std::process::Abort;
 use std::sync::Wait;
 use std::test::Fail as Failed;
@@ -24,53 +21,6 @@ const LOG: &[u8] =
 /// The same in version 2, with the script's digest.
 const SECOND: &[u8] =
     b"OCTL\x02\x02\x8b\x05\x7c\x43\xda\xdd\x83\xde\x73\x7b\x4c\xd3\x9f\xd1\x51\x08\x57\xb7\x55\x36\x9c\x76\x4f\x16\x5f\xb4\x63\xa6\x03\x1c\x53\x6e\x01\x01\x01\x00\x00\x00\xff\x00\x01";
-
-/// A desk with the script as `S` and the log as `K`. Each of `fails` is the number of a call that
-/// fails, and how many bytes it lets through.
-pub(crate) fn desk_with(
-    alloc: Global,
-    script: &[u8],
-    log: &[u8],
-    fails: &[(u64, u32)],
-) -> Result<MemoryDesk, OutOfMemory>
-    ensures { IfOk result (λ desk. (⟦<MemoryDesk as Desk>⟧.state desk).begun ≡ None) }
-{
-    let mut contents = List::new(alloc);
-    for (call, passed) in fails {
-        contents.push(Fail {
-            call: *call,
-            passed: *passed,
-        })?;
-    }
-    let mut desk = MemoryDesk::new(alloc, contents);
-    desk.put(alloc, "S", script)?;
-    desk.put(alloc, "K", log)?;
-    Ok(desk)
-}
-
-pub(crate) fn words_of(alloc: Global, line: &str) -> Result<Vec<String>, AllocError> {
-    let mut words = Vec::new(alloc);
-    for word in line.split_whitespace() {
-        words.push(String::from_str(alloc, word)?)?;
-    }
-    Ok(words)
-}
-
-/// Over a desk with the script as `S` and the log as `K`, the words answer that all is done. The file
-/// `L` that they leave.
-pub(crate) fn log_left<R: Threads + Wait + Sync + Abort, G: HeapGate>(
-    rt: &R,
-    alloc: Global,
-    script: &[u8],
-    log: &[u8],
-    line: &str,
-    gate: &G,
-) -> Result<Vec<u8>, Failed> {
-    let mut desk = desk_with(alloc, script, log, &[])?;
-    let answer = serve(rt, alloc, &words_of(alloc, line)?, &mut desk, gate);
-    assert_eq!(rt; answer, Status::Done.code(), "{line}");
-    Ok(Vec::from_slice(alloc, desk.file("L").unwrap_or(&[]))?)
-}
 
 /// The status, what is said, the file `L`, and how many takes and other calls failed.
 type Left = (Status, &'static [u8], Option<&'static [u8]>, (u64, u64));

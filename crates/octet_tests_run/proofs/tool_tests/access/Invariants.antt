@@ -2,7 +2,7 @@ use Rattle.std.proofs.Common.{◌≡◌, true}
 use Rattle.std.specs.Option.{is_some}
 use Rattle.octet_model.specs.Journals.{access_count}
 use Rattle.octet_heap.specs.Workers.{seat_of, IsWorkerOf}
-use Rattle.octet_top.proofs.tool_tests.access.Given as goal
+use Rattle.octet_tests_run.proofs.tool_tests.access.Given as goal
 
 abbrev pub invariant-loop : goal.invariant-loop
 invariant-loop g l = record {

@@ -1,12 +1,14 @@
 //! A run on the shared heap: what the gate is shown of each worker before its accesses is what the
 //! log that was written has there.
-use crate::tests::log_left;
+use crate::desks::log_left;
+use crate::gates::Counted;
 use octet_base::Gate;
 use octet_heap::Worker;
 use octet_log::decode;
 use octet_model::{Gapped, MAX_LOG_FILE, Mark, OutOfMemory, ThreadLog};
 use octet_threads::HeapGate;
 use std::alloc::Global;
+use std::process::Abort;
 use std::sync::Wait;
 use std::sync::atomic::{AtomicU32, AtomicU64, Ordering};
 use std::test::Fail as Failed;
@@ -131,19 +133,29 @@ fn misnoted(notes: &Notes, thread: usize, log: &ThreadLog) -> Option<usize> {
     None
 }
 
-/// No body over the locked machine passes: its threads have no workers to show.
+/// Of each access the notes say what the log does.
+fn agree<R: Abort>(rt: &R, notes: &Notes, threads: &[ThreadLog]) {
+    assert_eq!(rt; threads.len(), THREADS);
+    for (thread, log) in threads.iter().enumerate() {
+        let found = (log.accesses as usize, misnoted(notes, thread, log));
+        assert_eq!(rt; found, (ACCESSES, None), "{thread}");
+    }
+}
+
+/// No body over the locked machine passes: its threads have no workers to show. None either that
+/// keeps to the heap only where the gate is not open.
 #[test]
 fn run_uses_the_shared_heap(rt: HostRuntime) -> Result<(), Failed> {
     let alloc = rt.alloc();
-    let notes = Notes::new(alloc)?;
-    let written = log_left(&rt, alloc, WRITERS, b"", "run S L", &notes)?;
-    assert!(rt; written.len() <= MAX_LOG_FILE as usize);
-    let loaded = decode(alloc, written.as_slice())?;
-    let threads = loaded.log.threads.as_slice();
-    assert_eq!(rt; threads.len(), THREADS);
-    for (thread, log) in threads.iter().enumerate() {
-        let found = (log.accesses as usize, misnoted(&notes, thread, log));
-        assert_eq!(rt; found, (ACCESSES, None), "{thread}");
+    for is_open in [false, true] {
+        let notes = Notes::new(alloc)?;
+        let gate = Counted::new(&notes, is_open);
+        let written = log_left(&rt, alloc, WRITERS, b"", "run S L", &gate)?;
+        let all = (THREADS * ACCESSES) as u32;
+        assert_eq!(rt; (gate.passes(), gate.notes()), (all, all), "{is_open}");
+        assert!(rt; written.len() <= MAX_LOG_FILE as usize);
+        let loaded = decode(alloc, written.as_slice())?;
+        agree(&rt, &notes, loaded.log.threads.as_slice());
     }
     Ok(())
 }

@@ -1,7 +1,7 @@
 use Rattle.std.proofs.Common.{◌≡◌}
 use Rattle.octet_model.specs.Journals.{access_count}
 use Rattle.octet_heap.specs.Workers.{seat_of, IsIdle, IsWorkerOf}
-use Rattle.octet_top.proofs.tool_tests.work.Given as goal
+use Rattle.octet_tests_run.proofs.tool_tests.work.Given as goal
 
 abbrev pub invariant-loop : goal.invariant-loop
 invariant-loop g l = record {

@@ -3,11 +3,12 @@
 ghost use Rattle.std.specs.Prelude.{◌≡◌, None, IsSome};
 ghost use Rattle.octet_base.specs.Desk.{Takes, Begins, Adds, Finishes, Says};
 
-use crate::serve;
-use crate::tests::{desk_with, words_of};
+use crate::desks::{desk_with, words_of};
+use crate::gates::Counted;
 use octet_base::{Desk, DeskFault, Gate, MemoryDesk};
 use octet_heap::Worker;
 use octet_threads::HeapGate;
+use octet_top::serve;
 use std::alloc::Global;
 use std::sync::Wait;
 use std::sync::atomic::{AtomicBool, AtomicU32, Ordering};
@@ -76,6 +77,22 @@ struct Held<'a> {
 }
 
 impl<'a> Held<'a> {
+    fn new(adds: &'a AtomicU32) -> Held<'a> {
+        Held {
+            adds,
+            has_passed: AtomicBool::new(false),
+            gave_up: AtomicBool::new(false),
+        }
+    }
+
+    fn has_passed(&self) -> bool {
+        self.has_passed.load(Ordering::SeqCst)
+    }
+
+    fn gave_up(&self) -> bool {
+        self.gave_up.load(Ordering::SeqCst)
+    }
+
     fn await_piece(&self) {
         for _look in 0..MOST_LOOKS {
             if self.adds.load(Ordering::SeqCst) >= 2 {
@@ -100,31 +117,26 @@ impl<'a> HeapGate for Held<'a> {
     fn note(&self, _thread: u8, _worker: &Worker) {}
 }
 
-/// No body that holds the log back until the threads have ended passes.
+/// What is said of that script.
+const SAID: &[u8] = b"thread 0 done\nthread 1 done\nthread 2 done\nobject x 1\nobject y 2\n";
+
+/// No body that holds the log back until the threads have ended passes, whatever the gate says.
 #[test]
 fn log_is_written_while_threads_run(rt: HostRuntime) -> Result<(), Failed> {
     let alloc = rt.alloc();
-    let adds = AtomicU32::new(0);
-    let gate = Held {
-        adds: &adds,
-        has_passed: AtomicBool::new(false),
-        gave_up: AtomicBool::new(false),
-    };
-    let mut counting = Counting {
-        desk: desk_with(alloc, APART, b"", &[])?,
-        adds: &adds,
-    };
-    let status = serve(
-        &rt,
-        alloc,
-        &words_of(alloc, "run S L")?,
-        &mut counting,
-        &gate,
-    );
-    let passed = gate.has_passed.load(Ordering::SeqCst);
-    let gave_up = gate.gave_up.load(Ordering::SeqCst);
-    assert_eq!(rt; (status, passed, gave_up), (0, true, false));
-    let said = b"thread 0 done\nthread 1 done\nthread 2 done\nobject x 1\nobject y 2\n".as_slice();
-    assert_eq!(rt; counting.desk.said(), said);
+    let words = words_of(alloc, "run S L")?;
+    for is_open in [false, true] {
+        let adds = AtomicU32::new(0);
+        let held = Held::new(&adds);
+        let gate = Counted::new(&held, is_open);
+        let mut counting = Counting {
+            desk: desk_with(alloc, APART, b"", &[])?,
+            adds: &adds,
+        };
+        let status = serve(&rt, alloc, &words, &mut counting, &gate);
+        let found = (status, held.has_passed(), held.gave_up(), gate.passes());
+        assert_eq!(rt; found, (0, true, false, 2), "{is_open}");
+        assert_eq!(rt; counting.desk.said(), SAID, "{is_open}");
+    }
     Ok(())
 }
