@@ -16,6 +16,7 @@ use Rattle.octet_script.specs.Spelling.{canonical_text}
 use Rattle.octet_log.specs.Spellings.{IsSpelling}
 use Rattle.octet_replay.specs.Fit.{IsOfScript}
 use Rattle.octet_replay.specs.declared.fault.ReplayFault.{ReplayFault}
+use Rattle.octet_replay.specs.declared.fault.ReplayFault.TheVariants.{OutOfMemory}
 use Rattle.octet_replay.specs.Line.{fit_line}
 use Rattle.octet_replay.specs.Judged.{HasCause, IsLawful}
 use Rattle.octet_clock.specs.Verified.{HasOneOutcome}
@@ -66,7 +67,7 @@ pub record IsOrderedPair (script_name log_name : List ℕ) (contents : Option Co
   pub ordered : IsOrdered (journals_after pair.source.script pair.loaded.log.threads (lowest_order pair.source.script pair.loaded.log.threads))
   pub one_outcome : HasOneOutcome pair.source.script pair.loaded.log.threads
 
--- where the words are those of `verify` and the status is 0
+-- where the words are those of `verify` and the status is 0. A desk that tells nothing has no file that could be another: there each ordered pair will do, and this binds nothing
 abbrev pub VerifiesOrdered : List (List ℕ) → DeskState → ℕ → Type 0
 VerifiesOrdered words before code = (script_name log_name : List ℕ) → request_in words ≡ Some (OfPair Verify script_name log_name None) → code ≡ code_of Done → IsOrderedPair script_name log_name before.contents
 
@@ -151,6 +152,7 @@ pub record IsTracedMisfit (script_name log_name : List ℕ) (before after : Cont
   pub read : IsPairRead script_name log_name None (Some before) (Ok pair)
   pub of_script : IsOfScript pair.source.text pair.loaded.digest
   pub fault : ReplayFault
+  pub not_memory : fault ≢ OutOfMemory
   pub cause : HasCause pair.source.script pair.loaded.log.threads fault
   pub contents : after.said ≡ before.said ++ (told_before Trace pair fault ++ fit_line fault)
 

@@ -42,7 +42,8 @@ pub fn serve<R: Threads + Wait + Sync, D: Desk, G: HeapGate>(
     // updated ends with its starting value and their sum.
     ensures exact_totals { RunsWithExactTotals (texts words.now) (D.state desk.old) (D.state desk.new) result }
 
-    // Of a log that `verify` calls ordered: all its lawful orders have one outcome.
+    // Of a log that `verify` calls ordered: all its lawful orders have one outcome. On a desk that
+    // tells nothing this binds nothing.
     ensures ordered { VerifiesOrdered (texts words.now) (D.state desk.old) result }
 
     // Status 0 of `parallel` comes with such a log, and its outcome is said.

@@ -167,5 +167,5 @@ module _ (words : List (List ℕ)) (before after : DeskState) (code : ℕ) (serv
       by : (answer : Answer) → RequestAnswers (OfPair Trace script log None) (Some contents) answer → answer.status ≡ Misfit → IsWhole answer contents contents' → IsTracedMisfit script log contents contents'
       by answer (inl refused) is given = absurd (not_of_reading answer Misfit refl (pair_unread script log None (Some contents) answer refused) is)
       by answer (inr (read, taken, inl (fault, another, told))) is given = absurd (not_of_another pair.source.text pair.loaded.digest fault own (subst (λ (p : Pair). IsOfAnother p.source.text p.loaded.digest fault) (same read taken) another))
-      by answer (inr (read, taken, inr (mine, inl (fault, memory, cause, told)))) is given = record { pair = read; read = taken; of_script = mine; fault = fault; cause = cause; contents = said contents contents' answer _ given told }
+      by answer (inr (read, taken, inr (mine, inl (fault, memory, cause, told)))) is given = record { pair = read; read = taken; of_script = mine; fault = fault; not_memory = memory; cause = cause; contents = said contents contents' answer _ given told }
       by answer (inr (read, taken, inr (mine, inr (lawful, told)))) is given = absurd (let never = other answer _ Misfit told is in cc)
