@@ -1,3 +1,4 @@
 pub mod lemmas
 mod judging
 mod spelling
+pub mod Numbered

@@ -6,3 +6,5 @@ pub mod Building
 pub mod Laws
 pub mod BrokenRules
 pub mod WholeTexts
+pub mod LineNumbers
+pub mod Numbering

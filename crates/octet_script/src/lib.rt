@@ -6,6 +6,7 @@ mod cause;
 mod keyword;
 mod laws;
 mod line;
+mod numbering;
 mod objects;
 mod parser;
 mod printer;
@@ -20,5 +21,6 @@ pub use laws::{
     canonical_text_spells_its_script, parsing_is_the_grammar,
 };
 pub use line::number_of;
+pub use numbering::command_lines;
 pub use parser::parse;
 pub use printer::print;

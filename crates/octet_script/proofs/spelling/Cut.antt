@@ -1,5 +1,5 @@
 -- Lines and words, cut where the code cuts them.
-use Rattle.std.proofs.Common.{◌≡◌, ℕ, zero, suc, ◌+◌, ◌-◌, ◌<◌, ◌≤◌, Bool, true, false, not, cond, List, [], ◌∷◌, map, length, get_or, take, drop, Some, None, refl, ap, sym, ◌∙◌, arith, length-drop, drop-cons}
+use Rattle.std.proofs.Common.{◌≡◌, ℕ, zero, suc, ◌+◌, ◌<◌, ◌≤◌, Bool, true, false, not, cond, List, [], ◌∷◌, map, length, get_or, take, drop, Some, None, refl, ap, sym, ◌∙◌, arith, length-drop, drop-cons}
 use Rattle.std.specs.List.{slice_split, onto_first, position, position_or_len, filter, prefix_len}
 use Rattle.std.proofs.lemmas.List.{length-map, drop_all, get_or-drop}
 use Rattle.std.proofs.lemmas.List.Splits.{slice_split_first}
