@@ -5,3 +5,4 @@ pub mod Agreement
 pub mod OneThread
 pub mod Journaled
 pub mod RegionsRun
+pub mod Followed

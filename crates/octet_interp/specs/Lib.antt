@@ -3,3 +3,4 @@ pub mod Leads
 pub mod Demands
 pub mod Context
 pub mod Laws
+pub mod Following

@@ -46,9 +46,9 @@ fn is_read(demand: Demand) -> bool
     }
 }
 
-// The commands of a thread of a script.
+/// The commands of a thread of a script.
 #[tactic(auto, using(crate::proofs::Valid::thread_valid, crate::proofs::Valid::commands_valid))]
-fn commands_of(script: &Script, thread: u8) -> &[Command]
+pub(crate) fn commands_of(script: &Script, thread: u8) -> &[Command]
     requires { thread < length script.now.threads }
     ensures commands { result.now ≡ get_or script.now.threads thread [] }
     ensures valid { IsTrue (is_thread (length script.now.objects) result.now) }

@@ -120,8 +120,8 @@ fn leads_away(command: Command, registers: &[u64; REGISTERS]) -> bool
     }
 }
 
-// One command that is no demand; the lead is where it leads, if it leads away.
-fn obey(context: &mut Context, command: Command, lead: usize)
+/// One command that is no access; the lead is where it leads, if it leads away.
+pub(crate) fn obey(context: &mut Context, command: Command, lead: usize)
     requires registers { HasRegisters command }
     requires fuel { 0 < context.old.fuel }
     requires room { context.old.place < usize.MAX }

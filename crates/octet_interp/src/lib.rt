@@ -5,11 +5,13 @@
 mod config;
 mod context;
 mod demand;
+mod follower;
 pub mod laws;
 mod leads;
 
 pub use config::Config;
 pub use demand::Demand;
+pub use follower::Follower;
 
 #[cfg(test)]
 mod tests;
