@@ -1,11 +1,11 @@
 //! On which line of its text each command of a script stands.
-ghost use Rattle.std.specs.Prelude.{◌≡◌, ◌∷◌, ◌≤◌, ℕ, [], List, drop, length, IfOk, OnOk};
+ghost use Rattle.std.specs.Prelude.{◌≡◌, ◌∷◌, ℕ, [], List, drop, length, IfOk, OnOk};
 ghost use Rattle.octet_script.specs.Words.{texts};
 ghost use Rattle.octet_script.specs.LineNumbers.{begin_thread, command_lines};
 ghost use Rattle.octet_script.specs.Numbering.{numbers_with, TakesIn};
 
 use crate::words::{cut_line, split_words};
-use octet_model::{List, MAX_SCRIPT_FILE, OutOfMemory};
+use octet_model::{List, OutOfMemory};
 use std::alloc::Global;
 
 // The lines so far: whether a `thread` came, the commands of the threads before the present one,
@@ -13,8 +13,8 @@ use std::alloc::Global;
 #[derive(Drop)]
 struct Numbering {
     started: bool,
-    threads: List<List<u32>>,
-    present: List<u32>,
+    threads: List<List<usize>>,
+    present: List<usize>,
 }
 
 // Whether words begin a thread.
@@ -40,7 +40,7 @@ impl Numbering {
     }
 
     // Takes in the line of this number.
-    fn take_in(&mut self, alloc: Global, number: u32, words: &[&[u8]]) -> Result<(), OutOfMemory>
+    fn take_in(&mut self, alloc: Global, number: usize, words: &[&[u8]]) -> Result<(), OutOfMemory>
         ensures { OnOk result (TakesIn self.old number (texts words.now) self.new) }
     {
         if begin_thread(words) {
@@ -65,7 +65,7 @@ impl Numbering {
     }
 
     // The numbers, where no line is to come.
-    fn finish(self) -> Result<List<List<u32>>, OutOfMemory>
+    fn finish(self) -> Result<List<List<usize>>, OutOfMemory>
         ensures { IfOk result (λ lines. lines ≡ numbers_with self ([] ∷ [])) }
     {
         let mut threads = self.threads;
@@ -78,8 +78,7 @@ impl Numbering {
 
 /// Of each thread that a text begins, the numbers of its commands' lines, counted from 1. Takes
 /// memory in proportion to the text.
-pub fn command_lines(alloc: Global, text: &[u8]) -> Result<List<List<u32>>, OutOfMemory>
-    requires { length text.now ≤ MAX_SCRIPT_FILE }
+pub fn command_lines(alloc: Global, text: &[u8]) -> Result<List<List<usize>>, OutOfMemory>
     ensures { IfOk result (λ lines. lines ≡ command_lines text.now) }
 {
     let mut numbering = Numbering::new(alloc);
