@@ -403,8 +403,9 @@ STORY = [
     judged(
         "trace", "a lost payment", BANK, LOST_LOG,
         text(
-            "0:0 read balance 100", "1:0 join 0 1", "1:1 read balance 100", "0:1 join 1 2", "0:2 write balance 130",
-            "0:3 update payments 0 1", "1:2 join 0 4", "1:3 write balance 150", "1:4 join 0 4", "1:5 update payments 1 2",
+            "0:0 region 1 line 7", "0:0 read balance 100 line 8", "1:0 region 1 line 15", "1:0 join 0 1",
+            "1:1 read balance 100 line 16", "0:1 join 1 2", "0:2 write balance 130 line 10", "0:3 update payments 0 1 line 11",
+            "1:2 join 0 4", "1:3 write balance 150 line 18", "1:4 join 0 4", "1:5 update payments 1 2 line 19",
         ),
     ),
     *recorded("examples/early.log", HANDOVER, EARLY, EARLY_SAID),
@@ -453,27 +454,27 @@ PROFILES = [
 ]
 
 # Logs that do not fit: name, script, log, the line, and the events that the order makes before, in words.
-WROTE_AND_READ = ["0:0 write x 7", "1:0 read x 7"]
+WROTE_AND_READ = ["0:0 write x 7 line 5", "1:0 read x 7 line 7"]
 MISFIT_LOGS = [
     ("each event waits for the other", HANDOVER, HANDOVER_STUCK, "stuck at 0 0", []),
     ("two threads in the log", ONE, HANDOVER_LOG, "threads 1 in the script, 2 in the log", []),
-    ("too few accesses", ONE, log((2,)), "thread 0 wants 2 accesses, found 1", ["0:0 read x 5"]),
+    ("too few accesses", ONE, log((2,)), "thread 0 wants 2 accesses, found 1", ["0:0 read x 5 line 3"]),
     ("too many accesses", ONE, log((0,)), "thread 0 wants 0 accesses, found 1", []),
     ("a number is drawn twice", ONE, log((1, draw(0, 1), draw(0, 1))), "stuck at 1", ["0:0 draw 1"]),
-    ("a draw that is left out", ONE, log((1, draw(1, 2))), "stuck at 1", ["0:0 read x 5"]),
+    ("a draw that is left out", ONE, log((1, draw(1, 2))), "stuck at 1", ["0:0 read x 5 line 3"]),
     (
         "a join of more events than there are", HANDOVER, log((1, join(0, 1, HIGHEST)), (1,)), "stuck at 0 1",
-        ["1:0 read x 5"],
+        ["1:0 read x 5 line 7"],
     ),
-    ("a join of one event more", HANDOVER, log((1,), (1, join(0, 0, 2))), "stuck at 1 0", ["0:0 write x 7"]),
-    ("a fence of a draw that is not made", ONE, log((1, fence(1, HIGHEST))), "stuck at 1", ["0:0 read x 5"]),
+    ("a join of one event more", HANDOVER, log((1,), (1, join(0, 0, 2))), "stuck at 1 0", ["0:0 write x 7 line 5"]),
+    ("a fence of a draw that is not made", ONE, log((1, fence(1, HIGHEST))), "stuck at 1", ["0:0 read x 5 line 3"]),
     (
         "an end before a mark that is left", HANDOVER, log((1,), (2, join(1, 0, 9))), "thread 1 wants 2 accesses, found 1",
         WROTE_AND_READ,
     ),
     (
         "a higher thread that does not fit comes before a lower one that is stuck", HANDOVER, log((1, join(0, 1, 9)), (2,)),
-        "thread 1 wants 2 accesses, found 1", ["1:0 read x 5"],
+        "thread 1 wants 2 accesses, found 1", ["1:0 read x 5 line 7"],
     ),
     (
         "the lower of two threads that do not fit", HANDOVER, log((2,), (2,)), "thread 0 wants 2 accesses, found 1",
@@ -495,6 +496,18 @@ MISFITS = [
 ] + [
     judged("trace", name, content, log_bytes, text(*events, f"fit: {line}"), 4)
     for name, content, log_bytes, line, events in MISFIT_LOGS
+]  # fmt: skip
+
+# Blank lines and comments, an access in a loop, several regions before one event, and some that no event follows.
+LINED = text(
+    "object x 5  # where it starts", "", "thread", "# region", "  read r1 x", "\tset r2 3", "region # two of them", "region",
+    "write x r2", "", "region", "bump x r2", "region", "thread # the last one", "set r0 2", "set r3 1", "while r0", "region",
+    " read r1 x # in a loop", "sub r0 r0 r3", "end", "region",
+)  # fmt: skip
+LINED_TRACE = [
+    "0:0 read x 5 line 5", "1:0 region 1 line 18", "1:0 read x 5 line 19", "0:1 region 1 line 7", "0:1 region 2 line 8",
+    "0:1 join 1 1", "0:2 write x 3 line 9", "0:3 region 3 line 11", "0:3 update x 3 6 line 12", "1:1 region 2 line 18",
+    "1:1 read x 6 line 19",
 ]  # fmt: skip
 
 # The past of one event, the first with a number, and all events.
@@ -528,17 +541,29 @@ EVENTS = [
     judged(
         "trace", "marks of all kinds", SHARED, SHARED_LOG,
         text(
-            "1:0 join 0 0", "1:1 read x 9", "2:0 join 1 1", "2:1 draw 1", "1:2 fence 1", "1:3 read x 9", "2:2 read x 9",
+            "1:0 join 0 0", "1:1 read x 9 line 4", "2:0 join 1 1", "2:1 draw 1", "1:2 fence 1", "1:3 read x 9 line 5",
+            "2:2 read x 9 line 7",
         ),
     ),
     judged(
         "trace", "updates", COUNTED, COUNTED_LOG,
-        text("0:0 update n 5 7", "0:1 update n 7 9", "1:0 join 0 2", "1:1 update n 9 12"),
+        text("0:0 update n 5 7 line 4", "0:1 update n 7 9 line 5", "1:0 join 0 2", "1:1 update n 9 12 line 8"),
     ),
-    judged("trace", "a write", HANDOVER, HANDOVER_LOG, text("0:0 write x 7", "1:0 join 0 1", "1:1 read x 7")),
+    judged(
+        "trace", "a write", HANDOVER, HANDOVER_LOG, text("0:0 write x 7 line 5", "1:0 join 0 1", "1:1 read x 7 line 7")
+    ),
     judged("trace", "a log that is not ordered", HANDOVER, HANDOVER_UNMARKED, text(*WROTE_AND_READ)),
     judged("trace", "no event", text("thread"), log((0,)), b""),
-    judged("trace", "a thread that is spent", example("spent.octet"), log((1,)), text("0:0 read x 0")),
+    judged("trace", "a thread that is spent", example("spent.octet"), log((1,)), text("0:0 read x 0 line 7")),
+    judged("trace", "regions, and lines without a word", LINED, log((3, join(1, 1, 1)), (2,)), text(*LINED_TRACE)),
+    judged(
+        "trace", "a region before an access that is not made", LINED, log((2, join(1, 1, 1)), (2,)),
+        text(
+            *LINED_TRACE[:7], "1:1 region 2 line 18", "1:1 read x 3 line 19", "fit: thread 0 wants 2 accesses, found 3",
+        ), 4,
+    ),
+    judged("stop x 3", "a write, without its line", LINED, log((3, join(1, 1, 1)), (2,)), text("stop 0:2 write x 3")),
+    judged("slice 0 2", "the same", LINED, log((3, join(1, 1, 1)), (2,)), text("unordered 0:0 1:0"), 9),
 ]  # fmt: skip
 
 LOG_REFUSALS = (

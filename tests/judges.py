@@ -294,14 +294,41 @@ def shown(content):
 MARK_WORDS = {paths.JOIN: "join", paths.DRAW: "draw", paths.FENCE: "fence"}
 
 
-class Replayed:
-    """One thread of a replay: its script's run, what is left of its log, and its events in words."""
+def command_lines(content):
+    """Of each thread the lines of its commands, counted from 1."""
+    threads = []
+    for number, line in enumerate(content.decode().split("\n"), 1):
+        words = line.split("#")[0].split()
+        if words == ["thread"]:
+            threads.append([])
+        elif words and threads:
+            threads[-1].append(number)
+    return threads
 
-    def __init__(self, commands, fuel, thread_log):
-        self.running = Running(commands, fuel)
+
+class Placed(Running):
+    """A run that keeps the places of its `region` commands."""
+
+    def __init__(self, commands, fuel):
+        super().__init__(commands, fuel)
+        self.begun = []
+
+    def after(self, words):
+        if words == ["region"]:
+            self.begun.append(self.place)
+        return super().after(words)
+
+
+class Replayed:
+    """One thread of a replay: its script's run, what is left of its log, and its events in words, each with its line."""
+
+    def __init__(self, commands, lines, fuel, thread_log):
+        self.running, self.lines = Placed(commands, fuel), lines
         self.wanted, self.marks = thread_log[0], list(thread_log[1])
         self.made = self.gap = 0
         self.journal, self.told, self.reads, self.region = [], [], [], 0
+        # Before each event the regions that began since the last one, each a number and a line; and of each access its line.
+        self.regions_told, self.line_told = [], []
 
     def demand(self):
         while (words := self.running.demand())[0] in ("safe", "pause"):
@@ -322,6 +349,10 @@ class Replayed:
 
     def step(self, heap):
         event = self.next_event()
+        self.demand()
+        known = sum(map(len, self.regions_told))
+        self.regions_told.append([(n + 1, self.lines[self.running.begun[n]]) for n in range(known, len(self.running.begun))])
+        self.line_told.append(f" line {self.lines[self.running.place]}" if event[0] in ACCESSES else "")
         self.journal.append(event)
         if event[0] not in ACCESSES:
             self.marks.pop(0)
@@ -356,7 +387,7 @@ class Replay:
 
     def __init__(self, content, logs):
         fuel, self.heap, commands = read_script(content)
-        self.threads = [Replayed(each, fuel, its_log) for each, its_log in zip(commands, logs)]
+        self.threads = [Replayed(*each, fuel, its_log) for *each, its_log in zip(commands, command_lines(content), logs)]
         # The places of its events, and the accesses with their regions.
         self.order, self.accesses = [], []
         draws = 0
@@ -374,6 +405,15 @@ class Replay:
 
     def event_text(self, thread, event):
         return f"{thread}:{event} " + " ".join(map(str, self.threads[thread].told[event]))
+
+    def trace(self):
+        """Each event, an access with its line, and before it the regions that its thread began."""
+        lines = []
+        for thread, event in self.order:
+            its = self.threads[thread]
+            lines += [f"{thread}:{event} region {number} line {line}" for number, line in its.regions_told[event]]
+            lines.append(self.event_text(thread, event) + its.line_told[event])
+        return text(*lines)
 
     def misfit(self):
         """Why the order does not fit, or None."""
@@ -420,7 +460,7 @@ def replayed(content, log_content):
     if (refused := unreplayed(content, log_content)) is not None:
         return Answers(*[refused] * 5)
     replay = Replay(content, read_log(log_content))
-    events = text(*[replay.event_text(*place) for place in replay.order])
+    events = replay.trace()
     if (line := replay.misfit()) is not None:
         return Answers(*[(4, line)] * 4, (4, events + line))
     done, trace = (0, replay.outcome()), (0, events)

@@ -1,7 +1,7 @@
 """What `slice`, `stop` and `trace` owe to small scripts and logs, by a plain replay and a plain search along edges.
 
 A past is searched for backwards from its event, over all edges, and nothing of the log is left out
-of the replay. Beside that, what is said of one event is a line of the trace.
+of the replay. Beside that, what is said of one event is a line of the trace, but for the script's line.
 """
 
 import random
@@ -12,7 +12,7 @@ import paths
 import turns
 from case import log, text
 
-KINDS = [b"read", b"write", b"update", b"join", b"draw", b"fence"]
+KINDS = [b"read", b"write", b"update", b"join", b"draw", b"fence", b"region"]
 
 
 def past_of(journals, order, place):
@@ -76,7 +76,7 @@ def small_pairs(dice):
 def told_apart(said, trace):
     """The event that `slice` or `stop` tells, where it is no line of what `trace` says; else None."""
     words, *event = said.split(b"\n")[0].split(b" ", 1)
-    if words in (b"slice", b"stop") and event[0] not in trace.split(b"\n"):
+    if words in (b"slice", b"stop") and event[0] not in [line.split(b" line ")[0] for line in trace.split(b"\n")]:
         return event[0]
     return None
 

@@ -174,18 +174,32 @@ def refused_pictures():
         )
 
 
+def told_in(trace):
+    """Of each event of a trace its words, and of an access the script's line."""
+    lines = [line.split(" ", 1)[1].split(" line ") for line in trace.split("\n")[:-1]]
+    return [(words, int(line[0]) if line else None) for words, *line in lines if not words.startswith("region ")]
+
+
+def told_of(events):
+    """The same, of trace events."""
+    return [(event["name"], event["args"].get("line")) for event in events if event["ph"] == "X"]
+
+
 def trace_events():
     """A slice for each event, and of each join, draw and fence a flow from what it comes after."""
-    with folder_with(S=SHARED, L=SHARED_LOG) as folder:
+    with folder_with(S=SHARED, L=SHARED_LOG, B=BANK, M=LOST_LOG) as folder:
         status = diagram(folder, "S", "L", "--chrome", "J")[0]
         events = json.loads(pathlib.Path(folder, "J").read_text())["traceEvents"]
-        names = [event["name"] for event in events if event["ph"] == "X"]
-        told = [line.split(" ", 1)[1] for line in octet(["trace", "S", "L"], folder)[1].decode().split("\n")[:-1]]
+        diagram(folder, "B", "M", "--chrome", "K")
+        bank = json.loads(pathlib.Path(folder, "K").read_text())["traceEvents"]
+        told, found = told_in(octet(["trace", "B", "M"], folder)[1].decode()), told_of(bank)
         starts = {event["id"]: event for event in events if event["ph"] == "s"}
         ends = {event["id"]: event for event in events if event["ph"] == "f"}
         return first(
             differs("status", status, 0),
-            differs("the events", names, told),
+            differs("the events", told_of(events), told_in(octet(["trace", "S", "L"], folder)[1].decode())),
+            differs("the events, where there are regions", found, told),
+            differs("their lines", [line for _, line in found], [8, None, 16, None, 10, 11, None, 18, None, 19]),
             differs("the flows", (sorted(starts), sorted(ends)), ([1, 2], [1, 2])),
             differs("forwards", all(starts[number]["ts"] < ends[number]["ts"] for number in starts), True),
         )

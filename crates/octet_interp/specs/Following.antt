@@ -68,10 +68,23 @@ pub record IsBeforeAccess (start : Configuration) (journal : List Event) (s : Fo
   pub told : IsBeforeRegions start journal [] s
   pub stands : s.at ≡ settled s.commands (configuration_after s.commands start journal)
 
--- the next of those to be told was passed, if there is one
+-- the next `region` command ahead was passed
+pub record PassesRegion (before : FollowerState) (place : ℕ) (after : FollowerState) : Type 0 where
+  pub ahead : places_ahead before.commands before.at ≡ place ∷ places_ahead after.commands after.at
+  pub regions : after.regions ≡ suc before.regions
+  pub settles : settled after.commands after.at ≡ settled before.commands before.at
+
+-- none is ahead, and it stands where its next access is
+pub record PassesNone (before after : FollowerState) : Type 0 where
+  pub none : places_ahead before.commands before.at ≡ []
+  pub none_left : places_ahead after.commands after.at ≡ []
+  pub regions : after.regions ≡ before.regions
+  pub stands : after.at ≡ settled before.commands before.at
+  pub settles : settled after.commands after.at ≡ settled before.commands before.at
+
 abbrev pub TellsRegion : FollowerState → Option ℕ → FollowerState → Type 0
-TellsRegion before (Some place) after = (start : Configuration) (journal : List Event) (places : List ℕ) → IsBeforeRegions start journal places before → (more : List ℕ) × (places ≡ place ∷ more) × IsBeforeRegions start journal more after
-TellsRegion before None after = (start : Configuration) (journal : List Event) (places : List ℕ) → IsBeforeRegions start journal places before → (places ≡ []) × IsBeforeAccess start journal after
+TellsRegion before (Some place) after = PassesRegion before place after
+TellsRegion before None after = PassesNone before after
 
 -- it stands where a configuration settles that the event fits
 pub record CanFollow (event : Event) (s : FollowerState) : Type 0 where

@@ -5,3 +5,5 @@ pub mod Recorded
 pub mod Tracing
 pub mod Steps
 pub mod Matches
+pub mod TraceSteps
+pub mod Told

@@ -42,7 +42,7 @@ use Rattle.octet_top.specs.Answer.{Answer, says, writes_file, writes_both, not_a
 use Rattle.octet_machine.specs.Turns.{IsPlayed}
 use Rattle.octet_top.specs.Headline.{digest_kept}
 use Rattle.octet_top.specs.Request.{Way, AsTheyCome, BehindLock, ByPicks, Request, OfScript, OfLog, OfPair, Convert, Run, Gen, request_in}
-use Rattle.octet_top.specs.EventTexts.{trace_text}
+use Rattle.octet_top.specs.TraceTexts.{trace_text}
 use Rattle.octet_top.specs.Profile.{profile_text}
 use Rattle.octet_top.specs.Slices.{SliceSays, StopSays}
 use Rattle.octet_top.specs.Inputs.{IsScriptRead, IsLogRead, IsPairRead}
@@ -114,13 +114,13 @@ PairSays Verify pair answer = (verdict : Verdict) × IsVerified pair.source.scri
 PairSays Regions pair answer = WhereOrdered (SerialSays pair) pair answer
 PairSays (Slice thread event) pair answer = WhereOrdered (SliceSays pair.source.script pair.loaded.log.threads thread event) pair answer
 PairSays (Stop value) pair answer = StopSays pair.source.script pair.loaded.log.threads pair.wanted value answer
-PairSays Trace pair answer = answer ≡ says Done (trace_text pair.source.script (trace_of pair.source.script pair.loaded.log.threads))
+PairSays Trace pair answer = answer ≡ says Done (trace_text pair.source.text pair.source.script (trace_of pair.source.script pair.loaded.log.threads))
 PairSays Profile pair answer = answer ≡ says Done (profile_text pair.wanted (journals_after pair.source.script pair.loaded.log.threads (lowest_order pair.source.script pair.loaded.log.threads)))
 
 -- the events that were made before the log was seen not to fit: `trace` says them, and no other task does
 abbrev pub told_before : PairTask → Pair → ReplayFault → List ℕ
 told_before Trace pair (ThreadsDiffer of_script of_log) = []
-told_before Trace pair fault = trace_text pair.source.script (trace_of pair.source.script pair.loaded.log.threads)
+told_before Trace pair fault = trace_text pair.source.text pair.source.script (trace_of pair.source.script pair.loaded.log.threads)
 told_before task pair fault = []
 
 -- and then why it does not

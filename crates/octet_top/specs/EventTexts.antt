@@ -1,7 +1,6 @@
 -- How events and their places are said.
 use Rattle.std.specs.Prelude.{ℕ, ◌++◌, List, [], codes, None, Some, slice_get}
 use Rattle.std.specs.Fmt.{decimal}
-use Rattle.std.specs.List.{flat_map}
 use Rattle.octet_model.specs.declared.event.Event.{Event}
 use Rattle.octet_model.specs.declared.event.Event.TheVariants.{Read, Write, Update, Marked}
 use Rattle.octet_model.specs.declared.event.Place.{Place}
@@ -23,11 +22,3 @@ event_text script (Marked mark) = mark_words mark
 -- a place, and the event there
 abbrev pub placed_text : Script → Place → Event → List ℕ
 placed_text script place event = place_text place ++ codes " " ++ event_text script event
-
--- a line of a trace
-abbrev pub event_line : Script → Place × Event → List ℕ
-event_line script item = placed_text script item.0 item.1 ++ codes "\n"
-
--- the events of a trace, a line each
-abbrev pub trace_text : Script → List (Place × Event) → List ℕ
-trace_text script trace = flat_map (event_line script) trace

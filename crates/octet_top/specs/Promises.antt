@@ -39,7 +39,7 @@ use Rattle.octet_slice.specs.declared.slicing.Sliced.{Sliced}
 use Rattle.octet_slice.specs.FirstMatch.{IsFound}
 use Rattle.octet_slice.specs.Slice.{IsSliceOf}
 use Rattle.octet_top.specs.Slices.{slice_text, is_match, stop_text}
-use Rattle.octet_top.specs.EventTexts.{trace_text}
+use Rattle.octet_top.specs.TraceTexts.{trace_text}
 use Rattle.octet_top.specs.Commands.{second_bytes, regions_said, told_before}
 
 -- updates add up to the final values that were said, by the journals of each lawful order
@@ -138,7 +138,7 @@ pub record IsTracedPair (script_name log_name : List ℕ) (before after : Conten
   pub read : IsPairRead script_name log_name None (Some before) (Ok pair)
   pub of_script : IsOfScript pair.source.text pair.loaded.digest
   pub lawful : IsLawful pair.source.script pair.loaded.log.threads
-  pub contents : after.said ≡ before.said ++ trace_text pair.source.script (trace_of pair.source.script pair.loaded.log.threads)
+  pub contents : after.said ≡ before.said ++ trace_text pair.source.text pair.source.script (trace_of pair.source.script pair.loaded.log.threads)
 
 -- where the words are those of `trace`, all was done, and the desk tells its contents
 abbrev pub TracesOrders : List (List ℕ) → DeskState → DeskState → ℕ → Type 0

@@ -15,7 +15,7 @@ use Rattle.octet_top.specs.declared.request.PairTask.TheVariants.{Trace}
 use Rattle.octet_top.specs.declared.reply.Status.TheVariants as exit
 use Rattle.octet_top.specs.Answer.{Answer, does_not_fit, place_text, says}
 use Rattle.octet_top.specs.Commands.{PairReplays}
-use Rattle.octet_top.specs.EventTexts.{event_line, event_text, placed_text, trace_text}
+use Rattle.octet_top.specs.TraceTexts.{trace_text}
 
 -- of another number of threads no event is told
 pub not_begun : (pair : Pair) (fault : ReplayFault) (answer : Answer) → fault ≢ OutOfMemory → IsNotBegun pair.source.script pair.loaded.log.threads fault → answer ≡ does_not_fit fault → PairReplays Trace pair answer
@@ -26,18 +26,8 @@ not_begun pair OutOfMemory answer memory cause is = absurd (memory refl)
 
 -- of as many, those that were made come first
 pub made_first : (pair : Pair) (fault : ReplayFault) (answer : Answer) → length pair.source.script.threads ≡ length pair.loaded.log.threads → fault ≢ OutOfMemory → HasCause pair.source.script pair.loaded.log.threads fault
-    → answer ≡ says exit.Misfit (trace_text pair.source.script (trace_of pair.source.script pair.loaded.log.threads) ++ fit_line fault) → PairReplays Trace pair answer
+    → answer ≡ says exit.Misfit (trace_text pair.source.text pair.source.script (trace_of pair.source.script pair.loaded.log.threads) ++ fit_line fault) → PairReplays Trace pair answer
 made_first pair (ThreadsDiffer of_script of_log) answer agree memory cause is = absurd (cause.differ (cause.script_has ∙ agree ∙ sym cause.log_has))
 made_first pair (Stuck positions) answer agree memory cause is = inl (Stuck positions, memory, cause, is)
 made_first pair (Misfit thread wanted found) answer agree memory cause is = inl (Misfit thread wanted found, memory, cause, is)
 made_first pair OutOfMemory answer agree memory cause is = absurd (memory refl)
-
--- one more event of a trace is told
-pub one_more_told : (script : Script) (text : List ℕ) (told : List (Place × Event)) (place : Place) (event : Event) → text ≡ trace_text script told
-    → (((text ++ place_text place) ++ codes " ") ++ event_text script event) ++ codes "\n" ≡ trace_text script (told ++ (place, event) ∷ [])
-one_more_told script text told place event is =
-    ap (λ (l : List ℕ). (l ++ event_text script event) ++ codes "\n") (append_assoc text (place_text place) (codes " "))
-    ∙ ap (λ (l : List ℕ). l ++ codes "\n") (append_assoc text (place_text place ++ codes " ") (event_text script event))
-    ∙ append_assoc text (placed_text script place event) (codes "\n")
-    ∙ ap (λ (l : List ℕ). l ++ event_line script (place, event)) is
-    ∙ flat_map_more (event_line script) [] told (place, event)

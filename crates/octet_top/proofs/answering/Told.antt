@@ -1,0 +1,83 @@
+-- The lines of a trace, told one after another.
+use Rattle.std.proofs.Common.{◌≡◌, ℕ, suc, ◌+◌, ◌-◌, List, [], ◌∷◌, ◌++◌, length, codes, refl, sym, ap, ◌∙◌, subst, arith, append_assoc}
+use Rattle.std.specs.Fmt.{decimal}
+use Rattle.octet_model.specs.declared.command.Command.{Command}
+use Rattle.octet_model.specs.declared.event.Event.{Event}
+use Rattle.octet_model.specs.declared.event.Place.{Place}
+use Rattle.octet_model.specs.declared.script.Script.{Script}
+use Rattle.octet_model.specs.Thread.{Configuration, settled, configuration_after}
+use Rattle.octet_interp.specs.Regions.{regions_before}
+use Rattle.octet_interp.specs.Following.{access_place, places_ahead, places_before_next, FollowerState, IsBeforeAccess, IsFollowing, PassesRegion, FollowsOn}
+use Rattle.octet_top.specs.Answer.{place_text}
+use Rattle.octet_top.specs.EventTexts.{event_text, placed_text}
+use Rattle.octet_top.specs.TraceTexts.{event_lines, line_in, line_words, made_by, region_line, region_lines}
+use Rattle.octet_top.specs.Tracing.{TellsEvent, TellsRegions}
+
+-- five parts, added one after another
+pub five : (text a b c d e : List ℕ) → ((((text ++ a) ++ b) ++ c) ++ d) ++ e ≡ text ++ a ++ b ++ c ++ d ++ e
+five text a b c d e =
+    append_assoc (((text ++ a) ++ b) ++ c) d e ∙ append_assoc ((text ++ a) ++ b) c (d ++ e) ∙ append_assoc (text ++ a) b (c ++ d ++ e) ∙ append_assoc text a (b ++ c ++ d ++ e)
+
+abbrev ahead_of : FollowerState → List ℕ
+ahead_of s = places_ahead s.commands s.at
+
+-- one more `region` command is told
+pub one_more_region : (lines : List (List ℕ)) (place : Place) (last : ℕ) (text out total : List ℕ) (command : ℕ) (before after : FollowerState) → PassesRegion before command after
+    → before.regions + length (ahead_of before) ≡ last
+    → out ≡ ((((text ++ place_text place) ++ codes " region ") ++ decimal after.regions) ++ line_words (line_in lines place.thread command)) ++ codes "\n"
+    → text ++ region_lines lines place last (ahead_of before) ≡ total
+    → out ++ region_lines lines place last (ahead_of after) ≡ total
+one_more_region lines place last text out total command before after passes counts grown is =
+    let more = ahead_of after in
+    let line = line_in lines place.thread command in
+    let number : after.regions ≡ last - length more = omega (arith, counts, passes.regions, ap (λ (l : List ℕ). length l) passes.ahead) in
+    ap (λ (l : List ℕ). l ++ region_lines lines place last more) (grown ∙ five text (place_text place) (codes " region ") (decimal after.regions) (line_words line) (codes "\n")
+    ∙ ap (λ (n : ℕ). text ++ region_line place n line) number)
+    ∙ append_assoc text (region_line place (last - length more) line) (region_lines lines place last more)
+    ∙ ap (λ (l : List ℕ). text ++ region_lines lines place last l) (sym passes.ahead)
+    ∙ is
+
+-- one fewer is left
+pub counts_on : (last command : ℕ) (before after : FollowerState) → PassesRegion before command after → before.regions + length (ahead_of before) ≡ last → after.regions + length (ahead_of after) ≡ last
+counts_on last command before after passes counts = omega (arith, counts, passes.regions, ap (λ (l : List ℕ). length l) passes.ahead)
+
+module _ (lines : List (List ℕ)) (script : Script) (place : Place) (event : Event) (before mid after : FollowerState) (regions : List ℕ) (line : ℕ)
+  (tells : TellsRegions lines place before regions mid) (follows : FollowsOn mid event after) (stands : line ≡ line_in lines place.thread mid.at.place) where
+  abbrev told : List ℕ
+  told = regions ++ placed_text script place event ++ made_by line event ++ codes "\n"
+
+  -- the thread stands where its next access is
+  before_access : (start : Configuration) (journal : List Event) → IsFollowing start journal before → IsBeforeAccess start journal mid
+  before_access start journal following =
+      let s : FollowerState = record { commands = before.commands; at = mid.at; regions = mid.regions } in
+      let is : mid ≡ s = λ i. record { commands = tells.commands i; at = mid.at; regions = mid.regions } in
+      subst (IsBeforeAccess start journal) (sym is) (record {
+        told = record {
+          ahead = ap (λ (commands : List Command). places_ahead commands mid.at) (sym tells.commands) ∙ tells.none_left;
+          settles = ap (λ (commands : List Command). settled commands mid.at) (sym tells.commands) ∙ tells.settles ∙ following.settles;
+          counts = omega (arith, tells.regions, following.counts, ap (λ (l : List ℕ). length l) following.ahead);
+        };
+        stands = tells.stands ∙ following.settles;
+      })
+
+  pub tells_event : TellsEvent lines script (place, event) before told after
+  tells_event start journal following =
+      let last : before.regions + length (ahead_of before) ≡ regions_before before.commands start journal = omega (arith, following.counts, ap (λ (l : List ℕ). length l) following.ahead) in
+      let rest = placed_text script place event ++ made_by line event ++ codes "\n" in
+      let at : mid.at.place ≡ access_place before.commands start journal = ap (λ (c : Configuration). c.place) (tells.stands ∙ following.settles) in
+      (
+        ap (λ (l : List ℕ). l ++ rest) (tells.told ∙ ap (λ (n : ℕ). region_lines lines place n (ahead_of before)) last
+        ∙ ap (region_lines lines place (regions_before before.commands start journal)) following.ahead)
+        ∙ ap (λ (n : ℕ). region_lines lines place (regions_before before.commands start journal) (places_before_next before.commands start journal) ++ placed_text script place event ++ made_by n event ++ codes "\n")
+          (stands ∙ ap (line_in lines place.thread) at),
+        follows start journal (before_access start journal following),
+      )
+
+-- an event's text, after that of its regions
+pub event_told : (script : Script) (place : Place) (event : Event) (line : ℕ) (text regions : List ℕ)
+    → (((((text ++ regions) ++ place_text place) ++ codes " ") ++ event_text script event) ++ made_by line event) ++ codes "\n" ≡ text ++ regions ++ placed_text script place event ++ made_by line event ++ codes "\n"
+event_told script place event line text regions =
+    five (text ++ regions) (place_text place) (codes " ") (event_text script event) (made_by line event) (codes "\n")
+    ∙ append_assoc text regions (place_text place ++ codes " " ++ event_text script event ++ made_by line event ++ codes "\n")
+    ∙ ap (λ (l : List ℕ). text ++ regions ++ l)
+      (sym (append_assoc (place_text place) (codes " " ++ event_text script event) (made_by line event ++ codes "\n")))
