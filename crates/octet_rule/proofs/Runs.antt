@@ -1,15 +1,35 @@
 -- A run grows by a step.
-use Rattle.std.proofs.Common.{◌≡◌, ◌≢◌, ℕ, ◌<◌, ◌≤◌, Bool, true, false, List, [], ◌∷◌, ◌++◌, length, sym, refl, ap, ◌∙◌, eq-eqb, length-set, append-nil, append_assoc}
+use Rattle.std.proofs.Common.{◌≡◌, ◌≢◌, ℕ, ◌<◌, ◌≤◌, Bool, true, false, List, [], ◌∷◌, ◌++◌, length, sym, refl, ap, ◌∙◌, length-set}
 use Rattle.std.specs.Prelude.{◌==◌, if◌then◌else◌}
-use Rattle.std.proofs.lemmas.Bool.{ne_eqb}
 use Rattle.std.proofs.lemmas.List.{length-replicate}
 use Rattle.octet_state.specs.declared.state_word.StateWord.{StateWord}
 use Rattle.octet_state.specs.State.{Thread, ProtocolState, thread_of, unstarted, opening}
 use Rattle.octet_state.specs.Steps.{Kind, ToGlance, ToAnswer, ToBlock, ToUnblock, ToAsk, ToLook, ToLoad, ToRead, ToWrite, ToBump, ToClaim, ToSettle, ToDraw, ToFence, ToRaise, ToShare, May, acted, exchanged, told, after, step, ThreadStep, IsRun, after_run}
 use Rattle.octet_state.specs.Soundness.{IsSound}
 use Rattle.octet_state.proofs.lemmas.Laws.{opening_is_sound, run_is_sound}
+use Rattle.octet_seats.specs.Runs.{Moves, after_all, steps_by, MayAll}
+use Rattle.octet_seats.proofs.lemmas.Runs.{stepper_more as stepper_more_so, other_more as other_more_so}
 use Rattle.octet_rule.specs.Views.{Taken}
 use Rattle.octet_rule.specs.Runs.{state_after, taken_in, steps_of}
+
+-- these runs are runs of steps by threads
+abbrev pub moves : Moves ProtocolState ThreadStep Taken
+moves = record { who = λ next. next.thread; after = λ next s. step next.kind next.thread s; taken = taken_in }
+
+abbrev pub MayStep : ThreadStep → ProtocolState → Type 0
+MayStep next s = (next.thread < length s.threads) × May next.kind next.thread s
+
+pub after_is : (s : ProtocolState) (run : List ThreadStep) → after_run s run ≡ after_all moves s run
+after_is s [] = refl
+after_is s (next ∷ run) = after_is (step next.kind next.thread s) run
+
+pub steps_are : (t : ℕ) (s : ProtocolState) (run : List ThreadStep) → steps_of t s run ≡ steps_by moves t s run
+steps_are t s [] = refl
+steps_are t s (next ∷ run) = ap (λ (l : List Taken). (if next.thread == t then taken_in s next ∷ [] else []) ++ l) (steps_are t (step next.kind next.thread s) run)
+
+pub may_all : (s : ProtocolState) (run : List ThreadStep) → IsRun s run → MayAll moves MayStep s run
+may_all s [] is = tt
+may_all s (next ∷ run) is = ((is.0, is.1), may_all (step next.kind next.thread s) run is.2)
 
 -- a step at the end of a run
 pub after_more : (s : ProtocolState) (run : List ThreadStep) (next : ThreadStep) → after_run s (run ++ next ∷ []) ≡ step next.kind next.thread (after_run s run)
@@ -20,22 +40,14 @@ pub run_more : (s : ProtocolState) (run : List ThreadStep) (next : ThreadStep) �
 run_more s [] next is inside may = (inside, may, tt)
 run_more s (first ∷ run) next is inside may = (is.0, is.1, run_more (step first.kind first.thread s) run next is.2 inside may)
 
-abbrev own : ℕ → ProtocolState → ThreadStep → List Taken
-own t s next = if next.thread == t then taken_in s next ∷ [] else []
-
-own_more : (t : ℕ) (s : ProtocolState) (run : List ThreadStep) (next : ThreadStep) → steps_of t s (run ++ next ∷ []) ≡ steps_of t s run ++ own t (after_run s run) next
-own_more t s [] next = append-nil (own t s next)
-own_more t s (first ∷ run) next = ap (λ (l : List Taken). own t s first ++ l) (own_more t (step first.kind first.thread s) run next)
-    ∙ sym (append_assoc (own t s first) (steps_of t (step first.kind first.thread s) run) (own t (after_run (step first.kind first.thread s) run) next))
-
 -- its thread takes one step more, and the others none
 pub stepper_more : (t : ℕ) (s : ProtocolState) (run : List ThreadStep) (k : Kind) → steps_of t s (run ++ record { thread = t; kind = k } ∷ []) ≡ steps_of t s run ++ taken_in (after_run s run) (record { thread = t; kind = k }) ∷ []
-stepper_more t s run k = own_more t s run (record { thread = t; kind = k })
-    ∙ ap (λ (b : Bool). steps_of t s run ++ (if b then taken_in (after_run s run) (record { thread = t; kind = k }) ∷ [] else [])) (eq-eqb t t refl)
+stepper_more t s run k = let next : ThreadStep = record { thread = t; kind = k } in
+    steps_are t s (run ++ next ∷ []) ∙ (stepper_more_so moves t s run next refl ∙ λ i. sym (steps_are t s run) i ++ taken_in (sym (after_is s run) i) next ∷ [])
 
 pub other_more : (t u : ℕ) (s : ProtocolState) (run : List ThreadStep) (k : Kind) → u ≢ t → steps_of u s (run ++ record { thread = t; kind = k } ∷ []) ≡ steps_of u s run
-other_more t u s run k ne = own_more u s run (record { thread = t; kind = k })
-    ∙ (ap (λ (b : Bool). steps_of u s run ++ (if b then taken_in (after_run s run) (record { thread = t; kind = k }) ∷ [] else [])) (ne_eqb t u (λ e. ne (sym e))) ∙ append-nil (steps_of u s run))
+other_more t u s run k ne = let next : ThreadStep = record { thread = t; kind = k } in
+    steps_are u s (run ++ next ∷ []) ∙ (other_more_so moves u s run next ne ∙ sym (steps_are u s run))
 
 -- no step changes how many threads there are, or with what the cells started
 pub record KeepsAll (s next : ProtocolState) : Type 0 where

@@ -16,93 +16,44 @@ use Rattle.octet_state.specs.Soundness.{IsSound}
 use Rattle.octet_state.proofs.lemmas.Laws.{opening_is_sound}
 use Rattle.octet_state.proofs.lemmas.Places.{get_status, get_state}
 use Rattle.octet_seats.proofs.lemmas.Rows.{same_members}
+use Rattle.octet_seats.proofs.lemmas.Telling.{same_known, same_word}
 use Rattle.octet_rule.specs.Views.{SeatView, Taken}
 use Rattle.octet_rule.specs.Runs.{state_after, taken_in, steps_of}
 use Rattle.octet_rule.specs.Rule.{place_by}
 use Rattle.octet_rule.specs.Laws.{StepsTellWords}
-use Rattle.octet_rule.proofs.Runs.{threads_after, starts_after, sound_after}
+use Rattle.octet_rule.proofs.Runs.{moves, MayStep, after_is, steps_are, may_all, threads_after, starts_after, sound_after}
 use Rattle.octet_rule.proofs.LaidOut.{as_many_words}
 use Rattle.octet_rule.proofs.Local.{itself, in_state, found_in, left_in, is_local}
 
--- numbers of so many threads, added up
-abbrev total : (ℕ → ℕ) → ℕ → ℕ
-total f zero = 0
-total f (suc n) = f n + total f n
+-- what a thread knows of itself: where it stands, and its journal
+record Known : Type 0 where
+  stands : Thread
+  journal : List Event
 
-total_same : (f g : ℕ → ℕ) (n : ℕ) → ((t : ℕ) → f t ≡ g t) → total f n ≡ total g n
-total_same f g zero same = refl
-total_same f g (suc n) same = let one = same n in let rest = total_same f g n same in omega arith
+abbrev knows : ℕ → ProtocolState → Known
+knows t s = record { stands = thread_of s t; journal = journal_of s.journals t }
 
-total_but : (f g : ℕ → ℕ) (a n : ℕ) → n ≤ a → ((t : ℕ) → t ≢ a → f t ≡ g t) → total f n ≡ total g n
-total_but f g a zero le same = refl
-total_but f g a (suc n) le same = let one = same n (λ e. omega arith) in let rest = total_but f g a n (omega arith) same in omega arith
+abbrev moved : ℕ → Taken → Known → Known
+moved t taken p = record { stands = after taken.kind t taken.word p.stands; journal = ended_by p.journal (made taken.kind t taken.word p.stands) }
 
-total_one : (f g : ℕ → ℕ) (a more n : ℕ) → a < n → f a ≡ more + g a → ((t : ℕ) → t ≢ a → f t ≡ g t) → total f n ≡ more + total g n
-total_one f g a more zero lt one same = absurd (omega arith)
-total_one f g a more (suc n) lt one same = dite (ℕ_discrete n a)
-    (λ e. let here : f n ≡ more + g n = subst (λ (m : ℕ). f m ≡ more + g m) (sym e) one in let rest = total_but f g a n (omega arith) same in omega arith)
-    (λ ne. let here = same n ne in let rest = total_one f g a more n (omega arith) one same in omega arith)
+keeps_sound : (s : ProtocolState) (next : ThreadStep) → IsSound s → MayStep next s → IsSound (step next.kind next.thread s)
+keeps_sound s next sound may = (is_local next.thread s sound may.0 next.kind may.1).law.sound
 
--- numbers of the steps of one thread, added up
-abbrev weigh : (Kind → ℕ → SeatView → ℕ) → ℕ → ℕ → Thread → List Event → List Taken → ℕ
-weigh g n t x journal [] = 0
-weigh g n t x journal (taken ∷ more) = g taken.kind taken.word (itself n t x journal) + weigh g n t (after taken.kind t taken.word x) (ended_by journal (made taken.kind t taken.word x)) more
+mine : (s : ProtocolState) (next : ThreadStep) → IsSound s → MayStep next s → knows next.thread (step next.kind next.thread s) ≡ moved next.thread (taken_in s next) (knows next.thread s)
+mine s next sound may = let does = (is_local next.thread s sound may.0 next.kind may.1).law.does in λ i. record { stands = does.mine i; journal = does.my_journal i }
 
--- the journal that its steps make
-abbrev journal_by : ℕ → Thread → List Event → List Taken → List Event
-journal_by t x journal [] = journal
-journal_by t x journal (taken ∷ more) = journal_by t (after taken.kind t taken.word x) (ended_by journal (made taken.kind t taken.word x)) more
+others : (s : ProtocolState) (next : ThreadStep) (t : ℕ) → IsSound s → MayStep next s → t ≢ next.thread → knows t (step next.kind next.thread s) ≡ knows t s
+others s next t sound may ne = let does = (is_local next.thread s sound may.0 next.kind may.1).law.does in λ i. record { stands = does.others t ne i; journal = does.their_journals t ne i }
 
--- the first step of a run
-module _ (s : ProtocolState) (next : ThreadStep) (run : List ThreadStep) (sound : IsSound s) (is : IsRun s (next ∷ run)) where
-  abbrev k : Kind
-  k = next.kind
-
-  abbrev a : ℕ
-  a = next.thread
-
-  abbrev s1 : ProtocolState
-  s1 = step next.kind next.thread s
-
-  abbrev steps_with : ℕ → Bool → List Taken
-  steps_with t b = (if b then taken_in s next ∷ [] else []) ++ steps_of t s1 run
-
-  -- of one thread it is the first step, of the others none
-  module _ {A : Type 0} (f : ℕ → Thread → List Event → List Taken → A) where
-    at_stepper : f a (thread_of s a) (journal_of s.journals a) (steps_of a s (next ∷ run)) ≡ f a (thread_of s a) (journal_of s.journals a) (taken_in s next ∷ steps_of a s1 run)
-    at_stepper = ap (λ (b : Bool). f a (thread_of s a) (journal_of s.journals a) (steps_with a b)) (eq-eqb a a refl)
-
-    at_other : (t : ℕ) → t ≢ a → f t (thread_of s t) (journal_of s.journals t) (steps_of t s (next ∷ run)) ≡ f t (thread_of s1 t) (journal_of s1.journals t) (steps_of t s1 run)
-    at_other t ne = let law = (is_local a s sound is.0 k is.1).law in
-        ap (λ (b : Bool). f t (thread_of s t) (journal_of s.journals t) (steps_with t b)) (ne_eqb a t (λ e. ne (sym e)))
-        ∙ λ i. f t (sym (law.does.others t ne) i) (sym (law.does.their_journals t ne) i) (steps_of t s1 run)
-
-  total_steps : (g : Kind → ℕ → SeatView → ℕ) (n : ℕ) → a < n
-      → total (λ t. weigh g n t (thread_of s t) (journal_of s.journals t) (steps_of t s (next ∷ run))) n
-      ≡ g k (told k a s) (itself n a (thread_of s a) (journal_of s.journals a)) + total (λ t. weigh g n t (thread_of s1 t) (journal_of s1.journals t) (steps_of t s1 run)) n
-  total_steps g n lt = let law = (is_local a s sound is.0 k is.1).law in
-      total_one (λ t. weigh g n t (thread_of s t) (journal_of s.journals t) (steps_of t s (next ∷ run))) (λ t. weigh g n t (thread_of s1 t) (journal_of s1.journals t) (steps_of t s1 run)) a
-      (g k (told k a s) (itself n a (thread_of s a) (journal_of s.journals a))) n lt
-      (at_stepper (weigh g n) ∙ λ i. g k (told k a s) (itself n a (thread_of s a) (journal_of s.journals a)) + weigh g n a (sym law.does.mine i) (sym law.does.my_journal i) (steps_of a s1 run))
-      (at_other (weigh g n))
-
--- a journal is made by its thread's steps
-journal_told : (s : ProtocolState) (run : List ThreadStep) (t : ℕ) → IsSound s → IsRun s run → journal_of (after_run s run).journals t ≡ journal_by t (thread_of s t) (journal_of s.journals t) (steps_of t s run)
-journal_told s [] t sound is = refl
-journal_told s (next ∷ run) t sound is = let law = (is_local next.thread s sound is.0 next.kind is.1).law in let s1 = step next.kind next.thread s in
-    journal_told s1 run t law.sound is.2 ∙ dite (ℕ_discrete t next.thread)
-    (λ e. subst (λ (u : ℕ). journal_by u (thread_of s1 u) (journal_of s1.journals u) (steps_of u s1 run) ≡ journal_by u (thread_of s u) (journal_of s.journals u) (steps_of u s (next ∷ run))) (sym e)
-    ((λ i. journal_by next.thread (law.does.mine i) (law.does.my_journal i) (steps_of next.thread s1 run)) ∙ sym (at_stepper s next run sound is journal_by)))
-    (λ ne. sym (at_other s next run sound is journal_by t ne))
+-- a journal is told by its thread's steps
+same_journal : (s : ProtocolState) (run other : List ThreadStep) (t : ℕ) → IsSound s → IsRun s run → IsRun s other → steps_of t s run ≡ steps_of t s other → journal_of (after_run s run).journals t ≡ journal_of (after_run s other).journals t
+same_journal s run other t sound is also same =
+    ap (λ (z : ProtocolState). journal_of z.journals t) (after_is s run)
+    ∙ (ap (λ (p : Known). p.journal) (same_known moves MayStep knows moved IsSound keeps_sound mine others s run other t sound (may_all s run is) (may_all s other also) (sym (steps_are t s run) ∙ (same ∙ steps_are t s other)))
+    ∙ ap (λ (z : ProtocolState). journal_of z.journals t) (sym (after_is s other)))
 
 swapped : (w u f l x y : ℕ) → w ≡ y → u ≡ x → f ≡ x → l ≡ y → w + f ≡ u + l
 swapped w u f l x y a b c d = omega arith
-
-sums : (w u v f l rest_f rest_l all_f all_l : ℕ) → u + f ≡ v + l → w + rest_f ≡ u + rest_l → all_f ≡ f + rest_f → all_l ≡ l + rest_l → w + all_f ≡ v + all_l
-sums w u v f l rest_f rest_l all_f all_l a b c d = omega arith
-
-cancels : (w u v f g l m : ℕ) → w + f ≡ v + l → u + g ≡ v + m → f ≡ g → l ≡ m → w ≡ u
-cancels w u v f g l m a b c d = omega arith
 
 -- one word that is no cell
 module _ (i : ℕ) where
@@ -137,31 +88,32 @@ module _ (i : ℕ) where
         omega arith,
       )
 
-  -- a run of steps: all that was found and all that was left add up
-  adds_up : (s : ProtocolState) (run : List ThreadStep) (n : ℕ) → length s.threads ≡ n → IsSound s → IsRun s run → 8 * i < length (words s)
-      → word_at (after_run s run) + total (λ t. weigh found_at n t (thread_of s t) (journal_of s.journals t) (steps_of t s run)) n
-      ≡ word_at s + total (λ t. weigh left_at n t (thread_of s t) (journal_of s.journals t) (steps_of t s run)) n
-  adds_up s [] n all sound is there = refl
-  adds_up s (next ∷ run) n all sound is there =
-      let k = next.kind in let a = next.thread in let s1 = step k a s in let law = (is_local a s sound is.0 k is.1).law in
-      let lt : a < n = let l = is.0 in omega arith in
-      let one = one_step s a k sound is.0 is.1 there in
-      let first = subst (λ (m : ℕ). word_at s1 + found_at k (told k a s) (itself m a (thread_of s a) (journal_of s.journals a)) ≡ word_at s + left_at k (told k a s) (itself m a (thread_of s a) (journal_of s.journals a))) all one.0 in
-      let rest = adds_up s1 run n (law.does.threads ∙ all) law.sound is.2 one.1 in
-      sums (word_at (after_run s1 run)) (word_at s1) (word_at s)
-      (found_at k (told k a s) (itself n a (thread_of s a) (journal_of s.journals a))) (left_at k (told k a s) (itself n a (thread_of s a) (journal_of s.journals a)))
-      (total (λ t. weigh found_at n t (thread_of s1 t) (journal_of s1.journals t) (steps_of t s1 run)) n) (total (λ t. weigh left_at n t (thread_of s1 t) (journal_of s1.journals t) (steps_of t s1 run)) n)
-      (total (λ t. weigh found_at n t (thread_of s t) (journal_of s.journals t) (steps_of t s (next ∷ run))) n) (total (λ t. weigh left_at n t (thread_of s t) (journal_of s.journals t) (steps_of t s (next ∷ run))) n)
-      first rest (total_steps s next run sound is found_at n lt) (total_steps s next run sound is left_at n lt)
+  module _ (n : ℕ) where
+    abbrev HasWord : ProtocolState → Type 0
+    HasWord s = IsSound s × (length s.threads ≡ n) × (8 * i < length (words s))
 
-  -- so two runs of the same steps leave the same
-  same_word : (s : ProtocolState) (run other : List ThreadStep) → IsSound s → IsRun s run → IsRun s other → 8 * i < length (words s) → ((t : ℕ) → steps_of t s run ≡ steps_of t s other) → word_at (after_run s run) ≡ word_at (after_run s other)
-  same_word s run other sound is also there same = let n : ℕ = length s.threads in
-      cancels (word_at (after_run s run)) (word_at (after_run s other)) (word_at s) _ _ _ _ (adds_up s run n refl sound is there) (adds_up s other n refl sound also there)
-      (total_same (λ t. weigh found_at n t (thread_of s t) (journal_of s.journals t) (steps_of t s run)) (λ t. weigh found_at n t (thread_of s t) (journal_of s.journals t) (steps_of t s other)) n
-      (λ t. ap (weigh found_at n t (thread_of s t) (journal_of s.journals t)) (same t)))
-      (total_same (λ t. weigh left_at n t (thread_of s t) (journal_of s.journals t) (steps_of t s run)) (λ t. weigh left_at n t (thread_of s t) (journal_of s.journals t) (steps_of t s other)) n
-      (λ t. ap (weigh left_at n t (thread_of s t) (journal_of s.journals t)) (same t)))
+    keeps : (s : ProtocolState) (next : ThreadStep) → HasWord s → MayStep next s → HasWord (step next.kind next.thread s)
+    keeps s next has may = let law = (is_local next.thread s has.0 may.0 next.kind may.1).law in (
+      law.sound,
+      law.does.threads ∙ has.1,
+      (one_step s next.thread next.kind has.0 may.0 may.1 has.2).1,
+    )
+
+    one : (s : ProtocolState) (next : ThreadStep) → HasWord s → MayStep next s → let t = next.thread in let k = next.kind in
+        word_at (step k t s) + found_at k (told k t s) (itself n t (thread_of s t) (journal_of s.journals t)) ≡ word_at s + left_at k (told k t s) (itself n t (thread_of s t) (journal_of s.journals t))
+    one s next has may = let t = next.thread in let k = next.kind in
+        subst (λ (m : ℕ). word_at (step k t s) + found_at k (told k t s) (itself m t (thread_of s t) (journal_of s.journals t)) ≡ word_at s + left_at k (told k t s) (itself m t (thread_of s t) (journal_of s.journals t))) has.1
+        (one_step s t k has.0 may.0 may.1 has.2).0
+
+    -- two runs of the same steps leave the same
+    pub same_here : (s : ProtocolState) (run other : List ThreadStep) → HasWord s → IsRun s run → IsRun s other → ((t : ℕ) → steps_of t s run ≡ steps_of t s other) → word_at (after_run s run) ≡ word_at (after_run s other)
+    same_here s run other has is also same =
+        ap word_at (after_is s run)
+        ∙ (same_word moves MayStep knows moved HasWord keeps (λ z next good may. mine z next good.0 may) (λ z next t good may ne. others z next t good.0 may ne)
+        n (λ z next good may. let e = good.1 in let h = may.0 in omega arith) word_at
+        (λ t taken p. found_at taken.kind taken.word (itself n t p.stands p.journal)) (λ t taken p. left_at taken.kind taken.word (itself n t p.stands p.journal)) one
+        s run other has (may_all s run is) (may_all s other also) (λ t. sym (steps_are t s run) ∙ (same t ∙ steps_are t s other))
+        ∙ ap word_at (sym (after_is s other)))
 
 -- lines with the same words
 status_lines_same : (xs ys : List StatusWord) → length xs ≡ length ys → ((t : ℕ) → t < length xs → packed_status (status_at xs t) ≡ packed_status (status_at ys t)) → map status_line xs ≡ map status_line ys
@@ -183,7 +135,7 @@ steps_tell_words threads starts run other more few is also same =
     let sound = opening_is_sound threads starts more few in let s_sound = sound_after threads starts run more few is in let z_sound = sound_after threads starts other more few also in
     let s_threads = threads_after threads starts run in let z_threads = threads_after threads starts other in
     let wide : length (words first) ≡ object_place threads (length starts) = as_many_words (words first) starts threads refl in
-    let at : (i : ℕ) → 8 * i < length (words first) → get_or (words s) (8 * i) 0 ≡ get_or (words z) (8 * i) 0 = λ i there. same_word i first run other sound is also there same in
+    let at : (i : ℕ) → 8 * i < length (words first) → get_or (words s) (8 * i) 0 ≡ get_or (words z) (8 * i) 0 = λ i there. same_here i (length first.threads) first run other (sound, refl, there) is also same in
     let s_form = s_sound.form in let z_form = z_sound.form in
     let s_cells : length s.cells ≡ length starts = sym s_form.starts ∙ ap (λ (l : List ℕ). length l) (starts_after threads starts run) in
     let z_cells : length z.cells ≡ length starts = sym z_form.starts ∙ ap (λ (l : List ℕ). length l) (starts_after threads starts other) in
@@ -192,7 +144,7 @@ steps_tell_words threads starts run other more few is also same =
     let statuses : map status_line s.statuses ≡ map status_line z.statuses = status_lines_same s.statuses z.statuses (omega arith)
     (λ t h. sym (get_status s s_statuses t (omega arith)) ∙ (at (1 + t) (omega arith) ∙ get_status z z_statuses t (omega arith))) in
     let journals : s.journals ≡ z.journals = same_members [] s.journals z.journals (omega arith)
-    (λ t h. journal_told first run t sound is ∙ (ap (journal_by t (thread_of first t) (journal_of first.journals t)) (same t) ∙ sym (journal_told first other t sound also))) in
+    (λ t h. same_journal first run other t sound is also (same t)) in
     let began : s.starts ≡ z.starts = starts_after threads starts run ∙ sym (starts_after threads starts other) in
     let cells : s.cells ≡ z.cells = sym s_sound.one_history.gives ∙ ((λ i. (state_after_play (began i) (journals i) (lowest_play (began i) (journals i))).heap) ∙ z_sound.one_history.gives) in
     let counter : s.counter ≡ z.counter = sym s_sound.one_history.counts ∙ ((λ i. (state_after_play (began i) (journals i) (lowest_play (began i) (journals i))).draws) ∙ z_sound.one_history.counts) in

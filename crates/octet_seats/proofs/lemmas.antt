@@ -1,3 +1,6 @@
 pub mod Seats
 pub mod Rows
 pub mod Cells
+pub mod Runs
+pub mod Telling
+pub mod Seeing

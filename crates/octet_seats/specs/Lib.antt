@@ -1,3 +1,4 @@
 pub mod Seats
 pub mod Rows
 pub mod Cells
+pub mod Runs

@@ -240,9 +240,9 @@ module _ {V A : Type 0} (facts : V → SeatFacts A) (IsSeen : V → Type 0) (Has
           let stays_there : (u : ℕ) → u ≢ t → IsThere facts views u → IsThere facts (set (set views id both) other spent) u = λ u ne it.
           let not_other : it.place ≢ other = λ e. ne (sym it.numbered ∙ ap (λ (z : V). (facts z).number) (at_same views other it.place w it.view there' it.at e)) in
           dite (ℕ_discrete it.place id)
-              (λ e. let same : it.view ≡ v = at_same views id it.place v it.view at it.at e in
-              record { place = id; view = both; at = set_else (set views id both) other id spent (λ e. apart (sym e)) ∙ set_here views id both (inside_at views id v at); live = ap (λ (f : SeatFacts A). f.is_live) is ∙ live; numbered = number ∙ (ap (λ (z : V). (facts z).number) (sym same) ∙ it.numbered) })
-              (λ else. record { place = it.place; view = it.view; at = set_else (set views id both) other it.place spent not_other ∙ (set_else views id it.place both else ∙ it.at); live = it.live; numbered = it.numbered }) in
+          (λ e. let same : it.view ≡ v = at_same views id it.place v it.view at it.at e in
+          record { place = id; view = both; at = set_else (set views id both) other id spent (λ e. apart (sym e)) ∙ set_here views id both (inside_at views id v at); live = ap (λ (f : SeatFacts A). f.is_live) is ∙ live; numbered = number ∙ (ap (λ (z : V). (facts z).number) (sym same) ∙ it.numbered) })
+          (λ else. record { place = it.place; view = it.view; at = set_else (set views id both) other it.place spent not_other ∙ (set_else views id it.place both else ∙ it.at); live = it.live; numbered = it.numbered }) in
           let not_it : (u : ℕ) → r.has_joined u ≡ true → u ≢ t = λ u g e. let a = its.here in let b : r.has_joined t ≡ true = subst (λ (z : ℕ). r.has_joined z ≡ true) e g in cc in
           let kept : (seats : List (ℕ × A)) → AreJoined HasLeft r.has_joined seats → AreJoined HasLeftAfter has_joined seats =
           joined_later HasLeft HasLeftAfter r.has_joined has_joined still_joined (λ u a g had. stay.left u a (not_it u g) had) in
