@@ -1,3 +1,4 @@
+pub mod lemmas
 mod steps
 mod seats
 mod players

@@ -4,3 +4,4 @@ pub mod Allowed
 pub mod Kept
 pub mod MayMark
 pub mod Needing
+pub mod Telling

@@ -1,5 +1,5 @@
 -- What the calls of a field say.
-use Rattle.std.specs.Prelude.{◌≡◌, ◌≢◌, ℕ, zero, suc, ◌+◌, ◌<◌, ◌≤◌, ◌⊎◌, false, List, [], ◌∷◌, ◌++◌, map, length, Option, Some, None, slice_index_or}
+use Rattle.std.specs.Prelude.{◌≡◌, ◌≢◌, ℕ, zero, suc, ◌+◌, ◌<◌, ◌≤◌, ◌⊎◌, false, List, [], ◌∷◌, ◌++◌, map, length, Option, Some, None, IfSome, slice_index_or}
 use Rattle.std.specs.Vec.{vec_capacity}
 use Rattle.octet_model.specs.declared.event.Event.{Event}
 use Rattle.octet_model.specs.declared.event.Event.TheVariants.{Marked}
@@ -11,7 +11,10 @@ use Rattle.octet_model.specs.Thread.{starting_configuration}
 use Rattle.octet_model.specs.Machine.{Next, Wants, Finished, MakeMark, MakeRead, MakeWrite, MakeUpdate, journal_of}
 use Rattle.octet_model.specs.Journals.{access_count}
 use Rattle.octet_model.specs.Orders.{commands_of, thread_log_of, IsLawfulFront, IsLawfulOrder, journals_after, execution}
-use Rattle.octet_replay.specs.Threads.{IsReplayOf}
+use Rattle.octet_clock.specs.Fronts.{IsAmissAfter}
+use Rattle.octet_replay.specs.declared.next_step.NextStep.{NextStep}
+use Rattle.octet_replay.specs.NextSteps.{as_next, AccessesWithin}
+use Rattle.octet_replay.specs.Threads.{IsReplayOf, next_by_counts, DemandsWithin}
 use Rattle.octet_parallel.specs.declared.fate.Fate.{Fate}
 use Rattle.octet_parallel.specs.declared.fate.Fate.TheVariants.{Playing, Amiss, Stopped}
 use Rattle.octet_parallel.specs.declared.played.Played.{Played}
@@ -21,9 +24,10 @@ use Rattle.octet_parallel.specs.declared.player.Player.{Player}
 use Rattle.octet_parallel.specs.declared.words.Seat.{Seat}
 use Rattle.octet_parallel.specs.declared.field.Field.{Field}
 use Rattle.octet_parallel.specs.Needs.{Needs}
-use Rattle.octet_parallel.specs.State.{unbegun, stop_number}
+use Rattle.octet_parallel.specs.State.{unbegun, stop_number, opening}
 use Rattle.octet_parallel.specs.Steps.{Kind, ToLook, ToRead, ToWrite, ToBump, ToAdvance, ToStop, IsAmissBy, event_next}
 use Rattle.octet_parallel.specs.Views.{PlayerView, next_in}
+use Rattle.octet_parallel.specs.Runs.{PlayerStep, IsRun, field_after, steps_of}
 use Rattle.octet_parallel.specs.Rule.{Steps}
 use Rattle.octet_parallel.specs.Tracks.{IsOnTrack}
 use Rattle.octet_parallel.specs.Seats.{view, script_of, log_of, IsSeatOf}
@@ -71,6 +75,11 @@ pub record IsPlayerOf (field : Field) (player : Player) : Type 0 where
   pub track : IsOnTrack (thread_log_of (log_in field).threads player.number) player.journal.items
   pub replay : IsReplayOf (commands_of (script_in field) player.number) (starting_configuration (script_in field).fuel) (length (script_in field).objects) (thread_log_of (log_in field).threads player.number) player.journal.items player.replay
   pub room : HasRoom (thread_log_of (log_in field).threads player.number) player
+
+-- by the player's own log and replay this is next, and its object is one of the script's
+pub record IsNextStep (field : Field) (player : Player) (next : NextStep) : Type 0 where
+  pub by_log : as_next next ≡ next_by_counts (thread_log_of (log_in field).threads player.number) player.replay
+  pub within : (objects : ℕ) → DemandsWithin objects player.replay → AccessesWithin objects next
 
 -- an access is next, which the configuration demands
 abbrev pub IsAccess : Next → Type 0
@@ -229,7 +238,7 @@ pub record SomeFrontIsAmiss (script : Script) (log : List ThreadLog) : Type 0 wh
   pub lawful : IsLawfulFront script log front
   pub thread : ℕ
   pub within : thread < length log
-  pub amiss : IsAmissBy script log thread (journal_of (journals_after script log front) thread)
+  pub amiss : IsAmissAfter script log front thread
 
 -- the outcome and the journals are those of a lawful order
 pub record IsFinishedReplay (script : Script) (log : List ThreadLog) (result : finished.Finished) : Type 0 where
@@ -246,3 +255,10 @@ journals_in players = map (λ player. (view_of player).player.journal) players
 abbrev pub ClosesTo : Script → List ThreadLog → List Player → Option finished.Finished → Type 0
 ClosesTo script log players None = SomeStopped players × SomeFrontIsAmiss script log
 ClosesTo script log players (Some result) = NoneStopped players × (result.journals ≡ journals_in players) × IsFinishedReplay script log result
+
+-- a field closes after a run from its opening, in which each player took the steps of its trail and no others; the heap that it gives is that of the state after it
+pub record ClosesAfterRun (script : Script) (log : Log) (players : List Player) (closed : Option finished.Finished) : Type 0 where
+  pub run : List PlayerStep
+  pub is_run : IsRun (opening script log) run
+  pub trails : (number : ℕ) (none : Player) → number < length players → steps_of number script log run ≡ (view_of (slice_index_or players number none)).trail
+  pub heap : IfSome closed (λ result. result.outcome.heap ≡ (field_after script log run).cells)

@@ -1,5 +1,5 @@
--- Each step of a player keeps what is sound, and does to the words and the players what it says.
-use Rattle.std.specs.Prelude.{◌≡◌, ◌≢◌, ℕ, ◌+◌, ◌%◌, ◌^◌, ◌<◌, ◌≤◌, ◌↔◌, true, length, slice_index, slice_set}
+-- Each step of a player keeps what is sound, and does to the words and the players what it says; and what the players did tells the words.
+use Rattle.std.specs.Prelude.{◌≡◌, ◌≢◌, ℕ, ◌+◌, ◌%◌, ◌^◌, ◌<◌, ◌≤◌, ◌↔◌, true, List, ◌∷◌, ◌++◌, length, slice_index, slice_set}
 use Rattle.octet_model.specs.declared.event.Mark.{Mark}
 use Rattle.octet_model.specs.declared.script.Script.{Script}
 use Rattle.octet_model.specs.declared.log.Log.{Log}
@@ -11,7 +11,11 @@ use Rattle.octet_clock.specs.Untied.{IsUntied}
 use Rattle.octet_parallel.specs.Needs.{Needs}
 use Rattle.octet_parallel.specs.State.{FieldState, player_of, found_of, made_by, stop_number, progress, words, progress_place, cell_place, next_of_player, opening}
 use Rattle.octet_parallel.specs.Steps.{Kind, May, step, after, word_found, told, ToLook, ToRead, ToWrite, ToBump, ToAdvance, ToStop, StopsAs, IsFree}
+use Rattle.octet_seats.specs.Runs.{ViewsTell, SilenceKeeps, ArrivalKeeps}
 use Rattle.octet_parallel.specs.Soundness.{IsSoundField}
+use Rattle.octet_parallel.specs.Views.{PlayerView, Taken}
+use Rattle.octet_parallel.specs.Runs.{PlayerStep, IsRun, field_after, steps_of, IsStepOf}
+use Rattle.octet_parallel.specs.Rule.{IsRuled}
 
 -- what a step does: it finds a word in its place and leaves what an operation makes of it, changes the player by the word told alone, and leaves the other players as they are
 pub record Does (k : Kind) (t place : ℕ) (operation : ℕ → ℕ) (s : FieldState) : Type 0 where
@@ -78,3 +82,26 @@ OpeningIsSound = (script : Script) (log : Log) → length script.threads ≡ len
 -- the progress word of a player is the stop number exactly where the player is amiss or stopped
 abbrev pub WordTellsStop : Type 0
 WordTellsStop = (s : FieldState) (t : ℕ) → IsSoundField s → t < length s.players → (progress (player_of s t) ≡ stop_number) ↔ ((player_of s t).fate ≢ Playing)
+
+-- each step that a player took is one of the run, in which it may be taken and is told its word
+abbrev pub StepsAreOfRun : Type 0
+StepsAreOfRun = (script : Script) (log : Log) (run : List PlayerStep) (player : ℕ) (first more : List Taken) (taken : Taken) → IsRun (opening script log) run
+    → steps_of player script log run ≡ first ++ taken ∷ more → IsStepOf script log run player first taken
+
+-- what each player does in a run, with the words that it is told, tells the words that the run leaves: two runs that differ in no player leave the same. So no word changes but by a step that a player knows of
+abbrev pub StepsTellWords : Type 0
+StepsTellWords = (script : Script) (log : Log) (run other : List PlayerStep) → IsRun (opening script log) run → IsRun (opening script log) other
+    → ((player : ℕ) → steps_of player script log run ≡ steps_of player script log other)
+    → words (field_after script log run) ≡ words (field_after script log other)
+
+-- by the rule the live views tell the words
+abbrev pub ViewsTellWords : Type 0
+ViewsTellWords = (script : Script) (log : Log) → ViewsTell (λ (v : PlayerView). v.is_live) (IsRuled script log)
+
+-- where an operation is allowed to a player whatever the table is, and tells it nothing, it leaves the words as they are
+abbrev pub SilenceChangesNothing : Type 0
+SilenceChangesNothing = (script : Script) (log : Log) → SilenceKeeps (IsRuled script log)
+
+-- and where a new player is allowed to come by an operation, that leaves them as they are
+abbrev pub ArrivalChangesNothing : Type 0
+ArrivalChangesNothing = (script : Script) (log : Log) → ArrivalKeeps (IsRuled script log)

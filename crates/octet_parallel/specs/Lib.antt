@@ -3,6 +3,7 @@ pub mod State
 pub mod Steps
 pub mod Soundness
 pub mod Views
+pub mod Runs
 pub mod Rule
 pub mod Laws
 pub mod Conditions

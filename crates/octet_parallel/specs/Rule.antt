@@ -1,15 +1,18 @@
--- The rule: between any two steps the words and the views of all players are one sound state of the replay.
-use Rattle.std.specs.Prelude.{◌≡◌, ℕ, ◌<◌, List, [], ◌∷◌, true, false, length}
-use mathlib.Core.Option.{none}
+-- The rule: between any two steps the words are those after a run of the players, whose steps are those that their views tell of.
+use Rattle.std.specs.Prelude.{◌≡◌, ℕ, ◌<◌, List, [], ◌∷◌, ◌++◌, true, false, length, slice_set}
+use mathlib.Core.Option.{some, none}
+use lib.ListN.{get_elem?}
 use Rattle.atomic_table.specs.Table.{State, Me, Step as TableStep, step as table_step}
 use Rattle.octet_model.specs.declared.script.Script.{Script}
 use Rattle.octet_model.specs.declared.log.Log.{Log}
-use Rattle.octet_parallel.specs.State.{PlayerState, FieldState, player_of, unbegun, words, progress_place, cell_place}
+use Rattle.octet_clock.specs.Untied.{IsUntied}
+use Rattle.octet_parallel.specs.State.{FieldState, player_of, unbegun, words, opening, progress_place, cell_place}
 use Rattle.octet_parallel.specs.Steps as steps
 use Rattle.octet_parallel.specs.Steps.{Kind, May, step, ToLook, ToRead, ToWrite, ToBump, target}
 use Rattle.octet_parallel.specs.Soundness.{IsSoundField}
 use Rattle.octet_seats.specs.Seats.{AreSeats}
-use Rattle.octet_parallel.specs.Views.{PlayerView, facts_of, new_view, next_in, stepped_by}
+use Rattle.octet_parallel.specs.Views.{PlayerView, Left, facts_of, new_view, next_in, stepped_by}
+use Rattle.octet_parallel.specs.Runs.{PlayerStep, IsRun, field_after, steps_of}
 
 -- in a sound state the player is as its view has it
 pub record IsSeenBy (v : PlayerView) (s : FieldState) : Type 0 where
@@ -19,21 +22,29 @@ pub record IsSeenBy (v : PlayerView) (s : FieldState) : Type 0 where
   pub inside : v.number < length s.players
   pub stands : player_of s v.number ≡ v.player
 
--- a player that was joined back is kept as it was
-abbrev pub HasLeft : FieldState → ℕ → PlayerState → Type 0
-HasLeft s number player = player_of s number ≡ player
+-- after a run the player is as its view has it, and the steps that it took are those of the view's trail
+pub record Follows (script : Script) (log : Log) (run : List PlayerStep) (v : PlayerView) : Type 0 where
+  pub seen : IsSeenBy v (field_after script log run)
+  pub trail : steps_of v.number script log run ≡ v.trail
 
--- a player that isn't made yet has made no event
-abbrev pub IsUnmade : FieldState → ℕ → Type 0
-IsUnmade s number = player_of s number ≡ unbegun
+-- a player that was joined back is kept as it was, with the trail that it left
+pub record HasLeft (script : Script) (log : Log) (run : List PlayerStep) (number : ℕ) (left : Left) : Type 0 where
+  pub stands : player_of (field_after script log run) number ≡ left.player
+  pub trail : steps_of number script log run ≡ left.trail
 
+-- a player that isn't made yet has made no event and no step
+pub record IsUnmade (script : Script) (log : Log) (run : List PlayerStep) (number : ℕ) : Type 0 where
+  pub stands : player_of (field_after script log run) number ≡ unbegun
+  pub trail : steps_of number script log run ≡ []
+
+-- the words are those after a run from the opening. In it each player has taken the steps that its view tells of, and no others
 pub record IsRuled (script : Script) (log : Log) (table : State (Unit {0}) PlayerView) : Type 0 where
-  pub state : FieldState
-  pub lie : table.words ≡ words state
-  pub sound : IsSoundField state
-  pub is_script : state.script ≡ script
-  pub is_log : state.log ≡ log
-  pub seats : AreSeats facts_of (λ v. IsSeenBy v state) (HasLeft state) (IsUnmade state) (length state.players) table.views
+  pub agree : length script.threads ≡ length log.threads
+  pub untied : IsUntied log.threads
+  pub run : List PlayerStep
+  pub is_run : IsRun (opening script log) run
+  pub lie : table.words ≡ words (field_after script log run)
+  pub seats : AreSeats facts_of (Follows script log run) (HasLeft script log run) (IsUnmade script log run) (length log.threads) table.views
 
 -- the view of the first player at first
 abbrev pub first_view : Script → Log → PlayerView
@@ -60,7 +71,21 @@ last_whom (look ∷ looks) = look.0
 abbrev pub stop_found : PlayerView → ℕ
 stop_found v = last_whom v.player.found
 
--- one step by the player of a view, from one sound state to another, which is told this word
+-- a table steps from one state to another under the rule: the player of this view takes one step, and the run grows by that. The views of the others stay
+pub record IsRuledStep (k : Kind) (s : FieldState) (v w : PlayerView) : Type 0 where
+  pub table : State (Unit {0}) PlayerView
+  pub seat : ℕ
+  pub has : get_elem? table.views seat ≡ some v
+  pub rule : IsRuled v.script v.log table
+  pub is_before : field_after v.script v.log rule.run ≡ s
+  pub rule_after : IsRuled v.script v.log record { words = words (step k v.number s); homes = table.homes; views = slice_set table.views seat w }
+  pub grows : rule_after.run ≡ rule.run ++ record { player = v.number; kind = k } ∷ []
+
+-- the same, closed to the search for proofs, which seldom need it
+unfoldable pub KeepsRule : Kind → FieldState → PlayerView → PlayerView → Type 0
+KeepsRule k s v w = IsRuledStep k s v w
+
+-- one step by the player of a view, which is told this word. It is taken in the state after a run from the opening, is the next of that run, and comes to a sound state
 pub record Steps (k : Kind) (v : PlayerView) (told : ℕ) (w : PlayerView) : Type 0 where
   pub before : FieldState
   pub seen : IsSeenBy v before
@@ -68,6 +93,7 @@ pub record Steps (k : Kind) (v : PlayerView) (told : ℕ) (w : PlayerView) : Typ
   pub word : told ≡ steps.told k v.number before
   pub moves : w ≡ stepped_by k told v
   pub seen_after : IsSeenBy w (step k v.number before)
+  pub ruled : KeepsRule k before v w
 
 -- the place of the word that the step of a player reads or changes
 abbrev pub place_by : Kind → PlayerView → ℕ

@@ -3,9 +3,10 @@ use Rattle.std.specs.Prelude.{◌≡◌, ℕ, ◌<◌, List, [], map, length, sl
 use Rattle.octet_model.specs.declared.script.Script.{Script}
 use Rattle.octet_model.specs.declared.log.Log.{Log}
 use Rattle.octet_seats.specs.Rows.{AreInRow}
-use Rattle.octet_parallel.specs.State.{PlayerState, FieldState, unbegun}
+use Rattle.octet_parallel.specs.State.{FieldState, unbegun, opening}
 use Rattle.octet_parallel.specs.Soundness.{IsSoundField}
-use Rattle.octet_parallel.specs.Views.{PlayerView}
+use Rattle.octet_parallel.specs.Views.{PlayerView, Left, left_of}
+use Rattle.octet_parallel.specs.Runs.{PlayerStep, IsRun, field_after, steps_of}
 use Rattle.octet_parallel.specs.declared.words.Seat.{Seat}
 use Rattle.octet_parallel.specs.declared.words.Words.{Words}
 
@@ -50,12 +51,20 @@ abbrev pub AreNumbered : Words → ℕ → List Seat → Type 0
 AreNumbered words number seats = AreInRow (IsNumberedSeat words) number seats
 
 -- what a seat leaves that joins the first one
-abbrev pub state_left : Seat → ℕ × PlayerState
-state_left seat = ((view seat).number, (view seat).player)
+abbrev pub left_by : Seat → ℕ × Left
+left_by seat = ((view seat).number, left_of (view seat))
 
--- the cells have these values in one sound state of the script and the log, whose players are those of the seats
+-- each seat's trail is what its player did in this run
+abbrev pub EachFollows : Script → Log → List PlayerStep → List Seat → Type 0
+EachFollows script log run seats = (number : ℕ) (none : Seat) → number < length seats → steps_of number script log run ≡ (view (slice_index_or seats number none)).trail
+
+-- the cells have these values after a run of the script and the log, in which each player took the steps of its seat's trail and no others. That is a sound state, whose players are those of the seats
 pub record Closes (script : Script) (log : Log) (seats : List Seat) (values : List ℕ) : Type 0 where
+  pub run : List PlayerStep
+  pub is_run : IsRun (opening script log) run
+  pub trails : EachFollows script log run seats
   pub last : FieldState
+  pub after : last ≡ field_after script log run
   pub sound : IsSoundField last
   pub is_script : last.script ≡ script
   pub is_log : last.log ≡ log

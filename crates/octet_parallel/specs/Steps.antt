@@ -7,10 +7,8 @@ use Rattle.octet_model.specs.declared.script.Script.{Script}
 use Rattle.octet_model.specs.declared.log.ThreadLog.{ThreadLog}
 use Rattle.octet_model.specs.Thread.{added}
 use Rattle.octet_model.specs.Machine.{Next, Wants, MakeMark, MakeRead, MakeWrite, MakeUpdate, is_enabled, heap_after}
-use Rattle.octet_model.specs.Journals.{access_count, mark_count, gap_after, due_mark}
 use Rattle.octet_model.specs.Orders.{thread_log_of}
-use Rattle.octet_replay.specs.Judged.{DemandsEnd, DemandsAccess}
-use Rattle.octet_clock.specs.Fronts.{demand_after}
+use Rattle.octet_clock.specs.Fronts.{demand_after, IsAmiss}
 use Rattle.octet_parallel.specs.declared.fate.Fate.{Fate}
 use Rattle.octet_parallel.specs.declared.fate.Fate.TheVariants.{Playing, Amiss, Stopped}
 use Rattle.octet_parallel.specs.State.{PlayerState, FieldState, player_of, found_of, stop_number, progress, next_of_player, plain}
@@ -21,7 +19,7 @@ pub data Kind : Type 0 where
   ToLook : (whom : ℕ) → Kind
   -- loads the cell
   ToRead : Kind
-  -- stores a value to the cell
+  -- puts a value in the place of the cell's, and is told that
   ToWrite : Kind
   -- adds an amount to the cell
   ToBump : Kind
@@ -36,11 +34,6 @@ target (Wants (MakeRead object)) = object
 target (Wants (MakeWrite object value)) = object
 target (Wants (MakeUpdate object change)) = object
 target _ = 0
-
--- the value that a write stores
-abbrev pub stored : Next → ℕ
-stored (Wants (MakeWrite object value)) = value
-stored _ = 0
 
 -- the event that comes of what is next, where its cell had this value
 abbrev pub event_next : Next → ℕ → Option Event
@@ -98,7 +91,6 @@ word_found _ t s = progress (player_of s t)
 
 -- the word that it is told: what it finds, or what it stores
 abbrev pub told : Kind → ℕ → FieldState → ℕ
-told ToWrite t s = stored (next_of_player s t)
 told ToAdvance t s = length (after ToAdvance (next_of_player s t) 0 (player_of s t)).journal
 told (ToStop fate) t s = stop_number
 told k t s = word_found k t s
@@ -125,12 +117,9 @@ step k t s = record {
   cells = cells_after k (next_of_player s t) s.cells;
 }
 
--- no mark is due, and the log has an access left while the thread demands its end, or has nothing left while the thread demands an access
-pub record IsAmissBy (script : Script) (log : List ThreadLog) (thread : ℕ) (journal : List Event) : Type 0 where
-  pub no_mark : due_mark (slice_get (thread_log_of log thread).marks (mark_count journal)) (gap_after 0 journal) ≡ None
-  pub why :
-      ((access_count journal < (thread_log_of log thread).accesses) × DemandsEnd (demand_after script thread journal))
-      ⊎ ((access_count journal ≡ (thread_log_of log thread).accesses) × (mark_count journal ≡ length (thread_log_of log thread).marks) × DemandsAccess (demand_after script thread journal))
+-- amiss, as a thread of a front is, by its own journal
+abbrev pub IsAmissBy : Script → List ThreadLog → ℕ → List Event → Type 0
+IsAmissBy script log thread journal = IsAmiss (demand_after script thread journal) (thread_log_of log thread) journal
 
 -- why a player stops: it is amiss, or it has found the stop number
 abbrev pub StopsAs : FieldState → ℕ → Fate → Type 0

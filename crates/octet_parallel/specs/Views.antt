@@ -13,7 +13,12 @@ pub record Taken : Type 0 where
   pub kind : Kind
   pub word : ℕ
 
--- a player's number, the script and the log, how far it is, and the steps that it took. The first player's view also holds how many players were made, and the numbers and states of those that were joined back. The view of a player that was joined back is spent: it is not live
+-- what a player leaves that is joined back: how far it is, and the steps that it took
+pub record Left : Type 0 where
+  pub player : PlayerState
+  pub trail : List Taken
+
+-- a player's number, the script and the log, how far it is, and the steps that it took. The first player's view also holds how many players were made, and the numbers of those that were joined back, with what they left. The view of a player that was joined back is spent: it is not live
 pub record PlayerView : Type 0 where
   pub is_live : Bool
   pub number : ℕ
@@ -22,10 +27,10 @@ pub record PlayerView : Type 0 where
   pub player : PlayerState
   pub trail : List Taken
   pub players_made : ℕ
-  pub joined : List (ℕ × PlayerState)
+  pub joined : List (ℕ × Left)
 
 -- what it tells of its seat
-abbrev pub facts_of : PlayerView → SeatFacts PlayerState
+abbrev pub facts_of : PlayerView → SeatFacts Left
 facts_of v = record { is_live = v.is_live; number = v.number; seats_made = v.players_made; joined = v.joined }
 
 -- a player that has taken no step
@@ -50,6 +55,10 @@ split_off v = new_view v.players_made v.script v.log 0
 abbrev pub after_split : PlayerView → PlayerView
 after_split v = record v { players_made = suc v.players_made }
 
+-- what a player leaves
+abbrev pub left_of : PlayerView → Left
+left_of v = record { player = v.player; trail = v.trail }
+
 -- the first player's after another was joined to it, whose own is spent
 abbrev pub after_join : PlayerView → PlayerView → PlayerView
-after_join v w = record v { joined = v.joined ++ (w.number, w.player) ∷ [] }
+after_join v w = record v { joined = v.joined ++ (w.number, left_of w) ∷ [] }

@@ -1,15 +1,19 @@
 //! Threads that are replayed each by itself: no thread of the script writes what another one names.
 ghost use Rattle.std.specs.Prelude.{◌≡◌, ◌<◌, ◌↔◌, ℕ, [], List, true, length, map, All, IfOk, IsTrue, slice_index};
 ghost use Rattle.std.specs.List.{AllZip};
+ghost use Rattle.std.specs.Thread.{IsSync};
 ghost use Rattle.octet_model.specs.Orders.{starting_heap};
 ghost use Rattle.octet_replay.specs.Threads.{end_told, values_of};
 ghost use Rattle.octet_parallel.specs.Alone.{AreAtStart, AreMerged, HasHeapOf, HasPlayedAlone, HavePlayedAlone, IsAloneAfter, IsMergedAt, IsOutcomeOf, IsReady, PlaysAlone};
 
+use crate::passing::pass_before_event;
 use crate::player::WORDS_APART;
+use octet_base::Gate;
 use octet_model::{End, List, Log, OutOfMemory, Outcome, Script};
 use octet_replay::{NextStep, ThreadReplay, change_heap};
 use std::alloc::Global;
 use std::snapshot::Snapshot;
+use std::sync::Wait;
 use std::thread;
 use std::thread::Threads;
 
@@ -44,8 +48,8 @@ impl Alone {
         })
     }
 
-    // Makes all that it can make alone.
-    fn play(&mut self, log: &Log)
+    // Makes all that it can make alone, and passes the gate before each access.
+    fn play<R: Threads + Wait + Sync, G: Gate>(&mut self, rt: &R, log: &Log, gate: &G)
         requires within { self.old.number < length log.now.threads }
         requires start { IsAloneAfter self.old.script.value log.now.threads self.old.number [] self.old }
         ensures of { self.new.script.value ≡ self.old.script.value }
@@ -54,6 +58,7 @@ impl Alone {
     {
         let own = &log.threads.as_slice()[self.number as usize];
         while let Some(event) = self.replay.next(own).event(&self.heap) {
+            pass_before_event(rt, gate, self.number, event, self.replay.accesses());
             change_heap(&mut self.heap, event);
             self.replay.make(event);
         }
@@ -78,7 +83,7 @@ fn all_at_start(alloc: Global, script: &Script, log: &Log) -> Result<Vec<Alone>,
 }
 
 // Lets each play on a thread of its own, beside the others.
-fn play_each<R: Threads + Sync>(rt: &R, log: &Log, threads: &mut [Alone])
+fn play_each<R: Threads + Wait + Sync, G: Gate>(rt: &R, log: &Log, gate: &G, threads: &mut [Alone])
     requires { All (IsReady log.now.threads) threads.old }
     ensures { AllZip (PlaysAlone log.now.threads) threads.old threads.new }
 {
@@ -91,24 +96,25 @@ fn play_each<R: Threads + Sync>(rt: &R, log: &Log, threads: &mut [Alone])
         threads,
         count,
         &|_, alone: &mut Alone| -> ()
-            requires { IsReady log.now.threads alone.now }
+            requires { IsSync R.row × IsSync G.row × IsReady log.now.threads alone.now }
             ensures { PlaysAlone log.entry.now.threads alone.entry.now alone.exit.now }
-        { alone.play(log) },
+        { alone.play(rt, log, gate) },
     );
 }
 
 /// The threads of a script, after each made all that it can make alone.
-pub(crate) fn play_alone<R: Threads + Sync>(
+pub(crate) fn play_alone<R: Threads + Wait + Sync, G: Gate>(
     rt: &R,
     alloc: Global,
     script: &Script,
     log: &Log,
+    gate: &G,
 ) -> Result<Vec<Alone>, OutOfMemory>
     requires agree { length script.now.threads ≡ length log.now.threads }
     ensures { IfOk result (λ threads. HavePlayedAlone script.now log.now.threads threads.items) }
 {
     let mut threads = all_at_start(alloc, script, log)?;
-    play_each(rt, log, threads.as_mut_slice());
+    play_each(rt, log, gate, threads.as_mut_slice());
     Ok(threads)
 }
 

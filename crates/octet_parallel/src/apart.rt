@@ -8,14 +8,14 @@ use octet_model::{Command, List, OutOfMemory, Script};
 use std::alloc::Global;
 
 /// What a command does to an object.
-#[derive(Clone, Copy, Debug, PartialEq, Eq)]
+#[derive(Clone, Copy)]
 struct Access {
     object: u16,
     writes: bool,
 }
 
 /// How the threads use an object.
-#[derive(Clone, Copy, Debug, PartialEq, Eq)]
+#[derive(Clone, Copy)]
 struct Use {
     /// The thread that named it first.
     first: Option<u8>,

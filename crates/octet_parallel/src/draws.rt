@@ -8,7 +8,7 @@ use octet_model::{Gapped, Log, Mark, OutOfMemory, ThreadLog};
 use std::alloc::Global;
 
 /// So many events of that player.
-#[derive(Clone, Copy, Debug, PartialEq, Eq)]
+#[derive(Clone, Copy)]
 pub(crate) struct PlayerEvents {
     pub(crate) whom: u8,
     pub(crate) events: u64,

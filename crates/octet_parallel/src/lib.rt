@@ -10,12 +10,11 @@ mod fate;
 mod field;
 mod finished;
 pub mod laws;
+mod passing;
 mod played;
 mod player;
 mod player_backoff;
 mod replay;
-#[cfg(test)]
-mod tests;
 mod view;
 mod words;
 mod worker;

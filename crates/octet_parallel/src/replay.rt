@@ -22,9 +22,9 @@ use std::thread::Threads;
 /// make: the outcome of the lowest order, where that is lawful and has ordered journals, and None
 /// where it is not or has not. Each player has a thread of its own while threads are to be had and
 /// are of use; some rounds, or all that is left, may be played on one thread. A player that has to
-/// wait for another looks again for a while, and then sleeps. Before each access it passes the gate,
-/// unless that is open. Where the gate is open and no thread of the script writes what another one
-/// names, each is replayed by itself. May wait: nothing says that the players come to an end.
+/// wait for another looks again for a while, and then sleeps. Where no thread of the script writes
+/// what another one names, each is replayed by itself. Either way each thread passes the gate before
+/// each access. May wait: nothing says that the players come to an end.
 pub fn parallel<R: Threads + Wait + Sync, G: Gate>(
     rt: &R,
     alloc: Global,
@@ -36,25 +36,26 @@ pub fn parallel<R: Threads + Wait + Sync, G: Gate>(
     requires untied { IsUntied log.now.threads }
     ensures { IfOk result (λ outcome. IsJudged script.now log.now.threads outcome) }
 {
-    if gate.is_open() && are_apart(alloc, script)? {
-        return replay_apart(rt, alloc, script, log);
+    if are_apart(alloc, script)? {
+        return replay_apart(rt, alloc, script, log, gate);
     }
     replay_together(rt, alloc, script, log, gate)
 }
 
 // Each thread by itself.
-fn replay_apart<R: Threads + Sync>(
+fn replay_apart<R: Threads + Wait + Sync, G: Gate>(
     rt: &R,
     alloc: Global,
     script: &Script,
     log: &Log,
+    gate: &G,
 ) -> Result<Option<Outcome>, OutOfMemory>
     requires threads { length script.now.threads ≡ length log.now.threads }
     requires untied { IsUntied log.now.threads }
     requires apart { AreApart script.now }
     ensures { IfOk result (λ outcome. IsJudged script.now log.now.threads outcome) }
 {
-    let threads = play_alone(rt, alloc, script, log)?;
+    let threads = play_alone(rt, alloc, script, log, gate)?;
     if !are_through(&threads) {
         return Ok(None);
     }

@@ -8,6 +8,7 @@ ghost use Rattle.octet_parallel.specs.Judging.{HasPlayed, IsSamePlayer};
 
 use crate::crew::Crew;
 use crate::field::Field;
+use crate::passing::pass_before;
 use crate::played::Played;
 use crate::player::Player;
 use crate::player_backoff::PlayerBackoff;
@@ -37,12 +38,9 @@ fn take_step<R: Threads + Wait + Sync, G: Gate>(
     ensures same { IsSamePlayer player.old player.new }
     ensures ends { EndsBy result (view_of player.new) }
 {
-    if !gate.is_open() {
-        if let Some(access) = field.next_access(player) {
-            gate.pass(rt, player.number, access);
-        }
-    }
-    field.step(player)
+    let next = field.next_step(player);
+    pass_before(rt, gate, player.number, next, player.replay.accesses());
+    field.take(player, next)
 }
 
 // Plays until the player has to wait, has ended or has made the events of a round. Answers what its

@@ -240,20 +240,17 @@ module _ (field : Field) (p : Player) (own : IsPlayerOf field p) where
       let replay = p.replay in
       let why = nothing_fits (due_mark (slice_get own_log.marks replay.marks) replay.gap) (demand_of replay.up_next) (nat_lt replay.accesses own_log.accesses) (nat_lt replay.marks (length own_log.marks)) is in
       let here = own.replay.comes.demands in
-      to_view (record {
-        no_mark = none_due why.0;
-        why = elim why.1 [
-          | inl early ↦ inl (omega (arith, ltb-true replay.accesses own_log.accesses early.0, own.replay.counts.counts_accesses), subst DemandsEnd (sym here) early.1)
-          | inr late ↦
-              let past = ltb-false replay.accesses own_log.accesses late.0 in
-              let none_left = no_mark_left why.0 past in
-              inr (
-                all_made why.0 past,
-                none_left,
-                elim late.1 [
-                  | inl demands ↦ subst DemandsAccess (sym here) demands
-                  | inr marks ↦ absurd (omega (arith, ltb-true replay.marks (length own_log.marks) marks, none_left, own.replay.counts.counts_marks))
-                ],
-              )
-        ];
-      })
+      to_view (elim why.1 [
+        | inl early ↦ inl (record { ends = subst DemandsEnd (sym here) early.1; fewer = omega (arith, ltb-true replay.accesses own_log.accesses early.0, own.replay.counts.counts_accesses) }, none_due why.0)
+        | inr late ↦
+            let past = ltb-false replay.accesses own_log.accesses late.0 in
+            let none_left = no_mark_left why.0 past in
+            inr (record {
+              demands = elim late.1 [
+                | inl demands ↦ subst DemandsAccess (sym here) demands
+                | inr marks ↦ absurd (omega (arith, ltb-true replay.marks (length own_log.marks) marks, none_left, own.replay.counts.counts_marks))
+              ];
+              made = all_made why.0 past;
+              no_mark_left = omega (arith, none_left);
+            })
+      ])

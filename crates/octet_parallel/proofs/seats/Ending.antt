@@ -1,52 +1,80 @@
 -- What the last state has, and lists of seats.
-use Rattle.std.proofs.Common.{◌≡◌, ℕ, zero, suc, ◌+◌, ◌*◌, ◌<◌, Bool, true, List, [], ◌∷◌, map, length, get_or, sym, ap, ◌∙◌, subst, arith, one-add}
+use Rattle.std.proofs.Common.{◌≡◌, ℕ, zero, suc, ◌+◌, ◌*◌, ◌<◌, Bool, true, List, [], ◌∷◌, map, length, get_or, sym, refl, ap, ◌∙◌, subst, arith, one-add}
 use Rattle.std.proofs.lemmas.List.{length-map}
 use Rattle.atomic_table.specs.Table.{Final, Seen}
 use Rattle.octet_model.specs.declared.script.Script.{Script}
 use Rattle.octet_model.specs.declared.log.Log.{Log}
 use Rattle.octet_seats.specs.Rows.{AreInRow}
-use Rattle.octet_parallel.specs.State.{PlayerState, FieldState, player_of, unbegun, words}
+use Rattle.octet_parallel.specs.State.{FieldState, player_of, unbegun, words}
 use Rattle.octet_parallel.specs.declared.words.Seat.{Seat}
 use Rattle.octet_parallel.specs.declared.words.Words.{Words}
-use Rattle.octet_parallel.specs.Views.{PlayerView}
+use Rattle.octet_parallel.specs.Views.{PlayerView, Left, left_of}
+use Rattle.octet_parallel.specs.Runs.{PlayerStep, field_after, steps_of}
 use Rattle.octet_seats.specs.Cells.{cells_in}
 use Rattle.octet_seats.specs.Seats.{AreJoined}
 use Rattle.octet_seats.proofs.lemmas.Cells.{all_cells}
 use Rattle.octet_seats.proofs.lemmas.Rows.{row_of, row_so, each_of, same_members}
 use Rattle.octet_seats.proofs.lemmas.Seats.{left_at}
 use Rattle.octet_parallel.specs.Rule.{HasLeft, IsRuled}
-use Rattle.octet_parallel.specs.Seats.{view, BelongsTo, IsSeatOf, IsFresh, IsFreshSeat, EachFresh, EachOf, IsNumberedSeat, AreNumbered, state_left, Closes}
+use Rattle.octet_parallel.specs.Seats.{view, BelongsTo, IsSeatOf, IsFresh, IsFreshSeat, EachFresh, EachOf, IsNumberedSeat, AreNumbered, left_by, Closes}
 use Rattle.octet_parallel.proofs.seats.Spread.{get_cell}
 use Rattle.octet_parallel.proofs.steps.Keeping.{many_cells}
+use Rattle.octet_parallel.proofs.steps.Kept.{script_after, log_after}
 
 all_cells_of : (s : FieldState) → cells_in (words s) (8 * length s.players) (length s.cells) ≡ s.cells
 all_cells_of s = all_cells (words s) s.cells (8 * length s.players) (λ object. let n : 8 * length s.players + 8 * object ≡ 8 * (length s.players + object) = omega arith in ap (λ (z : ℕ). get_or (words s) z 0) n ∙ get_cell s object)
 
+-- what the seats leave, by their numbers
+player_at : (xs : List Seat) (k : ℕ) (none : Left) → none.player ≡ unbegun → (get_or (map (λ (x : Seat). left_of (view x)) xs) k none).player ≡ get_or (map (λ (x : Seat). (view x).player) xs) k unbegun
+player_at [] k none e = e
+player_at (x ∷ xs) zero none e = refl
+player_at (x ∷ xs) (suc k) none e = player_at xs k none e
+
+trail_at : (xs : List Seat) (k : ℕ) (none : Left) (other : Seat) → k < length xs → (get_or (map (λ (x : Seat). left_of (view x)) xs) k none).trail ≡ (view (get_or xs k other)).trail
+trail_at [] k none other h = absurd (omega arith)
+trail_at (x ∷ xs) zero none other h = refl
+trail_at (x ∷ xs) (suc k) none other h = trail_at xs k none other (omega arith)
+
+-- the players after the first
+module _ (script : Script) (log : Log) (run : List PlayerStep) (has_joined : ℕ → Bool) (w : Words) (seats : List Seat) (row : AreNumbered w 1 seats) (those : AreJoined (HasLeft script log run) has_joined (map left_by seats)) where
+  abbrev none : Left
+  none = record { player = unbegun; trail = [] }
+
+  left : (k : ℕ) → k < length seats → HasLeft script log run (1 + k) (get_or (map (λ (x : Seat). left_of (view x)) seats) k none)
+  left k h = left_at (λ (x : Seat). (view x).number) (λ (x : Seat). left_of (view x)) (IsNumberedSeat w) (HasLeft script log run) has_joined (λ n x it. it.1) 1 seats row those k none h
+
+  players_are : (seat : Seat) → player_of (field_after script log run) 0 ≡ (view seat).player → (t : ℕ) → t < 1 + length seats
+      → player_of (field_after script log run) t ≡ get_or (map (λ (x : Seat). (view x).player) (seat ∷ seats)) t unbegun
+  players_are seat first zero h = first
+  players_are seat first (suc t) h = let n : suc t ≡ 1 + t = omega arith in ap (player_of (field_after script log run)) n ∙ ((left t (omega arith)).stands ∙ player_at seats t none refl)
+
+  trails_are : (seat : Seat) → steps_of 0 script log run ≡ (view seat).trail → (t : ℕ) (other : Seat) → t < length (seat ∷ seats) → steps_of t script log run ≡ (view (get_or (seat ∷ seats) t other)).trail
+  trails_are seat first zero other h = first
+  trails_are seat first (suc t) other h = let n : suc t ≡ 1 + t = omega arith in ap (λ (u : ℕ). steps_of u script log run) n ∙ ((left t (omega arith)).trail ∙ trail_at seats t none other (omega arith))
+
 -- the seat of the first player has taken the others back
 pub closes : (script : Script) (log : Log) (ws : List ℕ) (slots : List (Unit {0})) (id : ℕ) (w : Words) (seat : Seat) (seats : List Seat) (v : PlayerView)
-    → v.is_live ≡ true → v.number ≡ 0 → v.player ≡ (view seat).player → v.joined ≡ map state_left seats → AreNumbered w 1 seats → 1 + length seats ≡ length log.threads
+    → v.is_live ≡ true → v.number ≡ 0 → v.player ≡ (view seat).player → v.trail ≡ (view seat).trail → v.joined ≡ map left_by seats → AreNumbered w 1 seats → 1 + length seats ≡ length log.threads
     → Final (Seen (IsRuled script log) id v) ws slots → Closes script log (seat ∷ seats) (cells_in ws (8 * length log.threads) (length script.objects))
-closes script log ws slots id w seat seats v live zeroth mine joined others all final =
-    let r = final.1.0 in let it = r.seats.seated id v final.1.1 live in let s = r.state in let has_joined = r.seats.has_joined in
-    let those : AreJoined (HasLeft s) has_joined (map state_left seats) = subst (λ (l : List (ℕ × PlayerState)). AreJoined (HasLeft s) has_joined l) joined (it.are_joined zeroth) in
-    let players : length s.players ≡ length log.threads = r.sound.as_many ∙ ap (λ (l : Log). length l.threads) r.is_log in
-    let cells : length s.cells ≡ length script.objects = many_cells s r.sound ∙ ap (λ (z : Script). length z.objects) r.is_script in
-    let first : player_of s 0 ≡ (view seat).player = ap (player_of s) (sym zeroth) ∙ (it.seen.stands ∙ mine) in record {
+closes script log ws slots id w seat seats v live zeroth mine trail joined others all final =
+    let r = final.1.0 in let run = r.run in let it = r.seats.seated id v final.1.1 live in let seen = it.seen.seen in let s = field_after script log run in let has_joined = r.seats.has_joined in
+    let those : AreJoined (HasLeft script log run) has_joined (map left_by seats) = subst (λ (l : List (ℕ × Left)). AreJoined (HasLeft script log run) has_joined l) joined (it.are_joined zeroth) in
+    let players : length s.players ≡ length log.threads = seen.sound.as_many ∙ ap (λ (l : Log). length l.threads) (log_after script log run) in
+    let cells : length s.cells ≡ length script.objects = many_cells s seen.sound ∙ ap (λ (z : Script). length z.objects) (script_after script log run) in
+    let first : player_of s 0 ≡ (view seat).player = ap (player_of s) (sym zeroth) ∙ (seen.stands ∙ mine) in record {
+      run = run;
+      is_run = r.is_run;
+      trails = trails_are script log run has_joined w seats others those seat (ap (λ (n : ℕ). steps_of n script log run) (sym zeroth) ∙ (it.seen.trail ∙ trail));
       last = s;
-      sound = r.sound;
-      is_script = r.is_script;
-      is_log = r.is_log;
+      after = refl;
+      sound = seen.sound;
+      is_script = script_after script log run;
+      is_log = log_after script log run;
       players = same_members unbegun s.players (map (λ (x : Seat). (view x).player) (seat ∷ seats))
           (let e = length-map seats (λ (x : Seat). (view x).player) in omega arith)
-          (λ t h. at_number s has_joined w seats others those seat first t (omega arith));
+          (λ t h. players_are script log run has_joined w seats others those seat first t (omega arith));
       cells = sym ((λ i. cells_in ((sym final.2 ∙ r.lie) i) (8 * sym players i) (sym cells i)) ∙ all_cells_of s);
     }
-  where
-    at_number : (s : FieldState) (has_joined : ℕ → Bool) (w : Words) (seats : List Seat) → AreNumbered w 1 seats → AreJoined (HasLeft s) has_joined (map state_left seats) → (seat : Seat) → player_of s 0 ≡ (view seat).player
-        → (t : ℕ) → t < 1 + length seats → player_of s t ≡ get_or (map (λ (x : Seat). (view x).player) (seat ∷ seats)) t unbegun
-    at_number s has_joined w seats row those seat first zero h = first
-    at_number s has_joined w seats row those seat first (suc t) h = let n : suc t ≡ 1 + t = omega arith in ap (player_of s) n
-        ∙ left_at (λ (x : Seat). (view x).number) (λ (x : Seat). (view x).player) (IsNumberedSeat w) (HasLeft s) has_joined (λ k x it. it.1) 1 seats row those t unbegun (omega arith)
 
 -- the first of all seats, and the others
 pub record IsParted (w : Words) (seat : Seat) (seats : List Seat) : Type 0 where

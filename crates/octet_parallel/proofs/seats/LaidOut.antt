@@ -10,22 +10,22 @@ use Rattle.octet_parallel.specs.State.{unbegun, progress, spread, words, opening
 use Rattle.octet_seats.proofs.lemmas.Rows.{take_more}
 use Rattle.octet_seats.proofs.lemmas.Seats.{first_seat}
 use Rattle.octet_parallel.specs.Views.{facts_of}
-use Rattle.octet_parallel.specs.Rule.{IsSeenBy, HasLeft, IsUnmade, IsRuled, first_view}
+use Rattle.octet_parallel.specs.Rule.{Follows, HasLeft, IsUnmade, IsRuled, first_view}
 use Rattle.octet_parallel.proofs.seats.Spread.{length_spread}
 use Rattle.octet_parallel.proofs.steps.Lawful.{opening_is_sound, none_found}
 
 module _ (script : Script) (log : Log) (agree : length script.threads ≡ length log.threads) (untied : IsUntied log.threads) (more : 0 < length log.threads) where
-  -- the rule holds at first
+  -- the rule holds at first, after a run of no step
   pub opens : (ws : List ℕ) → ws ≡ words (opening script log) → IsRuled script log (table.opening ws [] (first_view script log))
   opens ws is = let s = opening script log in let sound = opening_is_sound script log agree untied in let many : length s.players ≡ length log.threads = length-replicate (length log.threads) unbegun in record {
-    state = s;
+    agree = agree;
+    untied = untied;
+    run = [];
+    is_run = tt;
     lie = is;
-    sound = sound;
-    is_script = refl;
-    is_log = refl;
-    seats = first_seat facts_of (λ y. IsSeenBy y s) (HasLeft s) (IsUnmade s) (length s.players) (first_view script log) refl
-        (record { sound = sound; script = refl; log = refl; inside = omega arith; stands = none_found (length log.threads) 0 })
-        (omega arith) (λ t h. none_found (length log.threads) t);
+    seats = first_seat facts_of (Follows script log []) (HasLeft script log []) (IsUnmade script log []) (length log.threads) (first_view script log) refl
+        (record { seen = record { sound = sound; script = refl; log = refl; inside = omega arith; stands = none_found (length log.threads) 0 }; trail = refl })
+        more (λ t h. record { stands = none_found (length log.threads) t; trail = refl });
   }
 
 no_progress : (n : ℕ) → map progress (replicate n unbegun) ≡ replicate n 0

@@ -12,7 +12,7 @@ use Rattle.octet_parallel.specs.declared.fate.Fate.{Fate}
 use Rattle.octet_parallel.specs.declared.fate.Fate.TheVariants.{Playing, Amiss, Stopped}
 use Rattle.octet_parallel.specs.Needs.{Needs}
 use Rattle.octet_parallel.specs.State.{PlayerState, FieldState, player_of, found_of, made_by, stop_number, progress_place, cell_place, next_of_player}
-use Rattle.octet_parallel.specs.Steps.{Kind, ToLook, ToRead, ToWrite, ToBump, ToAdvance, ToStop, target, stored, told, with_event, event_next, StopsAs, IsFree, IsAmissBy}
+use Rattle.octet_parallel.specs.Steps.{Kind, ToLook, ToRead, ToWrite, ToBump, ToAdvance, ToStop, target, told, with_event, event_next, StopsAs, IsFree, IsAmissBy}
 use Rattle.octet_parallel.specs.Laws.{AreFound}
 use Rattle.octet_parallel.specs.Views.{PlayerView, next_in}
 use Rattle.octet_parallel.specs.Rule.{IsSeenBy, IsRuled, Acts, operation_on, place_by}
@@ -87,11 +87,11 @@ module _ (script : Script) (log : Log) (slots id : ℕ) (me : Me (Unit {0}) Play
       (λ s seen. (read_is_lawful s v.number place object seen.sound seen.inside (free_in v s seen free) (next_seen v s seen ∙ next) (is ∙ ap (λ (n : ℕ). cell_place n object) (sym (players_in v s seen))), refl)))
 
   pub writes : (place object value : ℕ) → IsFreeIn v → next_in v ≡ Wants (MakeWrite object value) → place ≡ cell_place (length v.log.threads) object
-      → Allows (IsRuled script log) slots id me place (λ word. value) (λ word. Acts ToWrite (operation_on slots place value) me value)
+      → Allows (IsRuled script log) slots id me place (λ word. value) (Acts ToWrite (operation_on slots place value) me)
   writes place object value free next is =
-      acting (IsRuled script log) slots id me place value (λ word. value) (λ word. value) ToWrite (is ∙ ap (λ (n : Next). cell_place (length v.log.threads) (target n)) (sym next))
-      (tells script log slots id me place (λ word. value) (λ word. value) ToWrite live
-      (λ s seen. (write_is_lawful s v.number place object value seen.sound seen.inside (free_in v s seen free) (next_seen v s seen ∙ next) (is ∙ ap (λ (n : ℕ). cell_place n object) (sym (players_in v s seen))), sym (ap stored (next_seen v s seen ∙ next)))))
+      acting (IsRuled script log) slots id me place value (λ word. value) (λ word. word) ToWrite (is ∙ ap (λ (n : Next). cell_place (length v.log.threads) (target n)) (sym next))
+      (tells script log slots id me place (λ word. value) (λ word. word) ToWrite live
+      (λ s seen. (write_is_lawful s v.number place object value seen.sound seen.inside (free_in v s seen free) (next_seen v s seen ∙ next) (is ∙ ap (λ (n : ℕ). cell_place n object) (sym (players_in v s seen))), refl)))
 
   pub bumps : (place object amount : ℕ) → IsFreeIn v → next_in v ≡ Wants (MakeUpdate object (added amount)) → place ≡ cell_place (length v.log.threads) object
       → Allows (IsRuled script log) slots id me place (λ word. (word + amount) % 2 ^ 64) (Acts ToBump (operation_on slots place amount) me)

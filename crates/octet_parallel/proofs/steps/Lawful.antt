@@ -14,7 +14,7 @@ use Rattle.octet_parallel.specs.declared.fate.Fate.{Fate}
 use Rattle.octet_parallel.specs.declared.fate.Fate.TheVariants.{Playing, Amiss, Stopped}
 use Rattle.octet_parallel.specs.Needs.{Needs}
 use Rattle.octet_parallel.specs.State.{PlayerState, FieldState, SomeAmiss, player_of, unbegun, made_by, stop_number, shown, progress, words, spread, progress_place, cell_place, next_of_player, plain, opening}
-use Rattle.octet_parallel.specs.Steps.{step, after, told, with_event, event_next, front_after, cells_after, target, stored, ToLook, ToRead, ToWrite, ToBump, ToAdvance, ToStop, StopsAs, IsFree, IsRead, IsWrite, IsAmissBy}
+use Rattle.octet_parallel.specs.Steps.{step, after, told, with_event, event_next, front_after, cells_after, target, ToLook, ToRead, ToWrite, ToBump, ToAdvance, ToStop, StopsAs, IsFree, IsRead, IsWrite, IsAmissBy}
 use Rattle.octet_parallel.specs.Soundness.{IsSoundLook, IsSoundPlayer, IsSoundField}
 use Rattle.octet_parallel.specs.Laws.{LookIsLawful, ReadIsLawful, WriteIsLawful, BumpIsLawful, CountIsLawful, MarkIsLawful, StopIsLawful, OpeningIsSound, WordTellsStop}
 use Rattle.octet_parallel.proofs.seats.Spread.{get_progress, set_progress, get_cell, set_cell, same_progress}
@@ -282,8 +282,8 @@ write_is_lawful s t place object value sound within free wants at = record {
     by_next next = record {
       script = s.script;
       log = s.log;
-      front = front_after s.front t (event_next next (stored next));
-      players = set s.players t (after ToWrite next (stored next) (player_of s t));
+      front = front_after s.front t (event_next next (get_or s.cells (target next) 0));
+      players = set s.players t (after ToWrite next (get_or s.cells (target next) 0) (player_of s t));
       cells = cells_after ToWrite next s.cells;
     }
 

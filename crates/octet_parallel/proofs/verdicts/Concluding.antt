@@ -1,5 +1,6 @@
 -- What a closed field gives.
-use Rattle.std.proofs.Common.{◌≡◌, ◌≢◌, ℕ, zero, suc, ◌<◌, All, List, [], ◌∷◌, map, length, get_or, refl, sym, ap, ◌∙◌, subst, arith}
+use Rattle.std.proofs.Common.{◌≡◌, ◌≢◌, ℕ, zero, suc, ◌<◌, All, List, [], ◌∷◌, map, length, get_or, Option, Some, None, refl, sym, ap, ◌∙◌, subst, arith}
+use Rattle.std.specs.Prelude.{IfSome}
 use Rattle.std.proofs.lemmas.List.{length-map}
 use Rattle.octet_model.specs.declared.command.Command.{Command}
 use Rattle.octet_model.specs.declared.event.Event.{Event}
@@ -20,8 +21,9 @@ use Rattle.octet_parallel.specs.declared.words.Seat.{Seat}
 use Rattle.octet_parallel.specs.State.{PlayerState, FieldState, SomeAmiss, player_of, unbegun, plain, next_of_player}
 use Rattle.octet_parallel.specs.Steps.{IsAmissBy}
 use Rattle.octet_parallel.specs.Views.{next_in}
+use Rattle.octet_parallel.specs.Runs.{field_after, steps_of}
 use Rattle.octet_parallel.specs.Seats.{view, IsSeatOf, EachOf, Closes}
-use Rattle.octet_parallel.specs.Calls.{view_of, script_in, log_in, EachEnded, fate_at, fate_in, journals_in, SomeStopped, NoneStopped, SomeFrontIsAmiss, IsFinishedReplay}
+use Rattle.octet_parallel.specs.Calls.{view_of, script_in, log_in, EachEnded, fate_at, fate_in, journals_in, SomeStopped, NoneStopped, SomeFrontIsAmiss, IsFinishedReplay, ClosesAfterRun}
 use Rattle.octet_parallel.proofs.steps.Keeping.{journal_is, next_is, many_journals}
 
 -- the fate of the player at a place, as it is read
@@ -109,6 +111,25 @@ module _ (field : Field) (players : List Player) (all : length players ≡ field
 
     alike : (k : ℕ) → k < length players → fate_in players k ≡ fate_at players k
     alike = fates_alike players (λ k none h. (ended k none h).0.fate)
+
+    -- the field closes after a run of the players
+    trails_are : (number : ℕ) (none : Player) → number < length players → steps_of number (script_in field) (log_in field) closes.run ≡ (view_of (get_or players number none)).trail
+    trails_are number none h =
+        closes.trails number none.seat (let a = ap (λ (l : List Seat). length l) are in let b = length-map players (λ (p : Player). p.seat) in omega arith)
+        ∙ ap (λ (x : Seat). (view x).trail) (ap (λ (l : List Seat). get_or l number none.seat) are ∙ get_mapped (λ (p : Player). p.seat) players number none.seat none h)
+
+    pub after_run : (closed : Option finished.Finished) → IfSome closed (λ (result : finished.Finished). result.outcome.heap ≡ cells) → ClosesAfterRun (script_in field) (log_in field) players closed
+    after_run closed heap = record {
+      run = closes.run;
+      is_run = closes.is_run;
+      trails = trails_are;
+      heap = heap_of closed heap;
+    }
+      where
+        heap_of : (closed : Option finished.Finished) → IfSome closed (λ (result : finished.Finished). result.outcome.heap ≡ cells)
+            → IfSome closed (λ (result : finished.Finished). result.outcome.heap ≡ (field_after (script_in field) (log_in field) closes.run).cells)
+        heap_of None heap = heap
+        heap_of (Some result) heap = heap ∙ sym closes.cells ∙ ap (λ (z : FieldState). z.cells) closes.after
 
     -- where a player is amiss or stopped, one is amiss
     pub some_amiss : (k : ℕ) → k < length players → fate_at players k ≢ Playing → SomeStopped players × SomeFrontIsAmiss (script_in field) (log_in field).threads

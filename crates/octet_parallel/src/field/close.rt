@@ -2,7 +2,7 @@
 ghost use Rattle.std.specs.Prelude.{◌≡◌, ◌≢◌, ◌<◌, All, length, map, IfOk, IfSome, IfNone};
 ghost use Rattle.octet_replay.specs.Threads.{end_told, values_of};
 ghost use Rattle.octet_parallel.specs.declared.fate.Fate.TheVariants.{Playing as StillPlaying};
-ghost use Rattle.octet_parallel.specs.Calls.{script_in, log_in, players_in, EachEnded, ClosesTo, fate_at};
+ghost use Rattle.octet_parallel.specs.Calls.{script_in, log_in, players_in, EachEnded, ClosesTo, ClosesAfterRun, fate_at};
 
 use crate::fate::Fate;
 use crate::field::Field;
@@ -22,8 +22,9 @@ struct Left {
 
 impl Field {
     /// The journals and the outcome of the replay, which are those of a lawful order, where every
-    /// player is through. None where one is amiss or stopped. All players of the field are handed in,
-    /// in order, and each of them has ended.
+    /// player is through. None where one is amiss or stopped. Either way the field closes after a run
+    /// in which each player took the steps that its seat knows of, and no others. All players of the
+    /// field are handed in, in order, and each of them has ended.
     pub fn close(
         self,
         alloc: Global,
@@ -31,7 +32,8 @@ impl Field {
     ) -> Result<Option<Finished>, OutOfMemory>
         requires all { length players ≡ players_in self }
         requires ended { EachEnded self players }
-        ensures { IfOk result (λ closed. ClosesTo (script_in self) (log_in self).threads players closed) }
+        ensures closes { IfOk result (λ closed. ClosesTo (script_in self) (log_in self).threads players closed) }
+        ensures run { IfOk result (λ closed. ClosesAfterRun (script_in self) (log_in self) players closed) }
     {
         let stopped = first_stopped(players.as_slice());
         let ends = ends_of(alloc, players.as_slice())?;

@@ -10,7 +10,7 @@ ghost use Rattle.octet_parallel.specs.Draws.{IsWhereDrawn, IsNeedOf};
 ghost use Rattle.octet_parallel.specs.Views.{next_in};
 ghost use Rattle.octet_parallel.specs.Rule.{Steps, stop_found};
 ghost use Rattle.octet_parallel.specs.Conditions.{HasFound, StopsIn};
-ghost use Rattle.octet_parallel.specs.Calls.{view_of, log_in, IsPlayerOf, TellsAccess, StepsTo, PlaysTo, EndsBy, MarkMade};
+ghost use Rattle.octet_parallel.specs.Calls.{view_of, log_in, IsPlayerOf, IsNextStep, TellsAccess, StepsTo, PlaysTo, EndsBy, MarkMade};
 
 use crate::draws::PlayerEvents;
 use crate::fate::Fate;
@@ -45,6 +45,15 @@ impl Field {
         }
     }
 
+    /// What is next for the player by the log.
+    #[inline(always)]
+    pub(crate) fn next_step(&self, player: &Player) -> NextStep
+        requires { IsPlayerOf self.now player.now }
+        ensures { IsNextStep self.now player.now result }
+    {
+        player.replay.next(self.own_log(player))
+    }
+
     /// Makes the player's next event, unless it has to wait for another player, has nothing left to
     /// make, is amiss, or finds that another player is amiss or stopped. Takes at most two atomic
     /// steps, no memory and no lock, and waits for nobody.
@@ -55,21 +64,36 @@ impl Field {
         ensures number { (view_of player.new).number ≡ (view_of player.old).number }
         ensures ends { EndsBy result (view_of player.new) }
     {
+        let next = self.next_step(player);
+        self.take(player, next)
+    }
+
+    /// The same, for a caller that knows what is next.
+    #[inline(always)]
+    pub(crate) fn take(&self, player: &mut Player, next: NextStep) -> Played
+        requires own { IsPlayerOf self.now player.old }
+        requires next { IsNextStep self.now player.old next }
+        ensures own { IsPlayerOf self.now player.new }
+        ensures step { StepsTo (view_of player.old) result (view_of player.new) }
+        ensures number { (view_of player.new).number ≡ (view_of player.old).number }
+        ensures ends { EndsBy result (view_of player.new) }
+    {
         match player.fate {
             Fate::Amiss => Played::Amiss,
             Fate::Stopped { whom } => Played::Stopped { whom },
-            Fate::Playing => self.play(player),
+            Fate::Playing => self.play(player, next),
         }
     }
 
     // One step of a player that plays.
-    fn play(&self, player: &mut Player) -> Played
+    fn play(&self, player: &mut Player, next: NextStep) -> Played
         requires own { IsPlayerOf self.now player.old }
         requires plays { player.old.fate ≡ StillPlaying }
+        requires next { IsNextStep self.now player.old next }
         ensures own { IsPlayerOf self.now player.new }
         ensures step { PlaysTo (view_of player.old) result (view_of player.new) }
     {
-        match player.replay.next(self.own_log(player)) {
+        match next {
             NextStep::Mark { mark } => self.play_mark(player, mark),
             NextStep::Read { object } => self.read(player, object),
             NextStep::Write { object, value } => self.write(player, object, value),
@@ -105,7 +129,7 @@ impl Field {
         ensures own { IsPlayerOf self.now player.new }
         ensures step { PlaysTo (view_of player.old) result (view_of player.new) }
     {
-        self.words.write(&mut player.seat, object, value);
+        let _before = self.words.write(&mut player.seat, object, value);
         note(
             &mut player.replay,
             &mut player.journal,

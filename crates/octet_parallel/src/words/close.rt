@@ -1,7 +1,7 @@
 //! The seats join into one, and the cells' values are read.
 ghost use Rattle.std.specs.Prelude.{◌≡◌, ◌+◌, ◌*◌, [], length, map, IfOk};
 ghost use Rattle.octet_parallel.specs.Views.{after_join};
-ghost use Rattle.octet_parallel.specs.Seats.{view, script_of, log_of, BelongsTo, EachOf, AreNumbered, state_left, Closes};
+ghost use Rattle.octet_parallel.specs.Seats.{view, script_of, log_of, BelongsTo, EachOf, AreNumbered, left_by, Closes};
 
 use crate::words::{Seat, Words, kinds};
 use octet_seats::read_cells;
@@ -34,8 +34,8 @@ impl Words {
         requires first { BelongsTo self.now first × ((view first).number ≡ 0) × ((view first).joined ≡ []) }
         requires seats { AreNumbered self.now 1 seats.items }
         ensures own { BelongsTo self.now result × ((view result).number ≡ 0) }
-        ensures first { (view result).player ≡ (view first).player }
-        ensures joined { (view result).joined ≡ map state_left seats.items }
+        ensures first { ((view result).player ≡ (view first).player) × ((view result).trail ≡ (view first).trail) }
+        ensures joined { (view result).joined ≡ map left_by seats.items }
     {
         while !seats.is_empty() {
             let seat = seats.remove(0);

@@ -43,19 +43,19 @@ impl Words {
             .load::<kinds::Read>(&mut seat.inner, place)
     }
 
-    /// Writes the cell.
-    pub(crate) fn write(&self, seat: &mut Seat, object: u16, value: u64)
+    /// Writes the cell. Answers the value before, so that what players did tells every word.
+    pub(crate) fn write(&self, seat: &mut Seat, object: u16, value: u64) -> u64
         requires own { IsSeatOf self.now seat.old }
         requires free { IsFreeIn (view seat.old) }
         requires object { object < self.now.objects }
         requires next { next_in (view seat.old) ≡ Wants (MakeWrite object value) }
         ensures own { IsSeatOf self.now seat.new }
-        ensures step { Steps ToWrite (view seat.old) value (view seat.new) }
+        ensures step { Steps ToWrite (view seat.old) result (view seat.new) }
     {
         let place = self.cell_place(object);
         self.table
             .shared
-            .store::<kinds::Write>(&mut seat.inner, place, value);
+            .swap::<kinds::Write>(&mut seat.inner, place, value)
     }
 
     /// Adds the amount to the cell, modulo 2^64, in one access. Answers the value before.

@@ -14,7 +14,7 @@ play_each-requires g c =
     let made = c.in_ok-threads.ensures in
     let ready : All (IsReady log) c.as_mut_slice.result.now =
     subst (All (IsReady log)) (sym c.as_mut_slice.ensures.value) (all_ready c.args.script.now log c.in_ok-threads.threads.items made.each made.as_many) in
-    (search rules, ready)
+    (search rules, (search rules, ready))
 
 pub returns : goal.returns
 returns g c =

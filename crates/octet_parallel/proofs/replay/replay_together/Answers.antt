@@ -2,7 +2,8 @@ use Rattle.std.proofs.Common.{rules, ◌≡◌, All, length}
 use Rattle.std.specs.List.{AllZip}
 use Rattle.octet_parallel.specs.Calls.{SomeFrontIsAmiss}
 use Rattle.octet_parallel.specs.Judging.{HasPlayed, IsSamePlayer}
-use Rattle.octet_parallel.proofs.verdicts.Verdicts.{handed_back, amiss_judged}
+use Rattle.octet_parallel.proofs.lemmas.Players.{handed_back}
+use Rattle.octet_parallel.proofs.verdicts.Verdicts.{amiss_judged}
 use Rattle.octet_parallel.proofs.replay.replay_together.Goals as goal
 
 pub close-requires-clause-ended : goal.close-requires-clause-ended

@@ -2,7 +2,7 @@ use Rattle.std.proofs.Common.{rules, ◌≡◌, All, ◌∷◌, subst}
 use Rattle.std.proofs.lemmas.List.Elements.{All-cons}
 use Rattle.octet_parallel.specs.Calls.{IsPlayerOf}
 use Rattle.octet_parallel.specs.Judging.{HasPlayed}
-use Rattle.octet_parallel.proofs.players.Zips.{all_first, all_others}
+use Rattle.octet_parallel.proofs.lemmas.Players.{all_first, all_others}
 use Rattle.octet_parallel.proofs.worker.+play_round.Goals as goal
 
 pub play_on-has_ended-requires-after_bounds : goal.play_on-has_ended-requires-after_bounds

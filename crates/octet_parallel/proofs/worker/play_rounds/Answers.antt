@@ -1,4 +1,4 @@
-use Rattle.octet_parallel.proofs.players.Zips.{all_same, still_same}
+use Rattle.octet_parallel.proofs.lemmas.Players.{all_same, still_same}
 use Rattle.octet_parallel.proofs.worker.play_rounds.Goals as goal
 
 pub loop-init : goal.loop-init

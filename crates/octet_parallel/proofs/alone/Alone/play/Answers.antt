@@ -4,30 +4,30 @@ use Rattle.octet_parallel.proofs.solo.Growing.{demands_within, events_left, fewe
 use Rattle.octet_parallel.proofs.alone.Alone.play.Goals as goal
 
 pub event-requires : goal.event-requires
-event-requires c =
+event-requires g c =
     c.next.ensures.within _ (demands_within _ c.args.log.now _ _ c.loop-event.self c.loop-event.invariant.made.1 _ c.deref.ensures.value)
 
 pub change_heap-requires : goal.change_heap-requires
-change_heap-requires c =
+change_heap-requires g c =
     let own = own_read _ _ _ _ c.index-as_slice-self.is c.as_slice.ensures c.requires.within in
     let is = found_next _ _ c.loop-event.self.replay _ _ _ _ own c.deref.ensures.value c.next.ensures.next c.in-Some.ensures in
     writes _ c.args.log.now _ _ c.loop-event.self c.loop-event.invariant.made.1 c.in-Some.event is
 
 pub make-requires-clause-room : goal.make-requires-clause-room
-make-requires-clause-room c =
+make-requires-clause-room g c =
     let own = own_read _ _ _ _ c.index-as_slice-self.is c.as_slice.ensures c.requires.within in
     let is = found_next _ _ c.loop-event.self.replay _ _ _ _ own c.deref.ensures.value c.next.ensures.next c.in-Some.ensures in
     room _ c.args.log.now _ _ c.loop-event.self c.loop-event.invariant.made.1 c.in-Some.event is
 
 pub loop-event-smaller : goal.loop-event-smaller
-loop-event-smaller c =
+loop-event-smaller g c =
     let own = own_read _ _ _ _ c.index-as_slice-self.is c.as_slice.ensures c.requires.within in
     let is = found_next _ _ c.loop-event.self.replay _ _ _ _ own c.deref.ensures.value c.next.ensures.next c.in-Some.ensures in
     let fewer = fewer_left _ c.args.log.now _ _ c.loop-event.self c.loop-event.invariant.made.1 c.in-Some.event is _ c.make.ensures in
     subst (λ (l : ThreadLog). events_left l c.make.new.self < events_left l c.loop-event.self.replay) (sym own) fewer
 
 pub loop-event-preserved : goal.loop-event-preserved
-loop-event-preserved c =
+loop-event-preserved g c =
     let own = own_read _ _ _ _ c.index-as_slice-self.is c.as_slice.ensures c.requires.within in
     let is = found_next _ _ c.loop-event.self.replay _ _ _ _ own c.deref.ensures.value c.next.ensures.next c.in-Some.ensures in
     let i = c.loop-event.invariant in

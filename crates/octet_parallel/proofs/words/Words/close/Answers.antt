@@ -24,7 +24,7 @@ join_all-first-requires-clause-seats c = (parts (goal.at.join_all-first-requires
 pub returns : goal.returns
 returns c = let e = all_seats (goal.at.returns c).After-remove-first in let p = parts (goal.at.returns c).After-remove-first in let g = c.join_all-first.ensures in let w = c.args.self in
     let done = closes (script_of w) (log_of w) (slots_items c.close_with-closed.result.words) (slots_items c.close_with-closed.result.slots) c.join_all-first.result.inner.id w
-    c.remove-first.result c.remove-first.new.self.items c.join_all-first.result.inner.me.0 c.join_all-first.result.live g.own.1 g.first g.joined p.others (p.all ∙ sym w.numbered) c.close_with-closed.ensures.values.2 in
+    c.remove-first.result c.remove-first.new.self.items c.join_all-first.result.inner.me.0 c.join_all-first.result.live g.own.1 g.first.0 g.first.1 g.joined p.others (p.all ∙ sym w.numbered) c.close_with-closed.ensures.values.2 in
     IfOk-weaker c.read_cells-values.result (λ r. r.items ≡ cells_in (slots_items c.close_with-closed.result.words) (8 * w.players) w.objects) (λ r. Closes (script_of w) (log_of w) c.args.seats.items r.items)
     (λ r is. subst (λ (z : List Seat × List ℕ). Closes (script_of w) (log_of w) z.0 z.1) (λ i. (sym e i, ((λ j. cells_in (slots_items c.close_with-closed.result.words) (8 * w.numbered j) (w.sized j)) ∙ sym is) i)) done)
     c.read_cells-values.ensures

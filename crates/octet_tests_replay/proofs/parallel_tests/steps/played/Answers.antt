@@ -1,11 +1,11 @@
 use Rattle.std.proofs.Common.{rules, ◌≡◌, All, length}
 use Rattle.std.specs.List.{AllZip}
 use Rattle.octet_parallel.specs.Judging.{HasPlayed, IsSamePlayer}
-use Rattle.octet_parallel.proofs.verdicts.Verdicts.{handed_back}
-use Rattle.octet_parallel.proofs.tests.played.Goals as goal
+use Rattle.octet_parallel.proofs.lemmas.Players.{handed_back}
+use Rattle.octet_tests_replay.proofs.parallel_tests.steps.played.Goals as goal
 
 pub close-requires-clause-ended : goal.close-requires-clause-ended
-close-requires-clause-ended g c =
+close-requires-clause-ended c =
     let made = c.into_vec-players.result.items in
     let ran = c.whole_play.new.players in
     let zip : AllZip IsSamePlayer made ran = search rules in

@@ -4,8 +4,8 @@ use Rattle.std.proofs.lemmas.List.Elements.{All-cons}
 use Rattle.octet_parallel.specs.declared.player.Player.{Player}
 use Rattle.octet_parallel.specs.Calls.{view_of, IsPlayerOf}
 use Rattle.octet_parallel.specs.Judging.{IsSamePlayer}
-use Rattle.octet_parallel.proofs.players.Zips.{all_first, all_others, all_same}
-use Rattle.octet_parallel.proofs.tests.+step_at.Goals as goal
+use Rattle.octet_parallel.proofs.lemmas.Players.{all_first, all_others, all_same}
+use Rattle.octet_tests_replay.proofs.parallel_tests.steps.+step_at.Goals as goal
 
 pub step_at-requires : goal.step_at-requires
 step_at-requires t c =

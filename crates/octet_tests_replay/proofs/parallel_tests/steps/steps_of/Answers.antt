@@ -1,6 +1,6 @@
 use Rattle.std.proofs.Common.{rules}
-use Rattle.octet_parallel.proofs.players.Zips.{all_same, still_same}
-use Rattle.octet_parallel.proofs.tests.steps_of.Goals as goal
+use Rattle.octet_parallel.proofs.lemmas.Players.{all_same, still_same}
+use Rattle.octet_tests_replay.proofs.parallel_tests.steps.steps_of.Goals as goal
 
 pub loop-place-init : goal.loop-place-init
 loop-place-init c = (c.requires, all_same c.args.players.now)
