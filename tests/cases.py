@@ -211,6 +211,7 @@ REFUSED = [
     refused("7, bump", script("thread / bump x r0"), "2: 7 no such object"),
     refused("7, another case", script("object x 0 / thread / write X r0"), "3: 7 no such object"),
     refused("7, from left to right", script("thread / write x r16"), "2: 7 no such object"),
+    refused("7, past the last name", text(*OBJECTS, "thread", "read r0 o1023", "read r0 o1024"), "1027: 7 no such object"),
     refused("8, sixteen", script("object x 1 / thread / read r16 x"), "3: 8 bad register"),
     refused("8, of a bump", script("object x 1 / thread / bump x r16"), "3: 8 bad register"),
     refused("8, a leading zero", script("thread / copy r0 r01"), "2: 8 bad register"),

@@ -4,7 +4,5 @@
 mod draws;
 mod generator;
 pub mod laws;
-#[cfg(test)]
-mod tests;
 
 pub use generator::make;

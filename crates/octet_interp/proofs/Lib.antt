@@ -2,7 +2,6 @@ pub mod Matching
 pub mod Runs
 pub mod Valid
 pub mod Agreement
-pub mod OneThread
 pub mod Journaled
 pub mod RegionsRun
 pub mod Followed

@@ -12,6 +12,3 @@ mod leads;
 pub use config::Config;
 pub use demand::Demand;
 pub use follower::Follower;
-
-#[cfg(test)]
-mod tests;

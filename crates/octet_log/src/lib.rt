@@ -30,6 +30,3 @@ pub use v2::{
     bad_mark_of_a_piece_is_refused, bad_piece_is_refused, bad_short_number_is_refused,
     bad_tail_is_refused, encode_v2, head, piece, short_number_has_one_spelling, tail,
 };
-
-#[cfg(test)]
-mod tests;

@@ -16,8 +16,6 @@ mod object;
 mod outcome;
 mod script;
 mod start;
-#[cfg(test)]
-mod tests;
 mod text;
 
 pub use command::Command;

@@ -5,8 +5,6 @@ mod drain;
 mod limits;
 mod opening;
 mod sender;
-#[cfg(test)]
-mod tests;
 
 pub use drain::Drain;
 pub use limits::MAX_ROOM;

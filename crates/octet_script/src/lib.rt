@@ -11,8 +11,6 @@ mod objects;
 mod parser;
 mod printer;
 mod rules;
-#[cfg(test)]
-mod tests;
 mod words;
 
 pub use cause::{ScriptCause, ScriptFault};

@@ -4,3 +4,19 @@
 
 #[cfg(test)]
 mod base_tests;
+#[cfg(test)]
+mod gen_tests;
+#[cfg(test)]
+mod interp_tests;
+#[cfg(test)]
+mod log_tests;
+#[cfg(test)]
+mod model_tests;
+#[cfg(test)]
+mod ring_tests;
+#[cfg(test)]
+mod samples;
+#[cfg(test)]
+mod script_tests;
+#[cfg(test)]
+mod watch_tests;

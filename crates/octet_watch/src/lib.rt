@@ -3,8 +3,6 @@
 
 mod classes;
 mod stop;
-#[cfg(test)]
-mod tests;
 
 pub use classes::{Class, Classes};
 pub use stop::{Answers, Stop, Test};

@@ -1,0 +1,203 @@
+//! Rings of one thread, and rings between threads.
+ghost use Rattle.std.specs.Prelude.{◌≡◌, ◌+◌, ◌<◌, ◌++◌, ◌∷◌, [], length, slice_set};
+ghost use Rattle.octet_ring.specs.Views.{received_of, IsOf, SameRings, SameSender};
+
+use octet_model::{Gapped, Mark};
+use octet_ring::{Drain, MAX_ROOM, Sender, rings};
+use std::sync::Wait;
+use std::test::Fail;
+use std::thread::{Threads, join_mut, yield_now};
+
+// A mark that no other number has.
+fn mark(number: u32) -> Gapped {
+    Gapped {
+        gap: number,
+        mark: Mark::Draw {
+            number: u64::from(number) + 1,
+        },
+    }
+}
+
+// Takes what a sender sent: as many marks as are left, each of which is there.
+fn take_rest(drain: &mut Drain, sender: &mut Sender, thread: u8) -> u32
+    requires own { IsOf drain.old sender.old }
+    requires thread { sender.old.thread ≡ thread }
+    ensures rings { SameRings drain.old drain.new }
+    ensures sender { SameSender sender.old sender.new × (sender.new.sent ≡ sender.old.sent) }
+    ensures all { received_of drain.new thread ≡ sender.new.sent }
+{
+    let left = drain.rest(sender);
+    for _ in 0..left {
+        let Some(_) = drain.take(thread) else {
+            unreachable!()
+        };
+    }
+    drain.rest(sender);
+    left
+}
+
+// Sends marks until one comes back. Tells how many did not.
+fn fill(sender: &mut Sender) -> u32
+    ensures ring { SameSender sender.old sender.new }
+{
+    for number in 0..=MAX_ROOM {
+        if sender.send(mark(number)).is_some() {
+            return number;
+        }
+    }
+    u32::MAX
+}
+
+// Takes the marks of thread 0 while they come in order. Tells how many.
+fn empty(drain: &mut Drain) -> u32
+    requires threads { 0 < length drain.old.received }
+    ensures rings { SameRings drain.old drain.new }
+{
+    for number in 0..=MAX_ROOM {
+        if drain.take(0) != Some(mark(number)) {
+            return number;
+        }
+    }
+    u32::MAX
+}
+
+fn send_waiting(rt: &impl Wait, sender: &mut Sender, mark: Gapped)
+    ensures ring { SameSender sender.old sender.new }
+    ensures sent { sender.new.sent ≡ sender.old.sent ++ mark ∷ [] }
+{
+    for _ in rt.forever() {
+        if sender.send(mark).is_none() {
+            return;
+        }
+        yield_now();
+    }
+    unreachable!()
+}
+
+fn take_waiting(rt: &impl Wait, drain: &mut Drain, thread: u8) -> Gapped
+    requires thread { thread < length drain.old.received }
+    ensures rings { SameRings drain.old drain.new }
+    ensures received { drain.new.received ≡ slice_set drain.old.received thread (received_of drain.old thread ++ result ∷ []) }
+{
+    for _ in rt.forever() {
+        if let Some(mark) = drain.take(thread) {
+            return mark;
+        }
+        yield_now();
+    }
+    unreachable!()
+}
+
+fn send_all(rt: &impl Wait, sender: &mut Sender, first: u32, count: u32)
+    ensures ring { SameSender sender.old sender.new }
+{
+    for number in 0..count {
+        send_waiting(rt, sender, mark(first.saturating_add(number)));
+    }
+}
+
+// Whether the marks of threads 0 and 1 come in order.
+fn take_all(rt: &impl Wait, drain: &mut Drain, count: u32) -> bool
+    requires threads { 1 < length drain.old.received }
+    ensures rings { SameRings drain.old drain.new }
+{
+    let mut in_order = true;
+    for number in 0..count {
+        let first = take_waiting(rt, drain, 0);
+        let second = take_waiting(rt, drain, 1);
+        if first != mark(number) || second != mark(count.saturating_add(number)) {
+            in_order = false;
+        }
+    }
+    in_order
+}
+
+fn send_both<R: Threads + Wait + Sync>(rt: &R, first: &mut Sender, second: &mut Sender, count: u32)
+    ensures first { SameSender first.old first.new }
+    ensures second { SameSender second.old second.new }
+{
+    join_mut(
+        rt,
+        &mut || send_all(rt, first, 0, count),
+        &mut || send_all(rt, second, count, count),
+    );
+}
+
+// Two threads send while a third takes.
+fn across<R: Threads + Wait + Sync>(
+    rt: &R,
+    drain: &mut Drain,
+    first: &mut Sender,
+    second: &mut Sender,
+    count: u32,
+) -> bool
+    requires own { IsOf drain.old first.old × IsOf drain.old second.old }
+    requires threads { 1 < length drain.old.received }
+    ensures own { IsOf drain.new first.new × IsOf drain.new second.new }
+{
+    let (_, in_order) = join_mut(
+        rt,
+        &mut || send_both(rt, first, second, count),
+        &mut || take_all(rt, drain, count),
+    );
+    in_order
+}
+
+#[test]
+fn both_ends_look_at_the_other(rt: HostRuntime) -> Result<(), Fail> {
+    let (senders, mut drain) = rings(rt.alloc(), 1, 1)?;
+    let mut senders = senders.into_vec();
+    let mut sender = senders.remove(0);
+    assert_eq!(rt; sender.send(mark(1)), None);
+    assert_eq!(rt; drain.take(0), Some(mark(1)));
+    assert_eq!(rt; sender.send(mark(2)), None);
+    assert_eq!(rt; drain.take(0), Some(mark(2)));
+    assert_eq!(rt; sender.send(mark(3)), None);
+    assert_eq!(rt; drain.take(0), Some(mark(3)));
+    Ok(())
+}
+
+#[test]
+fn every_room_holds_so_many_marks(rt: HostRuntime) -> Result<(), Fail> {
+    for room in 1..=MAX_ROOM {
+        let (senders, mut drain) = rings(rt.alloc(), 1, room)?;
+        let mut senders = senders.into_vec();
+        let mut sender = senders.remove(0);
+        assert_eq!(rt; fill(&mut sender), room);
+        assert_eq!(rt; drain.rest(&mut sender), room);
+        assert_eq!(rt; empty(&mut drain), room);
+        assert_eq!(rt; drain.rest(&mut sender), 0);
+    }
+    Ok(())
+}
+
+#[test]
+fn each_thread_has_a_ring_of_its_own(rt: HostRuntime) -> Result<(), Fail> {
+    let (senders, mut drain) = rings(rt.alloc(), 16, 2)?;
+    let mut senders = senders.into_vec();
+    let mut last = senders.remove(15);
+    let mut first = senders.remove(0);
+    assert_eq!(rt; last.send(mark(15)), None);
+    assert_eq!(rt; first.send(mark(1)), None);
+    assert_eq!(rt; first.send(mark(2)), None);
+    assert_eq!(rt; drain.take(1), None);
+    assert_eq!(rt; drain.take(15), Some(mark(15)));
+    assert_eq!(rt; drain.take(15), None);
+    assert_eq!(rt; take_rest(&mut drain, &mut first, 0), 2);
+    assert_eq!(rt; take_rest(&mut drain, &mut last, 15), 0);
+    Ok(())
+}
+
+#[test]
+fn all_arrives_in_order_between_threads(rt: HostRuntime) -> Result<(), Fail> {
+    for room in [1, 256] {
+        let (senders, mut drain) = rings(rt.alloc(), 2, room)?;
+        let mut senders = senders.into_vec();
+        let mut second = senders.remove(1);
+        let mut first = senders.remove(0);
+        assert!(rt; across(&rt, &mut drain, &mut first, &mut second, 10_000));
+        assert_eq!(rt; drain.rest(&mut first), 0);
+        assert_eq!(rt; drain.rest(&mut second), 0);
+    }
+    Ok(())
+}
