@@ -258,7 +258,7 @@ fn two_workers(alloc: Global) -> Result<(Heap, Worker, Worker, u32), Fail>
     ensures first { IfOk result (λ opened. IsNew opened.0 0 opened.1) }
     ensures second { IfOk result (λ opened. IsNew opened.0 1 opened.2) }
 {
-    let text = b"fuel 100000\nobject lock\nobject count\nobject top\nobject a\nobject b\nobject c\nobject d\nobject e\nobject f\nobject g\nobject h\nthread\nthread\n";
+    let text = b"fuel 100000\nobject lock 0\nobject count 0\nobject top 0\nobject a 0\nobject b 0\nobject c 0\nobject d 0\nobject e 0\nobject f 0\nobject g 0\nobject h 0\nthread\nthread\n";
     let script = script(alloc, text)?;
     if script.threads.len() != 2 || script.objects.len() != OBJECTS as usize {
         return Err(Fail::new("the script has two threads and eleven objects"));
