@@ -2,6 +2,7 @@ pub mod Step
 pub mod Turns
 pub mod Tasks
 pub mod Carrying
+pub mod Rests
 pub mod Runners
 pub mod Live
 pub mod Feeds

@@ -21,14 +21,9 @@ abbrev pub goes_first : Turned → Option ℕ
 goes_first (Waits why) = waited_for why
 goes_first _ = None
 
--- the access before which the thread has to pass the gate, unless that is open. It was last passed for the access of the number `passed`
-abbrev pub due_at_gate : Bool → MachineState → ℕ → Option ℕ → Option ℕ
-due_at_gate true m thread passed = None
-due_at_gate false m thread passed = at_gate m thread passed
-
 -- a thread of the machine, which has no gate to pass before its next turn
-abbrev pub IsFree : Bool → MachineState → ℕ → Type 0
-IsFree is_open m thread = (thread < length m.runners) × (due_at_gate is_open m thread None ≡ None)
+abbrev pub IsFree : MachineState → ℕ → Type 0
+IsFree m thread = (thread < length m.runners) × (at_gate m thread None ≡ None)
 
 -- turns of these threads one after another: each is one that may be taken of the machine that it finds, after what the turn before answered
 abbrev pub MayGo : (MachineState → Turned → ℕ → Type 0) → MachineState → Turned → List ℕ → Type 0
@@ -41,8 +36,8 @@ last_turned m answer [] = answer
 last_turned m answer (thread ∷ threads) = last_turned (after_turn m thread) (turned m thread) threads
 
 -- the turn before had to wait for this thread, which is free
-abbrev pub MayHelp : Bool → MachineState → Turned → ℕ → Type 0
-MayHelp is_open m answer thread = (goes_first answer ≡ Some thread) × IsFree is_open m thread
+abbrev pub MayHelp : MachineState → Turned → ℕ → Type 0
+MayHelp m answer thread = (goes_first answer ≡ Some thread) × IsFree m thread
 
 -- by this answer a thread went on, or has nobody to wait for
 abbrev pub GoesOn : Turned → Type 0
@@ -51,58 +46,58 @@ GoesOn (Waits why) = waited_for why ≡ None
 GoesOn Ended = ⊥
 
 -- by this answer a thread has ended, or waits for one that is not free
-abbrev pub IsStuck : Bool → MachineState → Turned → Type 0
-IsStuck is_open m Moved = ⊥
-IsStuck is_open m (Waits why) = (thread : ℕ) × (waited_for why ≡ Some thread) × (IsFree is_open m thread → ⊥)
-IsStuck is_open m Ended = Unit {0}
+abbrev pub IsStuck : MachineState → Turned → Type 0
+IsStuck m Moved = ⊥
+IsStuck m (Waits why) = (thread : ℕ) × (waited_for why ≡ Some thread) × (IsFree m thread → ⊥)
+IsStuck m Ended = Unit {0}
 
 -- it helped where a thread went on, or so many turns were taken as may be at most
-abbrev pub TellsHelp : Bool → ℕ → List ℕ → Turned → MachineState → Bool → Type 0
-TellsHelp is_open most threads answer m true = GoesOn answer ⊎ (length threads ≡ most)
-TellsHelp is_open most threads answer m false = IsStuck is_open m answer
+abbrev pub TellsHelp : ℕ → List ℕ → Turned → MachineState → Bool → Type 0
+TellsHelp most threads answer m true = GoesOn answer ⊎ (length threads ≡ most)
+TellsHelp most threads answer m false = IsStuck m answer
 
 -- a turn of the thread that has to go first, then of the one for which that one waits, and so on
-pub record Helps (is_open : Bool) (most : ℕ) (why : Why) (before : MachineState) (helped : Bool) (after : MachineState) : Type 0 where
+pub record Helps (most : ℕ) (why : Why) (before : MachineState) (helped : Bool) (after : MachineState) : Type 0 where
   pub threads : List ℕ
-  pub may : MayGo (MayHelp is_open) before (Waits why) threads
+  pub may : MayGo MayHelp before (Waits why) threads
   pub comes : after ≡ after_turns before threads
   pub few : length threads ≤ most
-  pub tells : TellsHelp is_open most threads (last_turned before (Waits why) threads) after helped
+  pub tells : TellsHelp most threads (last_turned before (Waits why) threads) after helped
 
 -- a turn of its own thread, past the gate, or of a thread that has to go first
-abbrev pub MayTurn : Bool → ℕ → Option ℕ → MachineState → Turned → ℕ → Type 0
-MayTurn is_open own passed m answer thread =
-    ((thread ≡ own) × (own < length m.runners) × (due_at_gate is_open m own passed ≡ None))
-    ⊎ MayHelp is_open m answer thread
+abbrev pub MayTurn : ℕ → Option ℕ → MachineState → Turned → ℕ → Type 0
+MayTurn own passed m answer thread =
+    ((thread ≡ own) × (own < length m.runners) × (at_gate m own passed ≡ None))
+    ⊎ MayHelp m answer thread
 
 abbrev pub own_turns : ℕ → List ℕ → ℕ
 own_turns own threads = count_by (λ thread. thread == own) threads
 
 -- such turns, at least so many of its own thread
-pub record TakesTurns (is_open : Bool) (own : ℕ) (passed : Option ℕ) (least : ℕ) (before after : MachineState) : Type 0 where
+pub record TakesTurns (own : ℕ) (passed : Option ℕ) (least : ℕ) (before after : MachineState) : Type 0 where
   pub threads : List ℕ
-  pub may : (answer : Turned) → MayGo (MayTurn is_open own passed) before answer threads
+  pub may : (answer : Turned) → MayGo (MayTurn own passed) before answer threads
   pub comes : after ≡ after_turns before threads
   pub enough : least ≤ own_turns own threads
 
 -- such turns, then one of its own thread that has to wait, and those of the threads that have to go first, which did not help
-pub record WaitsAfter (is_open : Bool) (own : ℕ) (passed : Option ℕ) (why : Why) (before after : MachineState) : Type 0 where
+pub record WaitsAfter (own : ℕ) (passed : Option ℕ) (why : Why) (before after : MachineState) : Type 0 where
   pub at : MachineState
-  pub turns : TakesTurns is_open own passed 0 before at
-  pub past : due_at_gate is_open at own passed ≡ None
+  pub turns : TakesTurns own passed 0 before at
+  pub past : at_gate at own passed ≡ None
   pub waits : turned at own ≡ Waits why
   pub most : ℕ
-  pub helps : Helps is_open most why (after_turn at own) false after
+  pub helps : Helps most why (after_turn at own) false after
 
 -- what a worker finds by such turns: that they were taken, or how the last one of its own thread ended
-abbrev pub Finds : Bool → ℕ → Option ℕ → ℕ → MachineState → Found → MachineState → Type 0
-Finds is_open own passed least before (AtGate access) after =
-    TakesTurns is_open own passed 0 before after × (due_at_gate is_open after own passed ≡ Some access)
-Finds is_open own passed least before (Took Moved) after = TakesTurns is_open own passed least before after
-Finds is_open own passed least before (Took (Waits why)) after = WaitsAfter is_open own passed why before after
-Finds is_open own passed least before (Took Ended) after = TakesTurns is_open own passed 0 before after × (turned after own ≡ Ended)
+abbrev pub Finds : ℕ → Option ℕ → ℕ → MachineState → Found → MachineState → Type 0
+Finds own passed least before (AtGate access) after =
+    TakesTurns own passed 0 before after × (at_gate after own passed ≡ Some access)
+Finds own passed least before (Took Moved) after = TakesTurns own passed least before after
+Finds own passed least before (Took (Waits why)) after = WaitsAfter own passed why before after
+Finds own passed least before (Took Ended) after = TakesTurns own passed 0 before after × (turned after own ≡ Ended)
 
 -- a thread that the machine does not have finds nothing, and takes no turn
-abbrev pub FindsSome : Bool → ℕ → Option ℕ → ℕ → MachineState → Option Found → MachineState → Type 0
-FindsSome is_open own passed least before (Some found) after = (own < length before.runners) × Finds is_open own passed least before found after
-FindsSome is_open own passed least before None after = (length before.runners ≤ own) × (after ≡ before)
+abbrev pub FindsSome : ℕ → Option ℕ → ℕ → MachineState → Option Found → MachineState → Type 0
+FindsSome own passed least before (Some found) after = (own < length before.runners) × Finds own passed least before found after
+FindsSome own passed least before None after = (length before.runners ≤ own) × (after ≡ before)

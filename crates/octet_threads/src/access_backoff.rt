@@ -1,11 +1,13 @@
 //! How a worker waits between two polls of its access, and when it is to rest.
 ghost use Rattle.std.specs.Prelude.{◌≡◌, ◌+◌, ◌-◌, ◌*◌, ◌≤◌, ◌<◌, true, false, not, min, nat_eq, nat_le};
 ghost use Rattle.std.specs.Duration.{as_nanos};
+ghost use Rattle.octet_threads.specs.Rests.{rest_after};
 ghost use Rattle.octet_threads.specs.declared.tuning.TheConstants.{POLLS_BEFORE_SLEEP, SHORTEST_SLEEP, LONGEST_SLEEP, SHORTEST_REST, LONGEST_REST, HEAT_OF_WAITING, HEAT_OF_SLEEP, HEAT_OF_REST};
 
+use crate::safe_points::SafePoints;
 use crate::tuning::{
-    HEAT_OF_REST, HEAT_OF_SLEEP, HEAT_OF_WAITING, LONGEST_REST, LONGEST_SLEEP, POLLS_BEFORE_SLEEP,
-    SHORTEST_REST, SHORTEST_SLEEP, SPINS_IF_HELD,
+    ACCESSES_OF_CALM, HEAT_OF_REST, HEAT_OF_SLEEP, HEAT_OF_WAITING, LONGEST_REST, LONGEST_SLEEP,
+    POLLS_BEFORE_SLEEP, SHORTEST_REST, SHORTEST_SLEEP, SPINS_IF_HELD,
 };
 use crossbeam_utils::Backoff;
 use octet_state::Why;
@@ -28,6 +30,7 @@ pub(crate) struct AccessBackoff {
     heat: u32,
     rest: u32,
     never: AtomicU64,
+    pub(crate) safe_points: SafePoints,
     ghost sleeps: { (SHORTEST_SLEEP ≤ sleep) × (sleep ≤ LONGEST_SLEEP) },
     ghost rests: { (SHORTEST_REST ≤ rest) × (rest ≤ LONGEST_REST) },
 }
@@ -46,6 +49,7 @@ impl AccessBackoff {
             heat: 0,
             rest: SHORTEST_REST,
             never: AtomicU64::new(0),
+            safe_points: SafePoints::new(),
         }
     }
 
@@ -65,7 +69,7 @@ impl AccessBackoff {
         ensures value { result ≡ not (nat_eq accesses self.old.accesses) }
         ensures accesses { self.new.accesses ≡ accesses }
         ensures cools { self.new.heat ≡ self.old.heat - (accesses - self.old.accesses) }
-        ensures rest { self.new.rest ≡ self.old.rest }
+        ensures rest { self.new.rest ≡ rest_after (accesses - self.old.accesses) self.old.rest }
         ensures anew { result ≡ true → (self.new.polls ≡ 0) × (self.new.sleep ≡ SHORTEST_SLEEP) }
         ensures same { result ≡ false → self.new ≡ self.old }
     {
@@ -75,8 +79,22 @@ impl AccessBackoff {
         let since = accesses.saturating_sub(self.accesses);
         self.accesses = accesses;
         self.heat = self.heat.saturating_sub(since);
+        if since >= ACCESSES_OF_CALM {
+            self.rest = SHORTEST_REST;
+        }
         self.restart(asked);
         true
+    }
+
+    // How long it is to sleep. The next sleep is twice as long.
+    fn next_sleep(&mut self) -> Duration
+        ensures short { SHORTEST_SLEEP * 1_000 ≤ as_nanos result }
+        ensures long { as_nanos result ≤ LONGEST_SLEEP * 1_000 }
+        ensures same { (self.new.heat ≡ self.old.heat) × (self.new.rest ≡ self.old.rest) }
+    {
+        let sleep = self.sleep;
+        self.sleep = sleep.saturating_mul(2).min(LONGEST_SLEEP);
+        Duration::from_micros(u64::from(sleep))
     }
 
     // Spins, or sleeps where it has waited for so long that polls are of no use.
@@ -91,9 +109,8 @@ impl AccessBackoff {
             return;
         }
         self.heat = self.heat.saturating_add(HEAT_OF_SLEEP);
-        self.never
-            .park_timeout(rt, 0, Duration::from_micros(u64::from(self.sleep)));
-        self.sleep = self.sleep.saturating_mul(2).min(LONGEST_SLEEP);
+        let time = self.next_sleep();
+        self.never.park_timeout(rt, 0, time);
     }
 
     // Waits for the answer of a thread that was asked.
@@ -101,7 +118,7 @@ impl AccessBackoff {
     #[inline(never)]
     fn wait_for_answer<R: Wait>(&mut self, rt: &R, by: u8, accesses: u32)
         ensures heat { self.new.heat ≤ self.old.heat + HEAT_OF_WAITING + HEAT_OF_SLEEP }
-        ensures rest { self.new.rest ≡ self.old.rest }
+        ensures rest { self.new.rest ≡ rest_after (accesses - self.old.accesses) self.old.rest }
     {
         if self.begins(accesses, Some(by)) {
             self.heat = self.heat.saturating_add(HEAT_OF_WAITING);
@@ -116,7 +133,7 @@ impl AccessBackoff {
     #[inline(never)]
     fn wait_for_object<R: Wait>(&mut self, rt: &R, accesses: u32)
         ensures heat { self.new.heat ≤ self.old.heat + HEAT_OF_WAITING + HEAT_OF_SLEEP }
-        ensures rest { self.new.rest ≡ self.old.rest }
+        ensures rest { self.new.rest ≡ rest_after (accesses - self.old.accesses) self.old.rest }
     {
         if self.begins(accesses, None) {
             self.heat = self.heat.saturating_add(HEAT_OF_WAITING);
@@ -132,7 +149,7 @@ impl AccessBackoff {
     #[inline(always)]
     pub(crate) fn wait<R: Wait>(&mut self, rt: &R, why: Why, accesses: u32)
         ensures heat { self.new.heat ≤ self.old.heat + HEAT_OF_WAITING + HEAT_OF_SLEEP }
-        ensures rest { self.new.rest ≡ self.old.rest }
+        ensures rest { self.new.rest ≡ rest_after (accesses - self.old.accesses) self.old.rest }
     {
         match why {
             Why::Unanswered { by, .. } => self.wait_for_answer(rt, by, accesses),

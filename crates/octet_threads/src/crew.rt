@@ -1,16 +1,22 @@
 //! What the workers of a run share beside their heap.
+use crate::tuning::{LONGEST_START, YIELDS_AT_START};
 use std::sync::Wait;
 use std::sync::atomic::{AtomicU64, Ordering};
+use std::thread::yield_now;
 use std::time::Duration;
 
-/// How many workers are at work and how many have ended, and a bell on which those sleep that rest,
-/// with how often it was rung. Threads that want one object all the time hand it over at each access
+/// How many workers have begun, are at work and have ended, and a bell on which those sleep that rest,
+/// with how often it was rung. Workers begin together: a thread of a few commands would else be at its
+/// end before the next one is made. Threads that want one object all the time hand it over at each access
 /// as long as all of them run, and a handover takes as long as a hundred accesses, or some
 /// milliseconds where a thread has no processor. So a worker that has waited a lot stays away for a
 /// while, marked as blocked: others take what it has without waiting for it. The last one at work does
 /// not rest, and when it ends one of those that rest goes on. No claim rests on any of the counts.
 #[derive(Drop)]
 pub(crate) struct Crew {
+    workers: usize,
+    begun: AtomicU64,
+    started: AtomicU64,
     working: AtomicU64,
     ended: AtomicU64,
     rung: AtomicU64,
@@ -22,17 +28,48 @@ fn low_half(word: &AtomicU64) -> u32 {
 }
 
 impl Crew {
-    pub(crate) fn new() -> Crew {
+    /// Of so many workers, none of which has begun.
+    pub(crate) fn new(workers: usize) -> Crew {
         Crew {
+            workers,
+            begun: AtomicU64::new(0),
+            started: AtomicU64::new(0),
             working: AtomicU64::new(0),
             ended: AtomicU64::new(0),
             rung: AtomicU64::new(0),
         }
     }
 
-    /// Counts a worker that begins.
-    pub(crate) fn begin(&self) {
+    /// Counts a worker that begins, and waits until all have begun, but not for long: it may be that no
+    /// other thread can be made before this one ends. Where one has waited for that long, none waits
+    /// any more.
+    pub(crate) fn begin<R: Wait>(&self, rt: &R) {
         self.working.fetch_add(1, Ordering::SeqCst);
+        self.begun.fetch_add(1, Ordering::SeqCst);
+        if self.begun.load(Ordering::SeqCst) < self.workers as u64 {
+            self.wait_for_start(rt);
+        }
+        self.start();
+    }
+
+    // Threads are mostly made within some tens of microseconds, and who sleeps begins later than who
+    // looks.
+    fn wait_for_start<R: Wait>(&self, rt: &R) {
+        for _ in 0..YIELDS_AT_START {
+            if self.started.load(Ordering::SeqCst) > 0 {
+                return;
+            }
+            yield_now();
+        }
+        self.started
+            .park_timeout(rt, 0, Duration::from_micros(u64::from(LONGEST_START)));
+    }
+
+    // Has all workers go on that wait to begin.
+    fn start(&self) {
+        if self.started.swap(1, Ordering::SeqCst) == 0 {
+            self.started.wake_all();
+        }
     }
 
     /// Counts a worker that ends, and wakes who waits for it. The last one at work wakes one of those
@@ -65,7 +102,7 @@ impl Crew {
 
     /// Whether any worker has begun.
     pub(crate) fn has_begun(&self) -> bool {
-        self.working.load(Ordering::SeqCst) > 0 || self.ended() > 0
+        self.begun.load(Ordering::SeqCst) > 0
     }
 
     /// How many workers have ended.

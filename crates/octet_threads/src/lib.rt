@@ -21,6 +21,7 @@ mod recording;
 mod runner;
 mod running;
 mod runs;
+mod safe_points;
 mod step;
 #[cfg(test)]
 mod tests;

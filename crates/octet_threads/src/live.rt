@@ -108,7 +108,7 @@ fn run_beside<R: Threads + Wait + Sync, G: HeapGate, D: Desk>(
     ensures drains { Drains (length runners.old) drainer.old.kept drainer.old.drain (D.state desk.old) drainer.new.kept drainer.new.drain (D.state desk.new) }
     ensures begun { (D.state desk.new).begun ≡ (D.state desk.old).begun }
 {
-    let crew = Crew::new();
+    let crew = Crew::new(runners.len());
     let shared = &crew;
     let threads = runners.len() as u8;
     join_mut(

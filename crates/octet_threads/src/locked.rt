@@ -26,8 +26,8 @@ fn machine_of(alloc: Global, script: &Script, machine: Machine) -> Result<Machin
 /// log and the outcome, which are a faithful recording. A worker takes some turns of its thread at
 /// a time, on a machine that all workers share behind one lock. Where its thread has to wait for
 /// another one, it takes turns of that one too, since the other worker may have no processor. Once
-/// before each access it passes the gate, without the lock, unless the gate is open. Where a
-/// thread has to pass the gate first, a worker that waits for it backs off.
+/// before each access it passes the gate, without the lock. Where a thread has to pass the gate first, a
+/// worker that waits for it backs off.
 /// May wait: nothing says that the workers come to an end.
 pub fn run_locked<R: Threads + Wait + Sync, G: Gate>(
     rt: &R,

@@ -78,7 +78,7 @@ pub fn run<R: Threads + Wait + Sync, G: HeapGate>(
 {
     let (heap, workers) = Heap::new(alloc, script)?;
     let mut runners = runners(alloc, script, &heap, workers.into_vec())?;
-    let crew = Crew::new();
+    let crew = Crew::new(runners.len());
     run_all(rt, &heap, gate, &crew, runners.as_mut_slice());
     finish_run(alloc, script, heap, runners)
 }

@@ -89,7 +89,7 @@ impl Runner {
         ensures ended { HasEnded heap.now self.new }
         ensures same { IsSame self.old self.new }
     {
-        crew.begin();
+        crew.begin(rt);
         heap.unblock(&mut self.worker);
         let mut backoff = AccessBackoff::new();
         for _ in rt.forever() {

@@ -38,6 +38,21 @@ pub(crate) const SHORTEST_REST: u32 = 1_000;
 
 pub(crate) const LONGEST_REST: u32 = 16_000;
 
+/// So many accesses without a wait tell that nobody holds the thread up any more: its next rest is the
+/// shortest again.
+pub(crate) const ACCESSES_OF_CALM: u32 = 1_024;
+
+/// How often a worker that has begun looks whether all have, each time after a yield, before it sleeps:
+/// some 50 microseconds where no other thread wants its processor.
+pub(crate) const YIELDS_AT_START: u32 = 100;
+
+/// How long it sleeps then at most, in microseconds.
+pub(crate) const LONGEST_START: u32 = 2_000;
+
+/// The safe points in a row, with no mark between, after which a worker gives its processor away for the
+/// first time; each next time it is twice as many.
+pub(crate) const SAFE_POINTS_BEFORE_YIELD: u32 = 16;
+
 /// Turns of its own thread that a worker takes at most before it lets go of the machine: enough that
 /// the lock costs little beside them, and few, since others wait for it meanwhile.
 pub(crate) const TURNS: u32 = 16;

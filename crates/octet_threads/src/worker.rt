@@ -5,8 +5,7 @@ ghost use Rattle.octet_model.specs.declared.limits.TheConstants.{MAX_THREADS};
 ghost use Rattle.octet_machine.specs.declared.turned.Turned.TheVariants.{Moved};
 ghost use Rattle.octet_threads.specs.declared.step.Found.TheVariants.{Took};
 ghost use Rattle.octet_threads.specs.declared.tuning.TheConstants.{TURNS};
-ghost use Rattle.octet_threads.specs.Step.{at_gate};
-ghost use Rattle.octet_threads.specs.Turns.{due_at_gate, waited_for, IsFree, Helps, Finds, FindsSome};
+ghost use Rattle.octet_threads.specs.Turns.{waited_for, IsFree, Helps, Finds, FindsSome};
 
 use crate::access_backoff::AccessBackoff;
 use crate::step::{Found, step};
@@ -30,29 +29,17 @@ fn first(why: Why) -> Option<u8>
 }
 
 // Whether the machine has the thread, and no gate is to be passed before its next turn.
-fn is_free(machine: &Machine, thread: u8, is_open: bool) -> bool
-    ensures { (result ≡ true) ↔ IsFree is_open machine.now thread }
+fn is_free(machine: &Machine, thread: u8) -> bool
+    ensures { (result ≡ true) ↔ IsFree machine.now thread }
 {
-    thread < machine.threads() && (is_open || machine.wants(thread).is_none())
-}
-
-// The access that the thread may make: any, where the gate is open.
-fn passed_at(machine: &Machine, thread: u8, is_open: bool, passed: Option<u32>) -> Option<u32>
-    requires { thread < length machine.now.runners }
-    ensures { at_gate machine.now thread result ≡ due_at_gate is_open machine.now thread passed }
-{
-    if is_open {
-        machine.wants(thread)
-    } else {
-        passed
-    }
+    thread < machine.threads() && machine.wants(thread).is_none()
 }
 
 // Takes a turn of the thread that has to go first, of the one for which that one waits, and so on,
 // until a thread went on, but so many at most. A thread that is to pass the gate takes none. Tells
 // whether any went on.
-fn help(machine: &mut Machine, why: Why, is_open: bool, most: u8) -> bool
-    ensures helps { Helps is_open most why machine.old result machine.new }
+fn help(machine: &mut Machine, why: Why, most: u8) -> bool
+    ensures helps { Helps most why machine.old result machine.new }
     ensures threads { length machine.new.runners ≡ length machine.old.runners }
 {
     let Some(by) = first(why) else {
@@ -61,25 +48,24 @@ fn help(machine: &mut Machine, why: Why, is_open: bool, most: u8) -> bool
     if most == 0 {
         return true;
     }
-    if !is_free(machine, by, is_open) {
+    if !is_free(machine, by) {
         return false;
     }
     match machine.turn(by) {
         Turned::Moved => true,
         Turned::Ended => false,
-        Turned::Waits { why } => help(machine, why, is_open, most - 1),
+        Turned::Waits { why } => help(machine, why, most - 1),
     }
 }
 
 // Takes a turn of one thread, and where it has to wait, turns of those that have to go first. Where
 // one of those went on, so did it.
-fn take_turn(machine: &mut Machine, thread: u8, is_open: bool, passed: Option<u32>) -> Found
+fn take_turn(machine: &mut Machine, thread: u8, passed: Option<u32>) -> Found
     requires { thread < length machine.old.runners }
-    ensures finds { Finds is_open thread passed 1 machine.old result machine.new }
+    ensures finds { Finds thread passed 1 machine.old result machine.new }
     ensures threads { length machine.new.runners ≡ length machine.old.runners }
 {
     let threads = machine.threads();
-    let passed = passed_at(machine, thread, is_open, passed);
     match step(machine, thread, passed) {
         Found::AtGate { access } => Found::AtGate { access },
         Found::Took {
@@ -95,7 +81,7 @@ fn take_turn(machine: &mut Machine, thread: u8, is_open: bool, passed: Option<u3
         Found::Took {
             turned: Turned::Waits { why },
         } => Found::Took {
-            turned: if help(machine, why, is_open, threads) {
+            turned: if help(machine, why, threads) {
                 Turned::Moved
             } else {
                 Turned::Waits { why }
@@ -119,19 +105,14 @@ fn has_moved(found: Found) -> bool
 // Takes some turns of one thread, with those of others for which it waits, unless the gate is to be
 // passed before. A thread that the machine does not have finds none: of a machine under a lock only
 // its type is known.
-fn take_turns(
-    machine: &mut Machine,
-    thread: u8,
-    is_open: bool,
-    passed: Option<u32>,
-) -> Option<Found>
-    ensures { FindsSome is_open thread passed TURNS machine.old result machine.new }
+fn take_turns(machine: &mut Machine, thread: u8, passed: Option<u32>) -> Option<Found>
+    ensures { FindsSome thread passed TURNS machine.old result machine.new }
 {
     if thread >= machine.threads() {
         return None;
     }
     for _ in 0..TURNS {
-        let found = take_turn(machine, thread, is_open, passed);
+        let found = take_turn(machine, thread, passed);
         if !has_moved(found) {
             return Some(found);
         }
@@ -141,16 +122,14 @@ fn take_turns(
     })
 }
 
-// Takes the turns of one thread until it has ended, and passes the gate before each access, unless
-// that is open.
+// Takes the turns of one thread until it has ended, and passes the gate before each access.
 fn work<R: Threads + Wait + Sync, G: Gate>(rt: &R, shared: &Mutex<Machine>, gate: &G, thread: u8) {
-    let is_open = gate.is_open();
     let mut backoff = AccessBackoff::new();
     let mut passed = None;
     let mut moves = 0u32;
     for _ in rt.forever() {
         // The lock is let go of here, and not after the match.
-        let found = take_turns(&mut shared.lock(rt), thread, is_open, passed);
+        let found = take_turns(&mut shared.lock(rt), thread, passed);
         match found {
             Some(Found::AtGate { access }) => {
                 gate.pass(rt, thread, access);

@@ -11,7 +11,7 @@ use Rattle.octet_machine.specs.Turns.{after_turns}
 use Rattle.octet_threads.specs.Step.{at_gate, step_result_by, after_step_by, step_result, state_after_step}
 use Rattle.octet_threads.specs.declared.step.Found.{Found}
 use Rattle.octet_threads.specs.declared.step.Found.TheVariants.{AtGate, Took}
-use Rattle.octet_threads.specs.Turns.{due_at_gate, MayGo, MayHelp, MayTurn, own_turns, Helps, TakesTurns, Finds}
+use Rattle.octet_threads.specs.Turns.{at_gate, MayGo, MayHelp, MayTurn, own_turns, Helps, TakesTurns, Finds}
 
 goes_then : (May : MachineState → Turned → ℕ → Type 0) (m : MachineState) (answer : Turned) (threads more : List ℕ)
     → MayGo May m answer threads → ((answer : Turned) → MayGo May (after_turns m threads) answer more) → MayGo May m answer (threads ++ more)
@@ -26,28 +26,28 @@ count_of_both : (own : ℕ) (threads more : List ℕ) → own_turns own (threads
 count_of_both own threads more = sum_by-append (λ (thread : ℕ). cond (thread == own) 1 0) threads more
 
 -- first some turns, and then others
-pub turns_then : (is_open : Bool) (own : ℕ) (passed : Option ℕ) (least more all : ℕ) (m mid after : MachineState)
-    → TakesTurns is_open own passed least m mid → TakesTurns is_open own passed more mid after → all ≤ least + more → TakesTurns is_open own passed all m after
-turns_then is_open own passed least more all m mid after x y sum = record {
+pub turns_then : (own : ℕ) (passed : Option ℕ) (least more all : ℕ) (m mid after : MachineState)
+    → TakesTurns own passed least m mid → TakesTurns own passed more mid after → all ≤ least + more → TakesTurns own passed all m after
+turns_then own passed least more all m mid after x y sum = record {
   threads = x.threads ++ y.threads;
-  may = λ (answer : Turned). goes_then (MayTurn is_open own passed) m answer x.threads y.threads (x.may answer)
-      (subst (λ (mid : MachineState). (answer : Turned) → MayGo (MayTurn is_open own passed) mid answer y.threads) x.comes y.may);
+  may = λ (answer : Turned). goes_then (MayTurn own passed) m answer x.threads y.threads (x.may answer)
+      (subst (λ (mid : MachineState). (answer : Turned) → MayGo (MayTurn own passed) mid answer y.threads) x.comes y.may);
   comes = y.comes ∙ (ap (λ (mid : MachineState). after_turns mid y.threads) x.comes ∙ sym (after_both m x.threads y.threads));
   enough = (let both = count_of_both own x.threads y.threads in let a = x.enough in let b = y.enough in omega arith);
 }
 
-pub no_turns : (is_open : Bool) (own : ℕ) (passed : Option ℕ) (m after : MachineState) → after ≡ m → TakesTurns is_open own passed 0 m after
-no_turns is_open own passed m after same = record {
+pub no_turns : (own : ℕ) (passed : Option ℕ) (m after : MachineState) → after ≡ m → TakesTurns own passed 0 m after
+no_turns own passed m after same = record {
   threads = [];
   may = λ (answer : Turned). tt;
   comes = same;
   enough = omega arith;
 }
 
-helps_take : (is_open : Bool) (own : ℕ) (passed : Option ℕ) (m : MachineState) (answer : Turned) (threads : List ℕ)
-    → MayGo (MayHelp is_open) m answer threads → MayGo (MayTurn is_open own passed) m answer threads
-helps_take is_open own passed m answer [] goes = tt
-helps_take is_open own passed m answer (thread ∷ threads) (may, goes) = (inr may, helps_take is_open own passed (after_turn m thread) (turned m thread) threads goes)
+helps_take : (own : ℕ) (passed : Option ℕ) (m : MachineState) (answer : Turned) (threads : List ℕ)
+    → MayGo MayHelp m answer threads → MayGo (MayTurn own passed) m answer threads
+helps_take own passed m answer [] goes = tt
+helps_take own passed m answer (thread ∷ threads) (may, goes) = (inr may, helps_take own passed (after_turn m thread) (turned m thread) threads goes)
 
 counts_own : (own : ℕ) (threads : List ℕ) → 1 ≤ own_turns own (own ∷ threads)
 counts_own own threads =
@@ -55,12 +55,12 @@ counts_own own threads =
     let both : own_turns own (own ∷ threads) ≡ own_turns own (own ∷ []) + own_turns own threads = count_of_both own (own ∷ []) threads in
     omega arith
 
-own_turn : (is_open : Bool) (own : ℕ) (passed : Option ℕ) (m after : MachineState) (threads : List ℕ)
-    → own < length m.runners → due_at_gate is_open m own passed ≡ None
-    → MayGo (MayHelp is_open) (after_turn m own) (turned m own) threads → after ≡ after_turns (after_turn m own) threads → TakesTurns is_open own passed 1 m after
-own_turn is_open own passed m after threads there past helps comes = record {
+own_turn : (own : ℕ) (passed : Option ℕ) (m after : MachineState) (threads : List ℕ)
+    → own < length m.runners → at_gate m own passed ≡ None
+    → MayGo MayHelp (after_turn m own) (turned m own) threads → after ≡ after_turns (after_turn m own) threads → TakesTurns own passed 1 m after
+own_turn own passed m after threads there past helps comes = record {
   threads = own ∷ threads;
-  may = λ (answer : Turned). (inl (refl, there, past), helps_take is_open own passed (after_turn m own) (turned m own) threads helps);
+  may = λ (answer : Turned). (inl (refl, there, past), helps_take own passed (after_turn m own) (turned m own) threads helps);
   comes = comes;
   enough = counts_own own threads;
 }
@@ -84,64 +84,62 @@ has_taken : (due : Option ℕ) (turn answer : Turned) (before turned after : Mac
 has_taken None turn answer before turned after is comes = (refl, (cc, comes))
 has_taken (Some number) turn answer before turned after is comes = absurd cc
 
-pub finds_gate : (is_open : Bool) (own : ℕ) (passed now : Option ℕ) (m after : MachineState) (access : ℕ)
-    → at_gate m own now ≡ due_at_gate is_open m own passed → AtGate access ≡ step_result m own now → after ≡ state_after_step m own now
-    → Finds is_open own passed 1 m (AtGate access) after
-finds_gate is_open own passed now m after access due is comes =
-    let is_at = is_at_gate (at_gate m own now) (turned m own) m (after_turn m own) after access is comes in
-    (no_turns is_open own passed m after is_at.1, subst (λ (x : MachineState). due_at_gate is_open x own passed ≡ Some access) (sym is_at.1) (sym due ∙ is_at.0))
+pub finds_gate : (own : ℕ) (passed : Option ℕ) (m after : MachineState) (access : ℕ)
+    → AtGate access ≡ step_result m own passed → after ≡ state_after_step m own passed → Finds own passed 1 m (AtGate access) after
+finds_gate own passed m after access is comes =
+    let is_at = is_at_gate (at_gate m own passed) (turned m own) m (after_turn m own) after access is comes in
+    (no_turns own passed m after is_at.1, subst (λ (x : MachineState). at_gate x own passed ≡ Some access) (sym is_at.1) is_at.0)
 
 -- what is known of a turn that the thread took
-pub record HasTaken (is_open : Bool) (own : ℕ) (passed : Option ℕ) (m : MachineState) (answer : Turned) (after : MachineState) : Type 0 where
-  pub past : due_at_gate is_open m own passed ≡ None
+pub record HasTaken (own : ℕ) (passed : Option ℕ) (m : MachineState) (answer : Turned) (after : MachineState) : Type 0 where
+  pub past : at_gate m own passed ≡ None
   pub turn : answer ≡ turned m own
   pub comes : after ≡ after_turn m own
 
-pub taken : (is_open : Bool) (own : ℕ) (passed now : Option ℕ) (m after : MachineState) (answer : Turned)
-    → at_gate m own now ≡ due_at_gate is_open m own passed → Took answer ≡ step_result m own now → after ≡ state_after_step m own now
-    → HasTaken is_open own passed m answer after
-taken is_open own passed now m after answer due is comes =
-    let has = has_taken (at_gate m own now) (turned m own) answer m (after_turn m own) after is comes in
-    record { past = sym due ∙ has.0; turn = has.1.0; comes = has.1.1 }
+pub taken : (own : ℕ) (passed : Option ℕ) (m after : MachineState) (answer : Turned)
+    → Took answer ≡ step_result m own passed → after ≡ state_after_step m own passed → HasTaken own passed m answer after
+taken own passed m after answer is comes =
+    let has = has_taken (at_gate m own passed) (turned m own) answer m (after_turn m own) after is comes in
+    record { past = has.0; turn = has.1.0; comes = has.1.1 }
 
-pub finds_moved : (is_open : Bool) (own : ℕ) (passed : Option ℕ) (m after : MachineState)
-    → own < length m.runners → HasTaken is_open own passed m Moved after → Finds is_open own passed 1 m (Took Moved) after
-finds_moved is_open own passed m after there has = own_turn is_open own passed m after [] there has.past tt has.comes
+pub finds_moved : (own : ℕ) (passed : Option ℕ) (m after : MachineState)
+    → own < length m.runners → HasTaken own passed m Moved after → Finds own passed 1 m (Took Moved) after
+finds_moved own passed m after there has = own_turn own passed m after [] there has.past tt has.comes
 
-pub finds_ended : (is_open : Bool) (own : ℕ) (passed : Option ℕ) (m after : MachineState)
-    → own < length m.runners → HasTaken is_open own passed m Ended after → Finds is_open own passed 1 m (Took Ended) after
-finds_ended is_open own passed m after there has =
+pub finds_ended : (own : ℕ) (passed : Option ℕ) (m after : MachineState)
+    → own < length m.runners → HasTaken own passed m Ended after → Finds own passed 1 m (Took Ended) after
+finds_ended own passed m after there has =
     let same : after ≡ m = has.comes ∙ ended_stays m own (sym has.turn) in
-    (no_turns is_open own passed m after same, subst (λ (x : MachineState). turned x own ≡ Ended) (sym same) (sym has.turn))
+    (no_turns own passed m after same, subst (λ (x : MachineState). turned x own ≡ Ended) (sym same) (sym has.turn))
 
-pub finds_helped : (is_open : Bool) (own : ℕ) (passed : Option ℕ) (most : ℕ) (why : Why) (m mid after : MachineState)
-    → own < length m.runners → HasTaken is_open own passed m (Waits why) mid → Helps is_open most why mid true after → Finds is_open own passed 1 m (Took Moved) after
-finds_helped is_open own passed most why m mid after there has helps =
-    own_turn is_open own passed m after helps.threads there has.past
-    (subst (λ (answer : Turned). MayGo (MayHelp is_open) (after_turn m own) answer helps.threads) has.turn
-    (subst (λ (mid : MachineState). MayGo (MayHelp is_open) mid (Waits why) helps.threads) has.comes helps.may))
+pub finds_helped : (own : ℕ) (passed : Option ℕ) (most : ℕ) (why : Why) (m mid after : MachineState)
+    → own < length m.runners → HasTaken own passed m (Waits why) mid → Helps most why mid true after → Finds own passed 1 m (Took Moved) after
+finds_helped own passed most why m mid after there has helps =
+    own_turn own passed m after helps.threads there has.past
+    (subst (λ (answer : Turned). MayGo MayHelp (after_turn m own) answer helps.threads) has.turn
+    (subst (λ (mid : MachineState). MayGo MayHelp mid (Waits why) helps.threads) has.comes helps.may))
     (helps.comes ∙ ap (λ (mid : MachineState). after_turns mid helps.threads) has.comes)
 
-pub finds_waits : (is_open : Bool) (own : ℕ) (passed : Option ℕ) (most : ℕ) (why : Why) (m mid after : MachineState)
-    → HasTaken is_open own passed m (Waits why) mid → Helps is_open most why mid false after → Finds is_open own passed 1 m (Took (Waits why)) after
-finds_waits is_open own passed most why m mid after has helps = record {
+pub finds_waits : (own : ℕ) (passed : Option ℕ) (most : ℕ) (why : Why) (m mid after : MachineState)
+    → HasTaken own passed m (Waits why) mid → Helps most why mid false after → Finds own passed 1 m (Took (Waits why)) after
+finds_waits own passed most why m mid after has helps = record {
   at = m;
-  turns = no_turns is_open own passed m m refl;
+  turns = no_turns own passed m m refl;
   past = has.past;
   waits = sym has.turn;
   most = most;
-  helps = subst (λ (mid : MachineState). Helps is_open most why mid false after) has.comes helps;
+  helps = subst (λ (mid : MachineState). Helps most why mid false after) has.comes helps;
 }
 
 -- the same after turns that went on
-pub finds_then : (is_open : Bool) (own : ℕ) (passed : Option ℕ) (least some : ℕ) (m mid after : MachineState) (found : Found)
-    → TakesTurns is_open own passed some m mid → Finds is_open own passed 1 mid found after → found ≢ Took Moved → Finds is_open own passed least m found after
-finds_then is_open own passed least some m mid after (AtGate access) x (y, due) other = (turns_then is_open own passed some 0 0 m mid after x y (omega arith), due)
-finds_then is_open own passed least some m mid after (Took Moved) x y other = absurd (other refl)
-finds_then is_open own passed least some m mid after (Took Ended) x (y, ended) other = (turns_then is_open own passed some 0 0 m mid after x y (omega arith), ended)
-finds_then is_open own passed least some m mid after (Took (Waits why)) x y other = record {
+pub finds_then : (own : ℕ) (passed : Option ℕ) (least some : ℕ) (m mid after : MachineState) (found : Found)
+    → TakesTurns own passed some m mid → Finds own passed 1 mid found after → found ≢ Took Moved → Finds own passed least m found after
+finds_then own passed least some m mid after (AtGate access) x (y, due) other = (turns_then own passed some 0 0 m mid after x y (omega arith), due)
+finds_then own passed least some m mid after (Took Moved) x y other = absurd (other refl)
+finds_then own passed least some m mid after (Took Ended) x (y, ended) other = (turns_then own passed some 0 0 m mid after x y (omega arith), ended)
+finds_then own passed least some m mid after (Took (Waits why)) x y other = record {
   at = y.at;
-  turns = turns_then is_open own passed some 0 0 m mid y.at x y.turns (omega arith);
+  turns = turns_then own passed some 0 0 m mid y.at x y.turns (omega arith);
   past = y.past;
   waits = y.waits;
   most = y.most;

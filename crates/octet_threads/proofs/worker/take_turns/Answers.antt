@@ -11,15 +11,15 @@ use Rattle.octet_threads.proofs.worker.take_turns.Goals as goal
 pub loop-init : goal.loop-init
 loop-init c = record {
   there = omega arith;
-  turns = no_turns c.args.is_open c.args.thread c.args.passed c.args.machine.now c.args.machine.now refl;
+  turns = no_turns c.args.thread c.args.passed c.args.machine.now c.args.machine.now refl;
 }
 
 pub loop-preserved : goal.loop-preserved
 loop-preserved c = record {
   there = (let there = c.loop.invariant.there in let same = c.take_turn-found.ensures.threads in omega arith);
-  turns = turns_then c.args.is_open c.args.thread c.args.passed c.loop.counter 1 (c.loop.counter + 1) c.args.machine.now c.loop.machine c.take_turn-found.new.machine
+  turns = turns_then c.args.thread c.args.passed c.loop.counter 1 (c.loop.counter + 1) c.args.machine.now c.loop.machine c.take_turn-found.new.machine
       c.loop.invariant.turns
-      (subst (λ (found : Found). Finds c.args.is_open c.args.thread c.args.passed 1 c.loop.machine found c.take_turn-found.new.machine)
+      (subst (λ (found : Found). Finds c.args.thread c.args.passed 1 c.loop.machine found c.take_turn-found.new.machine)
       (c.has_moved.ensures.0 c.if-not-has_moved.false) c.take_turn-found.ensures.finds)
       (omega arith);
 }
@@ -27,7 +27,7 @@ loop-preserved c = record {
 pub returns-then-not-has_moved : goal.returns-then-not-has_moved
 returns-then-not-has_moved c = (
   omega arith,
-  finds_then c.args.is_open c.args.thread c.args.passed TURNS c.loop.counter c.args.machine.now c.loop.machine c.take_turn-found.new.machine c.take_turn-found.result
+  finds_then c.args.thread c.args.passed TURNS c.loop.counter c.args.machine.now c.loop.machine c.take_turn-found.new.machine c.take_turn-found.result
       c.loop.invariant.turns c.take_turn-found.ensures.finds
       (λ (is : c.take_turn-found.result ≡ Took Moved). let yes : true ≡ false = sym (c.has_moved.ensures.1 is) ∙ c.if-not-has_moved.true in absurd (cc yes)),
 )
@@ -35,6 +35,6 @@ returns-then-not-has_moved c = (
 pub returns : goal.returns
 returns c = (
   omega arith,
-  turns_then c.args.is_open c.args.thread c.args.passed c.loop.counter 0 TURNS c.args.machine.now c.loop.machine c.loop.machine
-      c.loop.invariant.turns (no_turns c.args.is_open c.args.thread c.args.passed c.loop.machine c.loop.machine refl) (omega (arith, c.loop-test.false)),
+  turns_then c.args.thread c.args.passed c.loop.counter 0 TURNS c.args.machine.now c.loop.machine c.loop.machine
+      c.loop.invariant.turns (no_turns c.args.thread c.args.passed c.loop.machine c.loop.machine refl) (omega (arith, c.loop-test.false)),
 )
