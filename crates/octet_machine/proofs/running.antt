@@ -3,3 +3,4 @@ pub mod End
 pub mod Journals
 pub mod ManyTurns
 pub mod Opening
+pub mod Rests

@@ -147,3 +147,7 @@ is_at_rest x = is_idle x.phase && is_nothing x.due
 abbrev pub wanted : MachineState → ℕ → Option ℕ
 wanted m thread =
     if is_at_rest (thread_of m.protocol thread) && is_access (next_demand (runner_of m thread).config) then Some (access_count (journal_of m.protocol.journals thread)) else None
+
+-- after the thread has marked itself blocked for a while, between two demands. A thread that is not at rest changes nothing
+abbrev pub after_rest : MachineState → ℕ → MachineState
+after_rest m me = if is_at_rest (thread_of m.protocol me) then record { protocol = step (ToBlock false) me m.protocol; runners = m.runners; script = m.script } else m

@@ -1,11 +1,11 @@
 -- Runs of the machine by picks, and then by rounds.
-use Rattle.std.specs.Prelude.{◌≡◌, ℕ, zero, suc, ◌%◌, ◌<◌, true, false, List, [], ◌∷◌, length, map}
+use Rattle.std.specs.Prelude.{◌≡◌, ℕ, zero, suc, ◌%◌, ◌<◌, ◌≤◌, true, false, List, [], ◌∷◌, length, map}
 use Rattle.std.specs.List.{range_with_len}
 use Rattle.octet_model.specs.declared.outcome.Recorded.{Recorded}
 use Rattle.octet_model.specs.declared.script.Script.{Script}
 use Rattle.octet_model.specs.Journals.{log_of}
 use Rattle.octet_model.specs.Orders.{outcome_of}
-use Rattle.octet_machine.specs.Machine.{MachineState, opening_machine, after_turn, have_ended, plain_state}
+use Rattle.octet_machine.specs.Machine.{MachineState, opening_machine, after_turn, after_rest, have_ended, plain_state}
 
 -- after turns of these threads, one after another
 abbrev pub after_turns : MachineState → List ℕ → MachineState
@@ -42,3 +42,14 @@ pub record IsPlayed (script : Script) (picks : List ℕ) (recorded : Recorded) :
   pub end : MachineState
   pub played : EndsByRounds (after_picks (opening_machine script) picks) end
   pub record_of : IsRecordOf end recorded
+
+-- after so many turns of the thread
+abbrev pub after_own_turns : MachineState → ℕ → ℕ → MachineState
+after_own_turns m thread zero = m
+after_own_turns m thread (suc fewer) = after_turn (after_own_turns m thread fewer) thread
+
+-- after some turns of the thread, `most` at most, and its rest
+pub record HasGone (before : MachineState) (thread most : ℕ) (after : MachineState) : Type 0 where
+  pub turns : ℕ
+  pub few : turns ≤ most
+  pub comes : after ≡ after_rest (after_own_turns before thread turns) thread

@@ -2,6 +2,7 @@
 //! takes one step on the words that all share.
 #![tactic(auto)]
 
+mod goes;
 mod journal;
 pub mod laws;
 mod machine;
@@ -16,6 +17,7 @@ mod steps;
 mod tests;
 mod turned;
 
+pub use goes::go;
 pub use machine::Machine;
 pub use rounds::{play, take_rounds};
 pub use turned::Turned;

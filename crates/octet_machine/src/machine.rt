@@ -1,11 +1,12 @@
 //! The machine: one step of one thread at a time.
-ghost use Rattle.std.specs.Prelude.{◌≡◌, ◌<◌, ◌↔◌, true, length, IfOk, None};
+ghost use Rattle.std.specs.Prelude.{◌≡◌, ◌<◌, ◌↔◌, true, length, get_or, IfOk, None};
 ghost use Rattle.std.specs.List.{list_all};
 ghost use Rattle.std.specs.Option.{is_some};
-ghost use Rattle.octet_model.specs.Journals.{log_of};
+ghost use Rattle.octet_model.specs.Journals.{access_count, log_of};
+ghost use Rattle.octet_model.specs.Machine.{journal_of};
 ghost use Rattle.octet_model.specs.Orders.{outcome_of, IsFaithful};
 ghost use Rattle.octet_state.specs.Steps.{May};
-ghost use Rattle.octet_machine.specs.Machine.{after_turn, have_ended, next_kind, opening_machine, plain_state, runner_of, turned, turned_by, wanted};
+ghost use Rattle.octet_machine.specs.Machine.{after_rest, after_turn, have_ended, next_kind, opening_machine, plain_state, runner_of, turned, turned_by, wanted};
 ghost use Rattle.octet_machine.specs.Running.{IsRunning};
 
 use crate::results::recorded;
@@ -80,6 +81,42 @@ impl Machine {
             return Turned::Ended;
         }
         turned_by(self.run.step(thread))
+    }
+
+    /// Marks a thread blocked for a while, between two demands, as a pause does: where it is idle and
+    /// owes nothing, and else changes nothing. Its next turn unblocks it.
+    pub fn rest(&mut self, thread: u8)
+        requires { thread < length self.old.runners }
+        ensures state { self.new ≡ after_rest self.old thread }
+        ensures running { IsRunning self.new }
+        ensures threads { length self.new.runners ≡ length self.old.runners }
+        ensures script { self.new.script ≡ self.old.script }
+    {
+        self.run.rest(thread);
+    }
+
+    /// How many accesses a thread has made.
+    pub fn accesses(&self, thread: u8) -> u64
+        requires { thread < length self.now.runners }
+        ensures { result ≡ access_count (journal_of self.now.protocol.journals thread) }
+    {
+        self.run.memory.journals[thread as usize].accesses
+    }
+
+    /// Whether a thread has ended.
+    pub fn has_ended(&self, thread: u8) -> bool
+        requires { thread < length self.now.runners }
+        ensures { result ≡ is_some (runner_of self.now thread).end }
+    {
+        self.run.runners[thread as usize].end.is_some()
+    }
+
+    /// The value of an object.
+    pub fn value(&self, object: u16) -> u64
+        requires { object < length self.now.script.objects }
+        ensures { result ≡ get_or self.now.protocol.cells object 0 }
+    {
+        self.run.memory.cells[object as usize]
     }
 
     /// How many threads its script has.

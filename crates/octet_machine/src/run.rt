@@ -1,8 +1,8 @@
 //! The threads of a script on the memory that they share, and whose step is next.
 ghost use Rattle.std.specs.Prelude.{◌≡◌, ◌<◌, length, Some, None};
 ghost use Rattle.octet_state.specs.declared.phase.Phase.TheVariants.{Idle, Want, Pass, Claimed};
-ghost use Rattle.octet_machine.specs.Machine.{is_access, is_at_rest, next_waits, wanted};
-ghost use Rattle.octet_machine.specs.Memory.{thread_in};
+ghost use Rattle.octet_machine.specs.Machine.{after_rest, is_access, is_at_rest, next_waits, wanted};
+ghost use Rattle.octet_machine.specs.Memory.{shape, thread_in};
 ghost use Rattle.octet_machine.specs.Run.{machine_in, IsHeld, IsNext, StandsIn, Steps};
 
 use crate::memory::{Memory, ProtocolThread};
@@ -61,6 +61,18 @@ impl Run {
             return None;
         }
         Some(self.memory.journals[me as usize].accesses as u32)
+    }
+
+    /// Marks a thread blocked for a while, if it is idle and owes nothing.
+    pub(crate) fn rest(&mut self, me: u8)
+        requires held { IsHeld self.old }
+        requires there { me < length self.old.runners.items }
+        ensures machine { machine_in self.new ≡ after_rest (machine_in self.old) me }
+        ensures shape { shape self.new.memory ≡ shape self.old.memory }
+    {
+        if is_at_rest(self.memory.thread(me)) {
+            self.memory.block(me, false);
+        }
     }
 
     /// The next step of a thread that has not ended.

@@ -156,6 +156,11 @@ module _ (m : MachineState) (me : ℕ) (r : IsRunning m) (there : me < length m.
   on_unblock p due phase stands none =
       on_the_way ToUnblock _ _ (unblock_is_lawful s me _ _ r.sound inside stands refl refl) tt (sym (ap (λ (q : Phase). demand_in q R.value) phase ∙ none))
 
+  -- a rest between two demands
+  pub rest_keeps : X.due ≡ Nothing → X.phase ≡ Idle → IsRunning (record { protocol = step (ToBlock false) me m.protocol; runners = slice_set m.runners me R; script = m.script })
+  rest_keeps due phase =
+      (on_the_way (ToBlock false) _ _ (block_is_lawful s me _ _ false r.sound inside (due, phase) refl refl) tt (sym (ap (λ (q : Phase). demand_in q R.value) phase))).1
+
   -- loads
   fence_only_reads : (o : ℕ) (mode : Mode) → decided (state_in (unpacked_state (told (ToLoad o mode) me s))) me mode X.count ≡ act.Fence → mode ≡ Read
   fence_only_reads o mode is = only_reads (state_in (unpacked_state (told (ToLoad o mode) me s))) me mode X.count (ap serves_reads is)
