@@ -1,1 +1,1 @@
-pub mod Hunt
+pub mod Hunts

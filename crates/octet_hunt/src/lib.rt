@@ -1,11 +1,14 @@
-//! Hunts for a run of a script that ends otherwise than it should: by many seeded schedules, in
-//! which a thread may be preempted before each of its accesses.
+//! Hunts for a run of a script that goes wrong: many runs, each by a schedule of its own, in which
+//! a thread may be stopped before each of its accesses. Of the run that is found, one with fewer
+//! preemptions is looked for.
 #![tactic(auto)]
 
+mod aim;
 mod draws;
+mod fewer;
+mod runs;
 mod schedule;
-#[cfg(test)]
-mod tests;
 mod tries;
 
-pub use tries::{Found, hunt, hunt_between};
+pub use aim::Aim;
+pub use tries::{Find, hunt};

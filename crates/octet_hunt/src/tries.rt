@@ -1,75 +1,54 @@
-//! Tries of a script, each by another schedule, up to the first that ends otherwise.
+//! Tries of a script, each by another schedule, up to the first that is looked for.
 ghost use Rattle.std.specs.Prelude.{◌≡◌, ◌<◌, ◌≤◌, length, IfOk, IfSome};
-ghost use Rattle.octet_hunt.specs.Hunt.{EndsOtherwise};
+ghost use Rattle.octet_hunt.specs.Hunts.{IsAimAt, Meets};
 
+use crate::aim::Aim;
+use crate::fewer::with_fewer_preemptions;
+use crate::runs::Course;
 use crate::schedule::Schedule;
-use octet_machine::{Machine, go};
-use octet_model::{OutOfMemory, Recorded, Script};
+use octet_model::{List, OutOfMemory, Recorded, Script};
+use octet_regions::Hop;
 use std::alloc::Global;
 
-/// A thread that makes no access in so many turns lets the others go on.
-const MOST_TURNS: u32 = 64;
-
-/// The first try that ended otherwise, and its recording.
+/// What a hunt has found.
 #[derive(Debug, Drop)]
-pub struct Found {
-    pub attempt: u64,
+pub struct Find {
+    /// The number of the try, counted from 1.
+    pub attempt: u32,
+    /// How often a thread is stopped in the run that is kept, though it could have gone on.
+    pub preemptions: u32,
+    /// The run that is kept, which is looked for as the one that was found.
     pub recorded: Recorded,
+    /// The hops of the cycle of its regions, where a cycle was looked for, and else none.
+    pub hops: List<Hop>,
 }
 
-// A run by the schedule of the try. One that is not over after an access for each command that the
-// threads may run is left as it is.
-fn play(alloc: Global, script: &Script, attempt: u64) -> Result<Machine, OutOfMemory>
-    ensures { IfOk result (λ machine. machine.script ≡ script.now) }
-{
-    let mut machine = Machine::new(alloc, script)?;
-    let mut schedule = Schedule::new(attempt);
-    let most = (u64::from(script.fuel) + 2) * 16;
-    for _made in 0..most {
-        if machine.ended() {
-            break;
-        }
-        let thread = schedule.pick(&machine);
-        go(&mut machine, thread, MOST_TURNS);
-    }
-    Ok(machine)
-}
-
-/// Plays the script up to `tries` times, each time by another schedule, and answers the first run
-/// that leaves another value than `number` in the object.
+/// Runs the script up to so many times, each time by another schedule, and answers the first run that
+/// is looked for: in its place one with fewer preemptions, if one is found. The same script, aim and
+/// number of tries have the same answer. Takes as much memory as some runs of the machine. That none
+/// is found proves nothing.
 pub fn hunt(
     alloc: Global,
     script: &Script,
-    tries: u64,
-    object: u16,
-    number: u64,
-) -> Result<Option<Found>, OutOfMemory>
-    requires { object < length script.now.objects }
-    ensures recorded { IfOk result (λ found. IfSome found (λ f. EndsOtherwise script.now object number f.recorded)) }
-    ensures attempt { IfOk result (λ found. IfSome found (λ f. f.attempt < tries)) }
+    aim: Aim,
+    tries: u32,
+) -> Result<Option<Find>, OutOfMemory>
+    requires object { IsAimAt (length script.now.objects) aim }
+    ensures meets { IfOk result (λ found. IfSome found (λ find. Meets script.now aim find.recorded find.hops)) }
+    ensures first { IfOk result (λ found. IfSome found (λ find. 0 < find.attempt)) }
+    ensures last { IfOk result (λ found. IfSome found (λ find. find.attempt ≤ tries)) }
 {
-    hunt_between(alloc, script, 0, tries, object, number)
-}
-
-/// The same by the tries from `first` on, up to `end`.
-pub fn hunt_between(
-    alloc: Global,
-    script: &Script,
-    first: u64,
-    end: u64,
-    object: u16,
-    number: u64,
-) -> Result<Option<Found>, OutOfMemory>
-    requires { object < length script.now.objects }
-    ensures recorded { IfOk result (λ found. IfSome found (λ f. EndsOtherwise script.now object number f.recorded)) }
-    ensures attempt { IfOk result (λ found. IfSome found (λ f. f.attempt < end)) }
-    ensures first { IfOk result (λ found. IfSome found (λ f. first ≤ f.attempt)) }
-{
-    for attempt in first..end {
-        let machine = play(alloc, script, attempt)?;
-        if machine.ended() && machine.value(object) != number {
-            let recorded = machine.finish(alloc)?;
-            return Ok(Some(Found { attempt, recorded }));
+    let mut course = Course::new(alloc);
+    for before in 0..tries {
+        let mut schedule = Schedule::of_try(before);
+        if let Some(hit) = course.run(alloc, script, aim, &mut schedule)? {
+            let kept = with_fewer_preemptions(alloc, script, aim, hit, &mut course)?;
+            return Ok(Some(Find {
+                attempt: before + 1,
+                preemptions: kept.preemptions,
+                recorded: kept.recorded,
+                hops: kept.hops,
+            }));
         }
     }
     Ok(None)

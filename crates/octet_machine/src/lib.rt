@@ -9,6 +9,7 @@ mod machine;
 mod memory;
 mod opening;
 mod results;
+mod rooms;
 mod rounds;
 mod run;
 mod same;
@@ -19,5 +20,6 @@ mod turned;
 
 pub use goes::go;
 pub use machine::Machine;
+pub use rooms::Rooms;
 pub use rounds::{play, take_rounds};
 pub use turned::Turned;

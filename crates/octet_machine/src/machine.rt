@@ -10,6 +10,7 @@ ghost use Rattle.octet_machine.specs.Machine.{after_rest, after_turn, have_ended
 ghost use Rattle.octet_machine.specs.Running.{IsRunning};
 
 use crate::results::recorded;
+use crate::rooms::Rooms;
 use crate::run::{Run, Runner};
 use crate::same::are_same_scripts;
 use crate::turned::Turned;
@@ -62,9 +63,31 @@ impl Machine {
         ensures state { IfOk result (λ machine. machine ≡ opening_machine script.now) }
         ensures threads { IfOk result (λ machine. length machine.runners ≡ length script.now.threads) }
     {
+        Machine::in_rooms(alloc, script, &mut Rooms::new(alloc))
+    }
+
+    /// The same, in the room that earlier machines gave back, as far as there is enough.
+    pub fn in_rooms(
+        alloc: Global,
+        script: &Script,
+        rooms: &mut Rooms,
+    ) -> Result<Machine, OutOfMemory>
+        ensures state { IfOk result (λ machine. machine ≡ opening_machine script.now) }
+        ensures threads { IfOk result (λ machine. length machine.runners ≡ length script.now.threads) }
+    {
         Ok(Machine {
-            run: Run::new(alloc, script)?,
+            run: Run::new(alloc, script, rooms)?,
         })
+    }
+
+    /// Gives the room of its journals back.
+    pub fn vacate(self, rooms: &mut Rooms) -> Result<(), OutOfMemory> {
+        let run = self.run;
+        let memory = run.memory;
+        for journal in memory.journals {
+            rooms.keep(journal)?;
+        }
+        Ok(())
     }
 
     /// Takes the one step that is next for the thread. A thread that has ended changes nothing.

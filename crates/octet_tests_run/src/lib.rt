@@ -11,6 +11,8 @@ mod heap_gate_tests;
 #[cfg(test)]
 mod heap_tests;
 #[cfg(test)]
+mod hunt_tests;
+#[cfg(test)]
 mod live_tests;
 #[cfg(test)]
 mod rule_tests;

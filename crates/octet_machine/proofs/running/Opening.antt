@@ -1,6 +1,7 @@
 -- The machine before its first step.
-use Rattle.std.proofs.Common.{◌≡◌, ℕ, zero, suc, ◌*◌, ◌<◌, List, [], ◌∷◌, length, map, replicate, get_or, None, refl, sym, ap, ◌∙◌, subst, arith}
+use Rattle.std.proofs.Common.{◌≡◌, ℕ, zero, suc, ◌*◌, ◌<◌, ◌≤◌, List, [], ◌∷◌, length, map, replicate, get_or, vec_capacity, All, None, refl, sym, ap, ◌∙◌, subst, arith}
 use Rattle.std.proofs.lemmas.List.{length-map, length-replicate, get_or-replicate}
+use Rattle.std.proofs.lemmas.List.Elements.{All-get_or}
 use Rattle.std.proofs.lemmas.List.FromFn.{length-map-range_with_len, get_or-map-range_with_len}
 use Rattle.octet_model.specs.declared.event.Event.{Event}
 use Rattle.octet_model.specs.declared.script.Script.{Script}
@@ -8,7 +9,7 @@ use Rattle.octet_model.specs.Machine.{journal_of, no_events}
 use Rattle.octet_model.specs.Orders.{starting_heap}
 use Rattle.octet_model.proofs.lemmas.Fronts.{no_journal}
 use Rattle.octet_interp.specs.Demands.{starting_thread}
-use Rattle.octet_state.specs.State.{Thread, thread_of, unstarted, resting, opening}
+use Rattle.octet_state.specs.State.{Thread, ProtocolState, thread_of, unstarted, resting, opening}
 use Rattle.octet_state.specs.declared.state_word.StateWord.TheVariants.{WrEx}
 use Rattle.octet_state.proofs.lemmas.Laws.{opening_is_sound}
 use Rattle.octet_machine.specs.declared.memory.ProtocolThread.{ProtocolThread}
@@ -76,13 +77,19 @@ opens_machine run script heap threads same heap_is threads_are state runners =
     ∙ ap (λ (h : List ℕ). opening threads h) heap_is ∙ ap (λ (n : ℕ). opening n (starting_heap script)) threads_are in
     λ i. record { protocol = protocol i; runners = runners i; script = same i }
 
-pub opens_held : (run : Run) (script : Script) (threads room : ℕ) → machine_in run ≡ opening_machine script → threads ≡ length script.threads → room ≡ script.fuel * 16 → (shape run.memory).rooms ≡ replicate threads room → IsHeld run
-opens_held run script threads room machine many enough rooms = record {
+pub opens_held : (run : Run) (script : Script) (threads room : ℕ) → machine_in run ≡ opening_machine script → threads ≡ length script.threads → room ≡ script.fuel * 16 → length (shape run.memory).rooms ≡ threads → All (λ kept. room ≤ kept) (shape run.memory).rooms → IsHeld run
+opens_held run script threads room machine many enough journals rooms = record {
   running = subst IsRunning (sym machine) (opening_is_running script);
   rooms = λ t lt.
       let count = ap (λ (m : MachineState). length m.runners) machine ∙ many_runners script (length script.threads) in
       let fuel = ap (λ (m : MachineState). m.script.fuel) machine in
-      let here : t < threads = omega arith in
-      let is = ap (λ (ns : List ℕ). get_or ns t 0) rooms ∙ get_or-replicate threads t room 0 here in
+      let here : t < length (shape run.memory).rooms = omega arith in
+      let is = All-get_or (λ kept. room ≤ kept) (shape run.memory).rooms t 0 here rooms in
       omega arith;
 }
+
+-- as many journals as threads
+pub many_rooms : (run : Run) (script : Script) (heap : List ℕ) (threads : ℕ) → held heap run.memory ≡ opening threads heap → length (shape run.memory).rooms ≡ threads
+many_rooms run script heap threads state =
+    length-map run.memory.journals.items (λ j. vec_capacity j.events) ∙ sym (length-map run.memory.journals.items (λ j. j.events.items))
+    ∙ ap (λ (s : ProtocolState). length s.journals) state ∙ length-map (replicate threads unstarted) (λ x. []) ∙ length-replicate threads unstarted

@@ -1,5 +1,5 @@
 -- A rest between two demands keeps the machine running.
-use Rattle.std.proofs.Common.{◌≡◌, ℕ, ◌<◌, ◌≤◌, Bool, true, false, if◌then◌else◌, List, length, get_or, slice_set, suc, zero, Option, Some, None, refl, sym, ap, ◌∙◌, subst, arith}
+use Rattle.std.proofs.Common.{◌≡◌, ℕ, ◌<◌, Bool, true, false, if◌then◌else◌, List, length, get_or, Option, Some, None, refl, sym, ap, ◌∙◌, subst, arith}
 use Rattle.std.proofs.lemmas.Bool.{and_parts}
 use Rattle.std.proofs.lemmas.List.{set-get_or}
 use Rattle.octet_model.specs.declared.outcome.End.{End}
@@ -9,7 +9,7 @@ use Rattle.octet_state.specs.declared.phase.Phase.{Phase}
 use Rattle.octet_state.specs.declared.phase.Phase.TheVariants.{Off, Idle}
 use Rattle.octet_state.specs.declared.phase.Due.{Due}
 use Rattle.octet_state.specs.declared.phase.Due.TheVariants.{Nothing}
-use Rattle.octet_state.specs.State.{ProtocolState, thread_of}
+use Rattle.octet_state.specs.State.{thread_of}
 use Rattle.octet_state.specs.Steps.{ToBlock, step}
 use Rattle.octet_state.specs.Form.{is_nothing}
 use Rattle.octet_machine.specs.declared.run.Run.{Run}

@@ -1,4 +1,4 @@
-use Rattle.std.proofs.Common.{◌≡◌, ℕ, suc, ◌+◌, ◌∙◌, sym, ap, arith}
+use Rattle.std.proofs.Common.{◌≡◌, ℕ, suc, ◌+◌, ◌∙◌, ap, arith}
 use Rattle.octet_machine.specs.Machine.{MachineState, after_turn}
 use Rattle.octet_machine.specs.Turns.{after_own_turns}
 use Rattle.octet_machine.proofs.goes.go.Goals as goal

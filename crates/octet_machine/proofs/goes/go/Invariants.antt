@@ -1,4 +1,4 @@
-use Rattle.std.proofs.Common.{◌≡◌, ℕ, ◌≤◌, length}
+use Rattle.std.proofs.Common.{◌≡◌, length}
 use Rattle.octet_machine.specs.Turns.{after_own_turns}
 use Rattle.octet_machine.proofs.goes.go.Given as goal
 

@@ -1,0 +1,98 @@
+//! One run of a script by a schedule.
+ghost use Rattle.std.specs.Prelude.{◌≡◌, length, IfOk, IfSome};
+ghost use Rattle.octet_hunt.specs.Hunts.{IsAimAt, Meets};
+
+use crate::aim::{Aim, Met};
+use crate::schedule::Schedule;
+use octet_machine::{Machine, Rooms, go};
+use octet_model::{List, MAX_THREADS, OutOfMemory, Recorded, Script};
+use octet_regions::Hop;
+use std::alloc::Global;
+
+/// A thread that makes no access in so many turns lets the others go on.
+const MOST_TURNS: u32 = 64;
+
+/// What is kept from run to run: the room of journals, and the picks of the last run, a thread for
+/// each access.
+#[derive(Debug, Drop)]
+pub(crate) struct Course {
+    rooms: Rooms,
+    picks: Vec<u8>,
+}
+
+/// A run that is looked for: the threads that were picked, how often one was stopped that could have
+/// gone on, and what was recorded.
+#[derive(Debug, Drop)]
+pub(crate) struct Hit {
+    pub(crate) picks: Vec<u8>,
+    pub(crate) preemptions: u32,
+    pub(crate) recorded: Recorded,
+    pub(crate) hops: List<Hop>,
+}
+
+impl Course {
+    pub(crate) fn new(alloc: Global) -> Course {
+        Course {
+            rooms: Rooms::new(alloc),
+            picks: Vec::new(alloc),
+        }
+    }
+
+    // Runs the machine by the schedule until all threads have ended, or have been picked as often as
+    // their fuel allows. Counts how often a thread was stopped that could have gone on.
+    fn play(
+        &mut self,
+        machine: &mut Machine,
+        schedule: &mut Schedule,
+        fuel: u32,
+    ) -> Result<u32, OutOfMemory>
+        ensures { IfOk result (λ _. machine.new.script ≡ machine.old.script) }
+    {
+        self.picks.clear();
+        let mut preemptions: u32 = 0;
+        let mut at_work = None;
+        for _made in 0..(u64::from(fuel) + 2) * MAX_THREADS as u64 {
+            if machine.ended() {
+                break;
+            }
+            let thread = schedule.pick(machine);
+            if let Some(before) = at_work {
+                if before != thread && before < machine.threads() && !machine.has_ended(before) {
+                    preemptions = preemptions.saturating_add(1);
+                }
+            }
+            go(machine, thread, MOST_TURNS);
+            self.picks.push(thread)?;
+            at_work = Some(thread);
+        }
+        Ok(preemptions)
+    }
+
+    /// Runs the script by the schedule. What comes of it, if that is looked for.
+    pub(crate) fn run(
+        &mut self,
+        alloc: Global,
+        script: &Script,
+        aim: Aim,
+        schedule: &mut Schedule,
+    ) -> Result<Option<Hit>, OutOfMemory>
+        requires object { IsAimAt (length script.now.objects) aim }
+        ensures { IfOk result (λ found. IfSome found (λ hit. Meets script.now aim hit.recorded hit.hops)) }
+    {
+        let mut machine = Machine::in_rooms(alloc, script, &mut self.rooms)?;
+        let preemptions = self.play(&mut machine, schedule, script.fuel)?;
+        if !machine.ended() {
+            machine.vacate(&mut self.rooms)?;
+            return Ok(None);
+        }
+        let Some(met) = aim.judge(alloc, script, machine, &mut self.rooms)? else {
+            return Ok(None);
+        };
+        Ok(Some(Hit {
+            picks: Vec::from_slice(alloc, &self.picks)?,
+            preemptions,
+            recorded: met.recorded,
+            hops: met.hops,
+        }))
+    }
+}
