@@ -77,7 +77,13 @@ impl Heap {
     }
 
     // From where a thread has come to: the update, or why it waits.
-    fn finish_change(&self, recorder: &mut Recorder, object: u16, change: Change, way: Way) -> Updated
+    fn finish_change(
+        &self,
+        recorder: &mut Recorder,
+        object: u16,
+        change: Change,
+        way: Way,
+    ) -> Updated
         requires can { CanAccess self.now (update_of object) recorder.old }
         requires stands { StandsAt (update_of object) way (view recorder.old.seat) }
         ensures keeps { KeepsSeatAfter self.now.words (answer_after change result) recorder.old recorder.new }
@@ -93,7 +99,12 @@ impl Heap {
 
     // Loads the state of the object, and does what the table says, as `load` does.
     #[inline(always)]
-    pub(crate) fn load_to_change(&self, recorder: &mut Recorder, object: u16, change: Change) -> (Updated, bool)
+    pub(crate) fn load_to_change(
+        &self,
+        recorder: &mut Recorder,
+        object: u16,
+        change: Change,
+    ) -> (Updated, bool)
         requires can { CanAccess self.now (update_of object) recorder.old }
         requires due { (view recorder.old.seat).thread.due ≡ Nothing }
         requires loads { IsToLoad (update_of object) (view recorder.old.seat).thread.phase }
@@ -155,7 +166,12 @@ impl Heap {
     }
 
     // From where the thread stands, as `go_on`.
-    pub(crate) fn go_on_to_change(&self, recorder: &mut Recorder, object: u16, change: Change) -> Updated
+    pub(crate) fn go_on_to_change(
+        &self,
+        recorder: &mut Recorder,
+        object: u16,
+        change: Change,
+    ) -> Updated
         requires can { CanAccess self.now (update_of object) recorder.old }
         requires due { (view recorder.old.seat).thread.due ≡ Nothing }
         requires begun { HasBegun (view recorder.old.seat).threads (update_of object) (view recorder.old.seat).thread.phase }

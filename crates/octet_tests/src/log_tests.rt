@@ -1,7 +1,7 @@
 //! Logs in both versions, and first refusals.
 use octet_log::{
-    Digest, Loaded, LogFault, decode, digest, encode_v1, encode_v2, head, piece, refusal_line, show,
-    tail,
+    Digest, Loaded, LogFault, decode, digest, encode_v1, encode_v2, head, piece, refusal_line,
+    show, tail,
 };
 use octet_model::{Gapped, Mark, OutOfMemory};
 use std::alloc::Global;

@@ -10,8 +10,8 @@ ghost use Rattle.octet_state.specs.Steps.{most_accesses};
 ghost use Rattle.octet_rule.specs.Conditions.{MayPass};
 ghost use Rattle.octet_rule.specs.Seats.{view, threads_of, objects_of, IsSeatOf, IsFresh, RestsAs};
 
-use octet_rule::{Seat, Tried, Words};
 use octet_model::{List, OutOfMemory};
+use octet_rule::{Seat, Tried, Words};
 use octet_state::{Act, Mode, Phase, StateWord, StatusWord, Whom, decide};
 use std::alloc::Global;
 use std::process::Abort;

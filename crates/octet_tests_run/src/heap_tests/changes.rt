@@ -48,14 +48,14 @@ fn changed<R: Abort>(
 }
 
 /// Each update finds the value that stands there, makes the wanted one of it, and stands in the log as an access.
-fn all_change<R: Abort>(
-    rt: &R,
-    alloc: Global,
-    rows: &[(u64, Change, u64)],
-) -> Result<(), Fail> {
+fn all_change<R: Abort>(rt: &R, alloc: Global, rows: &[(u64, Change, u64)]) -> Result<(), Fail> {
     for &(start, change, wanted) in rows {
         let (before, closed) = changed(rt, alloc, start, change)?;
-        assert_eq!(rt; (before, closed.heap.as_slice()), (start, [wanted, 3].as_slice()), "{change:?}");
+        assert_eq!(rt;
+            (before, closed.heap.as_slice()),
+            (start, [wanted, 3].as_slice()),
+            "{change:?}"
+        );
         let log = closed.logs.get(0).expect(rt, "a log for each thread");
         assert_eq!(rt; (log.accesses, log.marks.len()), (2, 0), "{change:?}");
     }

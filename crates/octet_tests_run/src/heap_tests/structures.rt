@@ -18,10 +18,15 @@ use std::time::{Clock, Duration};
 // The lock and what it guards; the top of the stack, and below each node the next one. A node is named by its
 // object, and 0 is none.
 const LOCK: u16 = 0;
+
 const COUNT: u16 = 1;
+
 const TOP: u16 = 2;
+
 const NODES: u16 = 3;
+
 const OBJECTS: u16 = 11;
+
 const ROUNDS: u64 = 300;
 
 /// An update that is made in the end, and the value that it found; none where the fuel is spent.
@@ -118,7 +123,15 @@ fn count_up<R: Wait + Clock>(rt: &R, heap: &Heap, worker: &mut Worker, fuel: u32
     for _ in 0..ROUNDS {
         lock(rt, heap, worker, fuel)?;
         let count = accessed(rt, heap, worker, fuel, COUNT, Mode::Read, 0)?;
-        accessed(rt, heap, worker, fuel, COUNT, Mode::Write, count.wrapping_add(1))?;
+        accessed(
+            rt,
+            heap,
+            worker,
+            fuel,
+            COUNT,
+            Mode::Write,
+            count.wrapping_add(1),
+        )?;
         changed(rt, heap, worker, fuel, LOCK, Change::Swap(0))?;
     }
     Some(())
@@ -258,7 +271,8 @@ fn two_workers(alloc: Global) -> Result<(Heap, Worker, Worker, u32), Fail>
     ensures first { IfOk result (λ opened. IsNew opened.0 0 opened.1) }
     ensures second { IfOk result (λ opened. IsNew opened.0 1 opened.2) }
 {
-    let text = b"fuel 100000\nobject lock 0\nobject count 0\nobject top 0\nobject a 0\nobject b 0\nobject c 0\nobject d 0\nobject e 0\nobject f 0\nobject g 0\nobject h 0\nthread\nthread\n";
+    let text =
+        b"fuel 100000\nobject lock 0\nobject count 0\nobject top 0\nobject a 0\nobject b 0\nobject c 0\nobject d 0\nobject e 0\nobject f 0\nobject g 0\nobject h 0\nthread\nthread\n";
     let script = script(alloc, text)?;
     if script.threads.len() != 2 || script.objects.len() != OBJECTS as usize {
         return Err(Fail::new("the script has two threads and eleven objects"));

@@ -42,7 +42,7 @@ pub counts_on : (last command : ℕ) (before after : FollowerState) → PassesRe
 counts_on last command before after passes counts = omega (arith, counts, passes.regions, ap (λ (l : List ℕ). length l) passes.ahead)
 
 module _ (lines : List (List ℕ)) (script : Script) (place : Place) (event : Event) (before mid after : FollowerState) (regions : List ℕ) (line : ℕ)
-  (tells : TellsRegions lines place before regions mid) (follows : FollowsOn mid event after) (stands : line ≡ line_in lines place.thread mid.at.place) where
+    (tells : TellsRegions lines place before regions mid) (follows : FollowsOn mid event after) (stands : line ≡ line_in lines place.thread mid.at.place) where
   abbrev told : List ℕ
   told = regions ++ placed_text script place event ++ made_by line event ++ codes "\n"
 
@@ -64,12 +64,11 @@ module _ (lines : List (List ℕ)) (script : Script) (place : Place) (event : Ev
   tells_event start journal following =
       let last : before.regions + length (ahead_of before) ≡ regions_before before.commands start journal = omega (arith, following.counts, ap (λ (l : List ℕ). length l) following.ahead) in
       let rest = placed_text script place event ++ made_by line event ++ codes "\n" in
-      let at : mid.at.place ≡ access_place before.commands start journal = ap (λ (c : Configuration). c.place) (tells.stands ∙ following.settles) in
-      (
+      let at : mid.at.place ≡ access_place before.commands start journal = ap (λ (c : Configuration). c.place) (tells.stands ∙ following.settles) in (
         ap (λ (l : List ℕ). l ++ rest) (tells.told ∙ ap (λ (n : ℕ). region_lines lines place n (ahead_of before)) last
-        ∙ ap (region_lines lines place (regions_before before.commands start journal)) following.ahead)
-        ∙ ap (λ (n : ℕ). region_lines lines place (regions_before before.commands start journal) (places_before_next before.commands start journal) ++ placed_text script place event ++ made_by n event ++ codes "\n")
-          (stands ∙ ap (line_in lines place.thread) at),
+            ∙ ap (region_lines lines place (regions_before before.commands start journal)) following.ahead)
+            ∙ ap (λ (n : ℕ). region_lines lines place (regions_before before.commands start journal) (places_before_next before.commands start journal) ++ placed_text script place event ++ made_by n event ++ codes "\n")
+            (stands ∙ ap (line_in lines place.thread) at),
         follows start journal (before_access start journal following),
       )
 
@@ -80,4 +79,4 @@ event_told script place event line text regions =
     five (text ++ regions) (place_text place) (codes " ") (event_text script event) (made_by line event) (codes "\n")
     ∙ append_assoc text regions (place_text place ++ codes " " ++ event_text script event ++ made_by line event ++ codes "\n")
     ∙ ap (λ (l : List ℕ). text ++ regions ++ l)
-      (sym (append_assoc (place_text place) (codes " " ++ event_text script event) (made_by line event ++ codes "\n")))
+    (sym (append_assoc (place_text place) (codes " " ++ event_text script event) (made_by line event ++ codes "\n")))
