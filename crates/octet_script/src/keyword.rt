@@ -5,7 +5,7 @@ ghost use Rattle.octet_script.specs.Parsing.{keyword, word_count, arithmetic_com
 use octet_model::Command;
 
 /// The first word of a command that computes one register of two.
-#[derive(Clone, Copy, Debug, PartialEq, Eq)]
+#[derive(Clone, Copy)]
 pub(crate) enum Arithmetic {
     Add,
     Sub,
@@ -16,7 +16,7 @@ pub(crate) enum Arithmetic {
 }
 
 /// The first word of a command.
-#[derive(Clone, Copy, Debug, PartialEq, Eq)]
+#[derive(Clone, Copy)]
 pub(crate) enum Verb {
     Set,
     Copy,
@@ -33,7 +33,7 @@ pub(crate) enum Verb {
 }
 
 /// The first word of a line.
-#[derive(Clone, Copy, Debug, PartialEq, Eq)]
+#[derive(Clone, Copy)]
 pub(crate) enum Keyword {
     Fuel,
     Object,

@@ -1,8 +1,6 @@
-//! First refusals, and canonical texts.
-use crate::samples::script;
+//! First refusals of texts.
 use octet_model::MAX_SCRIPT_FILE;
-use octet_script::{ScriptFault, parse, print};
-use std::test::Fail;
+use octet_script::{ScriptFault, parse};
 
 // A text, and the line and the number of its first refusal.
 const REFUSALS: [(&[u8], u32, u8); 74] = [
@@ -90,43 +88,6 @@ const REFUSALS: [(&[u8], u32, u8); 74] = [
     (b"thread\nnonsense\nend", 2, 2),
 ];
 
-// A text, a line and how often it comes, a last line; and the line and number of the refusal, or 0 for none.
-const REPEATED: [(&[u8], &[u8], u32, &[u8], u32, u8); 6] = [
-    (b"", b"thread\n", 16, b"", 0, 0),
-    (b"", b"thread\n", 16, b"thread", 17, 12),
-    (b"fuel 16385\n", b"thread\n", 16, b"", 17, 14),
-    (b"", b"thread\n", 16, b"if r7\nthread", 17, 10),
-    (b"thread\n", b"while r0\n", 1000, b"", 1001, 10),
-    (
-        b"object x 0\nthread\n",
-        b"read r0 x\n",
-        1000,
-        b"end",
-        1003,
-        11,
-    ),
-];
-
-// A text, and the canonical text of its script.
-const SPELLINGS: [(&[u8], &[u8]); 4] = [
-    (
-        b"# t\r\n\tobject  x 007\r\nthread # main\r\n read r0 x",
-        b"fuel 16384\nobject x 7\nthread\nread r0 x\n",
-    ),
-    (
-        b"object r0 00000000000000000007\nfuel 262144\nobject a2345678901234567890123456789012 1\nthread",
-        b"fuel 262144\nobject r0 7\nobject a2345678901234567890123456789012 1\nthread\n",
-    ),
-    (
-        b"object thread 18446744073709551615\nobject end 0\nthread\nwrite end r15\nthread\nread r10 thread\nbump end r15",
-        b"fuel 16384\nobject thread 18446744073709551615\nobject end 0\nthread\nwrite end r15\nthread\nread r10 thread\nbump end r15\n",
-    ),
-    (
-        b"fuel 9\nthread\nset r1 2\ncopy r3 r4\nadd r1 r2 r3\nsub r4 r5 r6\nmul r7 r8 r9\nxor r10 r11 r12\nless r13 r14 r15\nsame r0 r1 r2\nwhile r3\nif r4\nend\nend\nsafe\npause\nregion\n",
-        b"fuel 9\nthread\nset r1 2\ncopy r3 r4\nadd r1 r2 r3\nsub r4 r5 r6\nmul r7 r8 r9\nxor r10 r11 r12\nless r13 r14 r15\nsame r0 r1 r2\nwhile r3\nif r4\nend\nend\nsafe\npause\nregion\n",
-    ),
-];
-
 // The line and the number of the refusal, or 0 for none.
 fn judged(rt: HostRuntime, text: &[u8]) -> (u32, u8) {
     if text.len() > MAX_SCRIPT_FILE as usize {
@@ -142,28 +103,6 @@ fn judged(rt: HostRuntime, text: &[u8]) -> (u32, u8) {
 #[test]
 fn first_refusals(rt: HostRuntime) {
     for (text, line, number) in REFUSALS {
-        assert_eq!(rt; judged(rt, text), (line, number), "{text:?}");
+        assert_eq!(rt; judged(rt, text), (line, number));
     }
-}
-
-#[test]
-fn repeated_lines(rt: HostRuntime) -> Result<(), Fail> {
-    for (front, again, times, last, line, number) in REPEATED {
-        let mut text = Vec::from_slice(rt.alloc(), front)?;
-        for _ in 0..times {
-            text.extend_from_slice(again)?;
-        }
-        text.extend_from_slice(last)?;
-        assert_eq!(rt; judged(rt, text.as_slice()), (line, number));
-    }
-    Ok(())
-}
-
-#[test]
-fn canonical_texts(rt: HostRuntime) -> Result<(), Fail> {
-    for (text, canonical) in SPELLINGS {
-        let script = script(rt.alloc(), text)?;
-        assert_eq!(rt; print(rt.alloc(), &script)?.as_slice(), canonical);
-    }
-    Ok(())
 }

@@ -2,7 +2,7 @@
 ghost use Rattle.std.specs.Prelude.{◌<◌};
 
 use octet_model::{Event, List, Mark, OutOfMemory};
-use octet_watch::{Class, Classes, Stop, Test};
+use octet_watch::{Class, Classes};
 use std::alloc::Global;
 use std::test::Fail;
 
@@ -39,20 +39,6 @@ fn journals_of(alloc: Global) -> Result<List<List<Event>>, OutOfMemory> {
     Ok(journals)
 }
 
-fn kind_of(event: &Event) -> u32
-    ensures { result < 5 }
-{
-    match event {
-        Event::Read { .. } => 0,
-        Event::Write { .. } | Event::Update { .. } => 1,
-        Event::Marked { mark } => match mark {
-            Mark::Join { .. } => 2,
-            Mark::Draw { .. } => 3,
-            Mark::Fence { .. } => 4,
-        },
-    }
-}
-
 fn access_of(wanted: u16, event: &Event) -> u32
     ensures { result < 3 }
 {
@@ -64,16 +50,6 @@ fn access_of(wanted: u16, event: &Event) -> u32
 }
 
 #[test]
-fn events_are_counted_by_kind(rt: HostRuntime) -> Result<(), Fail> {
-    let alloc = rt.alloc();
-    let journals = journals_of(alloc)?;
-    let kinds = Classes::new(5, Box::new(alloc, |event: &Event| kind_of(event))?);
-    let counts = kinds.tally(alloc, &journals)?;
-    assert_eq!(rt; counts.as_slice(), [3, 1, 2, 1, 1].as_slice());
-    Ok(())
-}
-
-#[test]
 fn accesses_of_an_object_are_counted(rt: HostRuntime) -> Result<(), Fail> {
     let alloc = rt.alloc();
     let journals = journals_of(alloc)?;
@@ -82,15 +58,5 @@ fn accesses_of_an_object_are_counted(rt: HostRuntime) -> Result<(), Fail> {
         let counted = Classes::new(3, class).tally(alloc, &journals)?;
         assert_eq!(rt; counted.as_slice(), counts.as_slice());
     }
-    Ok(())
-}
-
-#[test]
-fn a_kept_test_answers_of_each_event(rt: HostRuntime) -> Result<(), Fail> {
-    let alloc = rt.alloc();
-    let test: Test = Box::new(alloc, |event: &Event| kind_of(event) == 3)?;
-    let draws = Stop::new(test);
-    assert!(rt; draws.asks(&marked(Mark::Draw { number: 1 })));
-    assert!(rt; !draws.asks(&READ));
     Ok(())
 }

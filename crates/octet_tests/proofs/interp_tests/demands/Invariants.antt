@@ -1,8 +1,8 @@
 use Rattle.std.proofs.Common.{◌≡◌, false}
 use Rattle.octet_tests.proofs.interp_tests.demands.Given as goal
 
-abbrev pub invariant-loop-demands : goal.invariant-loop-demands
-invariant-loop-demands l = l.config.waits ≡ false
+abbrev pub invariant-loop-out : goal.invariant-loop-out
+invariant-loop-out l = l.config.waits ≡ false
 
-abbrev pub decreases-loop-demands : goal.decreases-loop-demands
-decreases-loop-demands l = l.config.at.fuel
+abbrev pub decreases-loop-out : goal.decreases-loop-out
+decreases-loop-out l = l.config.at.fuel
