@@ -1,8 +1,8 @@
-use Rattle.std.proofs.Common.{◌∙◌, refl, sym, ap, replicate, length, arith}
+use Rattle.std.proofs.Common.{◌∙◌, refl, sym, ap, subst, replicate, length, arith}
 use Rattle.std.proofs.lemmas.List.{take_at}
 use Rattle.octet_model.specs.declared.log.Log.{Log}
 use Rattle.octet_model.specs.declared.script.Script.{Script}
-use Rattle.octet_replay.specs.ReplayState.{ReplayState, plain_state}
+use Rattle.octet_replay.specs.ReplayState.{ReplayState, plain_state, HasHalted}
 use Rattle.octet_replay.proofs.lemmas.Collecting.{fewer_left}
 use Rattle.octet_top.specs.Profile.{class_of, counts}
 use Rattle.octet_top.proofs.profiling.Counted.{counts_none, counts_step, length_counts}
@@ -41,3 +41,11 @@ loop-event-smaller g c = fewer_left c.loop-event.replayer c.step.new.self c.in-M
 pub returns-clause-counts : goal.returns-clause-counts
 returns-clause-counts g c =
     c.loop-event.invariant.numbers ∙ ap (λ (r : ReplayState). counts c.args.wanted (plain_state r).journals) (sym c.in_default.ensures.1)
+
+pub returns-clause-halted : goal.returns-clause-halted
+returns-clause-halted g c = subst HasHalted (sym c.in_default.ensures.1) c.in_default.ensures.0
+
+pub returns-clause-same : goal.returns-clause-same
+returns-clause-same g c =
+    (ap (λ (r : ReplayState). r.script) c.in_default.ensures.1 ∙ c.loop-event.invariant.script,
+    ap (λ (r : ReplayState). r.log) c.in_default.ensures.1 ∙ c.loop-event.invariant.log)
