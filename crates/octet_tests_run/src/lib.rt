@@ -21,6 +21,8 @@ mod safe_tests;
 #[cfg(test)]
 mod samples;
 #[cfg(test)]
+mod state_tests;
+#[cfg(test)]
 mod thread_tests;
 #[cfg(test)]
 mod tool_tests;
