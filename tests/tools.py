@@ -218,7 +218,7 @@ def blocks(page, language, heading=None):
 PRINTED = [
     ("HEAP.md", None, "octet_tests_run/src/tool_tests.rt"),
     ("REPLAY.md", None, "octet_tests_replay/src/atomicity_tests.rt"),
-    ("THREADS.md", "A loop of your own", "octet_threads/src/loop_tests.rt"),
+    ("THREADS.md", "A loop of your own", "octet_tests_run/src/loop_tests.rt"),
 ]
 
 

@@ -14,8 +14,6 @@ mod rounds;
 mod run;
 mod same;
 mod steps;
-#[cfg(test)]
-mod tests;
 mod turned;
 
 pub use goes::go;

@@ -15,6 +15,10 @@ mod hunt_tests;
 #[cfg(test)]
 mod live_tests;
 #[cfg(test)]
+mod loop_tests;
+#[cfg(test)]
+mod machine_tests;
+#[cfg(test)]
 mod rule_tests;
 #[cfg(test)]
 mod safe_tests;
@@ -24,6 +28,8 @@ mod samples;
 mod state_tests;
 #[cfg(test)]
 mod thread_tests;
+#[cfg(test)]
+mod threads_tests;
 #[cfg(test)]
 mod tool_tests;
 #[cfg(test)]

@@ -12,19 +12,13 @@ mod feed;
 mod gate;
 mod left;
 mod live;
-#[cfg(test)]
-mod live_tests;
 mod locked;
-#[cfg(test)]
-mod loop_tests;
 mod recording;
 mod runner;
 mod running;
 mod runs;
 mod safe_points;
 mod step;
-#[cfg(test)]
-mod tests;
 mod tuning;
 mod worker;
 

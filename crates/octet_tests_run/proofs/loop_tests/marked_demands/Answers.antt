@@ -1,7 +1,7 @@
 use Rattle.octet_model.specs.Thread.{starting_configuration}
 use Rattle.octet_heap.specs.Workers.{seat_of}
 use Rattle.octet_threads.proofs.tasks.Fuel.{access_left}
-use Rattle.octet_threads.proofs.loop_tests.marked_demands.Goals as goal
+use Rattle.octet_tests_run.proofs.loop_tests.marked_demands.Goals as goal
 
 pub carry-demand-requires-clause-more : goal.carry-demand-requires-clause-more
 carry-demand-requires-clause-more g c κs within = λ wants.

@@ -1,15 +1,16 @@
 //! The loop of `docs/THREADS.md`, to the letter.
-ghost use Rattle.std.specs.Prelude.{◌≡◌, [], length, false, IfOk};
+ghost use Rattle.std.specs.Prelude.{◌≡◌, [], false};
 ghost use Rattle.octet_model.specs.Thread.{starting_configuration};
 ghost use Rattle.octet_rule.specs.Conditions.{IsResting};
 ghost use Rattle.octet_rule.specs.Seats.{objects_of};
 ghost use Rattle.octet_heap.specs.Workers.{seat_of, IsWorkerOf};
 
-use crate::carry;
+use crate::samples::script;
 use octet_base::OpenGate;
 use octet_heap::{Heap, Worker};
 use octet_interp::{Config, Demand};
-use octet_model::{Command, DEFAULT_FUEL, List, Name, Object, OutOfMemory, Script};
+use octet_model::OutOfMemory;
+use octet_threads::carry;
 use std::alloc::Global;
 use std::sync::Wait;
 use std::test::Fail;
@@ -47,29 +48,8 @@ fn marked_demands<R: Threads + Wait + Sync>(
 }
 
 /// Two threads add 2 to y, twice, and then to x.
-fn two_adders(alloc: Global) -> Result<Script, OutOfMemory>
-    ensures { IfOk result (λ script. (length script.threads ≡ 2) × (length script.objects ≡ 2) × (script.fuel ≡ DEFAULT_FUEL)) }
-{
-    let adds = [
-        Command::Set { to: 0, number: 2 },
-        Command::Bump { object: 1, from: 0 },
-        Command::Bump { object: 1, from: 0 },
-        Command::Bump { object: 0, from: 0 },
-    ];
-    let mut objects = List::new(alloc);
-    let name = Name::new(alloc, b"x")?;
-    objects.push(Object { name, start: 0 })?;
-    let name = Name::new(alloc, b"y")?;
-    objects.push(Object { name, start: 0 })?;
-    let mut threads = List::new(alloc);
-    threads.push(List::from_vec(Vec::from_slice(alloc, &adds)?))?;
-    threads.push(List::from_vec(Vec::from_slice(alloc, &adds)?))?;
-    Ok(Script {
-        fuel: DEFAULT_FUEL,
-        objects,
-        threads,
-    })
-}
+const TWO_ADDERS: &[u8] =
+    b"object x 0\nobject y 0\nthread\nset r0 2\nbump y r0\nbump y r0\nbump x r0\nthread\nset r0 2\nbump y r0\nbump y r0\nbump x r0\n";
 
 fn adds_to(object: u16) -> Demand {
     Demand::Bump { object, amount: 2 }
@@ -78,7 +58,10 @@ fn adds_to(object: u16) -> Demand {
 #[test]
 fn a_loop_tells_what_left_marks(rt: HostRuntime) -> Result<(), Fail> {
     let alloc = rt.alloc();
-    let script = two_adders(alloc)?;
+    let script = script(alloc, TWO_ADDERS)?;
+    if script.threads.len() != 2 {
+        return Err(Fail::new("the script has two threads"));
+    }
     let (heap, workers) = Heap::new(alloc, &script)?;
     let mut workers = workers.into_vec();
     let mut second = workers.remove(1);

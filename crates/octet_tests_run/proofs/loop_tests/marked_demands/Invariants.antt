@@ -3,7 +3,7 @@ use Rattle.octet_model.specs.Thread.{starting_configuration}
 use Rattle.octet_interp.specs.Laws.{IsJournalOf}
 use Rattle.octet_rule.specs.Seats.{objects_of}
 use Rattle.octet_heap.specs.Workers.{seat_of, IsIdle, IsWorkerOf}
-use Rattle.octet_threads.proofs.loop_tests.marked_demands.Given as goal
+use Rattle.octet_tests_run.proofs.loop_tests.marked_demands.Given as goal
 
 abbrev pub invariant-loop : goal.invariant-loop
 invariant-loop g l = record {
