@@ -83,7 +83,7 @@ const COMMANDS: &[(&str, Status, &[u8], Option<&[u8]>)] = &[
     (
         "trace S K",
         Status::Done,
-        b"1:0 join 0 0\n1:1 read y 3\n",
+        b"1:0 join 0 0\n1:1 read y 3 line 4\n",
         None,
     ),
     (
