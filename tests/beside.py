@@ -4,8 +4,9 @@ What runs beside each other is what the system tells of a process: how many of i
 could run, at one moment. Of threads that take turns behind a lock, or come one after another, that is mostly one.
 """
 
-import os
+import itertools
 import pathlib
+import re
 import shutil
 import subprocess
 import tempfile
@@ -14,6 +15,7 @@ import time
 from case import text
 from files import OCTET, SECONDS, TOP, differs, first, folder_with, octet
 
+RESTS = re.compile(r"\nvoluntary_ctxt_switches:\s+(\d+)")
 # Both threads write x, so they are not apart; then each is busy with an object of its own.
 TOGETHER = text(
     "fuel 131072", "object x 0", "object a 0", "object b 0",
@@ -71,12 +73,32 @@ def often(words, folder, count):
     return f"{' '.join(words)}: {count} threads were seen to run at one moment {times} times"
 
 
+def rests(words, folder):
+    """How often the threads that a call starts gave their processor away by themselves, as behind a lock; and how many there are."""
+    last = {}
+    with subprocess.Popen([str(OCTET), *words], cwd=folder, stdout=subprocess.DEVNULL) as process:
+        while process.poll() is None:
+            try:
+                tasks = list(pathlib.Path(f"/proc/{process.pid}/task").iterdir())
+            except OSError:
+                break
+            for task in tasks:
+                try:
+                    if task.name != str(process.pid):
+                        last[task.name] = int(RESTS.search((task / "status").read_text())[1])
+                except (OSError, TypeError):
+                    pass  # It has ended.
+    return sum(last.values()), len(last)
+
+
 def beside_each_other():
     """`run`, `gen` and `parallel` have threads that run beside each other, on scripts whose threads share what they write."""
     with folder_with(S=TOGETHER) as folder:
         together = share(seen(["run", "S", "L"], folder, 5), 2)
+        rested = min(count for count, threads in (rests(["run", "S", "L"], folder) for _ in range(10)) if threads >= 2)
         return first(
             None if together > 0.5 else f"run: two threads run in {together:.0%} of the looks",
+            None if rested <= 50 else f"run: its threads gave their processors away {rested} times",
             differs("whether they met", octet(["show", "L"], folder)[1].count(b"\ngap ") > 0, True),
             often(["parallel", "S", "L"], folder, 2),
             often(["gen", "1", "G", "M"], folder, 4),
@@ -85,49 +107,52 @@ def beside_each_other():
 
 
 def in_turn():
-    """A script of one thread, and threads that take turns behind a lock, are told apart from these."""
-    one = b"thread\n".join(TOGETHER.split(b"thread\n")[:2])
-    with folder_with(S=one, T=TOGETHER) as folder:
-        alone, locked = (share(seen(words, folder, 3), 2) for words in [["run", "S", "L"], ["locked", "T", "L"]])
-        return None if max(alone, locked) < 0.4 else f"two threads run in {alone:.0%}, and in {locked:.0%} of the looks"
+    """A script of one thread is told apart from that."""
+    with folder_with(S=b"thread\n".join(TOGETHER.split(b"thread\n")[:2])) as folder:
+        alone = share(seen(["run", "S", "L"], folder, 5), 2)
+        return None if alone < 0.4 else f"two threads run in {alone:.0%} of the looks"
 
 
-def counted(words, folder, library):
-    """How many allocations a call makes."""
-    told = pathlib.Path(folder, "count")
-    environment = {"LD_PRELOAD": str(library), "COUNT_ALLOCATIONS": str(told)}
-    done = subprocess.run([str(OCTET), *words], cwd=folder, env=environment, capture_output=True, timeout=SECONDS, check=False)
-    return done.returncode, int(told.read_text() or 0)
+def counted(content, folder, library):
+    """The fewest allocations that a run makes, of five."""
+    told, found = pathlib.Path(folder, "count"), []
+    pathlib.Path(folder, "S").write_bytes(content)
+    for _ in range(5):
+        told.write_text("0")
+        done = subprocess.run(
+            [str(OCTET), "run", "S", "L"], cwd=folder, capture_output=True, timeout=SECONDS, check=False,
+            env={"LD_PRELOAD": str(library), "COUNT_ALLOCATIONS": str(told)},
+        )  # fmt: skip
+        if done.returncode != 0:
+            raise AssertionError(f"status {done.returncode}, {done.stderr!r:.200}")
+        found.append(int(told.read_text()))
+    return min(found)
+
+
+def busy(names, times):
+    """A thread for each object, which makes twice so many accesses of it."""
+    body = ["set r1 1", "while r0", "write {} r0", "bump {} r1", "sub r0 r0 r1", "end"]
+    threads = [["thread", f"set r0 {times}", *(line.format(name) for line in body)] for name in names]
+    return text("fuel 131072", *(f"object {name} 0" for name in names), *itertools.chain(*threads))
 
 
 def allocations():
-    """An access takes no memory: a call with twice as many accesses makes as many allocations."""
+    """An access takes no memory: a run of twice as many accesses makes as many allocations."""
     if shutil.which("cc") is None:
         return None
-    scripts = {}
-    for times in ["02500", "05000"]:  # The texts have one length.
-        threads = [
-            line
-            for name in "ab"
-            for line in ["thread", f"set r0 {times}", "set r1 1", "while r0", f"write {name} r0", f"bump {name} r1", "sub r0 r0 r1", "end"]
-        ]
-        scripts[times] = text("fuel 131072", "object a 0", "object b 0", *threads)
     with tempfile.TemporaryDirectory() as folder:
         library = pathlib.Path(folder, "counting.so")
         subprocess.run(["cc", "-shared", "-fPIC", "-O1", "-o", library, TOP / "tests" / "counting.c", "-ldl"], check=True)
-        found = {}
-        for times, content in scripts.items():
-            pathlib.Path(folder, "S").write_bytes(content)
-            for words in [["run", "S", "L"], ["locked", "S", "L"], ["replay", "S", "L"], ["verify", "S", "L"]]:
-                status, count = counted(words, folder, library)
-                if status != 0 or count == 0:
-                    return f"{words}: status {status}, {count} allocations"
-                found.setdefault(words[0], []).append(count)
-    return first(*(differs(f"{command}: allocations", each[1], each[0]) for command, each in found.items()))
+        for names in ["a", "ab"]:
+            # Their texts have one length.
+            once, twice = (counted(busy(names, times), folder, library) for times in ["02500", "05000"])
+            if once == 0 or once != twice:
+                return f"of {len(names)} threads: {once} allocations, and {twice} of twice the accesses"
+    return None
 
 
 TESTS = {
     "run, gen, parallel: threads beside each other": beside_each_other,
-    "run, locked: one thread at a time": in_turn,
+    "run: a thread alone": in_turn,
     "run: twice the accesses, as many allocations": allocations,
 }
