@@ -46,6 +46,7 @@ pub returns-clause-halted : goal.returns-clause-halted
 returns-clause-halted g c = subst HasHalted (sym c.in_default.ensures.1) c.in_default.ensures.0
 
 pub returns-clause-same : goal.returns-clause-same
-returns-clause-same g c =
-    (ap (λ (r : ReplayState). r.script) c.in_default.ensures.1 ∙ c.loop-event.invariant.script,
-    ap (λ (r : ReplayState). r.log) c.in_default.ensures.1 ∙ c.loop-event.invariant.log)
+returns-clause-same g c = (
+  ap (λ (r : ReplayState). r.script) c.in_default.ensures.1 ∙ c.loop-event.invariant.script,
+  ap (λ (r : ReplayState). r.log) c.in_default.ensures.1 ∙ c.loop-event.invariant.log,
+)
