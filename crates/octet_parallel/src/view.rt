@@ -26,7 +26,7 @@ impl Model for View {
     ghost view = { λ view. new_view view.number view.script view.log 0 };
 }
 
-/// That the words and the views of all players are one sound state.
+/// That the words are those after a run of the players, whose steps are those that their views tell of.
 pub(crate) struct Sound;
 
 impl TableRule<(), View, Key> for Sound {
