@@ -42,20 +42,28 @@ def running(number):
 
 def seen(words, folder, calls=1):
     """Of calls that are looked at again and again: of each look with more than one thread, how many run."""
-    looks, until = [], time.monotonic() + SECONDS
+    looks = []
     for _ in range(calls):
-        with subprocess.Popen([str(OCTET), *words], cwd=folder, stdout=subprocess.DEVNULL) as process:
-            while process.poll() is None:
-                try:
-                    threads, together = running(process.pid)
-                except OSError:
-                    break
-                if threads > 1:
-                    looks.append(together)
-                if time.monotonic() > until:
-                    process.kill()
-                    raise subprocess.TimeoutExpired(words, SECONDS)
+        for process in looked_at(words, folder):
+            try:
+                threads, together = running(process.pid)
+            except OSError:
+                break
+            if threads > 1:
+                looks.append(together)
     return looks
+
+
+def looked_at(words, folder):
+    """A call, given again and again as long as it goes on."""
+    until = time.monotonic() + SECONDS
+    with subprocess.Popen([str(OCTET), *words], cwd=folder, stdout=subprocess.DEVNULL) as process:
+        while process.poll() is None:
+            yield process
+            time.sleep(0.0002)
+            if time.monotonic() > until:
+                process.kill()
+                raise subprocess.TimeoutExpired(words, SECONDS)
 
 
 def share(looks, count):
@@ -76,18 +84,17 @@ def often(words, folder, count):
 def rests(words, folder):
     """How often the threads that a call starts gave their processor away by themselves, as behind a lock; and how many there are."""
     last = {}
-    with subprocess.Popen([str(OCTET), *words], cwd=folder, stdout=subprocess.DEVNULL) as process:
-        while process.poll() is None:
+    for process in looked_at(words, folder):
+        try:
+            tasks = list(pathlib.Path(f"/proc/{process.pid}/task").iterdir())
+        except OSError:
+            break
+        for task in tasks:
             try:
-                tasks = list(pathlib.Path(f"/proc/{process.pid}/task").iterdir())
-            except OSError:
-                break
-            for task in tasks:
-                try:
-                    if task.name != str(process.pid):
-                        last[task.name] = int(RESTS.search((task / "status").read_text())[1])
-                except (OSError, TypeError):
-                    pass  # It has ended.
+                if task.name != str(process.pid):
+                    last[task.name] = int(RESTS.search((task / "status").read_text())[1])
+            except (OSError, TypeError):
+                pass  # It has ended.
     return sum(last.values()), len(last)
 
 

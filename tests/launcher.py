@@ -8,6 +8,7 @@ import importlib.machinery
 import importlib.util
 import os
 import pathlib
+import re
 import shutil
 import signal
 import subprocess
@@ -84,6 +85,9 @@ LOST = [
 ]
 
 
+COMMANDS = re.compile(r"^\| `octet ([a-z]+)((?: [A-Z]+)+)` \|", re.MULTILINE)
+
+
 def lines(*told):
     return "".join(f"octet: {line}\n" for line in told).encode()
 
@@ -104,6 +108,33 @@ def answers():
             differs("no warning", called([LAUNCHER, "run", "S", "O"], folder)[0], 0),
             differs("no word more", len(called([LAUNCHER, "run", "S", "O"], folder)), 2),
         )
+
+
+def commands():
+    """`bin/octet` knows the words of each command that FORMATS has."""
+    found = COMMANDS.findall((TOP / "docs" / "FORMATS.md").read_text())
+    with tempfile.TemporaryDirectory() as folder:
+        return first(
+            differs("how many commands", len(found) >= 15, True),
+            *(
+                None if told.startswith(lines(f"{command} wants{words}")[:-1]) else f"{command}: {told}"
+                for command, words in found
+                for told in [called([LAUNCHER, command], folder)[-1]]
+            ),
+        )
+
+
+def words_of_the_tests():
+    """`tests/run` runs the tests that have one of its words, and no others."""
+    run = TOP / "tests" / "run"
+    status, whole = called([run, "--list"], TOP)
+    names = whole.decode().split("\n")[:-1]
+    some = [name for name in names if "refused: 7," in name or "a RUN of" in name.replace("run", "RUN")]
+    return first(
+        differs("all", (status, len(names) > 500, len(set(names)) == len(names)), (0, True, True)),
+        differs("some", called([run, "--list", "REFUSED: 7,", "a run of"], TOP), (0, text(*some))),
+        differs("none", called([run, "no test has this name"], TOP)[0], 2),
+    )
 
 
 def lost(folder, words, told):
@@ -383,12 +414,14 @@ def side_by_side():
 
 TESTS = {
     "bin/octet: which word or file is wrong": answers,
+    "bin/octet: the words of each command": commands,
     "bin/octet: which output took not all": outputs,
     "bin/octet: what may not be read or written": permissions,
     "bin/octet: the program's statuses and its input": statuses,
     "bin/octet: signals": signals,
     "bin/octet: when it builds": builds,
     "bin/octet: try": tries,
+    "tests/run: words and a list": words_of_the_tests,
     "tools/build: the plan": plans,
     "tools/build: side by side": side_by_side,
 }
