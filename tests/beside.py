@@ -82,7 +82,7 @@ def often(words, folder, count):
 
 
 def rests(words, folder):
-    """How often the threads that a call starts gave their processor away by themselves, as behind a lock; and how many there are."""
+    """How often the threads that a call starts gave their processor away, as behind a lock; and how many threads there are."""
     last = {}
     for process in looked_at(words, folder):
         try:

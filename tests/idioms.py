@@ -12,7 +12,8 @@ def outcomes(content, runs, picks):
     """The outcomes of a script by some runs and by some random picks, each replayed to the same."""
     dice, found = random.Random(58), []
     with folder_with(S=content) as folder:
-        calls = [["run", "S", "L"]] * runs + [["turns", "S", "L", "".join(dice.choices("0123456789abcdef", k=40))] for _ in range(picks)]
+        calls = [["run", "S", "L"]] * runs
+        calls += [["turns", "S", "L", "".join(dice.choices("0123456789abcdef", k=40))] for _ in range(picks)]
         for words in calls:
             status, said = octet(words, folder)
             if (status, said) != octet(["replay", "S", "L"], folder):

@@ -163,7 +163,8 @@ def outputs():
                 called([LAUNCHER, "run", "S", "L"], folder, stdout=full),
                 (6, None, lines(f"{part}, or L could not be written")),
             ),
-            None if unread in ((6, None, lines("nobody read all of the answer")), (-signal.SIGPIPE, b"")) else f"unread: {unread}",
+            # The line, or the signal that the system sends.
+            None if unread[0] == -signal.SIGPIPE else differs("unread", unread, (6, None, lines("nobody read all of the answer"))),
         )
 
 
@@ -196,7 +197,8 @@ class Tree:
 
     def __init__(self, top, program="", build="exit 1"):
         self.top, self.program = top, top / "crates" / "octet" / "out" / "octet"
-        for folder in ["bin", "tools", "crates/octet/out", "crates/octet/src", "crates/octet_top/src/inner", "crates/octet_tests/src"]:
+        sources = ["octet/out", "octet/src", "octet_top/src/inner", "octet_tests/src"]
+        for folder in ["bin", "tools", *(f"crates/{source}" for source in sources)]:
             (top / folder).mkdir(parents=True)
         (top / "crates.txt").write_text("octet_top:\noctet: octet_top\noctet_tests: octet_top\n")
         (top / "crates" / "octet" / "src" / "main.rt").write_text("")
@@ -218,7 +220,8 @@ def statuses():
     """Whatever the program ends with, `bin/octet` does; and it lends it its standard input."""
     with tempfile.TemporaryDirectory() as folder:
         tree = Tree(pathlib.Path(folder, "tree"), 'echo "$1"; cat; exit "$2"')
-        found = {number: called([tree.launcher, "a b", str(number)], folder, input=b"in") for number in [0, 2, 3, 4, 7, 8, 9, 10, 11]}
+        numbers = [0, 2, 3, 4, 7, 8, 9, 10, 11]
+        found = {number: called([tree.launcher, "a b", str(number)], folder, input=b"in") for number in numbers}
         wanted = {number: (number, b"a b\nin") for number in found} | {7: (7, b"a b\nin", lines("no memory"))}
         path = {"PATH": "/none"}
         quick = Tree(pathlib.Path(folder, "quick"), "echo quick")
@@ -234,9 +237,9 @@ def signals():
     """A signal ends `bin/octet` and the program alike, and a program that one ended is told as such."""
     with tempfile.TemporaryDirectory() as folder:
         tree = Tree(pathlib.Path(folder, "tree"), "echo $$; exec sleep 60")
-        for sent, to in [(signal.SIGTERM, "launcher"), (signal.SIGINT, "launcher"), (signal.SIGHUP, "launcher"), (signal.SIGINT, "both")] + [
-            (sent, "program") for sent in [signal.SIGTERM, signal.SIGKILL, signal.SIGSEGV]
-        ]:
+        calls = [(sent, "launcher") for sent in [signal.SIGTERM, signal.SIGINT, signal.SIGHUP]] + [(signal.SIGINT, "both")]
+        calls += [(sent, "program") for sent in [signal.SIGTERM, signal.SIGKILL, signal.SIGSEGV]]
+        for sent, to in calls:
             with subprocess.Popen(
                 [tree.launcher, "x"], cwd=folder, stdout=subprocess.PIPE, stderr=subprocess.PIPE, start_new_session=True
             ) as process:
@@ -298,7 +301,11 @@ def tries():
         told = "nothing of the program that answers now is proved; without `try` it is proved first, which takes long"
         return first(
             differs("try", called([tree.launcher, "try", "show", "0"], folder), (0, b"show 0\n", lines(told))),
-            differs("wrong words", called([tree.launcher, "try", "walk", "1"], folder), (1, b"walk 1\n", lines(told, "walk is no command, see octet help"))),
+            differs(
+                "wrong words",
+                called([tree.launcher, "try", "walk", "1"], folder),
+                (1, b"walk 1\n", lines(told, "walk is no command, see octet help")),
+            ),
         )
 
 
@@ -325,14 +332,15 @@ def plans():
             if early or end <= start or not 1 <= jobs <= processors:
                 problems.append(f"{name} begins at {start} with {jobs}, before {early}")
             if len(beside) > 1 and (sum(processes) > processors + 1 or needs > memory):
-                problems.append(f"{beside} beside each other, with {processes}, by {processors} processors and {memory} gigabytes")
+                problems.append(f"{beside} together, with {processes}, by {processors} processors and {memory} gigabytes")
+    said = called([BUILD, "--plan", "--processors", "4", "--memory", "16"], TOP)[1]
     return first(
         *problems,
         differs("a crate at a time", abs(wholes[1, 4] - work) < 5, True),
         differs("two processors", wholes[2, 8] < 0.65 * work, True),
         differs("four processors", wholes[4, 16] < 0.42 * work, True),
         differs("little memory", wholes[16, 3] == wholes[1, 4], True),
-        differs("a word more", called([BUILD, "--plan", "--processors", "4", "--memory", "16"], TOP)[1].count(b"\n"), len(crates) + 1),
+        differs("how many lines", said.count(b"\n"), len(crates) + 1),
     )
 
 
@@ -396,7 +404,7 @@ def side_by_side():
             differs("the first", calls[:2], ["begin low True", "end low"]),
             differs("side by side", middle, (["begin left True", "begin right True"], ["end left", "end right"])),
             differs("the last", calls[6:], ["run octet"]),
-            differs("what is kept", [(top / "crates" / name / "out" / "rlib").is_dir() for name in lists], [True] * 3 + [False] * 2),
+            differs("what is kept", [name for name in lists if (top / "crates" / name / "out" / "rlib").is_dir()], ["low", "left", "right"]),
             differs("the copies", list((top / "build").iterdir()), []),
             differs("its log", (top / "crates" / "octet" / "build.log").read_text().count("processor time"), 5),
             differs("once more", call()[2], ["run octet"]),
