@@ -1,5 +1,6 @@
 //! Events and their places as text.
-ghost use Rattle.std.specs.Prelude.{◌≡◌, ◌++◌, OnOk};
+ghost use Rattle.std.specs.Prelude.{◌≡◌, ◌++◌, OnOk, codes};
+ghost use Rattle.std.specs.Fmt.{decimal};
 ghost use Rattle.octet_top.specs.Answer.{place_text};
 ghost use Rattle.octet_top.specs.EventTexts.{event_text, object_name, placed_text};
 
@@ -15,6 +16,22 @@ fn push_name(out: &mut Vec<u8>, script: &Script, object: u16) -> Result<(), OutO
     Ok(())
 }
 
+// Adds what an access does, its object and a value of it.
+fn push_access(
+    out: &mut Vec<u8>,
+    does: &[u8],
+    script: &Script,
+    object: u16,
+    value: u64,
+) -> Result<(), OutOfMemory>
+    ensures { OnOk result (out.new.items ≡ out.old.items ++ does.now ++ object_name script.now object ++ codes " " ++ decimal value) }
+{
+    out.extend_from_slice(does)?;
+    push_name(out, script, object)?;
+    out.extend_from_slice(b" ")?;
+    push_number(out, value)
+}
+
 /// Adds an event's text at the end: an access of an object with its values, or a mark with its
 /// numbers.
 pub(crate) fn push_event(
@@ -25,27 +42,14 @@ pub(crate) fn push_event(
     ensures { OnOk result (out.new.items ≡ out.old.items ++ event_text script.now event) }
 {
     match event {
-        Event::Read { object, value } => {
-            out.extend_from_slice(b"read ")?;
-            push_name(out, script, object)?;
-            out.extend_from_slice(b" ")?;
-            push_number(out, value)
-        }
-        Event::Write { object, value } => {
-            out.extend_from_slice(b"write ")?;
-            push_name(out, script, object)?;
-            out.extend_from_slice(b" ")?;
-            push_number(out, value)
-        }
+        Event::Read { object, value } => push_access(out, b"read ", script, object, value),
+        Event::Write { object, value } => push_access(out, b"write ", script, object, value),
         Event::Update {
             object,
             before,
             after,
         } => {
-            out.extend_from_slice(b"update ")?;
-            push_name(out, script, object)?;
-            out.extend_from_slice(b" ")?;
-            push_number(out, before)?;
+            push_access(out, b"update ", script, object, before)?;
             out.extend_from_slice(b" ")?;
             push_number(out, after)
         }
