@@ -11,7 +11,7 @@ use Rattle.octet_machine.specs.Turns.{after_turns}
 use Rattle.octet_threads.specs.Step.{at_gate, step_result_by, after_step_by, step_result, state_after_step}
 use Rattle.octet_threads.specs.declared.step.Found.{Found}
 use Rattle.octet_threads.specs.declared.step.Found.TheVariants.{AtGate, Took}
-use Rattle.octet_threads.specs.Turns.{at_gate, MayGo, MayHelp, MayTurn, own_turns, Helps, TakesTurns, Finds}
+use Rattle.octet_threads.specs.Turns.{MayGo, MayHelp, MayTurn, own_turns, Helps, TakesTurns, Finds}
 
 goes_then : (May : MachineState → Turned → ℕ → Type 0) (m : MachineState) (answer : Turned) (threads more : List ℕ)
     → MayGo May m answer threads → ((answer : Turned) → MayGo May (after_turns m threads) answer more) → MayGo May m answer (threads ++ more)
