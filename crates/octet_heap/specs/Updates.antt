@@ -17,7 +17,6 @@ use Rattle.octet_heap.specs.declared.way.Way.{Way}
 use Rattle.octet_heap.specs.declared.way.Way.TheVariants.{Passes, Waits}
 use Rattle.octet_heap.specs.Polls.{Comes}
 use Rattle.octet_heap.specs.Calls.{access_to, Polls}
-use Rattle.octet_heap.specs.Standing.{update_of}
 use Rattle.octet_heap.specs.Workers.{IsIdle}
 
 -- the amount that it has added, once it is made

@@ -40,9 +40,6 @@ module _ (commands : List Command) where
   pub none_past_all : (c : Configuration) → slice_get commands c.place ≡ None → places_ahead commands c ≡ []
   none_past_all c at = none_from c.fuel c at
 
-  pub none_unfuelled : (c : Configuration) → c.fuel ≡ 0 → places_ahead commands c ≡ []
-  none_unfuelled c none = ap (λ (f : ℕ). region_places commands f c) none
-
   one_place : (command : Command) (place : ℕ) → length (region_place command place) ≡ region_count command
   one_place Region place = refl
   one_place _ place = refl

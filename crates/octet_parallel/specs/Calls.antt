@@ -8,7 +8,7 @@ use Rattle.octet_model.specs.declared.script.Script.{Script}
 use Rattle.octet_model.specs.declared.log.Log.{Log}
 use Rattle.octet_model.specs.declared.log.ThreadLog.{ThreadLog}
 use Rattle.octet_model.specs.Thread.{starting_configuration}
-use Rattle.octet_model.specs.Machine.{Next, Wants, Finished, MakeMark, MakeRead, MakeWrite, MakeUpdate, journal_of}
+use Rattle.octet_model.specs.Machine.{Next, Wants, Finished, MakeMark, MakeRead, MakeWrite, MakeUpdate}
 use Rattle.octet_model.specs.Journals.{access_count}
 use Rattle.octet_model.specs.Orders.{commands_of, thread_log_of, IsLawfulFront, IsLawfulOrder, journals_after, execution}
 use Rattle.octet_clock.specs.Fronts.{IsAmissAfter}

@@ -1,8 +1,7 @@
 -- Each step that a thread took is one of the run.
-use Rattle.std.proofs.Common.{◌≡◌, ◌∷◌, [], ◌++◌, sym, ap, ◌∙◌, subst}
+use Rattle.std.proofs.Common.{◌≡◌, ◌∷◌, ◌++◌, sym, ap, ◌∙◌, subst}
 use Rattle.octet_state.specs.State.{ProtocolState}
-use Rattle.octet_state.specs.Steps.{Kind, May, told, ThreadStep}
-use Rattle.octet_seats.specs.Runs.{IsStepBy}
+use Rattle.octet_state.specs.Steps.{May, told, ThreadStep}
 use Rattle.octet_seats.proofs.lemmas.Runs as seats
 use Rattle.octet_rule.specs.Views.{Taken}
 use Rattle.octet_rule.specs.Laws.{StepsAreOfRun}

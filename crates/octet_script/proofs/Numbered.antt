@@ -95,7 +95,3 @@ ends_present before threads started kept =
 
 pub ends_none : (before : Numbering) (threads : List (List ℕ)) → before.started ≡ false → threads ≡ before.threads → threads ≡ numbers_with before ([] ∷ [])
 ends_none before threads started kept = kept ∙ sym (append-nil before.threads) ∙ ap (with_state before.threads before.present ([] ∷ [])) (sym started)
-
--- a line with words that is no `thread` is one of the present thread
-abbrev pub of_present : Numbering → ℕ → List (List ℕ) → Bool → List (List ℕ)
-of_present n number parts started = n.threads ++ cond started (onto_part n.present parts) (drop 1 parts)

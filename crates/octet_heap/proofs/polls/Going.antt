@@ -57,9 +57,6 @@ comes_after access u v w m n k answer g c fits = let same = sym (after_more g.go
   after = c.after ∙ ap (stepped_by c.last.kind c.last.word) (there ∙ same);
 }
 
-pub comes_next : (access : PendingAccess) (u v w : SeatView) (k : Kind) (told n : ℕ) (answer : Poll) → Steps k u told v → k ≡ next_step (access_task access) u → answer_to u (record { kind = k; word = told }) ≡ None → Comes access v answer n w → Comes access u answer (suc n) w
-comes_next access u v w k told n answer took next none c = comes_after access u v w 2 n (suc n) answer (goes_one access u v k told took next none) c (omega arith)
-
 pub comes_sooner : (access : PendingAccess) (v w : SeatView) (m n : ℕ) (answer : Poll) → Comes access v answer m w → m ≤ n → Comes access v answer n w
 comes_sooner access v w m n answer c fits = record { going = c.going; last = c.last; goes = c.goes; is_next = c.is_next; answers = c.answers; few = let few = c.few in omega arith; after = c.after }
 

@@ -1,5 +1,5 @@
 -- A whole poll, by the stretch up to its answer and the safe point after it.
-use Rattle.std.proofs.Common.{◌≡◌, ◌≢◌, ◌∙◌, ℕ, ◌+◌, ◌≤◌, Bool, true, false, List, [], ◌∷◌, ◌++◌, length, Option, Some, None, sym, refl, ap, arith, subst, append_assoc, append-nil}
+use Rattle.std.proofs.Common.{◌≡◌, ◌≢◌, ◌∙◌, ℕ, ◌+◌, ◌≤◌, Bool, true, false, List, [], ◌∷◌, ◌++◌, length, sym, refl, ap, arith, subst, append_assoc, append-nil}
 use Rattle.std.specs.Prelude.{◌==◌, not, if◌then◌else◌}
 use Rattle.octet_state.specs.declared.phase.Due.{Due}
 use Rattle.octet_state.specs.declared.phase.Due.TheVariants.{Nothing, Glance, Answer}
@@ -73,10 +73,3 @@ poll_pending access v u w why answered c due point = go answered point.by_bits p
         ends access v u w (Pending why) (glance ∷ replies ∷ []) c
         ((next_by (access_task access) u point.between ToGlance point.found point.glances (sym (next_in (access_task access) u Glance u.thread.phase due refl)), owes u Glance refl due, rest.0), rest.1)
         (let few = c.few in omega arith) (answer.1.moves ∙ ap (stepped_by ToAnswer answer.0) (sym looks))
-
-pub same_access : (a b : PendingAccess) (o : Option PendingAccess) → o ≡ Some a → o ≡ Some b → a ≡ b
-same_access a b o is was = ap (λ (w : Option PendingAccess). access_in w) (sym is ∙ was)
-  where
-    access_in : Option PendingAccess → PendingAccess
-    access_in (Some w) = w
-    access_in None = a

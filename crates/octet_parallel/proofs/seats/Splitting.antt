@@ -1,5 +1,5 @@
 -- A player is split off the first one, and is joined back to it: neither is a step of the run.
-use Rattle.std.proofs.Common.{◌≡◌, ℕ, ◌<◌, true, length, refl, sym, ap, ◌∙◌, arith}
+use Rattle.std.proofs.Common.{◌≡◌, ℕ, ◌<◌, true, length, refl, ap, ◌∙◌, arith}
 use Rattle.atomic_table.specs.Table.{Splits, Joins}
 use Rattle.octet_model.specs.declared.script.Script.{Script}
 use Rattle.octet_model.specs.declared.log.Log.{Log}

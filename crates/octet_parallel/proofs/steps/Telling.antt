@@ -1,9 +1,8 @@
 -- What each player did in a run, with the words that it was told, tells the words that the run leaves: its own progress word follows from its steps, and of each cell all that was found there and all that was left there add up.
-use Rattle.std.proofs.Common.{◌≡◌, ◌≢◌, ℕ, ◌+◌, ◌<◌, inl, inr, Bool, true, false, List, [], ◌∷◌, ◌++◌, map, length, get_or, set, sym, refl, ap, ◌∙◌, subst, arith, eq-eqb, length-set}
+use Rattle.std.proofs.Common.{◌≡◌, ◌≢◌, ℕ, ◌+◌, ◌<◌, inl, inr, Bool, List, [], ◌∷◌, ◌++◌, map, length, get_or, set, sym, refl, ap, ◌∙◌, subst, arith, eq-eqb, length-set}
 use Rattle.std.specs.Prelude.{◌==◌, if◌then◌else◌}
 use Rattle.std.proofs.lemmas.Bool.{cases_eq, ne_eqb}
-use Rattle.std.proofs.lemmas.List.{length-map, length-replicate, get_or-set_same, get_or-set_other}
-use Rattle.atomic_table.specs.Table.{State}
+use Rattle.std.proofs.lemmas.List.{get_or-set_same, get_or-set_other}
 use Rattle.octet_model.specs.declared.script.Script.{Script}
 use Rattle.octet_model.specs.declared.log.Log.{Log}
 use Rattle.octet_model.specs.Machine.{Next, Wants, Finished, NothingFits, MakeMark, MakeRead, MakeWrite, MakeUpdate}
@@ -14,11 +13,11 @@ use Rattle.octet_seats.specs.Runs.{after_all, steps_by}
 use Rattle.octet_seats.proofs.lemmas.Rows.{same_members}
 use Rattle.octet_seats.proofs.lemmas.Telling.{same_known, same_word}
 use Rattle.octet_seats.proofs.lemmas.Seeing.{all_agree}
-use Rattle.octet_parallel.specs.State.{PlayerState, FieldState, player_of, unbegun, progress, spread, words, next_of_player, opening}
+use Rattle.octet_parallel.specs.State.{PlayerState, FieldState, player_of, unbegun, progress, spread, next_of_player, opening}
 use Rattle.octet_parallel.specs.Steps.{Kind, May, step, told, after, target, cells_after, IsRead, IsWrite, IsBump, ToLook, ToRead, ToWrite, ToBump, ToAdvance, ToStop}
-use Rattle.octet_parallel.specs.Views.{PlayerView, Left, Taken, facts_of}
+use Rattle.octet_parallel.specs.Views.{Taken, facts_of}
 use Rattle.octet_parallel.specs.Runs.{PlayerStep, taken_in, moves, MayStep, IsRun, field_after, steps_of}
-use Rattle.octet_parallel.specs.Rule.{Follows, HasLeft, IsUnmade, IsRuled}
+use Rattle.octet_parallel.specs.Rule.{Follows, HasLeft, IsUnmade}
 use Rattle.octet_parallel.specs.Laws.{StepsTellWords, ViewsTellWords}
 
 -- what a player knows: what is replayed, and how far it is

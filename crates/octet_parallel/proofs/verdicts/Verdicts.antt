@@ -1,5 +1,5 @@
 -- What the journals that the players made tell of the lowest order.
-use Rattle.std.proofs.Common.{ℕ, ◌<◌, All, List, ◌≡◌, ◌++◌, length, take, Some, None, sym, ◌∙◌, subst, arith}
+use Rattle.std.proofs.Common.{List, Some, None, sym, ◌∙◌, subst}
 use Rattle.octet_model.specs.declared.log.Log.{Log}
 use Rattle.octet_model.specs.declared.log.ThreadLog.{ThreadLog}
 use Rattle.octet_model.specs.declared.script.Script.{Script}
@@ -8,14 +8,8 @@ use Rattle.octet_model.specs.HappensBefore.{IsOrdered}
 use Rattle.octet_clock.specs.Ordered.{AreOfLawfulOrder}
 use Rattle.octet_clock.proofs.lemmas.FrontLaws.{no_front_is_amiss, one_order_tells, one_order_gives}
 use Rattle.octet_parallel.specs.declared.finished.Finished as finished
-use Rattle.std.specs.List.{AllZip}
-use Rattle.std.proofs.Math.ListN.{drop}
-use Rattle.std.proofs.lemmas.List.{take_at}
-use Rattle.std.proofs.lemmas.List.Elements.{AllZip-get_or, length_all_zip}
-use Rattle.octet_parallel.specs.declared.field.Field.{Field}
-use Rattle.octet_parallel.specs.declared.player.Player.{Player}
-use Rattle.octet_parallel.specs.Calls.{EachUnbegun, EachEnded, SomeFrontIsAmiss, IsFinishedReplay}
-use Rattle.octet_parallel.specs.Judging.{HasPlayed, IsSamePlayer, IsJudged}
+use Rattle.octet_parallel.specs.Calls.{SomeFrontIsAmiss, IsFinishedReplay}
+use Rattle.octet_parallel.specs.Judging.{IsJudged}
 
 module _ (script : Script) (log : List ThreadLog) where
   pub amiss_judged : SomeFrontIsAmiss script log → IsJudged script log None
