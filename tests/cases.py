@@ -567,7 +567,6 @@ EVENTS = [
         ), 4,
     ),
     judged("stop x 3", "a write, without its line", LINED, log((3, join(1, 1, 1)), (2,)), text("stop 0:2 write x 3")),
-    judged("slice 0 2", "the same", LINED, log((3, join(1, 1, 1)), (2,)), text("unordered 0:0 1:0"), 9),
 ]  # fmt: skip
 
 LOG_REFUSALS = (

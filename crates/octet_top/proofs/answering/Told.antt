@@ -1,17 +1,28 @@
 -- The lines of a trace, told one after another.
-use Rattle.std.proofs.Common.{◌≡◌, ℕ, suc, ◌+◌, ◌-◌, List, [], ◌∷◌, ◌++◌, length, codes, refl, sym, ap, ◌∙◌, subst, arith, append_assoc}
+use Rattle.std.proofs.Common.{◌≡◌, ℕ, suc, ◌+◌, ◌-◌, ◌<◌, inl, inr, List, [], ◌∷◌, ◌++◌, length, codes, drop, Some, get_or, slice_get, slice_set, refl, sym, ap, ◌∙◌, subst, arith, append_assoc, length-set}
+use Rattle.std.proofs.Math.Seq.{drop-cons}
 use Rattle.std.specs.Fmt.{decimal}
+use Rattle.std.proofs.lemmas.Bool.{cases_eq}
+use Rattle.std.proofs.lemmas.Option.{get_or_from_slice_get, slice_get_within}
 use Rattle.octet_model.specs.declared.command.Command.{Command}
 use Rattle.octet_model.specs.declared.event.Event.{Event}
 use Rattle.octet_model.specs.declared.event.Place.{Place}
+use Rattle.octet_model.specs.declared.log.ThreadLog.{ThreadLog}
 use Rattle.octet_model.specs.declared.script.Script.{Script}
-use Rattle.octet_model.specs.Thread.{Configuration, settled, configuration_after}
+use Rattle.octet_model.specs.Thread.{Configuration, settled, configuration_after, starting_configuration, FitsFrom}
+use Rattle.octet_model.specs.Machine.{Journals, journal_of, appended}
+use Rattle.octet_model.specs.Orders.{commands_of}
+use Rattle.octet_model.specs.Traces.{trace_of}
+use Rattle.octet_model.proofs.lemmas.Steps.{other_journal, same_journal}
+use Rattle.octet_replay.specs.ReplayState.{state_at}
+use Rattle.octet_replay.proofs.lemmas.Reading.{get_other, get_same}
 use Rattle.octet_interp.specs.Regions.{regions_before}
 use Rattle.octet_interp.specs.Following.{access_place, places_ahead, places_before_next, FollowerState, IsBeforeAccess, IsFollowing, PassesRegion, FollowsOn}
 use Rattle.octet_top.specs.Answer.{place_text}
 use Rattle.octet_top.specs.EventTexts.{event_text, placed_text}
-use Rattle.octet_top.specs.TraceTexts.{event_lines, line_in, line_words, made_by, region_line, region_lines}
-use Rattle.octet_top.specs.Tracing.{TellsEvent, TellsRegions}
+use Rattle.octet_top.specs.TraceTexts.{event_lines, line_in, line_words, lines_after, made_by, region_line, region_lines}
+use Rattle.octet_top.specs.Tracing.{AreFollowers, FitsNext, IsFollowerOf, TellsEvent, TellsRegions}
+use Rattle.octet_top.proofs.answering.TraceSteps.{IsStep}
 
 -- five parts, added one after another
 pub five : (text a b c d e : List ℕ) → ((((text ++ a) ++ b) ++ c) ++ d) ++ e ≡ text ++ a ++ b ++ c ++ d ++ e
@@ -42,7 +53,7 @@ pub counts_on : (last command : ℕ) (before after : FollowerState) → PassesRe
 counts_on last command before after passes counts = omega (arith, counts, passes.regions, ap (λ (l : List ℕ). length l) passes.ahead)
 
 module _ (lines : List (List ℕ)) (script : Script) (place : Place) (event : Event) (before mid after : FollowerState) (regions : List ℕ) (line : ℕ)
-    (tells : TellsRegions lines place before regions mid) (follows : FollowsOn mid event after) (stands : line ≡ line_in lines place.thread mid.at.place) where
+  (tells : TellsRegions lines place before regions mid) (follows : FollowsOn mid event after) (stands : line ≡ line_in lines place.thread mid.at.place) where
   abbrev told : List ℕ
   told = regions ++ placed_text script place event ++ made_by line event ++ codes "\n"
 
@@ -64,11 +75,12 @@ module _ (lines : List (List ℕ)) (script : Script) (place : Place) (event : Ev
   tells_event start journal following =
       let last : before.regions + length (ahead_of before) ≡ regions_before before.commands start journal = omega (arith, following.counts, ap (λ (l : List ℕ). length l) following.ahead) in
       let rest = placed_text script place event ++ made_by line event ++ codes "\n" in
-      let at : mid.at.place ≡ access_place before.commands start journal = ap (λ (c : Configuration). c.place) (tells.stands ∙ following.settles) in (
+      let at : mid.at.place ≡ access_place before.commands start journal = ap (λ (c : Configuration). c.place) (tells.stands ∙ following.settles) in
+      (
         ap (λ (l : List ℕ). l ++ rest) (tells.told ∙ ap (λ (n : ℕ). region_lines lines place n (ahead_of before)) last
-            ∙ ap (region_lines lines place (regions_before before.commands start journal)) following.ahead)
-            ∙ ap (λ (n : ℕ). region_lines lines place (regions_before before.commands start journal) (places_before_next before.commands start journal) ++ placed_text script place event ++ made_by n event ++ codes "\n")
-            (stands ∙ ap (line_in lines place.thread) at),
+        ∙ ap (region_lines lines place (regions_before before.commands start journal)) following.ahead)
+        ∙ ap (λ (n : ℕ). region_lines lines place (regions_before before.commands start journal) (places_before_next before.commands start journal) ++ placed_text script place event ++ made_by n event ++ codes "\n")
+          (stands ∙ ap (line_in lines place.thread) at),
         follows start journal (before_access start journal following),
       )
 
@@ -79,4 +91,51 @@ event_told script place event line text regions =
     five (text ++ regions) (place_text place) (codes " ") (event_text script event) (made_by line event) (codes "\n")
     ∙ append_assoc text regions (place_text place ++ codes " " ++ event_text script event ++ made_by line event ++ codes "\n")
     ∙ ap (λ (l : List ℕ). text ++ regions ++ l)
-    (sym (append_assoc (place_text place) (codes " " ++ event_text script event) (made_by line event ++ codes "\n")))
+      (sym (append_assoc (place_text place) (codes " " ++ event_text script event) (made_by line event ++ codes "\n")))
+
+-- the followers, after an event of one of them
+pub one_followed : (script : Script) (journals : Journals) (followers : List FollowerState) (t : ℕ) (e : Event) (new : FollowerState) → AreFollowers script journals followers → t < length journals
+    → IsFollowerOf script t (journal_of journals t ++ e ∷ []) new → AreFollowers script (appended journals t e) (slice_set followers t new)
+one_followed script journals followers t e new are lt it = record {
+  as_many = omega (arith, length-set followers t new, are.as_many);
+  each = λ u s at. elim (cases_eq u t) [
+    | inr differ ↦ subst (λ (j : List Event). IsFollowerOf script u j s) (sym (other_journal journals t u e differ)) (are.each u s (sym (get_other followers t u new differ) ∙ at))
+    | inl same ↦
+        let here : slice_get (slice_set followers t new) t ≡ Some s = ap (λ (k : ℕ). slice_get (slice_set followers t new) k) (sym same) ∙ at in
+        let its = subst (λ (x : FollowerState). IsFollowerOf script t (journal_of journals t ++ e ∷ []) x) (get_same followers t new s here) it in
+        subst (λ (v : ℕ). IsFollowerOf script v (journal_of (appended journals t e) v) s) (sym same)
+        (subst (λ (j : List Event). IsFollowerOf script t j s) (sym (same_journal journals t e lt)) its)
+  ];
+}
+
+module _ (script : Script) (log : List ThreadLog) (told : ℕ) (item : Place × Event) (step : IsStep script log told item) where
+  abbrev journals : Journals
+  journals = (state_at script log told).journals
+
+  abbrev its_journal : List Event
+  its_journal = journal_of journals item.0.thread
+
+  -- the event fits its thread's follower
+  pub fits_follower : (s : FollowerState) → IsFollowerOf script item.0.thread its_journal s → FitsNext item.1 s
+  fits_follower s it = record {
+    from = configuration_after s.commands (starting_configuration script.fuel) its_journal;
+    settles = it.follows.settles;
+    fits = subst (λ (commands : List Command). FitsFrom commands (configuration_after commands (starting_configuration script.fuel) its_journal) (item.1 ∷ [])) (sym it.commands) step.fits;
+  }
+
+  -- and the event is told
+  pub told_on : (lines : List (List ℕ)) (text new one total : List ℕ) (s : FollowerState) → slice_get (trace_of script log) told ≡ Some item → IsFollowerOf script item.0.thread its_journal s
+      → new ≡ text ++ one → one ≡ event_lines lines script s.commands (starting_configuration script.fuel) its_journal item
+      → text ++ lines_after lines script journals (drop told (trace_of script log)) ≡ total
+      → new ++ lines_after lines script (state_at script log (suc told)).journals (drop (suc told) (trace_of script log)) ≡ total
+  told_on lines text new one total s at it new_is one_is is =
+      let trace = trace_of script log in
+      let lt = slice_get_within trace told item at in
+      let here : drop told trace ≡ item ∷ drop (suc told) trace = drop-cons trace told item lt ∙ ap (λ (x : Place × Event). x ∷ drop (suc told) trace) (get_or_from_slice_get trace told item item at) in
+      let rest = lines_after lines script (appended journals item.0.thread item.1) (drop (suc told) trace) in
+      ap (λ (js : Journals). new ++ lines_after lines script js (drop (suc told) trace)) step.appends
+      ∙ ap (λ (l : List ℕ). l ++ rest) (new_is ∙ ap (λ (l : List ℕ). text ++ l) (one_is
+      ∙ ap (λ (commands : List Command). event_lines lines script commands (starting_configuration script.fuel) its_journal item) it.commands))
+      ∙ append_assoc text (event_lines lines script (commands_of script item.0.thread) (starting_configuration script.fuel) its_journal item) rest
+      ∙ ap (λ (l : List (Place × Event)). text ++ lines_after lines script journals l) (sym here)
+      ∙ is
