@@ -86,7 +86,7 @@ fn push_lines(
 ) -> Result<(), OutOfMemory>
     requires { FitsNext event follower.old }
     ensures told { OnOk result ((told : List ℕ) × (out.new.items ≡ out.old.items ++ told) × TellsEvent lines.now script.now (place, event) follower.old told follower.new) }
-    ensures commands { follower.new.commands ≡ follower.old.commands }
+    ensures commands { OnOk result (follower.new.commands ≡ follower.old.commands) }
 {
     push_regions(out, lines, follower, place)?;
     push_place(out, u64::from(place.thread), u64::from(place.event))?;

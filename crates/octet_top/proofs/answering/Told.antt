@@ -17,7 +17,7 @@ use Rattle.octet_model.proofs.lemmas.Steps.{other_journal, same_journal}
 use Rattle.octet_replay.specs.ReplayState.{state_at}
 use Rattle.octet_replay.proofs.lemmas.Reading.{get_other, get_same}
 use Rattle.octet_interp.specs.Regions.{regions_before}
-use Rattle.octet_interp.specs.Following.{access_place, places_ahead, places_before_next, FollowerState, IsBeforeAccess, IsFollowing, PassesRegion, FollowsOn}
+use Rattle.octet_interp.specs.Following.{access_place, places_ahead, places_before_next, CanFollow, FollowerState, IsBeforeAccess, IsFollowing, PassesRegion, FollowsOn}
 use Rattle.octet_top.specs.Answer.{place_text}
 use Rattle.octet_top.specs.EventTexts.{event_text, placed_text}
 use Rattle.octet_top.specs.TraceTexts.{event_lines, line_in, line_words, lines_after, made_by, region_line, region_lines}
@@ -25,9 +25,10 @@ use Rattle.octet_top.specs.Tracing.{AreFollowers, FitsNext, IsFollowerOf, TellsE
 use Rattle.octet_top.proofs.answering.TraceSteps.{IsStep}
 
 -- five parts, added one after another
-pub five : (text a b c d e : List ℕ) → ((((text ++ a) ++ b) ++ c) ++ d) ++ e ≡ text ++ a ++ b ++ c ++ d ++ e
+pub five : (text a b c d e : List ℕ) → text ++ a ++ b ++ c ++ d ++ e ≡ text ++ (a ++ b ++ c ++ d ++ e)
 five text a b c d e =
-    append_assoc (((text ++ a) ++ b) ++ c) d e ∙ append_assoc ((text ++ a) ++ b) c (d ++ e) ∙ append_assoc (text ++ a) b (c ++ d ++ e) ∙ append_assoc text a (b ++ c ++ d ++ e)
+    ap (λ (l : List ℕ). l ++ c ++ d ++ e) (append_assoc text a b) ∙ ap (λ (l : List ℕ). l ++ d ++ e) (append_assoc text (a ++ b) c)
+    ∙ ap (λ (l : List ℕ). l ++ e) (append_assoc text (a ++ b ++ c) d) ∙ append_assoc text (a ++ b ++ c ++ d) e
 
 abbrev ahead_of : FollowerState → List ℕ
 ahead_of s = places_ahead s.commands s.at
@@ -35,7 +36,7 @@ ahead_of s = places_ahead s.commands s.at
 -- one more `region` command is told
 pub one_more_region : (lines : List (List ℕ)) (place : Place) (last : ℕ) (text out total : List ℕ) (command : ℕ) (before after : FollowerState) → PassesRegion before command after
     → before.regions + length (ahead_of before) ≡ last
-    → out ≡ ((((text ++ place_text place) ++ codes " region ") ++ decimal after.regions) ++ line_words (line_in lines place.thread command)) ++ codes "\n"
+    → out ≡ text ++ place_text place ++ codes " region " ++ decimal after.regions ++ line_words (line_in lines place.thread command) ++ codes "\n"
     → text ++ region_lines lines place last (ahead_of before) ≡ total
     → out ++ region_lines lines place last (ahead_of after) ≡ total
 one_more_region lines place last text out total command before after passes counts grown is =
@@ -53,7 +54,7 @@ pub counts_on : (last command : ℕ) (before after : FollowerState) → PassesRe
 counts_on last command before after passes counts = omega (arith, counts, passes.regions, ap (λ (l : List ℕ). length l) passes.ahead)
 
 module _ (lines : List (List ℕ)) (script : Script) (place : Place) (event : Event) (before mid after : FollowerState) (regions : List ℕ) (line : ℕ)
-  (tells : TellsRegions lines place before regions mid) (follows : FollowsOn mid event after) (stands : line ≡ line_in lines place.thread mid.at.place) where
+    (tells : TellsRegions lines place before regions mid) (follows : FollowsOn mid event after) (stands : line ≡ line_in lines place.thread mid.at.place) where
   abbrev told : List ℕ
   told = regions ++ placed_text script place event ++ made_by line event ++ codes "\n"
 
@@ -74,24 +75,32 @@ module _ (lines : List (List ℕ)) (script : Script) (place : Place) (event : Ev
   pub tells_event : TellsEvent lines script (place, event) before told after
   tells_event start journal following =
       let last : before.regions + length (ahead_of before) ≡ regions_before before.commands start journal = omega (arith, following.counts, ap (λ (l : List ℕ). length l) following.ahead) in
-      let rest = placed_text script place event ++ made_by line event ++ codes "\n" in
-      let at : mid.at.place ≡ access_place before.commands start journal = ap (λ (c : Configuration). c.place) (tells.stands ∙ following.settles) in
-      (
-        ap (λ (l : List ℕ). l ++ rest) (tells.told ∙ ap (λ (n : ℕ). region_lines lines place n (ahead_of before)) last
-        ∙ ap (region_lines lines place (regions_before before.commands start journal)) following.ahead)
-        ∙ ap (λ (n : ℕ). region_lines lines place (regions_before before.commands start journal) (places_before_next before.commands start journal) ++ placed_text script place event ++ made_by n event ++ codes "\n")
-          (stands ∙ ap (line_in lines place.thread) at),
+      let at : mid.at.place ≡ access_place before.commands start journal = ap (λ (c : Configuration). c.place) (tells.stands ∙ following.settles) in (
+        ap (λ (l : List ℕ). l ++ placed_text script place event ++ made_by line event ++ codes "\n") (tells.told ∙ ap (λ (n : ℕ). region_lines lines place n (ahead_of before)) last
+            ∙ ap (region_lines lines place (regions_before before.commands start journal)) following.ahead)
+            ∙ ap (λ (n : ℕ). region_lines lines place (regions_before before.commands start journal) (places_before_next before.commands start journal) ++ placed_text script place event ++ made_by n event ++ codes "\n")
+            (stands ∙ ap (line_in lines place.thread) at),
         follows start journal (before_access start journal following),
       )
 
 -- an event's text, after that of its regions
 pub event_told : (script : Script) (place : Place) (event : Event) (line : ℕ) (text regions : List ℕ)
-    → (((((text ++ regions) ++ place_text place) ++ codes " ") ++ event_text script event) ++ made_by line event) ++ codes "\n" ≡ text ++ regions ++ placed_text script place event ++ made_by line event ++ codes "\n"
+    → text ++ regions ++ place_text place ++ codes " " ++ event_text script event ++ made_by line event ++ codes "\n" ≡ text ++ (regions ++ placed_text script place event ++ made_by line event ++ codes "\n")
 event_told script place event line text regions =
-    five (text ++ regions) (place_text place) (codes " ") (event_text script event) (made_by line event) (codes "\n")
-    ∙ append_assoc text regions (place_text place ++ codes " " ++ event_text script event ++ made_by line event ++ codes "\n")
-    ∙ ap (λ (l : List ℕ). text ++ regions ++ l)
-      (sym (append_assoc (place_text place) (codes " " ++ event_text script event) (made_by line event ++ codes "\n")))
+    let placed = placed_text script place event in
+    let front : text ++ regions ++ place_text place ++ codes " " ++ event_text script event ≡ text ++ (regions ++ placed) =
+    ap (λ (l : List ℕ). l ++ event_text script event) (append_assoc (text ++ regions) (place_text place) (codes " "))
+    ∙ append_assoc (text ++ regions) (place_text place ++ codes " ") (event_text script event) ∙ append_assoc text regions placed in
+    ap (λ (l : List ℕ). l ++ made_by line event ++ codes "\n") front ∙ ap (λ (l : List ℕ). l ++ codes "\n") (append_assoc text (regions ++ placed) (made_by line event))
+    ∙ append_assoc text (regions ++ placed ++ made_by line event) (codes "\n")
+
+-- past the `region` commands the thread can follow what it demands
+pub can_follow : (lines : List (List ℕ)) (place : Place) (event : Event) (before mid : FollowerState) (regions : List ℕ) → TellsRegions lines place before regions mid → FitsNext event before → CanFollow event mid
+can_follow lines place event before mid regions tells fits = record {
+  from = fits.from;
+  stands = tells.stands ∙ fits.settles ∙ ap (λ (commands : List Command). settled commands fits.from) (sym tells.commands);
+  fits = subst (λ (commands : List Command). FitsFrom commands fits.from (event ∷ [])) (sym tells.commands) fits.fits;
+}
 
 -- the followers, after an event of one of them
 pub one_followed : (script : Script) (journals : Journals) (followers : List FollowerState) (t : ℕ) (e : Event) (new : FollowerState) → AreFollowers script journals followers → t < length journals

@@ -1,5 +1,6 @@
 use Rattle.std.proofs.Common.{◌≡◌, ℕ, ◌-◌, ◌++◌, length, drop}
 use Rattle.octet_model.specs.Traces.{trace_of}
+use Rattle.octet_script.specs.LineNumbers.{command_lines}
 use Rattle.octet_replay.specs.ReplayState.{state_at}
 use Rattle.octet_top.specs.TraceTexts.{lines_after, trace_text}
 use Rattle.octet_top.specs.Tracing.{AreFollowers}
@@ -9,7 +10,7 @@ abbrev pub invariant-loop-place : goal.invariant-loop-place
 invariant-loop-place l = record {
   script : l.tracer.script ≡ l.fn.tracer.script;
   log : l.tracer.log ≡ l.fn.tracer.log;
-  told : l.text.items ++ lines_after l.lines l.script (state_at l.script l.fn.tracer.log.threads l.tracer.told).journals (drop l.tracer.told (trace_of l.script l.fn.tracer.log.threads))
+  told : l.text.items ++ lines_after (command_lines l.source.text) l.script (state_at l.script l.fn.tracer.log.threads l.tracer.told).journals (drop l.tracer.told (trace_of l.script l.fn.tracer.log.threads))
       ≡ trace_text l.source.text l.script (trace_of l.script l.fn.tracer.log.threads);
   followers : AreFollowers l.script (state_at l.script l.fn.tracer.log.threads l.tracer.told).journals l.followers.items;
 }
