@@ -1,5 +1,5 @@
 -- The lines of a trace, told one after another.
-use Rattle.std.proofs.Common.{◌≡◌, ℕ, suc, ◌+◌, ◌-◌, ◌<◌, inl, inr, List, [], ◌∷◌, ◌++◌, length, codes, drop, Some, get_or, slice_get, slice_set, refl, sym, ap, ◌∙◌, subst, arith, append_assoc, length-set}
+use Rattle.std.proofs.Common.{◌≡◌, ℕ, suc, ◌+◌, ◌-◌, ◌<◌, inl, inr, List, [], ◌∷◌, ◌++◌, length, codes, drop, Some, slice_get, slice_set, sym, ap, ◌∙◌, subst, arith, append_assoc, length-set}
 use Rattle.std.proofs.Math.Seq.{drop-cons}
 use Rattle.std.specs.Fmt.{decimal}
 use Rattle.std.proofs.lemmas.Bool.{cases_eq}

@@ -1,5 +1,5 @@
 -- A step of a trace: whose event it is, and that it fits what its thread demands.
-use Rattle.std.proofs.Common.{◌≡◌, ℕ, suc, ◌<◌, List, [], ◌∷◌, ◌++◌, length, take, Some, get_or, slice_get, slice_index, refl, sym, ap, ◌∙◌, subst, arith}
+use Rattle.std.proofs.Common.{◌≡◌, ℕ, suc, ◌<◌, List, [], ◌∷◌, length, take, Some, get_or, slice_get, slice_index, sym, ap, ◌∙◌, subst, arith}
 use Rattle.std.proofs.Math.Seq.{take-suc}
 use Rattle.std.proofs.lemmas.List.{length-map}
 use Rattle.std.proofs.lemmas.Option.{same_Some, slice_get_within}
@@ -10,13 +10,12 @@ use Rattle.octet_model.specs.declared.log.ThreadLog.{ThreadLog}
 use Rattle.octet_model.specs.declared.script.Script.{Script}
 use Rattle.octet_model.specs.Thread.{Configuration, configuration_after, starting_configuration, FitsFrom}
 use Rattle.octet_model.specs.Journals.{next_by_log}
-use Rattle.octet_model.specs.Machine.{Journals, journal_of, PlainState, Behavior, Operation, MakeMark, MakeRead, MakeWrite, MakeUpdate, Wants, event_made, appended, step, after}
+use Rattle.octet_model.specs.Machine.{journal_of, PlainState, Behavior, Operation, MakeMark, MakeRead, MakeWrite, MakeUpdate, Wants, event_made, appended, after}
 use Rattle.octet_model.specs.Orders.{by_log, commands_of, thread_log_of, lowest_order, opening_state}
 use Rattle.octet_model.specs.Traces.{trace_of}
 use Rattle.octet_model.proofs.lemmas.Fronts.{after_on}
 use Rattle.octet_model.proofs.lemmas.LogsOfJournals.{as_many_after}
 use Rattle.octet_model.proofs.lemmas.LowestFronts.{next_by}
-use Rattle.octet_model.proofs.lemmas.Steps.{Makes}
 use Rattle.octet_replay.specs.ReplayState.{state_at}
 use Rattle.octet_replay.proofs.lemmas.Traces.{lowest_order_is_front, placed, told_at, trace_has_all}
 

@@ -1,9 +1,5 @@
 -- What `trace` answers of a log that does not fit.
-use Rattle.std.proofs.Common.{◌≡◌, ◌≢◌, ◌∙◌, ◌++◌, ℕ, List, [], ◌∷◌, length, codes, inl, ap, sym, refl, append_assoc}
-use Rattle.std.proofs.lemmas.List.{flat_map_more}
-use Rattle.octet_model.specs.declared.event.Event.{Event}
-use Rattle.octet_model.specs.declared.event.Place.{Place}
-use Rattle.octet_model.specs.declared.script.Script.{Script}
+use Rattle.std.proofs.Common.{◌≡◌, ◌≢◌, ◌∙◌, ◌++◌, length, inl, sym, refl}
 use Rattle.octet_model.specs.Traces.{trace_of}
 use Rattle.octet_replay.specs.declared.fault.ReplayFault.{ReplayFault}
 use Rattle.octet_replay.specs.declared.fault.ReplayFault.TheVariants.{ThreadsDiffer, Stuck, Misfit, OutOfMemory}
@@ -13,7 +9,7 @@ use Rattle.octet_replay.specs.ReplayState.{IsNotBegun}
 use Rattle.octet_top.specs.declared.inputs.Pair.{Pair}
 use Rattle.octet_top.specs.declared.request.PairTask.TheVariants.{Trace}
 use Rattle.octet_top.specs.declared.reply.Status.TheVariants as exit
-use Rattle.octet_top.specs.Answer.{Answer, does_not_fit, place_text, says}
+use Rattle.octet_top.specs.Answer.{Answer, does_not_fit, says}
 use Rattle.octet_top.specs.Commands.{PairReplays}
 use Rattle.octet_top.specs.TraceTexts.{trace_text}
 
