@@ -13,7 +13,7 @@ has_ended-has_ended-requires t c =
 pub have_ended-have_ended-requires : goal.have_ended-have_ended-requires
 have_ended-have_ended-requires t c =
     let is : c.args.players.now ≡ c.in-Some.first.now ∷ c.in-Some.others.now = search rules in
-    all_others (IsPlayerOf c.args.field.now) c.in-Some.first.now c.in-Some.others.now (subst (All (IsPlayerOf c.args.field.now)) is c.requires)
+    (search rules, all_others (IsPlayerOf c.args.field.now) c.in-Some.first.now c.in-Some.others.now (subst (All (IsPlayerOf c.args.field.now)) is c.requires))
 
 pub returns-then-has_ended-clause-own : goal.returns-then-has_ended-clause-own
 returns-then-has_ended-clause-own t c = All-cons (IsPlayerOf c.args.field.now) _ _ c.has_ended-has_ended.ensures.own c.have_ended-have_ended.ensures.own
