@@ -6,9 +6,11 @@
 mod aim;
 mod draws;
 mod fewer;
+mod limits;
 mod runs;
 mod schedule;
 mod tries;
 
 pub use aim::Aim;
+pub use limits::MAX_TRIES;
 pub use tries::{Find, hunt};

@@ -7,3 +7,4 @@ pub mod Steps
 pub mod Matches
 pub mod TraceSteps
 pub mod Told
+pub mod Hunted

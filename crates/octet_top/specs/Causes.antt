@@ -1,14 +1,24 @@
 -- The cause of each status.
-use Rattle.std.specs.Prelude.{ℕ, ◌≡◌, ◌⊎◌, List, Option}
+use Rattle.std.specs.Prelude.{ℕ, ◌≡◌, ◌⊎◌, List, Option, Some}
 use Rattle.octet_base.specs.Desk.{Contents, DeskState, Rose}
 use Rattle.octet_top.specs.declared.reply.Status.{Status}
-use Rattle.octet_top.specs.declared.reply.Status.TheVariants.{Read, Write, Memory}
+use Rattle.octet_top.specs.declared.reply.Status.TheVariants.{Done, Read, Write, Memory, NotFound}
 use Rattle.octet_top.specs.Answer.{Answer}
+use Rattle.octet_top.specs.Request.{Quarry, Hunt, request_in}
 use Rattle.octet_top.specs.Commands.{IsAnswer}
 
 -- the words, with what is told of the files, have an answer of this status
 abbrev pub IsDue : List (List ℕ) → Option Contents → Status → Type 0
 IsDue words contents status = (answer : Answer) × IsAnswer words contents answer × (answer.status ≡ status)
+
+-- the words ask for a hunt, and of the two statuses one says that a run was found and the other that none was: which of them comes depends on the schedules that are tried
+pub record FindsOrNot (words : List (List ℕ)) (status other : Status) : Type 0 where
+  pub quarry : Quarry
+  pub script_name : List ℕ
+  pub log_name : List ℕ
+  pub tries : ℕ
+  pub asked : request_in words ≡ Some (Hunt quarry script_name log_name tries)
+  pub differ : ((status ≡ Done) × (other ≡ NotFound)) ⊎ ((status ≡ NotFound) × (other ≡ Done))
 
 -- a status comes only with its cause: a write failed in this call; refused memory, which needs none; a take failed, or a file is not there; or the status is due
 abbrev pub IsCause : List (List ℕ) → DeskState → DeskState → Status → Type 0

@@ -1,5 +1,5 @@
 -- The commands' answers, each by what was read.
-use Rattle.std.specs.Prelude.{ℕ, ◌≡◌, ◌≢◌, ◌≤◌, ◌⊎◌, ◌++◌, List, [], length, codes, Option, None, Some, Result, Ok, Err}
+use Rattle.std.specs.Prelude.{ℕ, ◌≡◌, ◌≢◌, ◌≤◌, ◌<◌, ◌⊎◌, ◌++◌, List, [], length, codes, Option, None, Some, Result, Ok, Err}
 use Rattle.sha2.specs.Sha256.{sha256}
 use Rattle.octet_base.specs.Desk.{Contents}
 use Rattle.octet_model.specs.declared.script.Script.{Script}
@@ -7,6 +7,7 @@ use Rattle.octet_model.specs.declared.limits.TheConstants.{MAX_LOG_FILE}
 use Rattle.octet_model.specs.declared.log.Log.{Log}
 use Rattle.octet_model.specs.declared.log.ThreadLog.{ThreadLog}
 use Rattle.octet_model.specs.declared.outcome.Outcome.{Outcome}
+use Rattle.octet_model.specs.declared.outcome.Recorded.{Recorded}
 use Rattle.octet_model.specs.Texts.{log_bytes, outcome_text}
 use Rattle.octet_model.specs.Orders.{execution, journals_after, lowest_order, IsFaithful}
 use Rattle.octet_model.specs.Traces.{trace_of}
@@ -24,10 +25,14 @@ use Rattle.octet_replay.specs.Judged.{HasCause, IsLawful}
 use Rattle.octet_clock.specs.declared.verdict.Verdict.{Verdict}
 use Rattle.octet_clock.specs.declared.verdict.Verdict.TheVariants.{Ordered, Unordered}
 use Rattle.octet_clock.specs.Verified.{IsVerified}
+use Rattle.octet_regions.specs.declared.region.Hop.{Hop}
 use Rattle.octet_regions.specs.declared.serial.Serial.{Serial}
 use Rattle.octet_regions.specs.Accesses.{accesses_of}
 use Rattle.octet_regions.specs.Choice.{IsSerial}
 use Rattle.octet_regions.specs.Runs.{Shows}
+use Rattle.octet_hunt.specs.declared.aim.Aim.{Aim}
+use Rattle.octet_hunt.specs.declared.aim.Aim.TheVariants as aim
+use Rattle.octet_hunt.specs.Hunts.{Meets}
 use Rattle.octet_gen.specs.Generated.{IsGenerated}
 use Rattle.octet_top.specs.declared.reply.Status.TheVariants.{Done, Misfit}
 use Rattle.octet_top.specs.declared.inputs.Source.{Source}
@@ -38,14 +43,14 @@ use Rattle.octet_top.specs.declared.request.LogTask.{LogTask}
 use Rattle.octet_top.specs.declared.request.LogTask.TheVariants.{Show}
 use Rattle.octet_top.specs.declared.request.PairTask.{PairTask}
 use Rattle.octet_top.specs.declared.request.PairTask.TheVariants.{Replay, Parallel, Verify, Regions, Slice, Stop, Trace, Profile}
-use Rattle.octet_top.specs.Answer.{Answer, says, writes_file, writes_both, not_a_command, wrong_script, does_not_fit, verdict_said, serial_said, summary}
+use Rattle.octet_top.specs.Answer.{Answer, says, writes_file, writes_both, not_a_command, wrong_script, does_not_fit, verdict_said, serial_said, cycle_text, try_text, no_other_end, no_cycle, summary}
 use Rattle.octet_machine.specs.Turns.{IsPlayed}
 use Rattle.octet_top.specs.Headline.{digest_kept}
-use Rattle.octet_top.specs.Request.{Way, AsTheyCome, BehindLock, ByPicks, Request, OfScript, OfLog, OfPair, Convert, Run, Gen, request_in}
+use Rattle.octet_top.specs.Request.{Way, AsTheyCome, BehindLock, ByPicks, Quarry, OtherEnd, AnyCycle, named_by, Request, OfScript, OfLog, OfPair, Convert, Run, Gen, Hunt, request_in}
 use Rattle.octet_top.specs.TraceTexts.{trace_text}
 use Rattle.octet_top.specs.Profile.{profile_text}
 use Rattle.octet_top.specs.Slices.{SliceSays, StopSays}
-use Rattle.octet_top.specs.Inputs.{IsScriptRead, IsLogRead, IsPairRead}
+use Rattle.octet_top.specs.Inputs.{IsScriptRead, IsLogRead, IsScriptChosen, IsPairRead}
 
 -- what each way to run a script records of it
 abbrev pub Records : Way → Script → Log → Outcome → Type 0
@@ -156,6 +161,37 @@ RunAnswers way log_name source answer =
     (log : Log) × (outcome : Outcome) × (bytes : List ℕ) × Records way source.script log outcome × IsLogFile bytes (digest_kept way source.text) log.threads
     × (answer ≡ writes_file log_name bytes (outcome_text source.script outcome))
 
+-- what a hunt looks for in a script, of which this object is named where one is
+abbrev pub aim_of : Quarry → Option ℕ → Aim
+aim_of (OtherEnd name number) (Some object) = aim.OtherValue object number
+aim_of _ _ = aim.Cycle
+
+-- what is said of a run that was found: its outcome, or the cycle of its regions
+abbrev pub found_said : Quarry → Script → Outcome → List Hop → List ℕ
+found_said (OtherEnd name number) script outcome hops = outcome_text script outcome
+found_said AnyCycle script outcome hops = cycle_text hops
+
+-- that none was found
+abbrev pub none_found : Quarry → ℕ → Answer
+none_found (OtherEnd name number) tries = no_other_end tries
+none_found AnyCycle tries = no_cycle tries
+
+-- at one of the tries a run was found: what is recorded of a run that is looked for is written in version 2, with the digest of the script's text, and the try, the preemptions and what was found are said
+pub record IsFind (quarry : Quarry) (log_name : List ℕ) (tries : ℕ) (source : Source) (wanted : Option ℕ) (answer : Answer) : Type 0 where
+  pub attempt : ℕ
+  pub preemptions : ℕ
+  pub recorded : Recorded
+  pub hops : List Hop
+  pub first : 0 < attempt
+  pub last : attempt ≤ tries
+  pub meets : Meets source.script (aim_of quarry wanted) recorded hops
+  pub file : IsLogFile (second_bytes source.text recorded.log.threads) (Some (sha256 source.text)) recorded.log.threads
+  pub is : answer ≡ writes_file log_name (second_bytes source.text recorded.log.threads) (try_text attempt preemptions ++ found_said quarry source.script recorded.outcome hops)
+
+-- the answer of a hunt: a run was found, or none was
+abbrev pub HuntAnswers : Quarry → List ℕ → ℕ → Source × Option ℕ → Answer → Type 0
+HuntAnswers quarry log_name tries (source, wanted) answer = IsFind quarry log_name tries source wanted answer ⊎ (answer ≡ none_found quarry tries)
+
 -- reading is refused, or the command answers by what was read
 abbrev pub Answering : {T : Type 0} → (Result T Answer → Type 0) → (T → Answer → Type 0) → Answer → Type 0
 Answering Reading Answers answer = Reading (Err answer) ⊎ ((input : _) × Reading (Ok input) × Answers input answer)
@@ -168,6 +204,7 @@ RequestAnswers (OfPair task script log object) contents answer = Answering (IsPa
 RequestAnswers (Convert script log out) contents answer = Answering (IsPairRead script log None contents) (ConvertAnswers out) answer
 RequestAnswers (Run way script log) contents answer = Answering (IsScriptRead script contents) (RunAnswers way log) answer
 RequestAnswers (Gen number script log) contents answer = IsGeneration number script log answer
+RequestAnswers (Hunt quarry script log tries) contents answer = Answering (IsScriptChosen script (named_by quarry) contents) (HuntAnswers quarry log tries) answer
 
 -- to what words ask for, or that they are no command
 abbrev pub Answers : Option Request → Option Contents → Answer → Type 0

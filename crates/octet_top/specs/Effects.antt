@@ -13,16 +13,16 @@ use Rattle.octet_replay.specs.Fit.{IsOfScript}
 use Rattle.octet_top.specs.declared.inputs.Source.{Source}
 use Rattle.octet_top.specs.declared.inputs.Pair.{Pair}
 use Rattle.octet_top.specs.declared.reply.Status.{Status}
-use Rattle.octet_top.specs.declared.reply.Status.TheVariants.{Done, Read, Write, Memory, Cycle, NoEvent}
+use Rattle.octet_top.specs.declared.reply.Status.TheVariants.{Done, Read, Write, Memory, Cycle, NoEvent, NotFound}
 use Rattle.octet_top.specs.declared.request.PairTask.{PairTask}
 use Rattle.octet_top.specs.declared.request.PairTask.TheVariants.{Regions, Slice}
 use Rattle.octet_top.specs.Answer.{Answer, code_of, read_failed}
-use Rattle.octet_top.specs.Request.{Request, OfScript, OfLog, OfPair, Convert, Run, AsTheyCome, Gen, request_in, outputs_in}
-use Rattle.octet_top.specs.Inputs.{IsScriptRead, IsLogRead, IsPairRead}
+use Rattle.octet_top.specs.Request.{Request, OfScript, OfLog, OfPair, Convert, Run, AsTheyCome, Gen, Hunt, named_by, request_in, outputs_in}
+use Rattle.octet_top.specs.Inputs.{IsScriptRead, IsLogRead, IsScriptChosen, IsPairRead}
 use Rattle.octet_top.specs.Commands.{IsAnswer}
 use Rattle.octet_top.specs.Outputs.{IsWhole, IsCutShort, IsPartlyWritten}
 
--- the status is one of the twelve
+-- the status is one of the thirteen
 abbrev pub IsStatus : ℕ → Type 0
 IsStatus code = (status : Status) × (code ≡ code_of status)
 
@@ -128,8 +128,9 @@ HasFiles (OfPair task script log object) contents = HasPair script log object co
 HasFiles (Convert script log out) contents = HasPair script log None contents
 HasFiles (Run task script log) contents = (source : Source) × IsScriptRead script (Some contents) (Ok source)
 HasFiles (Gen number script log) contents = Unit {0}
+HasFiles (Hunt quarry script log tries) contents = (chosen : Source × Option ℕ) × IsScriptChosen script (named_by quarry) (Some contents) (Ok chosen)
 
--- with what status a task may end beside success, although all that it takes is as it should be: regions may be in a cycle, and a log may not have the event that is asked for
+-- with what status a task may end beside success, although all that it takes is as it should be: regions may be in a cycle, and a log may not have the event that is asked for; a hunt may find nothing
 abbrev pub MayLack : PairTask → Status → Type 0
 MayLack Regions Cycle = Unit {0}
 MayLack (Slice thread event) NoEvent = Unit {0}
@@ -137,6 +138,7 @@ MayLack _ _ = ⊥
 
 abbrev pub MayEndWith : Request → Status → Type 0
 MayEndWith (OfPair task script log object) status = MayLack task status
+MayEndWith (Hunt quarry script log tries) status = status ≡ NotFound
 MayEndWith _ _ = ⊥
 
 -- all is done, or memory was refused; or the words ask for something that may end so

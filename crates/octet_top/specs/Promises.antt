@@ -1,12 +1,13 @@
 -- What the top call promises of each command.
 use Rattle.octet_model.specs.declared.limits.TheConstants.{MAX_LOG_FILE}
-use Rattle.std.specs.Prelude.{ℕ, ◌≡◌, ◌≤◌, ◌⊎◌, ◌++◌, List, length, codes, Some, ◌≢◌, Option, None, Ok}
+use Rattle.std.specs.Prelude.{ℕ, ◌≡◌, ◌≤◌, ◌<◌, ◌⊎◌, ◌++◌, List, length, codes, Some, ◌≢◌, Option, None, Ok}
 use Rattle.std.specs.FinMap.{get}
 use Rattle.sha2.specs.Sha256.{sha256}
 use Rattle.octet_base.specs.Desk.{Contents, DeskState}
 use Rattle.octet_model.specs.declared.script.Script.{Script}
 use Rattle.octet_model.specs.declared.log.Log.{Log}
 use Rattle.octet_model.specs.declared.outcome.Outcome.{Outcome}
+use Rattle.octet_model.specs.declared.outcome.Recorded.{Recorded}
 use Rattle.octet_model.specs.Texts.{log_bytes, outcome_text}
 use Rattle.octet_model.specs.HappensBefore.{IsOrdered}
 use Rattle.octet_model.specs.Orders.{execution, journals_after, lowest_order, IsLawfulOrder, IsFaithful}
@@ -20,27 +21,30 @@ use Rattle.octet_replay.specs.declared.fault.ReplayFault.TheVariants.{OutOfMemor
 use Rattle.octet_replay.specs.Line.{fit_line}
 use Rattle.octet_replay.specs.Judged.{HasCause, IsLawful}
 use Rattle.octet_clock.specs.Verified.{HasOneOutcome}
+use Rattle.octet_regions.specs.declared.region.Hop.{Hop}
 use Rattle.octet_regions.specs.declared.serial.Serial.{Serial}
 use Rattle.octet_regions.specs.Accesses.{accesses_of}
 use Rattle.octet_regions.specs.Choice.{IsSerial}
 use Rattle.octet_regions.specs.Runs.{Shows}
+use Rattle.octet_hunt.specs.Hunts.{Meets}
 use Rattle.octet_gen.specs.Generated.{IsGenerated}
 use Rattle.octet_machine.specs.Turns.{IsPlayed}
 use Rattle.octet_top.specs.Headline.{IsFaithfulRun}
-use Rattle.octet_top.specs.Request.{Way, ByPicks, Run, request_in, OfPair, Convert, Gen}
+use Rattle.octet_top.specs.Request.{Way, ByPicks, Run, request_in, OfPair, Convert, Gen, Quarry, Hunt, named_by}
 use Rattle.octet_top.specs.declared.reply.Status.TheVariants.{Done, Misfit, Cycle}
 use Rattle.std.specs.List.{sum_by}
+use Rattle.octet_top.specs.declared.inputs.Source.{Source}
 use Rattle.octet_top.specs.declared.inputs.Pair.{Pair}
 use Rattle.octet_top.specs.declared.request.PairTask.TheVariants.{Replay, Parallel, Verify, Regions, Slice, Stop, Trace}
-use Rattle.octet_top.specs.Answer.{summary, code_of}
-use Rattle.octet_top.specs.Inputs.{IsPairRead}
+use Rattle.octet_top.specs.Answer.{summary, code_of, try_text}
+use Rattle.octet_top.specs.Inputs.{IsScriptChosen, IsPairRead}
 use Rattle.octet_slice.specs.declared.finding.Found.{Found}
 use Rattle.octet_slice.specs.declared.slicing.Sliced.{Sliced}
 use Rattle.octet_slice.specs.FirstMatch.{IsFound}
 use Rattle.octet_slice.specs.Slice.{IsSliceOf}
 use Rattle.octet_top.specs.Slices.{slice_text, is_match, stop_text}
 use Rattle.octet_top.specs.TraceTexts.{trace_text}
-use Rattle.octet_top.specs.Commands.{second_bytes, regions_said, told_before}
+use Rattle.octet_top.specs.Commands.{aim_of, found_said, second_bytes, regions_said, told_before}
 
 -- updates add up to the final values that were said, by the journals of each lawful order
 abbrev pub HasExactTotals : {way : Way} {script_name log_name : List ℕ} {before after : Contents} → IsFaithfulRun way script_name log_name before after → Type 0
@@ -197,3 +201,26 @@ abbrev pub GeneratesFaithfully : List (List ℕ) → DeskState → DeskState →
 GeneratesFaithfully words before after code =
     (number : ℕ) (script_name log_name : List ℕ) (contents contents' : Contents) → request_in words ≡ Some (Gen number script_name log_name) → code ≡ code_of Done → before.contents ≡ Some contents → after.contents ≡ Some contents'
     → IsGeneratedRun number script_name log_name contents contents'
+
+-- a script was taken that has the object that is named; what was recorded is of a run that is looked for, and its log is written in version 2, with the digest of the script's text; what is said is the try, which is one of those that were asked for, the preemptions, and the outcome or the cycle
+pub record IsHuntedRun (quarry : Quarry) (script_name log_name : List ℕ) (tries : ℕ) (before after : Contents) : Type 0 where
+  pub source : Source
+  pub wanted : Option ℕ
+  pub read : IsScriptChosen script_name (named_by quarry) (Some before) (Ok (source, wanted))
+  pub attempt : ℕ
+  pub preemptions : ℕ
+  pub recorded : Recorded
+  pub hops : List Hop
+  pub first : 0 < attempt
+  pub last : attempt ≤ tries
+  pub meets : Meets source.script (aim_of quarry wanted) recorded hops
+  pub written : get after.files log_name ≡ Some (second_bytes source.text recorded.log.threads)
+  pub held : IsSpelling (second_bytes source.text recorded.log.threads) (Some (sha256 source.text)) recorded.log.threads
+  pub within_limit : length (second_bytes source.text recorded.log.threads) ≤ MAX_LOG_FILE
+  pub contents : after.said ≡ before.said ++ (try_text attempt preemptions ++ found_said quarry source.script recorded.outcome hops)
+
+-- where the words are those of `hunt`, a run was found, and the desk tells its contents
+abbrev pub HuntsFaithfully : List (List ℕ) → DeskState → DeskState → ℕ → Type 0
+HuntsFaithfully words before after code =
+    (quarry : Quarry) (script_name log_name : List ℕ) (tries : ℕ) (contents contents' : Contents) → request_in words ≡ Some (Hunt quarry script_name log_name tries) → code ≡ code_of Done → before.contents ≡ Some contents → after.contents ≡ Some contents'
+    → IsHuntedRun quarry script_name log_name tries contents contents'

@@ -6,7 +6,7 @@ use Rattle.octet_model.specs.declared.list.OutOfMemory.{OutOfMemory}
 use Rattle.octet_top.specs.declared.reply.Reply.{Reply}
 use Rattle.octet_top.specs.declared.reply.Status.TheVariants.{Done}
 use Rattle.octet_top.specs.Answer.{Answer, answer_of, read_failed}
-use Rattle.octet_top.specs.Request.{Request, OfScript, OfLog, OfPair, Convert, Run, Gen}
+use Rattle.octet_top.specs.Request.{Request, OfScript, OfLog, OfPair, Convert, Run, Gen, Hunt}
 use Rattle.octet_top.specs.Inputs.{TakesOne, TakesBoth}
 use Rattle.octet_top.specs.Commands.{Answers}
 
@@ -29,6 +29,7 @@ TakesFiles (Some (OfPair task script log object)) Short before after = TakesBoth
 TakesFiles (Some (Convert script log out)) Short before after = TakesBoth script log None Short before after
 TakesFiles (Some (Run task script log)) Short before after = TakesOne script MAX_SCRIPT_FILE Short before after
 TakesFiles (Some (Gen number script log)) Short before after = after ≡ before
+TakesFiles (Some (Hunt quarry script log tries)) Short before after = TakesOne script MAX_SCRIPT_FILE Short before after
 
 -- a reply is found for a request
 pub record Replies (request : Option Request) (before : DeskState) (result : Result Reply OutOfMemory) (after : DeskState) : Type 0 where

@@ -1,11 +1,12 @@
 -- What words ask for, and which files that takes and writes.
-use Rattle.std.specs.Prelude.{ℕ, Bool, true, false, List, [], ◌∷◌, map, codes, if◌then◌else◌, Option, Some, None, String, string_bytes}
+use Rattle.std.specs.Prelude.{ℕ, Bool, true, false, ◌&&◌, nat_le, List, [], ◌∷◌, map, codes, if◌then◌else◌, Option, Some, None, String, string_bytes}
 use denote.Ref.{Bor}
 use Rattle.std.specs.Option.{option_map}
 use Rattle.std.specs.Str.{bytes_eq}
 use Rattle.std.specs.Char.{digit_value}
 use Rattle.std.specs.Global.{Global}
 use Rattle.octet_script.specs.Spelling.{number_of}
+use Rattle.octet_hunt.specs.declared.limits.TheConstants.{MAX_TRIES}
 use Rattle.octet_top.specs.Picks.{are_picks}
 use Rattle.octet_top.specs.declared.request.ScriptTask.{ScriptTask}
 use Rattle.octet_top.specs.declared.request.ScriptTask.TheVariants.{Tidy}
@@ -15,6 +16,8 @@ use Rattle.octet_top.specs.declared.request.PairTask.{PairTask}
 use Rattle.octet_top.specs.declared.request.PairTask.TheVariants.{Replay, Parallel, Verify, Regions, Slice, Stop, Trace, Profile}
 use Rattle.octet_top.specs.declared.request.RunTask.{RunTask}
 use Rattle.octet_top.specs.declared.request.RunTask.TheVariants as run
+use Rattle.octet_top.specs.declared.request.Quarry.{Quarry as DeclaredQuarry}
+use Rattle.octet_top.specs.declared.request.Quarry.TheVariants as quarry
 use Rattle.octet_top.specs.declared.request.Request as declared
 use Rattle.octet_top.specs.declared.request.Request.TheVariants as request
 
@@ -28,6 +31,16 @@ pub data Way : Type 0 where
   BehindLock : Way
   ByPicks : (picks : List ℕ) → Way
 
+-- what a hunt looks for: a run that ends with another value than this number at the object of this name, or one whose regions have a cycle
+pub data Quarry : Type 0 where
+  OtherEnd : (name : List ℕ) (number : ℕ) → Quarry
+  AnyCycle : Quarry
+
+-- the object that is named in it
+abbrev pub named_by : Quarry → Option (List ℕ)
+named_by (OtherEnd name number) = Some name
+named_by AnyCycle = None
+
 -- a task, with the names of its files
 pub data Request : Type 0 where
   OfScript : (task : ScriptTask) (script : List ℕ) → Request
@@ -36,8 +49,13 @@ pub data Request : Type 0 where
   Convert : (script log out : List ℕ) → Request
   Run : (way : Way) (script log : List ℕ) → Request
   Gen : (number : ℕ) (script log : List ℕ) → Request
+  Hunt : (quarry : Quarry) (script log : List ℕ) (tries : ℕ) → Request
 
--- what two, three, four and five words ask for that starts no thread
+-- a number of tries: 1 to 1,000,000
+abbrev pub tries_of : List ℕ → Option ℕ
+tries_of word = elim (number_of word) [ None ↦ None | Some n ↦ if nat_le 1 n && nat_le n MAX_TRIES then Some n else None ]
+
+-- what two, three, four, five and six words ask for that starts no thread
 abbrev pub reading_of_two : List ℕ → List ℕ → Option Request
 reading_of_two word file =
     if bytes_eq word (codes "tidy") then Some (OfScript Tidy file)
@@ -54,18 +72,24 @@ reading_of_three word script log =
 abbrev pub reading_of_four : List ℕ → List ℕ → List ℕ → List ℕ → Option Request
 reading_of_four word script log last =
     if bytes_eq word (codes "profile") then Some (OfPair Profile script log (Some last))
-    else (if bytes_eq word (codes "convert") then Some (Convert script log last) else None)
+    else (if bytes_eq word (codes "convert") then Some (Convert script log last)
+    else (if bytes_eq word (codes "hunt") then option_map (λ tries. Hunt AnyCycle script log tries) (tries_of last) else None))
 
 abbrev pub reading_of_five : List ℕ → List ℕ → List ℕ → List ℕ → List ℕ → Option Request
 reading_of_five word script log third last =
     if bytes_eq word (codes "slice") then elim (number_of third) [ None ↦ None | Some thread ↦ option_map (λ event. OfPair (Slice thread event) script log None) (number_of last) ]
     else (if bytes_eq word (codes "stop") then option_map (λ value. OfPair (Stop value) script log (Some third)) (number_of last) else None)
 
+abbrev pub reading_of_six : List ℕ → List ℕ → List ℕ → List ℕ → List ℕ → List ℕ → Option Request
+reading_of_six word script log name number last =
+    if bytes_eq word (codes "hunt") then elim (number_of number) [ None ↦ None | Some n ↦ option_map (λ tries. Hunt (OtherEnd name n) script log tries) (tries_of last) ] else None
+
 abbrev pub reading_in : List (List ℕ) → Option Request
 reading_in (word ∷ file ∷ []) = reading_of_two word file
 reading_in (word ∷ script ∷ log ∷ []) = reading_of_three word script log
 reading_in (word ∷ script ∷ log ∷ last ∷ []) = reading_of_four word script log last
 reading_in (word ∷ script ∷ log ∷ third ∷ last ∷ []) = reading_of_five word script log third last
+reading_in (word ∷ script ∷ log ∷ name ∷ number ∷ last ∷ []) = reading_of_six word script log name number last
 reading_in _ = None
 
 -- what three and four words ask for that starts threads, or runs a script
@@ -99,6 +123,7 @@ abbrev pub outputs_of : Request → List (List ℕ)
 outputs_of (Convert script log out) = out ∷ []
 outputs_of (Run way script log) = log ∷ []
 outputs_of (Gen number script log) = script ∷ log ∷ []
+outputs_of (Hunt quarry script log tries) = log ∷ []
 outputs_of _ = []
 
 abbrev pub outputs_in : Option Request → List (List ℕ)
@@ -113,6 +138,10 @@ abbrev pub shown_task : RunTask → Way
 shown_task run.Locked = BehindLock
 shown_task (run.Turns picks) = ByPicks (map digit_value picks.now)
 
+abbrev pub shown_quarry : DeclaredQuarry → Quarry
+shown_quarry (quarry.OtherEnd name number) = OtherEnd name.now number
+shown_quarry quarry.AnyCycle = AnyCycle
+
 -- a request as the program has it
 abbrev pub shown : declared.Request → Request
 shown (request.OfScript task script) = OfScript task script.now
@@ -122,6 +151,7 @@ shown (request.Convert script log out) = Convert script.now log.now out.now
 shown (request.Live script log) = Run AsTheyCome script.now log.now
 shown (request.Run task script log) = Run (shown_task task) script.now log.now
 shown (request.Gen number script log) = Gen number script.now log.now
+shown (request.Hunt wanted script log tries) = Hunt (shown_quarry wanted) script.now log.now tries
 shown (request.Parallel script log) = OfPair Parallel script.now log.now None
 
 -- whether it starts threads or runs a script

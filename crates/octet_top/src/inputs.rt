@@ -132,7 +132,7 @@ fn object_named(script: &Script, name: &[u8]) -> Option<usize>
 }
 
 /// Takes a script's file, reads it, and finds the object that is named in it.
-fn read_chosen<D: Desk>(
+pub(crate) fn read_chosen<D: Desk>(
     alloc: Global,
     desk: &mut D,
     script_name: &str,

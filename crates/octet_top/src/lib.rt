@@ -5,6 +5,7 @@ mod commands;
 mod convert;
 mod deliver;
 mod event_text;
+mod hunt;
 mod inputs;
 mod live;
 mod parallel;

@@ -5,11 +5,11 @@ ghost use Rattle.octet_top.specs.declared.reply.Status.{Status};
 ghost use Rattle.octet_top.specs.declared.reply.Status.TheVariants.{Memory};
 ghost use Rattle.octet_top.specs.Answer.{code_of};
 ghost use Rattle.octet_top.specs.Request.{texts, request_in, reading_in};
-ghost use Rattle.octet_top.specs.Causes.{IsCause, IsDue, NoneFailed};
+ghost use Rattle.octet_top.specs.Causes.{IsCause, IsDue, FindsOrNot, NoneFailed};
 ghost use Rattle.octet_top.specs.Effects.{IsStatus, Leaves, CutsRun, KeepsOthers, KeepsFiles, CountsFailures, IsCompleted, IsWellMet};
 ghost use Rattle.octet_top.specs.Serving.{IsReplied, IsServed};
 ghost use Rattle.octet_top.specs.Headline.{RunsFaithfully};
-ghost use Rattle.octet_top.specs.Promises.{RunsAsPicked, RunsWithExactTotals, VerifiesOrdered, ReplaysOnThreads, FindsRegions, RepeatsRecordings, SlicesPasts, StopsAtFirst, TracesOrders, TracesMisfits, ConvertsLogs, GeneratesFaithfully};
+ghost use Rattle.octet_top.specs.Promises.{RunsAsPicked, RunsWithExactTotals, VerifiesOrdered, ReplaysOnThreads, FindsRegions, RepeatsRecordings, SlicesPasts, StopsAtFirst, TracesOrders, TracesMisfits, ConvertsLogs, GeneratesFaithfully, HuntsFaithfully};
 
 use crate::deliver::deliver;
 use crate::request::request_of;
@@ -70,6 +70,10 @@ pub fn serve<R: Threads + Wait + Sync, D: Desk, G: HeapGate>(
     // Status 0 of `convert` comes with the log in version 2, with the digest of the script's text.
     ensures converted { ConvertsLogs (texts words.now) (D.state desk.old) (D.state desk.new) result }
 
+    // Status 0 of `hunt` comes with a faithful recording of a run that is looked for: all its threads
+    // are done and the object has another value, or its regions have a cycle.
+    ensures hunted { HuntsFaithfully (texts words.now) (D.state desk.old) (D.state desk.new) result }
+
     // Where `regions` finds an order, the regions run one after another in it give the outcome that
     // is said. Where it finds a cycle, the first region of each hop is before the second, and stands in
     // its thread at or after the second region of the next hop, the last hop's next being the first.
@@ -79,13 +83,13 @@ pub fn serve<R: Threads + Wait + Sync, D: Desk, G: HeapGate>(
     ensures cause { (status : Status) → result ≡ code_of status → IsCause (texts words.now) (D.state desk.old) (D.state desk.new) status }
 
     // Where the desk tells its contents and no call fails, the status comes whose cause is the
-    // first that is met, unless memory was refused.
+    // first that is met, unless memory was refused. A hunt may find a run or not.
     ensures due { (contents : Contents) → (D.state desk.old).contents ≡ Some contents → (status : Status) → IsDue (texts words.now) (D.state desk.old).contents status → NoneFailed (D.state desk.old) (D.state desk.new)
-        → (result ≡ code_of status) ⊎ (result ≡ code_of Memory) }
-    ensures one_due { (contents : Contents) (status other : Status) → IsDue (texts words.now) (Some contents) status → IsDue (texts words.now) (Some contents) other → status ≡ other }
+        → (result ≡ code_of status) ⊎ ((result ≡ code_of Memory) ⊎ ((other : Status) × FindsOrNot (texts words.now) status other × (result ≡ code_of other))) }
+    ensures one_due { (contents : Contents) (status other : Status) → IsDue (texts words.now) (Some contents) status → IsDue (texts words.now) (Some contents) other → (status ≡ other) ⊎ FindsOrNot (texts words.now) status other }
 
     // And where all that the words take is as it should be, all is done; but regions may be in a
-    // cycle, and a slice may be asked for of an event that is not there.
+    // cycle, a slice may be asked for of an event that is not there, and a hunt may find nothing.
     ensures complete { (contents : Contents) → (D.state desk.old).contents ≡ Some contents → IsWellMet (texts words.now) contents → NoneFailed (D.state desk.old) (D.state desk.new)
         → IsCompleted (texts words.now) result }
 

@@ -2,7 +2,7 @@
 ghost use Rattle.std.specs.Prelude.{◌≡◌, ◌++◌, IfOk, OnOk, codes, length};
 ghost use Rattle.std.specs.List.{flat_map};
 ghost use Rattle.octet_top.specs.declared.request.PairTask.TheVariants.{Regions};
-ghost use Rattle.octet_top.specs.Answer.{answer_of, does_not_fit, hop_line, region_line, region_text, serial_said};
+ghost use Rattle.octet_top.specs.Answer.{answer_of, cycle_text, does_not_fit, hop_line, region_line, region_text, serial_said};
 ghost use Rattle.octet_top.specs.Commands.{Fitting, PairReplays, SerialSays};
 
 use crate::commands::check_order;
@@ -79,8 +79,9 @@ fn order_text(alloc: Global, regions: &[Region]) -> Result<Vec<u8>, OutOfMemory>
     Ok(text)
 }
 
-fn cycle_text(alloc: Global, hops: &[Hop]) -> Result<Vec<u8>, OutOfMemory>
-    ensures { IfOk result (λ text. text.items ≡ codes "cycle\n" ++ flat_map hop_line hops.now) }
+/// The hops of a cycle, a line each.
+pub(crate) fn cycle_text(alloc: Global, hops: &[Hop]) -> Result<Vec<u8>, OutOfMemory>
+    ensures { IfOk result (λ text. text.items ≡ cycle_text hops.now) }
 {
     let mut text = Vec::from_slice(alloc, b"cycle\n")?;
     for hop in hops {

@@ -1,9 +1,10 @@
 //! What words ask for: which task, and of which files.
 ghost use Rattle.std.specs.Prelude.{◌≡◌, ◌∷◌, []};
 ghost use Rattle.std.specs.Option.{option_map};
-ghost use Rattle.octet_top.specs.Request.{texts, shown, alone_in, or_else, request_in, reading_in, reading_of_two, reading_of_three, reading_of_four, reading_of_five, running_of_three, running_of_four};
+ghost use Rattle.octet_top.specs.Request.{texts, shown, alone_in, or_else, request_in, reading_in, reading_of_two, reading_of_three, reading_of_four, reading_of_five, reading_of_six, running_of_three, running_of_four, tries_of, shown_quarry, named_by, name_in};
 
 use crate::picks::are_picks;
+use octet_hunt::MAX_TRIES;
 use octet_script::number_of;
 
 /// Tasks on a script.
@@ -42,6 +43,28 @@ pub(crate) enum RunTask<'a> {
     Locked,
     /// A turn for each hexadecimal digit, and then by rounds.
     Turns { picks: &'a str },
+}
+
+/// What a hunt looks for.
+#[derive(Clone, Copy, Debug)]
+pub(crate) enum Quarry<'a> {
+    /// A run whose threads are all done, and that ends with another value than this number at the
+    /// object of this name.
+    OtherEnd { name: &'a str, number: u64 },
+    /// A run whose regions have a cycle.
+    AnyCycle,
+}
+
+impl<'a> Quarry<'a> {
+    /// The object that is named.
+    pub(crate) fn name(self) -> Option<&'a str>
+        ensures { name_in result ≡ named_by (shown_quarry self) }
+    {
+        match self {
+            Quarry::OtherEnd { name, .. } => Some(name),
+            Quarry::AnyCycle => None,
+        }
+    }
 }
 
 /// What words ask for, with the names of its files.
@@ -85,6 +108,13 @@ pub(crate) enum Request<'a> {
         script: &'a str,
         log: &'a str,
     },
+    /// Runs by schedules, up to one that is looked for, whose log is written.
+    Hunt {
+        quarry: Quarry<'a>,
+        script: &'a str,
+        log: &'a str,
+        tries: u32,
+    },
     /// A replay on threads.
     Parallel {
         script: &'a str,
@@ -102,6 +132,7 @@ pub(crate) fn request_of(words: &[String]) -> Option<Request<'_>>
         [word, script, log] => of_three(word, script, log),
         [word, first, second, third] => of_four(word, first, second, third),
         [word, script, log, third, last] => of_five(word, script, log, third, last),
+        [word, script, log, name, number, last] => of_six(word, script, log, name, number, last),
         _ => None,
     }
 }
@@ -178,6 +209,12 @@ fn of_four<'a>(word: &str, first: &'a str, second: &'a str, third: &'a str) -> O
             log: second,
             out: third,
         }),
+        "hunt" => Some(Request::Hunt {
+            quarry: Quarry::AnyCycle,
+            script: first,
+            log: second,
+            tries: tries_of(third)?,
+        }),
         _ => None,
     }
 }
@@ -212,4 +249,40 @@ fn of_five<'a>(
         }),
         _ => None,
     }
+}
+
+fn of_six<'a>(
+    word: &str,
+    script: &'a str,
+    log: &'a str,
+    name: &'a str,
+    number: &str,
+    last: &str,
+) -> Option<Request<'a>>
+    ensures asked { option_map shown result ≡ reading_of_six word.now script.now log.now name.now number.now last.now }
+    ensures alone { alone_in result ≡ reading_of_six word.now script.now log.now name.now number.now last.now }
+{
+    match word {
+        "hunt" => Some(Request::Hunt {
+            quarry: Quarry::OtherEnd {
+                name,
+                number: number_of(number.as_bytes())?,
+            },
+            script,
+            log,
+            tries: tries_of(last)?,
+        }),
+        _ => None,
+    }
+}
+
+// A number of tries.
+fn tries_of(word: &str) -> Option<u32>
+    ensures { result ≡ tries_of word.now }
+{
+    let number = number_of(word.as_bytes())?;
+    if number < 1 || number > u64::from(MAX_TRIES) {
+        return None;
+    }
+    Some(number as u32)
 }

@@ -1,18 +1,19 @@
 //! Requests that need no runtime: from the files to a reply, before any of it is written or said.
 ghost use Rattle.std.specs.Prelude.{◌≡◌, IfOk, Some};
 ghost use Rattle.octet_top.specs.Answer.{answer_of};
-ghost use Rattle.octet_top.specs.Request.{shown_alone, alone_in, name_in, OfScript, OfLog, OfPair, Convert};
+ghost use Rattle.octet_top.specs.Request.{shown_alone, shown_quarry, alone_in, name_in, OfScript, OfLog, OfPair, Convert, Hunt};
 ghost use Rattle.octet_top.specs.Commands.{PairReplays};
 ghost use Rattle.octet_top.specs.Replies.{Replies};
 
 use crate::commands::{answer_log, answer_script, replay, replay_ordered, verify};
 use crate::convert::convert;
-use crate::inputs::{Pair, read_fitting, read_log, read_script};
+use crate::hunt::hunt;
+use crate::inputs::{Pair, read_chosen, read_fitting, read_log, read_script};
 use crate::profile::profile;
 use crate::refusal::not_a_command;
 use crate::regions::regions;
 use crate::reply::Reply;
-use crate::request::{LogTask, PairTask, Request, ScriptTask};
+use crate::request::{LogTask, PairTask, Quarry, Request, ScriptTask};
 use crate::slice::slice;
 use crate::stop::stop;
 use crate::trace::trace;
@@ -96,6 +97,23 @@ fn of_conversion<D: Desk>(
     }
 }
 
+#[tactic(auto, using(crate::proofs::answering::Found::hunt_stops))]
+fn of_hunt<D: Desk>(
+    alloc: Global,
+    desk: &mut D,
+    quarry: Quarry<'_>,
+    script: &str,
+    log: &str,
+    tries: u32,
+) -> Result<Reply, OutOfMemory>
+    ensures { Replies (Some (Hunt (shown_quarry quarry.entry) script.now log.now tries)) (D.state desk.old) result (D.state desk.new) }
+{
+    match read_chosen(alloc, desk, script, quarry.name()) {
+        Ok((source, wanted)) => hunt(alloc, &source, wanted, quarry, tries, log),
+        Err(refusal) => refusal,
+    }
+}
+
 /// The reply to a request that needs no runtime; to another, that it is no command.
 fn reply_to<D: Desk>(
     alloc: Global,
@@ -114,6 +132,12 @@ fn reply_to<D: Desk>(
             object,
         } => of_pair(alloc, desk, task, script, log, object),
         Request::Convert { script, log, out } => of_conversion(alloc, desk, script, log, out),
+        Request::Hunt {
+            quarry,
+            script,
+            log,
+            tries,
+        } => of_hunt(alloc, desk, quarry, script, log, tries),
         _ => not_a_command(alloc),
     }
 }

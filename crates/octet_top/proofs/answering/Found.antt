@@ -14,13 +14,13 @@ use Rattle.octet_model.specs.declared.limits.TheConstants.{MAX_LOG_FILE, MAX_SCR
 use Rattle.octet_top.specs.declared.inputs.Source.{Source}
 use Rattle.octet_top.specs.declared.request.ScriptTask.{ScriptTask}
 use Rattle.octet_top.specs.declared.request.LogTask.{LogTask}
-use Rattle.octet_top.specs.Request.{Way, Request, OfScript, OfLog, OfPair, Convert, Run, Gen}
-use Rattle.octet_top.specs.Inputs.{IsScriptRead, IsLogRead, IsPairRead, Refusal, Ends, WasRefused, TakesOne, TakesBoth}
+use Rattle.octet_top.specs.Request.{Way, Request, OfScript, OfLog, OfPair, Convert, Run, Gen, Hunt, Quarry, named_by}
+use Rattle.octet_top.specs.Inputs.{IsScriptRead, IsLogRead, IsScriptChosen, IsPairRead, Refusal, Ends, WasRefused, TakesOne, TakesBoth}
 use Rattle.octet_top.specs.Checked.{IsPairTaken, IsFittingTaken}
-use Rattle.octet_top.specs.Commands.{Answering, Answers, ScriptAnswers, LogAnswers, RunAnswers, RequestAnswers, Matching, PairReplays, Converts, IsGeneration}
+use Rattle.octet_top.specs.Commands.{Answering, Answers, ScriptAnswers, LogAnswers, RunAnswers, RequestAnswers, Matching, PairReplays, Converts, IsGeneration, HuntAnswers}
 use Rattle.octet_top.specs.Replies.{Finds, Replies, IsNoSuccess, TakesFiles}
 use Rattle.octet_top.proofs.answering.Steps.{as_short, both_as_short, one_keeps, both_keep}
-use Rattle.octet_top.proofs.answering.Rows.{Refuses, not_done, script_refused, log_refused, pair_refused}
+use Rattle.octet_top.proofs.answering.Rows.{Refuses, not_done, script_refused, chosen_refused, log_refused, pair_refused}
 
 found_done : {T : Type 0} (Reading : Result T Answer → Type 0) (Reply' : T → Answer → Type 0) (input : T) (before after : ℕ) (result : Result Reply NoMemory)
     → Reading (Ok input) → after ≡ before → IfOk result (λ reply. Reply' input (answer_of reply)) → Finds (Answering Reading Reply') before result after
@@ -90,6 +90,19 @@ module _ (way : Way) (script log : List ℕ) where
 
   pub run_stops : (before after : DeskState) (stop : Refusal) → Ends (IsScriptRead script before.contents) before.take_faults (Err stop) after.take_faults → TakesOne script MAX_SCRIPT_FILE (WasRefused {T = Source} (Err stop)) before after → Replies (Some (Run way script log)) before stop after
   run_stops = one_stops (Run way script log) script MAX_SCRIPT_FILE Source (IsScriptRead script) (RunAnswers way log) (λ short before after calls. calls) (λ contents answer answers. answers) (script_refused script)
+
+module _ (quarry : Quarry) (script log : List ℕ) (tries : ℕ) where
+  pub hunt_read : (before after : DeskState) (input : Source × Option ℕ) (result : Result Reply NoMemory) → Ends (IsScriptChosen script (named_by quarry) before.contents) before.take_faults (Ok input) after.take_faults
+      → TakesOne script MAX_SCRIPT_FILE (WasRefused {T = Source × Option ℕ} {E = Refusal} (Ok input)) before after → IfOk result (λ reply. HuntAnswers quarry log tries input (answer_of reply)) → Replies (Some (Hunt quarry script log tries)) before result after
+  hunt_read =
+      one_read (Hunt quarry script log tries) script MAX_SCRIPT_FILE (Source × Option ℕ) (IsScriptChosen script (named_by quarry)) (HuntAnswers quarry log tries) (λ short before after calls. calls) (λ contents answer answers. answers)
+      (chosen_refused script (named_by quarry))
+
+  pub hunt_stops : (before after : DeskState) (stop : Refusal) → Ends (IsScriptChosen script (named_by quarry) before.contents) before.take_faults (Err stop) after.take_faults
+      → TakesOne script MAX_SCRIPT_FILE (WasRefused {T = Source × Option ℕ} (Err stop)) before after → Replies (Some (Hunt quarry script log tries)) before stop after
+  hunt_stops =
+      one_stops (Hunt quarry script log tries) script MAX_SCRIPT_FILE (Source × Option ℕ) (IsScriptChosen script (named_by quarry)) (HuntAnswers quarry log tries) (λ short before after calls. calls) (λ contents answer answers. answers)
+      (chosen_refused script (named_by quarry))
 
 -- the log is of another script, which is said
 another_script : (Next : Answer → Type 0) (pair : Pair) (fault : FitFault) (refusal : Refusal) → IsOfAnother pair.source.text pair.loaded.digest fault → IfOk refusal (λ reply. answer_of reply ≡ wrong_script fault)

@@ -28,9 +28,9 @@ use Rattle.octet_top.specs.declared.reply.Status.{Status}
 use Rattle.octet_top.specs.declared.reply.Status.TheVariants as exit
 use Rattle.octet_log.specs.declared.loader.Loaded.{Loaded}
 use Rattle.octet_top.specs.Answer.{Answer, verdict_said}
-use Rattle.octet_top.specs.Request.{Way, Request, OfScript, OfLog, OfPair, Convert, Run, Gen, outputs_of, outputs_in}
+use Rattle.octet_top.specs.Request.{Way, Request, OfScript, OfLog, OfPair, Convert, Run, Gen, Hunt, Quarry, OtherEnd, AnyCycle, named_by, outputs_of, outputs_in}
 use Rattle.octet_top.specs.Inputs.{IsTaken, IsScriptRead, IsLogRead, IsScriptChosen, IsPairRead}
-use Rattle.octet_top.specs.Commands.{Answers, RequestAnswers, ScriptAnswers, LogAnswers, PairSays, RunAnswers}
+use Rattle.octet_top.specs.Commands.{Answers, RequestAnswers, ScriptAnswers, LogAnswers, PairSays, RunAnswers, none_found}
 
 -- a status that comes with a refusal
 abbrev pub is_refusal : Status → Bool
@@ -115,12 +115,16 @@ refusal_of_reading exit.TooLong early = refl
 refusal_of_reading exit.Unordered early = refl
 refusal_of_reading exit.Cycle early = refl
 refusal_of_reading exit.NoEvent early = refl
+refusal_of_reading exit.NotFound early = refl
 
 unread_refuses : (answer : Answer) → IsUnread answer → Refuses answer
 unread_refuses answer early = record { status = refusal_of_reading answer.status early.status; files = early.files }
 
 pub script_refused : (name : List ℕ) (contents : Option Contents) (answer : Answer) → IsScriptRead name contents (Err answer) → Refuses answer
 script_refused name contents answer read = unread_refuses answer (script_unread name contents answer read)
+
+pub chosen_refused : (name : List ℕ) (object : Option (List ℕ)) (contents : Option Contents) (answer : Answer) → IsScriptChosen name object contents (Err answer) → Refuses answer
+chosen_refused name object contents answer read = unread_refuses answer (chosen_unread name object contents answer read)
 
 pub log_refused : (name : List ℕ) (contents : Option Contents) (answer : Answer) → IsLogRead name contents (Err answer) → Refuses answer
 log_refused name contents answer read = unread_refuses answer (log_unread name contents answer read)
@@ -220,6 +224,15 @@ row_done task pair answer (NotOrdered row is judges apart) = inr row
 row_done task pair answer (NotSerial row is judges ordered apart) = inr row
 row_done task pair answer (NotThere row is ordered none) = inr row
 
+-- a hunt that finds nothing says so, and writes nothing
+pub none_status : (quarry : Quarry) (tries : ℕ) → (none_found quarry tries).status ≡ exit.NotFound
+none_status (OtherEnd name number) tries = refl
+none_status AnyCycle tries = refl
+
+none_files : (quarry : Quarry) (tries : ℕ) → (none_found quarry tries).files ≡ []
+none_files (OtherEnd name number) tries = refl
+none_files AnyCycle tries = refl
+
 -- what a request is answered with: all is done, and its files are written, or it is refused
 pub request_row : (request : Request) (contents : Option Contents) (answer : Answer) → RequestAnswers request contents answer → IsDone (outputs_of request) answer ⊎ Refuses answer
 request_row (OfScript task script) contents answer (inl read) = inr (script_refused script contents answer read)
@@ -237,6 +250,9 @@ request_row (Convert script log out) contents answer (inr (pair, read, inr (own,
 request_row (Run task script log) contents answer (inl read) = inr (script_refused script contents answer read)
 request_row (Run task script log) contents answer (inr (source, read, is)) = inl (run_row task log source answer is)
 request_row (Gen number script log) contents answer (made, recorded, outcome, generated, faithful, is) = inl (done (script ∷ log ∷ []) answer _ is refl refl)
+request_row (Hunt quarry script log tries) contents answer (inl read) = inr (chosen_refused script (named_by quarry) contents answer read)
+request_row (Hunt quarry script log tries) contents answer (inr (chosen, read, inl find)) = inl (done (log ∷ []) answer _ find.is refl refl)
+request_row (Hunt quarry script log tries) contents answer (inr (chosen, read, inr is)) = inr (refuses answer (none_found quarry tries) is (ap is_refusal (none_status quarry tries)) (none_files quarry tries))
 
 pub answers_row : (request : Option Request) (contents : Option Contents) (answer : Answer) → Answers request contents answer → IsDone (outputs_in request) answer ⊎ Refuses answer
 answers_row None contents answer is = inr (refuses answer _ is refl refl)

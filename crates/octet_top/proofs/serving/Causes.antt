@@ -12,7 +12,7 @@ use Rattle.octet_top.specs.declared.reply.Reply.{Reply}
 use Rattle.octet_top.specs.declared.reply.Status.{Status}
 use Rattle.octet_top.specs.declared.reply.Status.TheVariants as exit
 use Rattle.octet_top.specs.Answer.{Answer, answer_of, code_of, read_failed, writes_file}
-use Rattle.octet_top.specs.Request.{Request, OfScript, OfLog, OfPair, Convert, Run, AsTheyCome, BehindLock, ByPicks, Gen, request_in}
+use Rattle.octet_top.specs.Request.{Request, OfScript, OfLog, OfPair, Convert, Run, AsTheyCome, BehindLock, ByPicks, Gen, Hunt, request_in}
 use Rattle.octet_top.specs.Commands.{Answers, IsAnswer}
 use Rattle.octet_top.specs.Replies.{Replies}
 use Rattle.octet_top.specs.Delivery.{Act, Begin, Add, Finish, Say, Does, Makes, IsRefused, acts_of, code_given, IsGiven}
@@ -30,7 +30,7 @@ use Rattle.octet_top.proofs.answering.Rows.{is_refusal, answers_row}
 
 -- the status of a code
 abbrev pub of_code : ℕ → Status
-of_code code = get_or (exit.Done ∷ exit.Words ∷ exit.Script ∷ exit.Log ∷ exit.Misfit ∷ exit.Read ∷ exit.Write ∷ exit.Memory ∷ exit.TooLong ∷ exit.Unordered ∷ exit.Cycle ∷ exit.NoEvent ∷ []) code exit.Done
+of_code code = get_or (exit.Done ∷ exit.Words ∷ exit.Script ∷ exit.Log ∷ exit.Misfit ∷ exit.Read ∷ exit.Write ∷ exit.Memory ∷ exit.TooLong ∷ exit.Unordered ∷ exit.Cycle ∷ exit.NoEvent ∷ exit.NotFound ∷ []) code exit.Done
 
 -- codes differ
 pub decoded : (status : Status) → of_code (code_of status) ≡ status
@@ -46,6 +46,7 @@ decoded exit.TooLong = refl
 decoded exit.Unordered = refl
 decoded exit.Cycle = refl
 decoded exit.NoEvent = refl
+decoded exit.NotFound = refl
 
 pub same_status : (status other : Status) → code_of status ≡ code_of other → status ≡ other
 same_status status other is = sym (decoded status) ∙ ap of_code is ∙ decoded other
@@ -215,6 +216,7 @@ module _ (words : List (List ℕ)) (before after : DeskState) (code : ℕ) where
   ends_by (Some (OfPair task script log object)) asked served = replied_ends (subst (λ (r : Option Request). IsReplied r before after code) (sym asked) served)
   ends_by (Some (Convert script log out)) asked served = replied_ends (subst (λ (r : Option Request). IsReplied r before after code) (sym asked) served)
   ends_by (Some (Gen number script log)) asked served = replied_ends (subst (λ (r : Option Request). IsReplied r before after code) (sym asked) served)
+  ends_by (Some (Hunt quarry script log tries)) asked served = replied_ends (subst (λ (r : Option Request). IsReplied r before after code) (sym asked) served)
   ends_by None asked served = replied_ends (subst (λ (r : Option Request). IsReplied r before after code) (sym asked) served)
 
   pub ended : IsServed (request_in words) before after code → Ending words before after code
@@ -234,6 +236,7 @@ own_cause words before after answer exit.TooLong answers is own = (answer, answe
 own_cause words before after answer exit.Unordered answers is own = (answer, answers, is)
 own_cause words before after answer exit.Cycle answers is own = (answer, answers, is)
 own_cause words before after answer exit.NoEvent answers is own = (answer, answers, is)
+own_cause words before after answer exit.NotFound answers is own = (answer, answers, is)
 
 -- whatever status comes, its cause holds
 pub has_cause : (words : List (List ℕ)) (before after : DeskState) (code : ℕ) → IsServed (request_in words) before after code → (status : Status) → code ≡ code_of status → IsCause words before after status

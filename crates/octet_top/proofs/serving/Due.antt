@@ -17,18 +17,19 @@ use Rattle.octet_replay.specs.declared.fitting.FitFault.{FitFault}
 use Rattle.octet_replay.specs.declared.fitting.FitFault.TheVariants.{WrongScript}
 use Rattle.octet_replay.specs.Fit.{IsOfScript, IsOfAnother}
 use Rattle.octet_replay.proofs.lemmas.OneAnswer.{not_refused}
+use Rattle.octet_top.specs.declared.inputs.Source.{Source}
 use Rattle.octet_top.specs.declared.inputs.Pair.{Pair}
 use Rattle.octet_top.specs.declared.request.PairTask.{PairTask}
 use Rattle.octet_top.specs.declared.reply.Status.{Status}
 use Rattle.octet_top.specs.declared.reply.Status.TheVariants as exit
 use Rattle.octet_top.specs.Answer.{Answer, code_of, not_a_command, read_failed, too_long, script_refused, log_refused}
-use Rattle.octet_top.specs.Request.{Request, OfScript, OfLog, OfPair, Convert, Run, Gen, request_in}
+use Rattle.octet_top.specs.Request.{Request, OfScript, OfLog, OfPair, Convert, Run, Gen, Hunt, Quarry, named_by, request_in}
 use Rattle.octet_top.specs.Inputs.{◌>>=◌, IsTaken, IsParsed, IsDecoded, IsChosen, IsScriptRead, IsLogRead, IsScriptChosen, IsPairRead}
 use Rattle.octet_top.specs.Serving.{IsServed}
-use Rattle.octet_top.specs.Causes.{IsDue, NoneFailed}
+use Rattle.octet_top.specs.Causes.{IsDue, FindsOrNot, NoneFailed}
 use Rattle.octet_top.proofs.serving.Causes.{Ending, Whole, CutShort, Lacking, ended}
-use Rattle.octet_top.proofs.answering.Rows.{PairRow, AllDone, NotOrdered, NotSerial, NotThere, has_event, script_row, log_row, pair_row, run_row}
-use Rattle.octet_top.specs.Commands.{Answering, Answers, RequestAnswers, IsAnswer, ScriptAnswers, LogAnswers, Matching, PairReplays, PairAnswers, Converts, ConvertAnswers, RunAnswers}
+use Rattle.octet_top.proofs.answering.Rows.{PairRow, AllDone, NotOrdered, NotSerial, NotThere, has_event, script_row, log_row, pair_row, run_row, none_status}
+use Rattle.octet_top.specs.Commands.{Answering, Answers, RequestAnswers, IsAnswer, ScriptAnswers, LogAnswers, Matching, PairReplays, PairAnswers, Converts, ConvertAnswers, RunAnswers, HuntAnswers, none_found}
 
 -- a step ends in one way
 pub record Single {A : Type 0} (Step : Result A Answer → Type 0) : Type 0 where
@@ -121,7 +122,7 @@ module _ (t : Contents) where
   pub log_single : (name : List ℕ) → Single (IsLogRead name (Some t))
   log_single name = then_single (IsTaken name MAX_LOG_FILE (Some t)) IsDecoded (taken_single name MAX_LOG_FILE t) decoded_single
 
-  script_chosen_single : (name : List ℕ) (object : Option (List ℕ)) → Single (IsScriptChosen name object (Some t))
+  pub script_chosen_single : (name : List ℕ) (object : Option (List ℕ)) → Single (IsScriptChosen name object (Some t))
   script_chosen_single name object =
       then_single (IsScriptRead name (Some t)) _ (script_single name) (λ source. then_single (IsChosen source.script object) _ (chosen_single source.script object) (λ wanted. value_single (source, wanted)))
 
@@ -184,25 +185,50 @@ matching_status pair Next same a b (inl p) (inr q) = absurd (not_of_another pair
 matching_status pair Next same a b (inr p) (inl q) = absurd (not_of_another pair.source.text pair.loaded.digest q.0 p.0 q.1)
 matching_status pair Next same a b (inr p) (inr q) = same a b p.1 q.1
 
-request_status : (t : Contents) (request : Request) (a b : Answer) → RequestAnswers request (Some t) a → RequestAnswers request (Some t) b → a.status ≡ b.status
-request_status t (OfScript task script) a b =
-    one_status (IsScriptRead script (Some t)) (ScriptAnswers task) (script_single t script) (λ source x y p q. (script_row task source x p).status ∙ sym (script_row task source y q).status) a b
-request_status t (OfLog task log) a b =
-    one_status (IsLogRead log (Some t)) (LogAnswers task) (log_single t log) (λ read x y p q. (log_row task read x p).status ∙ sym (log_row task read y q).status) a b
-request_status t (OfPair task script log object) a b = one_status (IsPairRead script log object (Some t)) (PairAnswers task) (pair_single t script log object) (λ pair. matching_status pair (PairReplays task pair) (replays_status task pair)) a b
-request_status t (Convert script log out) a b =
-    one_status (IsPairRead script log None (Some t)) (ConvertAnswers out) (pair_single t script log None) (λ pair. matching_status pair (Converts out pair) (converts_status out pair)) a b
-request_status t (Run task script log) a b =
-    one_status (IsScriptRead script (Some t)) (RunAnswers task log) (script_single t script) (λ source x y p q. (run_row task log source x p).status ∙ sym (run_row task log source y q).status) a b
-request_status t (Gen number script log) a b = λ p q. as_said a b _ _ p.5 q.5 refl
+-- those of a hunt have one status too, or one says that a run was found and the other that none was
+abbrev Differ : Status → Status → Type 0
+Differ status other = ((status ≡ exit.Done) × (other ≡ exit.NotFound)) ⊎ ((status ≡ exit.NotFound) × (other ≡ exit.Done))
 
-answers_status : (t : Contents) (request : Option Request) (a b : Answer) → Answers request (Some t) a → Answers request (Some t) b → a.status ≡ b.status
-answers_status t None a b is is' = as_said a b not_a_command not_a_command is is' refl
-answers_status t (Some request) a b p q = request_status t request a b p q
+found_status : (quarry : Quarry) (log : List ℕ) (tries : ℕ) (chosen : Source × Option ℕ) (a : Answer) → HuntAnswers quarry log tries chosen a → (a.status ≡ exit.Done) ⊎ (a.status ≡ exit.NotFound)
+found_status quarry log tries chosen a (inl find) = inl (ap (λ (x : Answer). x.status) find.is)
+found_status quarry log tries chosen a (inr is) = inr (ap (λ (x : Answer). x.status) is ∙ none_status quarry tries)
 
--- exactly one status is due
-pub one_due : (words : List (List ℕ)) (t : Contents) (status other : Status) → IsDue words (Some t) status → IsDue words (Some t) other → status ≡ other
-one_due words t status other (a, p, is) (b, q, is') = sym is ∙ answers_status t (request_in words) a b p q ∙ is'
+both_found : (s s' : Status) → (s ≡ exit.Done) ⊎ (s ≡ exit.NotFound) → (s' ≡ exit.Done) ⊎ (s' ≡ exit.NotFound) → (s ≡ s') ⊎ Differ s s'
+both_found s s' (inl is) (inl is') = inl (is ∙ sym is')
+both_found s s' (inl is) (inr is') = inr (inl (is, is'))
+both_found s s' (inr is) (inl is') = inr (inr (is, is'))
+both_found s s' (inr is) (inr is') = inl (is ∙ sym is')
+
+hunt_status : (t : Contents) (quarry : Quarry) (script log : List ℕ) (tries : ℕ) (a b : Answer) → RequestAnswers (Hunt quarry script log tries) (Some t) a → RequestAnswers (Hunt quarry script log tries) (Some t) b → (a.status ≡ b.status) ⊎ Differ a.status b.status
+hunt_status t quarry script log tries a b (inl p) (inl q) = inl (ap (λ (x : Answer). x.status) ((script_chosen_single t script (named_by quarry)).same a b p q))
+hunt_status t quarry script log tries a b (inl p) (inr (y, is, q)) = absurd ((script_chosen_single t script (named_by quarry)).never y a is p)
+hunt_status t quarry script log tries a b (inr (x, is, p)) (inl q) = absurd ((script_chosen_single t script (named_by quarry)).never x b is q)
+hunt_status t quarry script log tries a b (inr (x, is, p)) (inr (y, is', q)) = both_found a.status b.status (found_status quarry log tries x a p) (found_status quarry log tries y b q)
+
+-- two answers to words have one status, or the words ask for a hunt
+answers_status : (words : List (List ℕ)) (t : Contents) (request : Option Request) (a b : Answer) → request_in words ≡ request → Answers request (Some t) a → Answers request (Some t) b → (a.status ≡ b.status) ⊎ FindsOrNot words a.status b.status
+answers_status words t None a b asked is is' = inl (as_said a b not_a_command not_a_command is is' refl)
+answers_status words t (Some (OfScript task script)) a b asked p q =
+    inl (one_status (IsScriptRead script (Some t)) (ScriptAnswers task) (script_single t script) (λ source x y p q. (script_row task source x p).status ∙ sym (script_row task source y q).status) a b p q)
+answers_status words t (Some (OfLog task log)) a b asked p q =
+    inl (one_status (IsLogRead log (Some t)) (LogAnswers task) (log_single t log) (λ read x y p q. (log_row task read x p).status ∙ sym (log_row task read y q).status) a b p q)
+answers_status words t (Some (OfPair task script log object)) a b asked p q =
+    inl (one_status (IsPairRead script log object (Some t)) (PairAnswers task) (pair_single t script log object) (λ pair. matching_status pair (PairReplays task pair) (replays_status task pair)) a b p q)
+answers_status words t (Some (Convert script log out)) a b asked p q =
+    inl (one_status (IsPairRead script log None (Some t)) (ConvertAnswers out) (pair_single t script log None) (λ pair. matching_status pair (Converts out pair) (converts_status out pair)) a b p q)
+answers_status words t (Some (Run task script log)) a b asked p q =
+    inl (one_status (IsScriptRead script (Some t)) (RunAnswers task log) (script_single t script) (λ source x y p q. (run_row task log source x p).status ∙ sym (run_row task log source y q).status) a b p q)
+answers_status words t (Some (Gen number script log)) a b asked p q = inl (as_said a b _ _ p.5 q.5 refl)
+answers_status words t (Some (Hunt quarry script log tries)) a b asked p q = elim (hunt_status t quarry script log tries a b p q) [
+  | inl same ↦ inl same
+  | inr differ ↦ inr (record { quarry = quarry; script_name = script; log_name = log; tries = tries; asked = asked; differ = differ })
+]
+
+-- exactly one status is due, or the words ask for a hunt
+pub one_due : (words : List (List ℕ)) (t : Contents) (status other : Status) → IsDue words (Some t) status → IsDue words (Some t) other → (status ≡ other) ⊎ FindsOrNot words status other
+one_due words t status other (a, p, is) (b, q, is') =
+    subst (λ (s : Status). (s ≡ other) ⊎ FindsOrNot words s other) is
+    (subst (λ (s : Status). (a.status ≡ s) ⊎ FindsOrNot words a.status s) is' (answers_status words t (request_in words) a b refl p q))
 
 -- where no call of the desk fails, the status is that of an answer, unless memory was refused
 pub comes : (words : List (List ℕ)) (before after : DeskState) (code : ℕ) → IsServed (request_in words) before after code → (t : Contents) → before.contents ≡ Some t → NoneFailed before after
@@ -216,8 +242,11 @@ comes words before after code served t tells none = by (ended words before after
     by (Lacking is counts left) = inl is
 
 pub comes_as_due : (words : List (List ℕ)) (before after : DeskState) (code : ℕ) → IsServed (request_in words) before after code → (t : Contents) → before.contents ≡ Some t → (status : Status) → IsDue words before.contents status
-    → NoneFailed before after → (code ≡ code_of status) ⊎ (code ≡ code_of exit.Memory)
+    → NoneFailed before after → (code ≡ code_of status) ⊎ ((code ≡ code_of exit.Memory) ⊎ ((other : Status) × FindsOrNot words status other × (code ≡ code_of other)))
 comes_as_due words before after code served t tells status due none = elim (comes words before after code served t tells none) [
-  | inl memory ↦ inr memory
-  | inr (answer, answers, is) ↦ inl (is ∙ ap code_of (one_due words t answer.status status (answer, answers, refl) (subst (λ contents. IsDue words contents status) tells due)))
+  | inl memory ↦ inr (inl memory)
+  | inr (answer, answers, is) ↦ elim (one_due words t status answer.status (subst (λ contents. IsDue words contents status) tells due) (answer, answers, refl)) [
+    | inl same ↦ inl (is ∙ ap code_of (sym same))
+    | inr either ↦ inr (inr (answer.status, either, is))
+  ]
 ]

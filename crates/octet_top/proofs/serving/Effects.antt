@@ -10,15 +10,15 @@ use Rattle.octet_top.specs.declared.request.PairTask.TheVariants.{Replay, Parall
 use Rattle.octet_top.specs.declared.reply.Status.{Status}
 use Rattle.octet_top.specs.declared.reply.Status.TheVariants as exit
 use Rattle.octet_top.specs.Answer.{Answer, code_of}
-use Rattle.octet_top.specs.Request.{Request, OfScript, OfLog, OfPair, Convert, Run, Gen, request_in, outputs_in}
+use Rattle.octet_top.specs.Request.{Request, OfScript, OfLog, OfPair, Convert, Run, Gen, Hunt, named_by, request_in, outputs_in}
 use Rattle.octet_top.specs.Commands.{Answers, RequestAnswers, PairAnswers, ConvertAnswers, IsAnswer}
 use Rattle.octet_top.specs.Serving.{IsServed}
 use Rattle.octet_top.specs.Outputs.{written, ArePartlyWritten}
 use Rattle.octet_top.specs.Causes.{NoneFailed}
 use Rattle.octet_top.specs.Effects.{IsStatus, CountsFailures, IsUntouched, IsCut, IsDelivered, IsGivenAnswer, Leaves, LeavesLog, IsOneOf, KeepsOthers, KeepsFiles, HasFiles, MayLack, MayEndWith, IsCompleted, IsWellMet}
 use Rattle.octet_top.proofs.serving.Causes.{Ending, Whole, CutShort, Lacking, IsFound, IsShort, ended}
-use Rattle.octet_top.proofs.answering.Rows.{AllDone, NotOrdered, NotSerial, NotThere, HasItsEvent, JudgesRegions, IsDone, Refuses, is_refusal, answers_row, request_row, script_row, log_row, pair_row, run_row}
-use Rattle.octet_top.proofs.serving.Due.{script_single, log_single, pair_single, not_of_another, comes}
+use Rattle.octet_top.proofs.answering.Rows.{AllDone, NotOrdered, NotSerial, NotThere, HasItsEvent, JudgesRegions, IsDone, Refuses, is_refusal, answers_row, request_row, script_row, log_row, pair_row, run_row, none_status}
+use Rattle.octet_top.proofs.serving.Due.{script_single, log_single, script_chosen_single, pair_single, not_of_another, comes}
 use Rattle.octet_top.proofs.writing.Left.{get-other}
 
 -- files of other names stay
@@ -160,6 +160,9 @@ met_done (Convert script log out) contents answer (pair, outcome, read, own, rec
 met_done (Run task script log) contents answer (source, read) (inl refused) = absurd ((script_single contents script).never source answer read refused)
 met_done (Run task script log) contents answer (source, read) (inr (other, is, answers)) = inl (run_row task log other answer answers).status
 met_done (Gen number script log) contents answer met answers = elim (request_row (Gen number script log) (Some contents) answer answers) [ inl row ↦ inl row.status | inr refused ↦ inl (ap (λ (a : Answer). a.status) answers.5) ]
+met_done (Hunt quarry script log tries) contents answer (chosen, read) (inl refused) = absurd ((script_chosen_single contents script (named_by quarry)).never chosen answer read refused)
+met_done (Hunt quarry script log tries) contents answer (chosen, read) (inr (other, is, inl find)) = inl (ap (λ (a : Answer). a.status) find.is)
+met_done (Hunt quarry script log tries) contents answer (chosen, read) (inr (other, is, inr none)) = inr (exit.NotFound, refl, ap (λ (a : Answer). a.status) none ∙ none_status quarry tries)
 
 -- and such a status comes, where no call fails, unless memory was refused
 pub complete : (words : List (List ℕ)) (before after : DeskState) (code : ℕ) → IsServed (request_in words) before after code → (contents : Contents) → before.contents ≡ Some contents → IsWellMet words contents → NoneFailed before after

@@ -1,20 +1,20 @@
 -- From what is served to the promises of each command.
-use Rattle.std.proofs.Common.{◌≡◌, ◌≢◌, ◌∙◌, ℕ, List, Some, inl, inr, ap, sym, subst, arith, None, length, codes}
+use Rattle.std.proofs.Common.{◌≡◌, ◌≢◌, ◌∙◌, ◌++◌, ℕ, List, Some, inl, inr, ap, sym, subst, arith, None, length, codes}
 use Rattle.std.specs.FinMap.{get, insert}
 use Rattle.octet_base.specs.Desk.{Files, Contents, DeskState}
 use Rattle.octet_model.specs.Texts.{log_bytes, outcome_text}
 use Rattle.octet_model.proofs.lemmas.LogLength.{faithful_log_is_short}
 use Rattle.octet_model.proofs.lemmas.Totals.{faithful_adds_up}
 use Rattle.octet_top.specs.declared.reply.Status.{Status}
-use Rattle.octet_top.specs.declared.reply.Status.TheVariants.{Done, Read, Write, Memory}
-use Rattle.octet_top.specs.Answer.{Answer, code_of, writes_file, writes_both, summary}
-use Rattle.octet_top.specs.Request.{Way, ByPicks, Run, request_in, Convert, Gen}
+use Rattle.octet_top.specs.declared.reply.Status.TheVariants.{Done, Read, Write, Memory, NotFound}
+use Rattle.octet_top.specs.Answer.{Answer, code_of, writes_file, writes_both, summary, try_text}
+use Rattle.octet_top.specs.Request.{Way, ByPicks, Run, request_in, Convert, Gen, Quarry, Hunt, named_by}
 use Rattle.octet_log.specs.Spellings.{IsSpelling}
 use Rattle.octet_top.specs.Headline.{digest_kept, IsFaithfulRun, RunsFaithfully}
-use Rattle.octet_top.specs.Commands.{Answers, Records, RequestAnswers, second_bytes}
+use Rattle.octet_top.specs.Commands.{Answers, Records, RequestAnswers, IsFind, found_said, second_bytes}
 use Rattle.octet_top.specs.Serving.{IsServed}
 use Rattle.octet_top.specs.Outputs.{IsWhole}
-use Rattle.octet_top.specs.Promises.{RunsAsPicked, RunsWithExactTotals, IsConversion, ConvertsLogs, IsGeneratedRun, GeneratesFaithfully}
+use Rattle.octet_top.specs.Promises.{RunsAsPicked, RunsWithExactTotals, IsConversion, ConvertsLogs, IsGeneratedRun, GeneratesFaithfully, IsHuntedRun, HuntsFaithfully}
 use Rattle.octet_top.proofs.answering.Recorded.{recorded_faithfully}
 use Rattle.octet_top.proofs.serving.Causes.{same_status}
 use Rattle.octet_top.proofs.serving.Effects.{leaves}
@@ -22,7 +22,7 @@ use Rattle.octet_top.specs.Effects.{Leaves}
 use Rattle.octet_model.specs.declared.outcome.Outcome.{Outcome}
 use Rattle.octet_model.specs.Orders.{IsFaithful, journals_after}
 use Rattle.octet_replay.proofs.lemmas.OneAnswer.{faithful}
-use Rattle.octet_top.proofs.answering.Rows.{not_done, script_refused, pair_refused}
+use Rattle.octet_top.proofs.answering.Rows.{not_done, script_refused, chosen_refused, pair_refused, none_status}
 use Rattle.octet_top.proofs.writing.Left.{get-inserted, get-other}
 use Rattle.octet_script.specs.Spelling.{canonical_text}
 use Rattle.std.specs.List.{sum_by}
@@ -154,3 +154,34 @@ pub generated : (words : List (List ℕ)) (before after : DeskState) (code : ℕ
 generated words before after code served number script log contents contents' asked zero tells tells' =
     let success = at_success words before after code contents contents' (leaves words before after code served) zero tells tells' in
     made_of number script log contents contents' success.answer (subst (λ request. Answers request (Some contents) success.answer) asked success.answers) success.given
+
+-- a hunt
+hunted : (quarry : Quarry) (script log : List ℕ) (tries : ℕ) (contents contents' : Contents) (answer : Answer) → RequestAnswers (Hunt quarry script log tries) (Some contents) answer → answer.status ≡ Done → IsWhole answer contents contents'
+    → IsHuntedRun quarry script log tries contents contents'
+hunted quarry script log tries contents contents' answer (inl refused) done given = absurd (not_done answer (chosen_refused script (named_by quarry) (Some contents) answer refused) done)
+hunted quarry script log tries contents contents' answer (inr (chosen, read, inr none)) done given =
+    absurd (let both : Done ≡ NotFound = sym done ∙ ap (λ (a : Answer). a.status) none ∙ none_status quarry tries in cc)
+hunted quarry script log tries contents contents' answer (inr ((source, wanted), read, inl find)) done given =
+    let bytes = second_bytes source.text find.recorded.log.threads in
+    let said : IsWhole (writes_file log bytes (try_text find.attempt find.preemptions ++ found_said quarry source.script find.recorded.outcome find.hops)) contents contents' = subst (λ (a : Answer). IsWhole a contents contents') find.is given in
+    record {
+      source = source;
+      wanted = wanted;
+      read = read;
+      attempt = find.attempt;
+      preemptions = find.preemptions;
+      recorded = find.recorded;
+      hops = find.hops;
+      first = find.first;
+      last = find.last;
+      meets = find.meets;
+      written = ap (λ (fs : Files). get fs log) said.files ∙ get-inserted contents.files log bytes;
+      held = find.file.spelled;
+      within_limit = find.file.within_limit;
+      contents = said.said;
+    }
+
+pub hunts : (words : List (List ℕ)) (before after : DeskState) (code : ℕ) → IsServed (request_in words) before after code → HuntsFaithfully words before after code
+hunts words before after code served quarry script log tries contents contents' asked zero tells tells' =
+    let success = at_success words before after code contents contents' (leaves words before after code served) zero tells tells' in
+    hunted quarry script log tries contents contents' success.answer (subst (λ request. Answers request (Some contents) success.answer) asked success.answers) success.done success.given

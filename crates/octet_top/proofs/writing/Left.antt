@@ -17,7 +17,7 @@ use Rattle.octet_base.specs.declared.call.Call.{Call}
 use Rattle.octet_base.specs.declared.fault.DeskFault.{DeskFault}
 use Rattle.octet_base.specs.declared.call.Call.TheVariants as call
 use Rattle.octet_top.specs.Answer.{Answer, writes_file}
-use Rattle.octet_top.specs.Request.{Request, OfScript, OfLog, OfPair, Convert, Run, Gen}
+use Rattle.octet_top.specs.Request.{Request, OfScript, OfLog, OfPair, Convert, Run, Gen, Hunt}
 use Rattle.octet_top.specs.Inputs.{TakesOne, TakesBoth}
 use Rattle.octet_top.specs.Replies.{TakesFiles}
 use Rattle.octet_top.specs.Delivery.{Act, Add, Finish, Say, Makes, IsRefused, pieces, pieces_within, file_acts, acts_of}
@@ -104,6 +104,7 @@ taken_held (Some (OfPair task script log object)) Short files said before after 
 taken_held (Some (Convert script log out)) Short files said before after holds takes = both_held script log None Short files said before after holds takes
 taken_held (Some (Run task script log)) Short files said before after holds takes = one_held script MAX_SCRIPT_FILE Short files said before after holds takes
 taken_held (Some (Gen number script log)) Short files said before after holds same = rw same holds
+taken_held (Some (Hunt quarry script log tries)) Short files said before after holds takes = one_held script MAX_SCRIPT_FILE Short files said before after holds takes
 
 -- the calls were refused in the first part, or that was made whole
 split_made : (acts more : List Act) (before : DeskState) (result : Result (Unit {0}) DeskFault) (after : DeskState) → Makes (acts ++ more) before result after

@@ -23,6 +23,7 @@ returns g c =
       stopped = of_pair.stops words _ _ _ served;
       traced = of_pair.traces words _ _ _ served;
       traced_misfit = of_pair.traces_misfits words _ _ _ served;
+      hunted = promise.hunts words _ _ _ served;
       converted = promise.converts words _ _ _ served;
       regions = of_pair.finds_regions words _ _ _ served;
       cause = has_cause words _ _ _ served;
