@@ -18,7 +18,7 @@ use std::alloc::Global;
 // What is looked for, at the object that is wanted.
 #[tactic(auto, using(crate::proofs::answering::Hunted::wanted_is_there, crate::proofs::answering::Hunted::few_objects))]
 fn aim_of(source: &Source, wanted: Option<usize>, quarry: Quarry<'_>) -> Aim
-    requires { IsChosen source.now.script (named_by (shown_quarry quarry.entry)) (Ok wanted) }
+    requires { IsChosen source.now.script (named_by (shown_quarry quarry)) (Ok wanted) }
     ensures aim { result ≡ aim_of (shown_quarry quarry.entry) wanted }
     ensures object { IsAimAt (length source.now.script.objects) result }
 {
@@ -42,7 +42,7 @@ pub(crate) fn hunt(
     tries: u32,
     log_name: &str,
 ) -> Result<Reply, OutOfMemory>
-    requires { IsChosen source.now.script (named_by (shown_quarry quarry.entry)) (Ok wanted) }
+    requires { IsChosen source.now.script (named_by (shown_quarry quarry)) (Ok wanted) }
     ensures { IfOk result (λ reply. HuntAnswers (shown_quarry quarry.entry) log_name.now tries (source.now, wanted) (answer_of reply)) }
 {
     let aim = aim_of(source, wanted, quarry);
@@ -61,7 +61,7 @@ fn say_find(
     find: &Find,
     log_name: &str,
 ) -> Result<Reply, OutOfMemory>
-    requires meets { Meets source.now.script (aim_of (shown_quarry quarry.entry) wanted) find.now.recorded find.now.hops }
+    requires meets { Meets source.now.script (aim_of (shown_quarry quarry) wanted) find.now.recorded find.now.hops }
     requires first { 0 < find.now.attempt }
     requires last { find.now.attempt ≤ tries }
     ensures { IfOk result (λ reply. IsFind (shown_quarry quarry.entry) log_name.now tries source.now wanted (answer_of reply)) }
@@ -79,17 +79,31 @@ fn find_text(
     quarry: Quarry<'_>,
     find: &Find,
 ) -> Result<Vec<u8>, OutOfMemory>
-    requires meets { Meets source.now.script (aim_of (shown_quarry quarry.entry) wanted) find.now.recorded find.now.hops }
+    requires meets { Meets source.now.script (aim_of (shown_quarry quarry) wanted) find.now.recorded find.now.hops }
     ensures { IfOk result (λ text. text.items ≡ try_text find.now.attempt find.now.preemptions ++ found_said (shown_quarry quarry.entry) source.now.script find.now.recorded.outcome find.now.hops) }
 {
     let line = format!(in alloc; "try {}\npreemptions {}\n", find.attempt, find.preemptions)?;
+    let found = found_text(alloc, source, wanted, quarry, find)?;
     let mut text = line.into_bytes();
-    let found = match quarry {
-        Quarry::OtherEnd { .. } => outcome_text(alloc, &source.script, &find.recorded.outcome)?,
-        Quarry::AnyCycle => cycle_text(alloc, find.hops.as_slice())?,
-    };
     text.extend_from_slice(found.as_slice())?;
     Ok(text)
+}
+
+// The outcome of the run that was found, or its cycle.
+fn found_text(
+    alloc: Global,
+    source: &Source,
+    wanted: Option<usize>,
+    quarry: Quarry<'_>,
+    find: &Find,
+) -> Result<Vec<u8>, OutOfMemory>
+    requires meets { Meets source.now.script (aim_of (shown_quarry quarry) wanted) find.now.recorded find.now.hops }
+    ensures { IfOk result (λ text. text.items ≡ found_said (shown_quarry quarry.entry) source.now.script find.now.recorded.outcome find.now.hops) }
+{
+    match quarry {
+        Quarry::OtherEnd { .. } => outcome_text(alloc, &source.script, &find.recorded.outcome),
+        Quarry::AnyCycle => cycle_text(alloc, find.hops.as_slice()),
+    }
 }
 
 fn say_none(alloc: Global, quarry: Quarry<'_>, tries: u32) -> Result<Reply, OutOfMemory>

@@ -58,7 +58,7 @@ pub(crate) enum Quarry<'a> {
 impl<'a> Quarry<'a> {
     /// The object that is named.
     pub(crate) fn name(self) -> Option<&'a str>
-        ensures { name_in result ≡ named_by (shown_quarry self) }
+        ensures { name_in result ≡ named_by (shown_quarry self.entry) }
     {
         match self {
             Quarry::OtherEnd { name, .. } => Some(name),

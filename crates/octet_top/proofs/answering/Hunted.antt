@@ -1,11 +1,9 @@
 -- What is known of what a hunt has found.
 use Rattle.octet_model.specs.declared.limits.TheConstants.{MAX_OBJECTS}
-use Rattle.std.proofs.Common.{◌≡◌, ◌≢◌, ◌≤◌, ◌<◌, ◌×◌, ℕ, List, length, Option, Some, None, Result, Ok, Err, IfSome, inl, inr, ap, sym, refl, subst, get_or}
-use Rattle.std.specs.List.{position}
+use Rattle.std.proofs.Common.{◌≡◌, ◌≤◌, ◌<◌, ℕ, List, [], length, arith, Option, Some, None, Ok, refl, subst}
 use Rattle.std.specs.Str.{bytes_eq}
 use Rattle.std.proofs.lemmas.List.Quantifiers.{position-Some}
 use Rattle.octet_model.specs.declared.script.Script.{Script}
-use Rattle.octet_model.specs.declared.object.Object.{Object}
 use Rattle.octet_model.specs.declared.outcome.Recorded.{Recorded}
 use Rattle.octet_model.specs.Orders.{IsFaithful}
 use Rattle.octet_model.proofs.lemmas.Validity.{valid_script}
@@ -26,7 +24,7 @@ wanted_is_there script (Some name) place is = by (object_named script name) refl
   where
     by : (found : Option ℕ) → object_named script name ≡ found → (elim found [ None ↦ None | Some x ↦ Some (Some x) ]) ≡ Some (Some place) → place < length script.objects
     by None found is = absurd cc
-    by (Some x) found is = let same : x ≡ place = cc in subst (λ n. n < length script.objects) same (position-Some (λ object. bytes_eq name object.name) script.objects x _ found).0
+    by (Some x) found is = let same : x ≡ place = cc in subst (λ n. n < length script.objects) same (position-Some (λ object. bytes_eq name object.name) script.objects x (record { name = []; start = 0; fits = omega arith }) found).0
 
 -- what is found is recorded faithfully
 pub met_faithfully : (script : Script) (aim : Aim) (recorded : Recorded) (hops : List Hop) → Meets script aim recorded hops → IsFaithful script recorded.log.threads recorded.outcome

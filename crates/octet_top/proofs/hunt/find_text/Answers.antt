@@ -1,13 +1,12 @@
-use Rattle.octet_top.specs.Request.{AsTheyCome}
-use Rattle.octet_top.proofs.answering.Recorded.{recorded_whole}
-use Rattle.octet_top.proofs.answering.Hunted.{met_faithfully}
+use Rattle.std.proofs.Common.{◌≡◌, ◌∙◌, ◌++◌, List, ℕ, ap}
+use Rattle.std.proofs.lemmas.List.{append_assoc}
+use Rattle.octet_top.specs.Answer.{try_text}
 use Rattle.octet_top.proofs.hunt.find_text.Goals as goal
 
-pub outcome_text-requires-clause-ends : goal.outcome_text-requires-clause-ends
-outcome_text-requires-clause-ends c = (recorded_whole AsTheyCome _ _ _ (met_faithfully _ _ _ _ c.requires)).ends
-
-pub outcome_text-requires-clause-reads : goal.outcome_text-requires-clause-reads
-outcome_text-requires-clause-reads c = (recorded_whole AsTheyCome _ _ _ (met_faithfully _ _ _ _ c.requires)).reads
-
-pub outcome_text-requires-clause-heap : goal.outcome_text-requires-clause-heap
-outcome_text-requires-clause-heap c = (recorded_whole AsTheyCome _ _ _ (met_faithfully _ _ _ _ c.requires)).heap
+pub returns : goal.returns
+returns c =
+    let said = try_text c.args.find.now.attempt c.args.find.now.preemptions in
+    let first : c.into_bytes-text.result.items ≡ said = ap (λ v. v.items) c.into_bytes-text.ensures.value ∙ c.in_ok-line.ensures.ok ∙ simp append_assoc in
+    c.in_ok-extend_from_slice.ensures.items
+        ∙ ap (λ (line : List ℕ). line ++ c.as_slice.result.now) first
+        ∙ ap (λ (found : List ℕ). said ++ found) (c.as_slice.ensures.value ∙ c.in_ok-found.ensures)

@@ -1,0 +1,14 @@
+use Rattle.octet_top.specs.Request.{AsTheyCome, shown_quarry}
+use Rattle.octet_top.specs.Commands.{aim_of}
+use Rattle.octet_top.proofs.answering.Recorded.{recorded_whole}
+use Rattle.octet_top.proofs.answering.Hunted.{met_faithfully}
+use Rattle.octet_top.proofs.hunt.found_text.Goals as goal
+
+pub outcome_text-requires-clause-ends : goal.outcome_text-requires-clause-ends
+outcome_text-requires-clause-ends c = (recorded_whole AsTheyCome c.args.source.now.script c.args.find.now.recorded.log c.args.find.now.recorded.outcome (met_faithfully c.args.source.now.script (aim_of (shown_quarry c.args.quarry) c.args.wanted) c.args.find.now.recorded c.args.find.now.hops c.requires.meets)).ends
+
+pub outcome_text-requires-clause-reads : goal.outcome_text-requires-clause-reads
+outcome_text-requires-clause-reads c = (recorded_whole AsTheyCome c.args.source.now.script c.args.find.now.recorded.log c.args.find.now.recorded.outcome (met_faithfully c.args.source.now.script (aim_of (shown_quarry c.args.quarry) c.args.wanted) c.args.find.now.recorded c.args.find.now.hops c.requires.meets)).reads
+
+pub outcome_text-requires-clause-heap : goal.outcome_text-requires-clause-heap
+outcome_text-requires-clause-heap c = (recorded_whole AsTheyCome c.args.source.now.script c.args.find.now.recorded.log c.args.find.now.recorded.outcome (met_faithfully c.args.source.now.script (aim_of (shown_quarry c.args.quarry) c.args.wanted) c.args.find.now.recorded c.args.find.now.hops c.requires.meets)).heap
