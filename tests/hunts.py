@@ -10,6 +10,7 @@ import tempfile
 
 import judges
 from case import text
+from cases import example
 from files import differs, first, octet
 
 TRIES = 2_000
@@ -72,6 +73,8 @@ MISTAKES = {
         [["set r1 1", "read r0 top", "bump popped r0", "sub r0 r0 r1", "write top r0"]] * 2,
     ),
 }
+# The examples that have a mistake, with an object and the value that it ends with if nothing goes wrong.
+EXAMPLES = {"bank": ("balance", 180), "hidden": ("hit", 0), "lastseat": ("sold", 1), "testlock": ("n", 2)}
 PETERSON = [
     [
         "set r1 1", f"set r9 {other}", "write wants%d r1" % me, "write turn r9", "set r2 1", "while r2", "read r3 wants%d" % other,
@@ -121,6 +124,18 @@ def mistakes():
                 wrong = "the same words say something else"
             if wrong is not None:
                 return f"{title}: {wrong}"
+    return None
+
+
+def examples():
+    """The mistakes of the examples are found."""
+    with tempfile.TemporaryDirectory() as folder:
+        for name, (object_name, number) in EXAMPLES.items():
+            content = example(f"{name}.octet")
+            status, said = hunted(folder, content, object_name, number, TRIES)
+            wrong = f"status {status}, {said}" if status != 0 else find_problem(folder, content, said, object_name, number)
+            if wrong is not None:
+                return f"{name}: {wrong}"
     return None
 
 
@@ -242,6 +257,7 @@ def litmus():
 
 TESTS = {
     "hunt: planted mistakes are found": mistakes,
+    "hunt: the examples that have a mistake": examples,
     "hunt: where nothing goes wrong": nothing_found,
     "hunt: a cycle of regions": cycles,
     "hunt: words, script and name are judged first": judged_in_order,

@@ -126,10 +126,10 @@ def diagram(folder, *words):
 def picture_of_the_readme():
     """The picture in docs/ is what the tool makes today, by the commands of the README."""
     with folder_with(S=BANK) as folder:
-        octet(["turns", "S", "L", "1"], folder)
+        said = octet(["hunt", "S", "L", "balance", "180", "1000"], folder)[1]
         found = diagram(folder, "S", "L", "--regions")
         return first(
-            differs("the log", pathlib.Path(folder, "L").read_bytes(), LOST_LOG),
+            differs("what was found", b"object balance 130" in said, True),
             differs("docs/bank.svg", found, (0, (TOP / "docs" / "bank.svg").read_bytes())),
             differs("the README", "(docs/bank.svg)" in (TOP / "README.md").read_text(), True),
         )
