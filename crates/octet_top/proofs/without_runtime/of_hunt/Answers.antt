@@ -9,13 +9,13 @@ returns-in-Ok g c =
     let before = g.D.Desk.state c.args.desk.now in
     let after = g.D.Desk.state c.read_chosen.new.desk in
     hunt_read (shown_quarry c.args.quarry) c.args.script.now c.args.log.now c.args.tries before after (c.in-Ok.source, c.in-Ok.wanted) c.hunt.result
-        (subst (λ (name : Option (List ℕ)). Ends (IsScriptChosen c.args.script.now name before.contents) before.take_faults (Ok (c.in-Ok.source, c.in-Ok.wanted)) after.take_faults) c.name.ensures c.in-Ok.ensures.ends)
-        c.in-Ok.ensures.calls c.hunt.ensures
+    (subst (λ (name : Option (List ℕ)). Ends (IsScriptChosen c.args.script.now name before.contents) before.take_faults (Ok (c.in-Ok.source, c.in-Ok.wanted)) after.take_faults) c.name.ensures c.in-Ok.ensures.ends)
+    c.in-Ok.ensures.calls c.hunt.ensures
 
 pub returns-in-Err : goal.returns-in-Err
 returns-in-Err g c =
     let before = g.D.Desk.state c.args.desk.now in
     let after = g.D.Desk.state c.read_chosen.new.desk in
     hunt_stops (shown_quarry c.args.quarry) c.args.script.now c.args.log.now c.args.tries before after c.in-Err.refusal
-        (subst (λ (name : Option (List ℕ)). Ends (IsScriptChosen c.args.script.now name before.contents) before.take_faults (Err c.in-Err.refusal) after.take_faults) c.name.ensures c.in-Err.ensures.ends)
-        c.in-Err.ensures.calls
+    (subst (λ (name : Option (List ℕ)). Ends (IsScriptChosen c.args.script.now name before.contents) before.take_faults (Err c.in-Err.refusal) after.take_faults) c.name.ensures c.in-Err.ensures.ends)
+    c.in-Err.ensures.calls
