@@ -29,7 +29,7 @@ use Rattle.octet_top.specs.Serving.{IsServed}
 use Rattle.octet_top.specs.Causes.{IsDue, FindsOrNot, NoneFailed}
 use Rattle.octet_top.proofs.serving.Causes.{Ending, Whole, CutShort, Lacking, ended}
 use Rattle.octet_top.proofs.answering.Rows.{PairRow, AllDone, NotOrdered, NotSerial, NotThere, has_event, script_row, log_row, pair_row, run_row, none_status}
-use Rattle.octet_top.specs.Commands.{Answering, Answers, RequestAnswers, IsAnswer, ScriptAnswers, LogAnswers, Matching, PairReplays, PairAnswers, Converts, ConvertAnswers, RunAnswers, HuntAnswers, none_found}
+use Rattle.octet_top.specs.Commands.{Answering, Answers, RequestAnswers, IsAnswer, ScriptAnswers, LogAnswers, Matching, PairReplays, PairAnswers, Converts, ConvertAnswers, RunAnswers, HuntAnswers}
 
 -- a step ends in one way
 pub record Single {A : Type 0} (Step : Result A Answer → Type 0) : Type 0 where

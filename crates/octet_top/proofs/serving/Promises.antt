@@ -11,7 +11,7 @@ use Rattle.octet_top.specs.Answer.{Answer, code_of, writes_file, writes_both, su
 use Rattle.octet_top.specs.Request.{Way, ByPicks, Run, request_in, Convert, Gen, Quarry, Hunt, named_by}
 use Rattle.octet_log.specs.Spellings.{IsSpelling}
 use Rattle.octet_top.specs.Headline.{digest_kept, IsFaithfulRun, RunsFaithfully}
-use Rattle.octet_top.specs.Commands.{Answers, Records, RequestAnswers, IsFind, found_said, second_bytes}
+use Rattle.octet_top.specs.Commands.{Answers, Records, RequestAnswers, found_said, second_bytes}
 use Rattle.octet_top.specs.Serving.{IsServed}
 use Rattle.octet_top.specs.Outputs.{IsWhole}
 use Rattle.octet_top.specs.Promises.{RunsAsPicked, RunsWithExactTotals, IsConversion, ConvertsLogs, IsGeneratedRun, GeneratesFaithfully, IsHuntedRun, HuntsFaithfully}
