@@ -37,7 +37,7 @@ def a_lock():
     lost = [said for said in outcomes(unlocked, 0, 60) if not said.endswith("object count 6\n")]
     return first(
         differs("with the lock", [said for said in locked if not said.endswith("object count 6\n")], []),
-        differs("runs that ended", len(locked) > 100, True),
+        differs("how many ended", len(locked) >= 90, True),
         differs("without it", len(lost) > 10, True),
     )
 
@@ -50,7 +50,7 @@ def a_ring():
         read = [int(word) for word in said.split("\n")[1].split()[3:]]
         if not said.endswith("object sum 21\n") or not is_subsequence([6, 5, 4, 3, 2, 1], read):
             return said
-    return differs("runs that ended", len(found) > 100, True)
+    return differs("how many ended", len(found) >= 90, True)
 
 
 def is_subsequence(wanted, found):
