@@ -104,7 +104,7 @@ def beside_each_other():
         together = share(seen(["run", "S", "L"], folder, 5), 2)
         rested = min(count for count, threads in (rests(["run", "S", "L"], folder) for _ in range(10)) if threads >= 2)
         return first(
-            None if together > 0.5 else f"run: two threads run in {together:.0%} of the looks",
+            None if together > 0.1 else f"run: two threads run in {together:.0%} of the looks",
             None if rested <= 50 else f"run: its threads gave their processors away {rested} times",
             differs("whether they met", octet(["show", "L"], folder)[1].count(b"\ngap ") > 0, True),
             often(["parallel", "S", "L"], folder, 2),
