@@ -12,22 +12,27 @@ const LOST: &[u8] =
 const COUNTED: &[u8] =
     b"object n 0\nthread\nset r1 1\nregion\nbump n r1\nthread\nset r1 1\nregion\nbump n r1\n";
 
-fn found(alloc: Global, text: &[u8], aim: Aim) -> Result<Option<Find>, Fail> {
+/// A run that leaves another number than 2 in the first object.
+fn other_than_2(alloc: Global, text: &[u8]) -> Result<Option<Find>, Fail> {
     let script = script(alloc, text)?;
     if script.objects.len() == 0 {
         return Err(Fail::new("no object"));
     }
+    let aim = Aim::OtherValue {
+        object: 0,
+        number: 2,
+    };
     Ok(hunt(alloc, &script, aim, 100)?)
 }
 
-const OTHER_THAN_2: Aim = Aim::OtherValue {
-    object: 0,
-    number: 2,
-};
+fn with_a_cycle(alloc: Global, text: &[u8]) -> Result<Option<Find>, Fail> {
+    let script = script(alloc, text)?;
+    Ok(hunt(alloc, &script, Aim::Cycle, 100)?)
+}
 
 #[test]
 fn a_lost_count_is_found(rt: HostRuntime) -> Result<(), Fail> {
-    let Some(find) = found(rt.alloc(), LOST, OTHER_THAN_2)? else {
+    let Some(find) = other_than_2(rt.alloc(), LOST)? else {
         return Err(Fail::new("nothing is found"));
     };
     assert_eq!(rt; find.recorded.outcome.heap.as_slice(), [1].as_slice());
@@ -37,7 +42,7 @@ fn a_lost_count_is_found(rt: HostRuntime) -> Result<(), Fail> {
 
 #[test]
 fn a_cycle_is_found(rt: HostRuntime) -> Result<(), Fail> {
-    let Some(find) = found(rt.alloc(), LOST, Aim::Cycle)? else {
+    let Some(find) = with_a_cycle(rt.alloc(), LOST)? else {
         return Err(Fail::new("nothing is found"));
     };
     assert_eq!(rt; find.hops.len(), 2);
@@ -47,9 +52,8 @@ fn a_cycle_is_found(rt: HostRuntime) -> Result<(), Fail> {
 
 #[test]
 fn counts_by_one_access_are_not_lost(rt: HostRuntime) -> Result<(), Fail> {
-    for aim in [OTHER_THAN_2, Aim::Cycle] {
-        let find = found(rt.alloc(), COUNTED, aim)?;
-        assert_eq!(rt; find.is_none(), true);
-    }
+    let other = other_than_2(rt.alloc(), COUNTED)?;
+    let cycle = with_a_cycle(rt.alloc(), COUNTED)?;
+    assert_eq!(rt; (other.is_none(), cycle.is_none()), (true, true));
     Ok(())
 }

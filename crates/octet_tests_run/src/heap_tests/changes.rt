@@ -140,11 +140,12 @@ fn hand_over<R: Abort>(rt: &R, heap: &Heap, first: &mut Worker, second: &mut Wor
 {
     heap.unblock(first);
     heap.unblock(second);
-    let asks = heap.update(second, 0, exchange(20, 30));
+    let change = exchange(20, 30);
+    let asks = heap.update(second, 0, change);
     assert!(rt; asks == unanswered(0, 2));
     let shut_out = heap.update(first, 0, Change::Swap(20));
     assert!(rt; shut_out == held(1, 0x6100_0000_0000_0000));
-    let lost = heap.update(second, 0, exchange(20, 30));
+    let lost = heap.update(second, 0, change);
     assert!(rt; lost == Updated::Made { before: 9 });
     let asks_too = heap.update(first, 0, Change::Swap(20));
     assert!(rt; asks_too == unanswered(1, 1));
