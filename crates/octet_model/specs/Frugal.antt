@@ -9,7 +9,8 @@ use Rattle.octet_model.specs.declared.limits.TheConstants.{MAX_MARKS_BEFORE_ACCE
 use Rattle.octet_model.specs.Machine.{Journals, journal_of}
 use Rattle.octet_model.specs.HappensBefore.{event_at, object_of}
 
--- the marks since the last access; where there is none, these and those of the journal
+-- the marks after the last access of a journal.
+-- Without an access, they are the marks given and all marks of the journal
 abbrev pub marks_since : List Mark → List Event → List Mark
 marks_since marks [] = marks
 marks_since marks (Read object value ∷ journal) = marks_since [] journal
@@ -33,20 +34,22 @@ Accesses journals place object = (event : Event) × (event_at journals place ≡
 abbrev pub IsPrivate : Journals → ℕ → ℕ → Type 0
 IsPrivate journals object thread = (place : Place) → Accesses journals place object → place.thread ≡ thread
 
--- no access of the object stands earlier in its journal
+-- no access of the object stands earlier in the journal of this thread
 abbrev pub IsFirstOf : Journals → Place → ℕ → Type 0
 IsFirstOf journals place object = (earlier : Place) → earlier.thread ≡ place.thread → Accesses journals earlier object → place.event ≤ earlier.event
 
--- one Join of thread 0, before the first access of the object, by another thread than 0
+-- the only mark before this access is a Join of thread 0.
+-- The access is another thread's, and is its first of the object
 pub record IsFirstJoin (journals : Journals) (place : Place) (object : ℕ) : Type 0 where
   pub upto : ℕ
   pub not_zero : place.thread ≢ 0
   pub is_first : IsFirstOf journals place object
   pub one_join : marks_before journals place ≡ Join 0 upto ∷ []
 
--- frugal: no mark where none is needed, and few before an access
+-- frugal journals have no mark where none is needed, and few before an access
 pub record IsFrugal (journals : Journals) : Type 0 where
-  -- before the accesses of an object that one thread has to itself stands no mark, but for one Join of thread 0 before the first
+  -- an access of an object that one thread has to itself has no mark before it.
+  -- The one exception is a Join of thread 0 before the first such access
   pub unmarked : (place : Place) (object : ℕ) → Accesses journals place object → IsPrivate journals object place.thread
       → (marks_before journals place ≡ []) ⊎ IsFirstJoin journals place object
   pub few : (place : Place) (object : ℕ) → Accesses journals place object → length (marks_before journals place) ≤ MAX_MARKS_BEFORE_ACCESS

@@ -21,10 +21,11 @@ pub data Edge (journals : Journals) (a b : Place) : Type 0 where
   -- a Draw to each Fence that has seen it
   Fenced : (number upto : ℕ) → event_at journals a ≡ Some (Marked (Draw number)) → event_at journals b ≡ Some (Marked (Fence upto)) → number ≤ upto → Edge journals a b
 
+-- the journals have an event at this place
 abbrev pub IsEvent : Journals → Place → Type 0
 IsEvent journals place = (event : Event) × (event_at journals place ≡ Some event)
 
--- each of the list is an event, with an edge to the next
+-- each place of the list has an event, with an edge to the next place
 abbrev pub IsPath : Journals → List Place → Type 0
 IsPath journals [] = Unit {0}
 IsPath journals (a ∷ []) = IsEvent journals a
@@ -42,7 +43,7 @@ object_of (Write object value) = Some object
 object_of (Update object before after) = Some object
 object_of (Marked mark) = None
 
--- a write or an update
+-- the test whether an event is a write or an update
 abbrev pub is_write : Event → Bool
 is_write (Write object value) = true
 is_write (Update object before after) = true
@@ -60,6 +61,6 @@ pub record Conflict (journals : Journals) (a b : Place) : Type 0 where
   pub of_same : object_of second ≡ Some object
   pub one_writes : IsTrue (is_write first || is_write second)
 
--- ordered: of every two conflicting accesses one happens before the other
+-- ordered journals: of every two conflicting accesses one happens before the other
 abbrev pub IsOrdered : Journals → Type 0
 IsOrdered journals = (a b : Place) → Conflict journals a b → HappensBefore journals a b ⊎ HappensBefore journals b a

@@ -20,36 +20,37 @@ use Rattle.octet_model.specs.Orders.{IsLawfulFront, IsLawfulOrder, execution, jo
 use Rattle.octet_model.specs.Totals.{AddsUp}
 use Rattle.octet_model.specs.Plays.{MakesAll, by_journals, operation_of, state_after_play, lowest_play, IsOneHistory}
 
--- all lawful orders have one execution, where the journals of one are ordered
+-- all lawful orders of a script and a log have one execution, where the journals of one of them are ordered
 abbrev pub OneExecution : Type 0
 OneExecution = (script : Script) (log : List ThreadLog) (order other : List ℕ)
     → IsLawfulOrder script log order → IsOrdered (journals_after script log order) → IsLawfulOrder script log other
     → execution script log other ≡ execution script log order
 
--- and the same journals
+-- all lawful orders of a script and a log have the same journals, where the journals of one of them are ordered
 abbrev pub OneSetOfJournals : Type 0
 OneSetOfJournals = (script : Script) (log : List ThreadLog) (order other : List ℕ)
     → IsLawfulOrder script log order → IsOrdered (journals_after script log order) → IsLawfulOrder script log other
     → journals_after script log other ≡ journals_after script log order
 
--- and every lawful front can be continued to a lawful order
+-- every lawful front can be continued to a lawful order, where the journals of one lawful order are ordered
 abbrev pub FrontsContinue : Type 0
 FrontsContinue = (script : Script) (log : List ThreadLog) (order front : List ℕ)
     → IsLawfulOrder script log order → IsOrdered (journals_after script log order) → IsLawfulFront script log front
     → (rest : List ℕ) × IsLawfulOrder script log (front ++ rest)
 
--- where journals are ordered and some play makes all of them, the lowest play does so too
+-- the lowest play makes all events of ordered journals, where some play does
 abbrev pub LowestPlayMakesAll : Type 0
 LowestPlayMakesAll = (heap : List ℕ) (journals : Journals) (play : List ℕ)
     → IsOrdered journals → MakesAll heap journals play → MakesAll heap journals (lowest_play heap journals)
 
--- and ends with the same heap
+-- the lowest play of ordered journals ends with the heap of every play that makes all their events
 abbrev pub LowestPlayGivesHeap : Type 0
 LowestPlayGivesHeap = (heap : List ℕ) (journals : Journals) (play : List ℕ)
     → IsOrdered journals → MakesAll heap journals play
     → (state_after_play heap journals (lowest_play heap journals)).heap ≡ (state_after_play heap journals play).heap
 
--- where such journals fit a script to its threads' ends, the lowest play is the lowest order of the script and their log
+-- the lowest play of ordered journals is the lowest order of the script and their log.
+-- Some play makes all their events, and they fit the script to its threads' ends
 abbrev pub LowestPlayIsLowestOrder : Type 0
 LowestPlayIsLowestOrder = (script : Script) (journals : Journals) (play : List ℕ)
     → IsOrdered journals → MakesAll (starting_heap script) journals play
@@ -60,31 +61,32 @@ LowestPlayIsLowestOrder = (script : Script) (journals : Journals) (play : List �
 abbrev pub LowestFrontIsFront : Type 0
 LowestFrontIsFront = (behavior : Behavior) (state : PlainState) (front : List ℕ) → IsLowestFront behavior state front → IsFront behavior state front
 
--- from one state there is only one
+-- a state has only one lowest front
 abbrev pub OneLowestFront : Type 0
 OneLowestFront = (behavior : Behavior) (state : PlainState) (front other : List ℕ)
     → IsLowestFront behavior state front → IsLowestFront behavior state other → front ≡ other
 
--- the lowest order of a script and a log of equally many threads is the lowest front: its steps are enough
+-- the lowest order of a script and a log of equally many threads is a lowest front
 abbrev pub LowestOrderIsLowest : Type 0
 LowestOrderIsLowest = (script : Script) (log : List ThreadLog)
     → length script.threads ≡ length log → IsLowestFront (by_log script log) (opening_state script) (lowest_order script log)
 
--- so is the lowest play of journals
+-- the lowest play of journals is a lowest front
 abbrev pub LowestPlayIsLowest : Type 0
 LowestPlayIsLowest = (heap : List ℕ) (journals : Journals)
     → IsLowestFront (by_journals journals) (starting_state heap journals) (lowest_play heap journals)
 
--- and where the journals of one lawful order are ordered, the lowest order is a lawful order
+-- the lowest order is a lawful order, where the journals of some lawful order are ordered
 abbrev pub LowestOrderIsLawful : Type 0
 LowestOrderIsLawful = (script : Script) (log : List ThreadLog) (order : List ℕ)
     → IsLawfulOrder script log order → IsOrdered (journals_after script log order) → IsLawfulOrder script log (lowest_order script log)
 
--- at the start there is one history, of no event
+-- the empty journals at the start have one history, of no event
 abbrev pub HistoryBegins : Type 0
 HistoryBegins = (script : Script) → IsOneHistory (starting_heap script) (no_events script.threads) (starting_heap script) 0
 
--- one more event that the heap and the marks allow, in journals that stay ordered, keeps one history
+-- journals of one history still have one history after one more event.
+-- The heap and the marks allow this event, and the journals stay ordered
 abbrev pub HistoryGrows : Type 0
 HistoryGrows = (starts : List ℕ) (journals : Journals) (heap : List ℕ) (draws thread : ℕ) (event : Event)
     → IsOneHistory starts journals heap draws → thread < length journals
@@ -92,26 +94,28 @@ HistoryGrows = (starts : List ℕ) (journals : Journals) (heap : List ℕ) (draw
     → event_made (operation_of event) heap ≡ event → IsOrdered (appended journals thread event)
     → IsOneHistory starts (appended journals thread event) (heap_after (operation_of event) heap) (draws_after (operation_of event) draws)
 
--- ordered and frugal journals that fit a script to its threads' ends, and that some play makes whole, give a faithful recording
+-- the log of ordered and frugal journals is a faithful recording, where some play makes all their events
+-- and they fit the script to its threads' ends
 abbrev pub PlayIsFaithful : Type 0
 PlayIsFaithful = (script : Script) (journals : Journals) (play : List ℕ)
     → IsOrdered journals → IsFrugal journals → MakesAll (starting_heap script) journals play
     → length script.threads ≡ length journals → FitsScript script journals
     → IsFaithful script (log_of journals) (outcome_of script (state_after_play (starting_heap script) journals play))
 
--- so do the journals of one history, with its heap
+-- the log of frugal journals of one history is a faithful recording, with the history's heap,
+-- where the journals fit the script to its threads' ends
 abbrev pub HistoryIsFaithful : Type 0
 HistoryIsFaithful = (script : Script) (journals : Journals) (heap : List ℕ) (draws : ℕ)
     → IsOneHistory (starting_heap script) journals heap draws → IsFrugal journals
     → length script.threads ≡ length journals → FitsScript script journals
     → IsFaithful script (log_of journals) (outcome_of script (record { heap = heap; journals = journals; draws = draws }))
 
--- the test that a script's type rests on is true exactly where the script is valid
+-- the test that a script's type rests on is true exactly for valid scripts
 abbrev pub ScriptTestIsExact : Type 0
 ScriptTestIsExact = (fuel : ℕ) (objects : List Object) (threads : List (List Command))
     → Decides (is_script fuel objects threads) (IsValidScript fuel objects threads)
 
--- and that of a log exactly where the log is valid
+-- the test that a log's type rests on is true exactly for valid logs
 abbrev pub LogTestIsExact : Type 0
 LogTestIsExact = (log : List ThreadLog) → Decides (is_log log) (IsValidLog log)
 
@@ -120,17 +124,18 @@ abbrev pub LawfulOrderHasItsLog : Type 0
 LawfulOrderHasItsLog = (script : Script) (log : List ThreadLog) (order : List ℕ)
     → IsLawfulOrder script log order → log_of (journals_after script log order) ≡ log
 
--- and fit the script to its threads' ends
+-- the journals of a lawful order fit the script to its threads' ends
 abbrev pub LawfulOrderFits : Type 0
 LawfulOrderFits = (script : Script) (log : List ThreadLog) (order : List ℕ)
     → IsLawfulOrder script log order → FitsScript script (journals_after script log order)
 
--- a valid log of a faithful recording is short: six bytes, eight for each thread, and 14 for each mark before each access
+-- a valid log of a faithful recording is short: six bytes, eight for each thread,
+-- and 14 for each mark that may stand before each access
 abbrev pub FaithfulLogIsShort : Type 0
 FaithfulLogIsShort = (script : Script) (log : List ThreadLog) (outcome : Outcome)
     → IsFaithful script log outcome → IsTrue (is_log log) → length (log_bytes log) ≤ 6 + 8 * MAX_THREADS + 14 * (MAX_MARKS_BEFORE_ACCESS * MAX_ACCESSES)
 
--- in a faithful recording updates add up, by the journals of each lawful order
+-- the updates of a faithful recording add up, by the journals of each lawful order
 abbrev pub FaithfulAddsUp : Type 0
 FaithfulAddsUp = (script : Script) (log : List ThreadLog) (outcome : Outcome) → IsFaithful script log outcome
     → (order : List ℕ) → IsLawfulOrder script log order → AddsUp script (journals_after script log order) outcome.heap

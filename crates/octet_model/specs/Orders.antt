@@ -22,7 +22,7 @@ commands_of script thread = get_or script.threads thread []
 abbrev pub thread_log_of : List ThreadLog → ℕ → ThreadLog
 thread_log_of log thread = get_or log thread (record { accesses = 0; marks = [] })
 
--- what is next for the threads of a script by a log
+-- what the threads of a script do next by a log
 abbrev pub by_log : Script → List ThreadLog → Behavior
 by_log script log thread journal = next_by_log (commands_of script thread) (starting_configuration script.fuel) (thread_log_of log thread) journal
 
@@ -30,21 +30,23 @@ by_log script log thread journal = next_by_log (commands_of script thread) (star
 abbrev pub starting_heap : Script → List ℕ
 starting_heap script = map (λ object. object.start) script.objects
 
--- before the first step
+-- the state of a script before the first step
 abbrev pub opening_state : Script → PlainState
 opening_state script = starting_state (starting_heap script) script.threads
 
--- after a front of a script and a log
+-- the state after a front of a script and a log
 abbrev pub state_after : Script → List ThreadLog → List ℕ → PlainState
 state_after script log order = after (by_log script log) (opening_state script) order
 
+-- a lawful front is a front of a script and a log that have equally many threads
 abbrev pub IsLawfulFront : Script → List ThreadLog → List ℕ → Type 0
 IsLawfulFront script log front = (length script.threads ≡ length log) × IsFront (by_log script log) (opening_state script) front
 
+-- a lawful order is an order of a script and a log that have equally many threads
 abbrev pub IsLawfulOrder : Script → List ThreadLog → List ℕ → Type 0
 IsLawfulOrder script log order = (length script.threads ≡ length log) × IsOrder (by_log script log) (opening_state script) order
 
--- the journals after a front, with the values
+-- the journals after a front, with their values
 abbrev pub journals_after : Script → List ThreadLog → List ℕ → Journals
 journals_after script log order = (state_after script log order).journals
 
@@ -56,12 +58,12 @@ values_read (Write object value ∷ journal) = values_read journal
 values_read (Update object before after ∷ journal) = values_read journal
 values_read (Marked mark ∷ journal) = values_read journal
 
--- how a thread ended that demands its end
+-- the end that a thread demands
 abbrev pub end_of : AccessOrEnd → End
 end_of (ToEnd end) = end
 end_of _ = Spent
 
--- each thread's end
+-- the end of each thread, by the journals
 abbrev pub ends_of : ℕ → List (List Command) → Journals → List End
 ends_of fuel [] journals = []
 ends_of fuel (commands ∷ threads) [] = []
@@ -72,11 +74,11 @@ ends_of fuel (commands ∷ threads) (journal ∷ journals) =
 abbrev pub outcome_of : Script → PlainState → Outcome
 outcome_of script s = record { ends = ends_of script.fuel script.threads s.journals; reads = map values_read s.journals; heap = s.heap }
 
--- the execution of a lawful order: what it comes to
+-- the execution of a lawful order is its outcome
 abbrev pub execution : Script → List ThreadLog → List ℕ → Outcome
 execution script log order = outcome_of script (state_after script log order)
 
--- the first number that passes the test, from here on as far as `more` numbers go
+-- the first number that passes the test, among `more` numbers from this one on
 abbrev pub first_from : (ℕ → Bool) → ℕ → ℕ → Option ℕ
 first_from test number zero = None
 first_from test number (suc more) = elim (test number) [ true ↦ Some number | false ↦ first_from test (suc number) more ]
@@ -85,16 +87,17 @@ first_from test number (suc more) = elim (test number) [ true ↦ Some number | 
 abbrev pub lowest : Behavior → PlainState → Option ℕ
 lowest behavior s = first_from (may_step behavior s) 0 (length s.journals)
 
+-- the lowest thread followed by the rest of its front, or no step at all
 abbrev pub go_on : Option ℕ → (ℕ → List ℕ) → List ℕ
 go_on None then = []
 go_on (Some thread) then = thread ∷ then thread
 
--- always the lowest thread that may step, until none may; at most `steps` of them
+-- the front that always steps the lowest thread that may step, for at most `steps` steps
 abbrev pub lowest_front : Behavior → ℕ → PlainState → List ℕ
 lowest_front behavior zero s = []
 lowest_front behavior (suc steps) s = go_on (lowest behavior s) (λ thread. lowest_front behavior steps (step behavior s thread))
 
--- each step is of the lowest thread that may step, and after the last none may
+-- each step of the front is of the lowest thread that may step, and no thread may step after the last
 abbrev pub IsLowestFront : Behavior → PlainState → List ℕ → Type 0
 IsLowestFront behavior s [] = (thread : ℕ) → IsFalse (may_step behavior s thread)
 IsLowestFront behavior s (thread ∷ front) =
@@ -102,7 +105,7 @@ IsLowestFront behavior s (thread ∷ front) =
     × ((lower : ℕ) → lower < thread → IsFalse (may_step behavior s lower))
     × IsLowestFront behavior (step behavior s thread) front
 
--- how many events a log has
+-- the number of events that a log has
 abbrev pub event_total : List ThreadLog → ℕ
 event_total log = sum_by (λ thread. thread.accesses + length thread.marks) log
 
@@ -110,7 +113,7 @@ event_total log = sum_by (λ thread. thread.accesses + length thread.marks) log
 abbrev pub lowest_order : Script → List ThreadLog → List ℕ
 lowest_order script log = lowest_front (by_log script log) (event_total log) (opening_state script)
 
--- a journal fits its thread of a script
+-- the journal fits its thread of a script
 abbrev pub FitsThread : Script → ℕ → List Event → Type 0
 FitsThread script thread journal = FitsFrom (commands_of script thread) (starting_configuration script.fuel) journal
 
@@ -118,7 +121,8 @@ FitsThread script thread journal = FitsFrom (commands_of script thread) (startin
 abbrev pub FitsScript : Script → Journals → Type 0
 FitsScript script journals = (thread : ℕ) → thread < length journals → FitsToEnd (commands_of script thread) (starting_configuration script.fuel) (journal_of journals thread)
 
--- a faithful recording: there is a lawful order, and each lawful order has this outcome, by journals that are ordered and frugal
+-- a faithful recording: there is a lawful order, and each lawful order has this outcome.
+-- The journals of each lawful order are ordered and frugal
 pub record IsFaithful (script : Script) (log : List ThreadLog) (outcome : Outcome) : Type 0 where
   pub order : List ℕ
   pub is_lawful : IsLawfulOrder script log order

@@ -6,11 +6,12 @@ use Rattle.octet_model.specs.declared.event.Place.{Place}
 use Rattle.octet_model.specs.Machine.{Journals}
 use Rattle.octet_model.specs.HappensBefore.{event_at, IsEvent, HappensBefore}
 
--- an event is another, or happens before it
+-- event a is event b, or happens before b
 abbrev pub Reaches : Journals → Place → Place → Type 0
 Reaches journals a b = (a ≡ b) ⊎ HappensBefore journals a b
 
--- in the past of a thread's events below a number: one of these, or with a path to one of them
+-- the event at the place lies in the past of a thread's first `now` events:
+-- it is one of these, or happens before one of them
 pub record InPast (journals : Journals) (thread now : ℕ) (place : Place) : Type 0 where
   pub is_event : IsEvent journals place
   pub near : ℕ

@@ -9,7 +9,7 @@ use Rattle.octet_model.specs.HappensBefore.{event_at, IsEvent, HappensBefore}
 use Rattle.octet_model.specs.Plays.{operation_of, IsOneHistory}
 use Rattle.octet_model.specs.Past.{Reaches, InPast, DrawsDiffer}
 
--- paths stay when journals grow by one event
+-- paths stay when the journals grow by one event
 abbrev pub PathsStay : Type 0
 PathsStay = (journals : Journals) (thread : ℕ) (event : Event) (a b : Place)
     → HappensBefore journals a b → HappensBefore (appended journals thread event) a b
@@ -19,7 +19,7 @@ abbrev pub PastsStay : Type 0
 PastsStay = (journals : Journals) (grown : ℕ) (event : Event) (thread now : ℕ) (place : Place)
     → InPast journals thread now place → InPast (appended journals grown event) thread now place
 
--- and none comes into it, where the journals have one history and its heap and marks allow the event
+-- no event comes into a past when journals of one history grow by an event that their heap and marks allow
 abbrev pub PastsGainNothing : Type 0
 PastsGainNothing = (starts : List ℕ) (journals : Journals) (heap : List ℕ) (draws grown : ℕ) (event : Event) (thread now : ℕ) (place : Place)
     → IsOneHistory starts journals heap draws → grown < length journals
@@ -27,7 +27,7 @@ PastsGainNothing = (starts : List ℕ) (journals : Journals) (heap : List ℕ) (
     → now ≤ length (journal_of journals thread)
     → InPast (appended journals grown event) thread now place → InPast journals thread now place
 
--- a thread's events below a number lie in their past
+-- the first events of a thread lie in their past
 abbrev pub PastHasOwn : Type 0
 PastHasOwn = (journals : Journals) (now : ℕ) (place : Place)
     → IsEvent journals place → place.event < now → InPast journals place.thread now place
@@ -47,13 +47,14 @@ abbrev pub PastGrows : Type 0
 PastGrows = (journals : Journals) (thread sooner now : ℕ) (place : Place)
     → sooner ≤ now → InPast journals thread sooner place → InPast journals thread now place
 
--- after a Join lies the past of the events that it names
+-- the past of the events that a Join names lies in the past of its thread after the Join
 abbrev pub PastHasJoined : Type 0
 PastHasJoined = (journals : Journals) (now from upto : ℕ) (join place : Place)
     → join.event < now → event_at journals join ≡ Some (Marked (Join from upto)) → upto ≤ length (journal_of journals from)
     → InPast journals from upto place → InPast journals join.thread now place
 
--- where no two draws have one number, after a Draw or a Fence lie the draws up to its number, each with its past
+-- the past of a thread after a Draw or a Fence has the draws up to its number, each with its own past.
+-- No two draws may have one number
 abbrev pub PastHasDraws : Type 0
 PastHasDraws = (journals : Journals) (now number upto : ℕ) (seen draw place : Place)
     → DrawsDiffer journals → seen.event < now
@@ -61,6 +62,6 @@ PastHasDraws = (journals : Journals) (now number upto : ℕ) (seen draw place : 
     → event_at journals draw ≡ Some (Marked (Draw number)) → number ≤ upto
     → Reaches journals place draw → InPast journals seen.thread now place
 
--- and in one history no two draws have one number
+-- no two draws of one history have one number
 abbrev pub DrawsDifferInHistory : Type 0
 DrawsDifferInHistory = (starts : List ℕ) (journals : Journals) (heap : List ℕ) (draws : ℕ) → IsOneHistory starts journals heap draws → DrawsDiffer journals

@@ -7,10 +7,11 @@ use Rattle.octet_model.specs.declared.command.Command.TheVariants.{Set, Copy, Ad
 use Rattle.octet_model.specs.declared.limits.TheConstants.{MAX_FUEL, MAX_OBJECTS, MAX_THREADS, REGISTERS}
 use Rattle.octet_model.specs.declared.object.Object.{Object}
 
+-- the test whether a register is there
 abbrev pub is_register : ℕ → Bool
 is_register register = nat_lt register REGISTERS
 
--- the registers and the object are there, among this number of objects, and a number has 64 bits
+-- the test whether a command is in range: its registers and its object are there, its number has 64 bits
 abbrev pub is_command : ℕ → Command → Bool
 is_command objects (Set to number) = is_register to && nat_lt number (2 ^ 64)
 is_command objects (Copy to from) = is_register to && is_register from
@@ -30,7 +31,8 @@ is_command objects Safe = true
 is_command objects Pause = true
 is_command objects Region = true
 
--- after a number of openers that are still open: each closer ends an opener, and each opener is ended
+-- the test whether each closer ends an opener and each opener is ended,
+-- where so many openers are open before the commands
 abbrev pub is_nested : ℕ → List Command → Bool
 is_nested zero [] = true
 is_nested (suc depth) [] = false
@@ -40,14 +42,16 @@ is_nested zero (Close ∷ rest) = false
 is_nested (suc depth) (Close ∷ rest) = is_nested depth rest
 is_nested depth (_ ∷ rest) = is_nested depth rest
 
--- no name stands twice
+-- the test whether no name stands twice
 abbrev pub are_distinct : List (List ℕ) → Bool
 are_distinct [] = true
 are_distinct (n ∷ ns) = not (list_any (bytes_eq n) ns) && are_distinct ns
 
+-- the test whether the commands of a thread are in range and nested
 abbrev pub is_thread : ℕ → List Command → Bool
 is_thread objects commands = list_all (is_command objects) commands && is_nested 0 commands
 
+-- the test whether fuel, objects and threads make a valid script
 abbrev pub is_script : ℕ → List Object → List (List Command) → Bool
 is_script fuel objects threads =
     nat_le 1 fuel && nat_le fuel MAX_FUEL

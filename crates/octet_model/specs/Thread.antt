@@ -8,28 +8,31 @@ use Rattle.octet_model.specs.declared.limits.TheConstants.{REGISTERS}
 use Rattle.octet_model.specs.declared.outcome.End.{End}
 use Rattle.octet_model.specs.declared.outcome.End.TheVariants.{Done, Spent}
 
--- where a thread stands: its place among its commands, its registers, and the fuel left
+-- the configuration of a thread: its place among its commands, its registers, and the fuel left
 pub record Configuration : Type 0 where
   pub place : ℕ
   pub registers : List ℕ
   pub fuel : ℕ
 
+-- the configuration at the start: at place 0, all registers 0, and this fuel
 abbrev pub starting_configuration : ℕ → Configuration
 starting_configuration fuel = record { place = 0; registers = replicate REGISTERS 0; fuel = fuel }
 
--- what a thread demands, with safe points and pauses left out: a read of an object, a write of a value to an object, an amount to be added to an object, or its end
+-- what a thread demands, with safe points and pauses left out: a read, a write of a value,
+-- an amount to be added to an object, or its end
 pub data AccessOrEnd : Type 0 where
   ToRead : (object : ℕ) → AccessOrEnd
   ToWrite : (object value : ℕ) → AccessOrEnd
   ToBump : (object amount : ℕ) → AccessOrEnd
   ToEnd : (end : End) → AccessOrEnd
 
+-- the test whether a command opens a loop or a branch
 abbrev pub is_opener : Command → Bool
 is_opener (Loop test) = true
 is_opener (Branch test) = true
 is_opener _ = false
 
--- from a place on, at a depth of open openers: the first place at which the last of these is closed
+-- the place at which the last of `depth` open openers is closed, from this place on
 abbrev pub end_from : ℕ → ℕ → List Command → ℕ
 end_from depth place [] = place
 end_from depth place (Loop test ∷ commands) = end_from (suc depth) (suc place) commands
@@ -39,41 +42,41 @@ end_from (suc zero) place (Close ∷ commands) = place
 end_from (suc (suc depth)) place (Close ∷ commands) = end_from (suc depth) (suc place) commands
 end_from depth place (command ∷ commands) = end_from depth (suc place) commands
 
--- the place of the end of the opener at a place
+-- the place of the closer that ends the opener at a place
 abbrev pub matching_end : List Command → ℕ → ℕ
 matching_end commands place = end_from 0 place (drop place commands)
 
--- whether an opener stands at the place, with its end there
+-- the test whether an opener stands at the place, with its closer at `end`
 abbrev pub is_opened_at : List Command → ℕ → ℕ → Bool
 is_opened_at commands place end = elim (slice_get commands place) [ None ↦ false | Some command ↦ is_opener command && (matching_end commands place == end) ]
 
--- the last place below that is an opener with its end there
+-- the last opener before this place whose closer is at `end`
 abbrev pub matching_opener : List Command → ℕ → ℕ → ℕ
 matching_opener commands end zero = zero
 matching_opener commands end (suc place) = elim (is_opened_at commands place end) [ true ↦ place | false ↦ matching_opener commands end place ]
 
--- where the end of a loop leads, and that of a branch
+-- the place after a closer: the opener of a loop again, or the command after the closer of a branch
 abbrev pub place_past_end : Option Command → ℕ → ℕ → ℕ
 place_past_end (Some (Loop test)) opener end = opener
 place_past_end _ opener end = suc end
 
--- where the closer at a place leads
+-- the place to which the closer at a place leads
 abbrev pub place_after_close : List Command → ℕ → ℕ
 place_after_close commands end = place_past_end (slice_get commands (matching_opener commands end end)) (matching_opener commands end end) end
 
--- with one fuel less, at this place
+-- the configuration at this place, with one fuel less
 abbrev pub moved_to : Configuration → ℕ → Configuration
 moved_to c place = record { place = place; registers = c.registers; fuel = pred c.fuel }
 
--- with one fuel less, at the next place, and this value in a register
+-- the configuration at the next place, with one fuel less and this value in a register
 abbrev pub with_register : Configuration → ℕ → ℕ → Configuration
 with_register c to value = record { place = suc c.place; registers = slice_set c.registers to value; fuel = pred c.fuel }
 
--- past the end of the opener where the register is 0, else at the next place
+-- the configuration after an opener: past its closer where the register is 0, else at the next place
 abbrev pub branched : List Command → Configuration → ℕ → Configuration
 branched commands c test = moved_to c (if slice_index c.registers test == 0 then suc (matching_end commands c.place) else suc c.place)
 
--- after one command that is no access
+-- the configuration after one command that is no access
 abbrev pub stepped : List Command → Configuration → Command → Configuration
 stepped commands c (Set to number) = with_register c to number
 stepped commands c (Copy to from) = with_register c to (slice_index c.registers from)
@@ -88,13 +91,14 @@ stepped commands c (Branch test) = branched commands c test
 stepped commands c Close = moved_to c (place_after_close commands c.place)
 stepped commands c _ = moved_to c (suc c.place)
 
+-- the test whether a command is an access
 abbrev pub is_access : Command → Bool
 is_access (Read to object) = true
 is_access (Write object from) = true
 is_access (Bump object from) = true
 is_access _ = false
 
--- after all commands before the first at which it stops, or as many as there is fuel for
+-- the configuration at the first command that stops the run, or after as many commands as `fuel` allows
 abbrev pub run_to : (Command → Bool) → List Command → ℕ → Configuration → Configuration
 run_to stops commands zero c = c
 run_to stops commands (suc fuel) c =
@@ -103,10 +107,11 @@ run_to stops commands (suc fuel) c =
       | Some command ↦ elim (stops command) [ true ↦ c | false ↦ run_to stops commands fuel (stepped commands c command) ]
     ]
 
--- run on to the next access, or to the thread's end
+-- the configuration after all commands before the next access or the thread's end
 abbrev pub settled : List Command → Configuration → Configuration
 settled commands c = run_to is_access commands c.fuel c
 
+-- what a configuration demands at its command. Without fuel, it demands the end Spent
 abbrev pub demand_at : Option Command → Configuration → AccessOrEnd
 demand_at None c = ToEnd Done
 demand_at (Some (Read to object)) c = elim c.fuel [ zero ↦ ToEnd Spent | suc fuel ↦ ToRead object ]
@@ -114,19 +119,20 @@ demand_at (Some (Write object from)) c = elim c.fuel [ zero ↦ ToEnd Spent | su
 demand_at (Some (Bump object from)) c = elim c.fuel [ zero ↦ ToEnd Spent | suc fuel ↦ ToBump object (slice_index c.registers from) ]
 demand_at (Some _) c = ToEnd Spent
 
--- what a configuration comes to after all commands that are no access
+-- what a configuration demands after all commands that are no access
 abbrev pub demanded : List Command → Configuration → AccessOrEnd
 demanded commands c = let d = settled commands c in demand_at (slice_get commands d.place) d
 
+-- the configuration after the access. A read puts the value into its register
 abbrev pub past_access : Option Command → Configuration → ℕ → Configuration
 past_access (Some (Read to object)) c value = with_register c to value
 past_access _ c value = moved_to c (suc c.place)
 
--- past the access that it demands, with the value that a read gave
+-- the configuration after the access that it demands, with the value that a read gave
 abbrev pub past_demanded : List Command → Configuration → ℕ → Configuration
 past_demanded commands c value = let d = settled commands c in past_access (slice_get commands d.place) d value
 
--- where a journal leaves a configuration
+-- the configuration after all accesses of a journal
 abbrev pub configuration_after : List Command → Configuration → List Event → Configuration
 configuration_after commands c [] = c
 configuration_after commands c (Read object value ∷ journal) = configuration_after commands (past_demanded commands c value) journal
@@ -138,11 +144,11 @@ configuration_after commands c (Marked mark ∷ journal) = configuration_after c
 abbrev pub added : ℕ → ℕ → ℕ
 added amount value = (value + amount) % 2 ^ 64
 
--- an update of the object is demanded whose value after is its value before and the amount
+-- the demand is an update of the object, and the value after is the value before and the amount
 abbrev pub FitsUpdate : AccessOrEnd → ℕ → ℕ → ℕ → Type 0
 FitsUpdate demand object before after = (amount : ℕ) × (demand ≡ ToBump object amount) × (after ≡ added amount before)
 
--- the journal's accesses, in order, are what the configuration demands
+-- the accesses of the journal, in order, are what the configuration demands
 abbrev pub FitsFrom : List Command → Configuration → List Event → Type 0
 FitsFrom commands c [] = Unit {0}
 FitsFrom commands c (Read object value ∷ journal) = (demanded commands c ≡ ToRead object) × FitsFrom commands (past_demanded commands c value) journal
@@ -150,6 +156,6 @@ FitsFrom commands c (Write object value ∷ journal) = (demanded commands c ≡ 
 FitsFrom commands c (Update object before after ∷ journal) = FitsUpdate (demanded commands c) object before after × FitsFrom commands (past_demanded commands c after) journal
 FitsFrom commands c (Marked mark ∷ journal) = FitsFrom commands c journal
 
--- and after them the thread is at its end
+-- the journal fits the configuration, and the thread is at its end after the journal
 abbrev pub FitsToEnd : List Command → Configuration → List Event → Type 0
 FitsToEnd commands c journal = FitsFrom commands c journal × ((end : End) × (demanded commands (configuration_after commands c journal) ≡ ToEnd end))

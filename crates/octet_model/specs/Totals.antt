@@ -17,12 +17,12 @@ OnlyBumped journals object = (place : Place) (value : ℕ) → event_at journals
 abbrev pub difference : ℕ → ℕ → ℕ
 difference before after = (after + 2 ^ 64 - before % 2 ^ 64) % 2 ^ 64
 
--- what an event adds to an object: an update of it its difference
+-- the amount that an event adds to an object: the difference of an update of this object, else nothing
 abbrev pub added_by : ℕ → Event → ℕ
 added_by object (Update other before after) = if other == object then difference before after else 0
 added_by object _ = 0
 
--- what all events together add to it
+-- the amount that all events together add to an object
 abbrev pub added_to : ℕ → Journals → ℕ
 added_to object journals = sum_by (λ journal. sum_by (added_by object) journal) journals
 
@@ -32,11 +32,13 @@ demanded_at script journals place =
     let commands = commands_of script place.thread in
     demanded commands (configuration_after commands (starting_configuration script.fuel) (take place.event (journal_of journals place.thread)))
 
+-- the amount that a thread demands to be added, else 0
 abbrev pub amount_of : AccessOrEnd → ℕ
 amount_of (ToBump object amount) = amount
 amount_of _ = 0
 
--- exact totals: an object that is not written ends with its starting value and what its updates add, modulo 2 ^ 64; and each update is what its thread demands there, so that it adds the amount
+-- exact totals: each update adds the amount that its thread demands at its place. An object that is never written
+-- ends with its starting value and the amounts of its updates, modulo 2 ^ 64
 pub record AddsUp (script : Script) (journals : Journals) (heap : List ℕ) : Type 0 where
   pub totals : (object : ℕ) → object < length script.objects → OnlyBumped journals object
       → slice_index heap object ≡ (slice_index (starting_heap script) object + added_to object journals) % 2 ^ 64

@@ -11,11 +11,11 @@ use Rattle.octet_model.specs.declared.object.Object.{Object}
 use Rattle.octet_model.specs.Thread.{is_opener}
 use Rattle.octet_model.specs.Orders.{thread_log_of}
 
--- one of a thread's registers
+-- the number is one of a thread's registers
 abbrev pub IsRegister : ℕ → Type 0
 IsRegister register = register < REGISTERS
 
--- a number of 64 bits
+-- the number has 64 bits
 abbrev pub IsNumber : ℕ → Type 0
 IsNumber number = number < 2 ^ 64
 
@@ -52,15 +52,18 @@ HasNumber _ = Unit {0}
 abbrev pub IsCommand : ℕ → Command → Type 0
 IsCommand objects command = HasRegisters command × HasNumber command × HasObject objects command
 
+-- the test whether a command closes a loop or a branch
 abbrev pub is_closer : Command → Bool
 is_closer Close = true
 is_closer _ = false
 
--- up to each place at most as many closers stand as openers, and as many in all
+-- openers and closers are nested: up to each place stand at most as many closers as openers.
+-- In all there are equally many of both
 pub record IsNested (commands : List Command) : Type 0 where
   pub each_closes_one : (place : ℕ) → count_by is_closer (take place commands) ≤ count_by is_opener (take place commands)
   pub each_is_closed : count_by is_closer commands ≡ count_by is_opener commands
 
+-- the commands of a valid thread are in range and nested
 pub record IsValidThread (objects : ℕ) (commands : List Command) : Type 0 where
   pub in_range : All (IsCommand objects) commands
   pub nested : IsNested commands
@@ -69,7 +72,8 @@ pub record IsValidThread (objects : ℕ) (commands : List Command) : Type 0 wher
 abbrev pub AreDistinct : List (List ℕ) → Type 0
 AreDistinct texts = (first second : ℕ) → first < second → second < length texts → get_or texts first [] ≢ get_or texts second []
 
--- a valid script: its fuel, objects and threads are within their limits, its names differ, and its threads are valid
+-- a valid script: its fuel, objects and threads are within their limits, its names differ,
+-- and its threads are valid
 pub record IsValidScript (fuel : ℕ) (objects : List Object) (threads : List (List Command)) : Type 0 where
   pub some_fuel : 1 ≤ fuel
   pub most_fuel : fuel ≤ MAX_FUEL
@@ -80,12 +84,14 @@ pub record IsValidScript (fuel : ℕ) (objects : List Object) (threads : List (L
   pub fuel_of_all : length threads * fuel ≤ MAX_FUEL
   pub each : All (IsValidThread (length objects)) threads
 
--- a mark of a thread, among a number of threads: a Join names another thread, a Draw or a Fence has a number of at least 1
+-- a valid mark of a thread, among a number of threads.
+-- A Join names another thread. A Draw or a Fence has a number of at least 1
 abbrev pub IsMark : ℕ → ℕ → Mark → Type 0
 IsMark threads thread (Join from upto) = (from < threads) × (from ≢ thread) × IsNumber upto
 IsMark threads thread (Draw number) = (1 ≤ number) × IsNumber number
 IsMark threads thread (Fence number) = (1 ≤ number) × IsNumber number
 
+-- a valid log of a thread: its marks are valid and fewer than 2 ^ 31, and their gaps sum to at most its accesses
 pub record IsValidThreadLog (threads thread : ℕ) (log : ThreadLog) : Type 0 where
   pub few_marks : length log.marks < 2 ^ 31
   pub gaps : sum_by (λ mark. mark.gap) log.marks ≤ log.accesses
