@@ -12,7 +12,7 @@ use Rattle.octet_clock.specs.Past.{IsPastOf}
 use Rattle.octet_clock.specs.Play.{made_by}
 use Rattle.octet_clock.specs.Sources.{IsNextStep}
 
--- the last reads and the last writes of all objects, and in whose past they lie
+-- the last reads and last writes of all objects are kept, with those in whose past they lie
 pub record KeepsAccesses (journals : Journals) (play : List ℕ) (index : ℕ) (accesses : Accesses) : Type 0 where
   pub reads : KeepsLast journals play index is_read_of (read_in accesses.objects.items)
   pub writes : KeepsLast journals play index is_write_of (written_in accesses.objects.items)
@@ -27,12 +27,12 @@ pub record IsAccessStep (journals : Journals) (play : List ℕ) (index thread ob
   pub does : is_write event ≡ writing
   pub past : IsPastOf journals thread (made_by play index thread) known
 
--- what is kept of an object with one more read, or one more write
+-- one more read, or one more write, is noted for an object
 abbrev pub IsNoted : ObjectAccesses → Bool → ℕ → ℕ → Bool → ObjectAccesses → Type 0
 IsNoted before true thread count follows after = IsWriteNoted before thread count after
 IsNoted before false thread count follows after = IsReadNoted before thread count follows after
 
--- one more access of an object
+-- one more access of an object is noted, and those of all others stay
 pub record AreNoted (before : List ObjectAccesses) (object : ℕ) (writing : Bool) (thread count : ℕ) (follows : Bool) (after : List ObjectAccesses) : Type 0 where
   pub own : IsNoted (kept_of before object) writing thread count follows (kept_of after object)
   pub others : (other : ℕ) → other ≢ object → kept_of after other ≡ kept_of before other

@@ -6,7 +6,7 @@ use Rattle.octet_model.specs.Orders.{IsLowestFront}
 use Rattle.octet_replay.specs.Needs.{NeedsAndCounts}
 use Rattle.octet_replay.specs.Replayed.{AwaitsNext}
 
--- how many events are counted
+-- the number of events that are counted
 abbrev pub counted : NeedsAndCounts → ℕ
 counted waits = sum waits.events
 
@@ -14,7 +14,7 @@ counted waits = sum waits.events
 abbrev pub state_reached : Behavior → PlainState → List ℕ → NeedsAndCounts → PlainState
 state_reached behavior start front waits = after behavior start (take (counted waits) front)
 
--- each thread waits for what is next for it there
+-- each thread waits for what is next for it in the state that the lowest front has reached
 pub record Follows (behavior : Behavior) (start : PlainState) (front : List ℕ) (waits : NeedsAndCounts) : Type 0 where
   pub lowest : IsLowestFront behavior start front
   pub awaits : AwaitsNext behavior (state_reached behavior start front waits) waits

@@ -13,7 +13,7 @@ use Rattle.octet_model.specs.Journals.{access_count, mark_count, gap_after, due_
 use Rattle.octet_model.specs.Orders.{commands_of, thread_log_of, journals_after, lowest_order, IsLawfulOrder}
 use Rattle.octet_replay.specs.Judged.{DemandsEnd, EndsEarly, GoesOn}
 
--- the lowest order is lawful and its journals are ordered
+-- the log orders all conflicts: its lowest order is lawful, and the journals of this order are ordered
 abbrev pub OrdersConflicts : Script → List ThreadLog → Type 0
 OrdersConflicts script log = IsLawfulOrder script log (lowest_order script log) × IsOrdered (journals_after script log (lowest_order script log))
 
@@ -21,23 +21,25 @@ OrdersConflicts script log = IsLawfulOrder script log (lowest_order script log) 
 abbrev pub demand_after : Script → ℕ → List Event → AccessOrEnd
 demand_after script thread journal = demanded (commands_of script thread) (configuration_after (commands_of script thread) (starting_configuration script.fuel) journal)
 
--- through: the end is demanded, and no access and no mark of the log is left
+-- the thread is through: it demands its end, and no access and no mark of its log is left
 pub record IsThrough (demand : AccessOrEnd) (log : ThreadLog) (journal : List Event) : Type 0 where
   pub ends : DemandsEnd demand
   pub accesses : access_count journal ≡ log.accesses
   pub marks : mark_count journal ≡ length log.marks
 
--- amiss: an access is next by the log and the end is demanded, or nothing is left of the log and an access is demanded
+-- the thread is amiss: it demands its end where an access is next by its log,
+-- or demands an access where nothing is left of its log
 abbrev pub IsAmiss : AccessOrEnd → ThreadLog → List Event → Type 0
 IsAmiss demand log journal =
     (EndsEarly demand log journal × (due_mark (slice_get log.marks (mark_count journal)) (gap_after 0 journal) ≡ None))
     ⊎ GoesOn demand log journal
 
--- the same, of a thread after a front
+-- the thread is through after a front
 abbrev pub IsThroughAfter : Script → List ThreadLog → List ℕ → ℕ → Type 0
 IsThroughAfter script log front thread =
     let journal = journal_of (journals_after script log front) thread in IsThrough (demand_after script thread journal) (thread_log_of log thread) journal
 
+-- the thread is amiss after a front
 abbrev pub IsAmissAfter : Script → List ThreadLog → List ℕ → ℕ → Type 0
 IsAmissAfter script log front thread =
     let journal = journal_of (journals_after script log front) thread in IsAmiss (demand_after script thread journal) (thread_log_of log thread) journal

@@ -10,13 +10,14 @@ use Rattle.octet_model.specs.Orders.{by_log, execution, journals_after, lowest_o
 use Rattle.octet_clock.specs.Fronts.{OrdersConflicts, IsAmissAfter, IsDrawn, IsThroughAfter}
 use Rattle.octet_clock.specs.Untied.{by_log_alone, opening_alone, IsUntied}
 
--- where a log orders all conflicts, the journals of each lawful front are the first events of those of the lowest order
+-- the journals of each lawful front are the first events of those of the lowest order,
+-- where a log orders all conflicts
 abbrev pub FrontsArePrefixes : Type 0
 FrontsArePrefixes = (script : Script) (log : List ThreadLog) (front : List ℕ) (thread : ℕ)
     → OrdersConflicts script log → IsLawfulFront script log front
     → (more : List Event) × (journal_of (journals_after script log (lowest_order script log)) thread ≡ journal_of (journals_after script log front) thread ++ more)
 
--- so no thread of it is amiss
+-- no thread is amiss after a lawful front, where a log orders all conflicts
 abbrev pub NoFrontIsAmiss : Type 0
 NoFrontIsAmiss = (script : Script) (log : List ThreadLog) (front : List ℕ) (thread : ℕ)
     → OrdersConflicts script log → IsLawfulFront script log front → thread < length log
@@ -27,7 +28,7 @@ abbrev pub OneOrderTells : Type 0
 OneOrderTells = (script : Script) (log : List ThreadLog) (order : List ℕ)
     → IsLawfulOrder script log order → IsOrdered (journals_after script log order) ↔ OrdersConflicts script log
 
--- and then it comes to what the lowest order comes to
+-- any lawful order has the execution and the journals of the lowest order, where the log orders all conflicts
 abbrev pub OneOrderGives : Type 0
 OneOrderGives = (script : Script) (log : List ThreadLog) (order : List ℕ)
     → IsLawfulOrder script log order → OrdersConflicts script log
@@ -47,7 +48,7 @@ abbrev pub FrontIsOfLog : Type 0
 FrontIsOfLog = (script : Script) (log : List ThreadLog) (front : List ℕ)
     → IsLawfulFront script log front → IsFront (by_log_alone log) (opening_alone log) front
 
--- after a lawful front of an untied log each thread is through, or some thread may step, or some thread is amiss
+-- each thread is through after a lawful front of an untied log, or some thread may step, or some thread is amiss
 abbrev pub UntiedFrontGoesOn : Type 0
 UntiedFrontGoesOn = (script : Script) (log : List ThreadLog) (front : List ℕ)
     → IsUntied log → IsLawfulFront script log front
@@ -55,14 +56,14 @@ UntiedFrontGoesOn = (script : Script) (log : List ThreadLog) (front : List ℕ)
     ⊎ ((thread : ℕ) × IsTrue (may_step (by_log script log) (state_after script log front) thread))
     ⊎ ((thread : ℕ) × (thread < length log) × IsAmissAfter script log front thread)
 
--- in an untied log a draw waits for the draw before it alone
+-- a draw of an untied log waits for the draw before it alone
 abbrev pub UntiedDrawWaits : Type 0
 UntiedDrawWaits = (script : Script) (log : List ThreadLog) (front : List ℕ) (thread number : ℕ)
     → IsUntied log → IsLawfulFront script log front → thread < length log
     → next_of (by_log script log) (state_after script log front) thread ≡ Wants (MakeMark (Draw (suc number)))
     → IsTrue (may_step (by_log script log) (state_after script log front) thread) ↔ ((number ≡ 0) ⊎ IsDrawn (journals_after script log front) number)
 
--- and in every log a fence waits for the draw of its number alone
+-- a fence of any log waits for the draw of its number alone
 abbrev pub FenceWaits : Type 0
 FenceWaits = (script : Script) (log : List ThreadLog) (front : List ℕ) (thread number : ℕ)
     → IsLawfulFront script log front → thread < length log

@@ -12,45 +12,46 @@ use Rattle.octet_clock.specs.declared.log_walk.Progress.{Progress}
 use Rattle.octet_clock.specs.Following.{counted}
 use Rattle.octet_clock.specs.Untied.{any_access, by_log_alone, opening_alone}
 
--- the counts are those of the journal
+-- the counts of the thread are those of the journal
 pub record HasProgress (journal : List Event) (p : Progress) : Type 0 where
   pub counts_marks : p.marks ≡ mark_count journal
   pub counts_accesses : p.accesses ≡ access_count journal
   pub counts_gap : p.gap ≡ gap_after 0 journal
 
--- what is next by the log alone, from the counts
+-- what is next for a thread by its log alone, from its counts
 abbrev pub next_by_progress : ThreadLog → Progress → Next
 next_by_progress log p =
     mark_first (due_mark (slice_get log.marks p.marks) p.gap)
     (any_access (nat_lt p.accesses log.accesses) (nat_lt p.marks (length log.marks)))
 
--- some operation is next
+-- an operation is next for the thread
 abbrev pub WantsSome : ThreadLog → Progress → Type 0
 WantsSome log p = (operation : Operation) × (next_by_progress log p ≡ Wants operation)
 
--- what was next is made, and it was told whether that was a draw
+-- the thread made what was next, and `drew` tells whether that was a draw
 pub record Advances (log : ThreadLog) (before after : Progress) (drew : Bool) : Type 0 where
   pub counts : (journal : List Event) (operation : Operation) (heap : List ℕ) → next_by_progress log before ≡ Wants operation → HasProgress journal before → HasProgress (journal ++ event_made operation heap ∷ []) after
   pub draws : (operation : Operation) (heap : List ℕ) → next_by_progress log before ≡ Wants operation → drew ≡ is_draw (event_made operation heap)
 
--- nothing is left of the log
+-- the thread has nothing left of its log
 abbrev pub HasMadeAll : ThreadLog → Progress → Type 0
 HasMadeAll log p = next_by_progress log p ≡ Finished
 
--- as many needs as threads: each waits for the first event of its log
+-- each thread has one need: it waits for the first event of its log
 pub record AreFirstNeeds (log : List ThreadLog) (needs : List Need) : Type 0 where
   pub as_many : length needs ≡ length log
   pub each : (thread : ℕ) (need : Need) → slice_get needs thread ≡ Some need → need ≡ need_of (by_log_alone log thread [])
 
--- after so many more accesses
+-- the progress after so many more accesses
 abbrev pub with_accesses : Progress → ℕ → Progress
 with_accesses p more = record { marks = p.marks; accesses = more + p.accesses; gap = more + p.gap }
 
--- so many accesses are next, one after the other
+-- the next `many` events of the thread are accesses
 abbrev pub AreAccesses : ThreadLog → Progress → ℕ → Type 0
 AreAccesses log p many = (made : ℕ) → made < many → next_by_progress log (with_accesses p made) ≡ Wants (MakeRead 0)
 
--- the threads have come as far as some front by the log alone leads, which has a step for each event that is counted
+-- the threads have come as far as some front by the log alone leads.
+-- The front has a step for each event that is counted
 pub record WalksAt (log : List ThreadLog) (walk : LogWalk) : Type 0 where
   pub front : List ℕ
   pub is_front : IsFront (by_log_alone log) (opening_alone log) front

@@ -11,7 +11,7 @@ use Rattle.octet_clock.specs.declared.journal_check.JournalCheck.{JournalCheck}
 use Rattle.octet_clock.specs.Checker.{Holds}
 use Rattle.octet_clock.specs.Following.{counted, Follows}
 
--- the journals of a lawful order of some script and some log
+-- the journals are those of a lawful order of some script and some log
 pub record AreOfLawfulOrder (journals : Journals) : Type 0 where
   pub script : Script
   pub log : Log
@@ -19,12 +19,12 @@ pub record AreOfLawfulOrder (journals : Journals) : Type 0 where
   pub is_lawful : IsLawfulOrder script log.threads order
   pub are : journals_after script log.threads order ≡ journals
 
--- as many needs as journals: each waits for the first event of its journal
+-- each journal has one need: its thread waits for the first event of the journal
 pub record AreNeedsAtStart (journals : Journals) (needs : List Need) : Type 0 where
   pub as_many : length needs ≡ length journals
   pub each : (thread : ℕ) (need : Need) → slice_get needs thread ≡ Some need → need ≡ need_of (by_journals journals thread [])
 
--- the first steps of the lowest play were taken in
+-- the check took in the first steps of the lowest play, as many as events are counted
 pub record ChecksAt (journals : Journals) (check : JournalCheck) : Type 0 where
   pub many : length check.checker.marks.items ≡ length journals
   pub follows : Follows (by_journals journals) (starting_state [] journals) (lowest_play [] journals) check.waits

@@ -9,11 +9,12 @@ use Rattle.octet_clock.specs.declared.marks.Marks.{Marks}
 use Rattle.octet_clock.specs.declared.sources.Prefix.{Prefix}
 use Rattle.octet_clock.specs.Clock.{count_in}
 
--- counts are the past of a thread's first `now` events: an event lies in that past exactly where its thread's count has it
+-- the counts are the past of a thread's first `now` events.
+-- An event lies in that past exactly where its thread's count has it
 abbrev pub ArePastOf : Journals → ℕ → ℕ → (ℕ → ℕ) → Type 0
 ArePastOf journals thread now known = (place : Place) → InPast journals thread now place ↔ (place.event < known place.thread)
 
--- and so a clock is, by what it knows
+-- the clock is the past of a thread's first `now` events
 abbrev pub IsPastOf : Journals → ℕ → ℕ → Clock → Type 0
 IsPastOf journals thread now clock = ArePastOf journals thread now (count_in clock)
 
@@ -25,15 +26,16 @@ HasPast journals thread now first = (place : Place) → InPast journals first.th
 abbrev pub AddsNothing : Journals → ℕ → ℕ → Type 0
 AddsNothing journals thread event = (place : Place) → InPast journals thread (suc event) place → InPast journals thread event place ⊎ (place ≡ record { thread = thread; event = event })
 
--- a mark is kept that is at this place of its journal
+-- the mark at this place of its journal is kept
 abbrev pub IsKept : List ℕ → ℕ → Type 0
 IsKept events event = (i : ℕ) × (slice_get events i ≡ Some event)
 
--- how many of a thread's first events are known after a kept mark
+-- the number of a thread's first events that are known after a kept mark
 abbrev pub count_after : Marks → ℕ → ℕ → ℕ
 count_after marks place thread = if nat_lt thread marks.threads then get_or marks.counts.items (place * marks.threads + thread) 0 else 0
 
--- marks among a thread's first `now` events, in order, each with the past after it; the events that are not kept add nothing
+-- the marks among a thread's first `now` events are kept in order, each with the past after it.
+-- Events that are not kept add nothing to the past
 pub record KeepsMarks (journals : Journals) (thread now : ℕ) (marks : Marks) : Type 0 where
   pub threads : marks.threads ≡ length journals
   pub few : marks.threads ≤ MAX_THREADS

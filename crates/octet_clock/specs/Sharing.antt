@@ -7,22 +7,22 @@ use Rattle.octet_model.specs.HappensBefore.{object_of, is_write, Conflict}
 use Rattle.octet_clock.specs.declared.sharing.Sharing.{Sharing}
 use Rattle.octet_clock.specs.declared.sharing.Sharing.TheVariants.{Unused, OwnedBy, ReadShared}
 
--- how an object is used; not at all where nothing is kept of it
+-- the use of an object, which is none where nothing is kept of the object
 abbrev pub sharing_of : List Sharing → ℕ → Sharing
 sharing_of objects object = get_or objects object Unused
 
--- among the accesses of an object that is used so there may be one by this thread, a write or a read
+-- the use of an object allows an access by this thread, a write or a read, among its accesses
 abbrev pub Allows : Sharing → ℕ → Bool → Type 0
 Allows Unused thread writing = ⊥
 Allows (OwnedBy owner written) thread writing = (thread ≡ owner) × (writing ≡ true → written ≡ true)
 Allows ReadShared thread writing = writing ≡ false
 
--- among the accesses there may be one more, and all that were there
+-- the use after allows this one access more, and all that the use before allowed
 pub record AllowsMore (before : Sharing) (thread : ℕ) (writing : Bool) (after : Sharing) : Type 0 where
   pub kept : (other : ℕ) (writes : Bool) → Allows before other writes → Allows after other writes
   pub added : Allows after thread writing
 
--- something is kept of the object, and of no object anything else
+-- the list has the use of the object, and all uses are as before
 pub record HasRoom (before : List Sharing) (object : ℕ) (after : List Sharing) : Type 0 where
   pub there : object < length after
   pub same : (other : ℕ) → sharing_of after other ≡ sharing_of before other
@@ -32,11 +32,11 @@ pub record TakesAccess (before : List Sharing) (thread object : ℕ) (writing : 
   pub here : AllowsMore (sharing_of before object) thread writing (sharing_of after object)
   pub others : (other : ℕ) → other ≢ object → sharing_of after other ≡ sharing_of before other
 
--- the event, where it is an access, may be among those of its object
+-- the event is no access, or the use of its object allows it
 abbrev pub IsAllowed : List Sharing → ℕ → Event → Type 0
 IsAllowed objects thread event = (object : ℕ) → object_of event ≡ Some object → Allows (sharing_of objects object) thread (is_write event)
 
--- all events that were taken in still are
+-- all events that were allowed before are allowed after
 abbrev pub KeepsAllowed : List Sharing → List Sharing → Type 0
 KeepsAllowed before after = (thread : ℕ) (event : Event) → IsAllowed before thread event → IsAllowed after thread event
 
@@ -50,6 +50,6 @@ pub record TakesEvents (before : List Sharing) (thread : ℕ) (events : List Eve
   pub kept : KeepsAllowed before after
   pub added : (place : ℕ) (event : Event) → place < upto → slice_get events place ≡ Some event → IsAllowed after thread event
 
--- no two accesses conflict
+-- no two accesses of the journals conflict
 abbrev pub HasNoConflict : Journals → Type 0
 HasNoConflict journals = (a b : Place) → Conflict journals a b → ⊥

@@ -6,25 +6,27 @@ use Rattle.octet_model.specs.Machine.{Next, Wants, Finished, NothingFits, MakeRe
 use Rattle.octet_model.specs.Journals.{access_count, mark_count, gap_after, due_mark, mark_first}
 use Rattle.octet_model.specs.Orders.{thread_log_of}
 
--- an access, where the log has one left. Which access it is decides nothing here, so that the read of one object stands for each
+-- an access, where the log has one left. Which access is made decides nothing here:
+-- a read of object 0 stands for each
 abbrev pub any_access : Bool → Bool → Next
 any_access true mark_left = Wants (MakeRead 0)
 any_access false true = NothingFits
 any_access false false = Finished
 
--- what is next for a thread by its log alone: its next mark where that is due, else an access
+-- what a thread does next by its log alone: its next mark where that is due, else an access
 abbrev pub next_by_log_alone : ThreadLog → List Event → Next
 next_by_log_alone log journal =
     mark_first (due_mark (slice_get log.marks (mark_count journal)) (gap_after 0 journal))
     (any_access (nat_lt (access_count journal) log.accesses) (nat_lt (mark_count journal) (length log.marks)))
 
+-- what the threads do next by the log alone
 abbrev pub by_log_alone : List ThreadLog → Behavior
 by_log_alone log thread journal = next_by_log_alone (thread_log_of log thread) journal
 
--- before the first step
+-- the state before the first step, without objects
 abbrev pub opening_alone : List ThreadLog → PlainState
 opening_alone log = starting_state [] log
 
--- untied: some list of steps by the log alone makes all its accesses and marks
+-- an untied log: some order of steps by the log alone makes all its accesses and marks
 abbrev pub IsUntied : List ThreadLog → Type 0
 IsUntied log = (order : List ℕ) × IsOrder (by_log_alone log) (opening_alone log) order

@@ -8,19 +8,21 @@ use Rattle.octet_clock.specs.declared.verdict.Verdict.TheVariants.{Ordered}
 use Rattle.octet_clock.specs.Verdict.{IsVerdict, JudgedUpTo}
 use Rattle.octet_replay.specs.ReplayState.{ReplayState, HasHalted}
 
--- all lawful orders have one execution and the same journals, and every lawful front can be continued to a lawful order
+-- all lawful orders have one execution and the same journals, and every lawful front continues to a lawful order
 pub record HasOneOutcome (script : Script) (log : List ThreadLog) : Type 0 where
   pub execution : (order : List ℕ) → IsLawfulOrder script log order → execution script log order ≡ execution script log (lowest_order script log)
   pub journals : (order : List ℕ) → IsLawfulOrder script log order → journals_after script log order ≡ journals_after script log (lowest_order script log)
   pub continues : (front : List ℕ) → IsLawfulFront script log front → (rest : List ℕ) × IsLawfulOrder script log (front ++ rest)
 
--- the lowest order is lawful, and this is the verdict on its journals; where they are ordered, the log has one outcome
+-- the lowest order is lawful, and this is the verdict on its journals. The log has one outcome
+-- where they are ordered
 pub record IsVerified (script : Script) (log : List ThreadLog) (verdict : Verdict) : Type 0 where
   pub lawful : IsLawfulOrder script log (lowest_order script log)
   pub told : IsVerdict (journals_after script log (lowest_order script log)) (lowest_order script log) verdict
   pub one_outcome : verdict ≡ Ordered → HasOneOutcome script log
 
--- what the steps of a replayer told, from its first step on: they are in order and no thread may step any more, or the last of them is the second of the pair
+-- the verdict is right for the steps that the replayer made. If it is Ordered, no thread may step any more.
+-- Otherwise it names the first unordered pair
 pub record IsJudged (before after : ReplayState) (verdict : Verdict) : Type 0 where
   pub script : after.script ≡ before.script
   pub log : after.log ≡ before.log

@@ -10,7 +10,7 @@ use Rattle.octet_interp.specs.declared.demand.Demand.{Demand}
 use Rattle.octet_interp.specs.declared.demand.Demand.TheVariants.{Read, Write, Bump, Ended}
 use Rattle.octet_interp.specs.declared.context.Context.{Context}
 
--- the configuration that the code keeps
+-- the configuration of the thread that the code keeps
 abbrev pub configuration_of : Context → Configuration
 configuration_of context = record { place = context.place; registers = context.registers; fuel = context.fuel }
 
@@ -20,7 +20,7 @@ HasSmallValue (Write object value) = value < 2 ^ 64
 HasSmallValue (Bump object amount) = amount < 2 ^ 64
 HasSmallValue _ = Unit {0}
 
--- a command that gives a register a value by itself
+-- the test whether a command gives a register a value by itself
 abbrev pub is_calculation : Command → Bool
 is_calculation (Set to number) = true
 is_calculation (Copy to from) = true
@@ -32,33 +32,34 @@ is_calculation (Less to left right) = true
 is_calculation (Same to left right) = true
 is_calculation _ = false
 
--- with these registers, the command gives the register of the first number the value of the second
+-- the command gives the register of the first number the value of the second, from these registers
 abbrev pub Calculates : Command → List ℕ → ℕ × ℕ → Type 0
 Calculates command registers result =
     (IsRegister result.0) × ((commands : List Command) (c : Configuration) → c.registers ≡ registers → stepped commands c command ≡ with_register c result.0 result.1)
 
--- an opener where its register is 0, and an end
+-- the test whether a command leads away: an opener whose register is 0, or an end
 abbrev pub leads_away : Command → List ℕ → Bool
 leads_away (Loop test) registers = slice_index registers test == 0
 leads_away (Branch test) registers = slice_index registers test == 0
 leads_away Close registers = true
 leads_away _ registers = false
 
--- with this place where it may lead, the command takes the configuration to that after it
+-- the command takes the configuration before to the one after, where this place is its lead
 abbrev pub Obeys : Command → ℕ → Configuration → Configuration → Type 0
 Obeys command lead before after = (commands : List Command) → lead ≡ lead_of commands before.place (Some command) → after ≡ stepped commands before command
 
--- but for the end, a demand leaves a command to go past, with fuel for it
+-- a demand other than the end leaves a command to go past, with fuel for it
 abbrev pub CanPass : Demand → ℕ → ℕ → ℕ → Type 0
 CanPass (Ended end) place fuel len = Unit {0}
 CanPass _ place fuel len = (0 < fuel) × (place < len)
 
--- a read with fuel left
+-- the command is a read, with fuel left
 abbrev pub WaitsAt : Option Command → ℕ → Type 0
 WaitsAt (Some (Read to object)) fuel = 0 < fuel
 WaitsAt _ fuel = ⊥
 
--- commands of a thread of so many objects, with the table of their leads, and a read where one waits; each `region` command that it ran took fuel
+-- the commands of a thread name registers and objects that are there, and the table has their leads.
+-- A read stands where one waits, and each `region` command that was run took fuel
 pub record IsConsistent (commands : List Command) (leads : List ℕ) (objects : ℕ) (context : Context) (waits : Bool) : Type 0 where
   pub registers_there : All HasRegisters commands
   pub objects_there : All (HasObject objects) commands

@@ -9,7 +9,8 @@ use Rattle.octet_interp.specs.Regions.{regions_to}
 use Rattle.octet_interp.specs.declared.demand.Demand.{Demand}
 use Rattle.octet_interp.specs.declared.demand.Demand.TheVariants.{Read, Write, Bump, Safe, Pause, Ended}
 
--- what callers know of a thread that runs: its commands, where it stands, whether a read waits for its value, the number of the script's objects, and how many `region` commands it ran
+-- the state of a running thread: its commands, where it stands, and whether a read waits for its value.
+-- The script's number of objects and the number of `region` commands run are told too
 pub record ThreadState : Type 0 where
   pub commands : List Command
   pub at : Configuration
@@ -17,11 +18,11 @@ pub record ThreadState : Type 0 where
   pub objects : ℕ
   pub regions : ℕ
 
--- at the start of a thread of a script
+-- the state at the start of a thread of a script
 abbrev pub starting_thread : Script → ℕ → ThreadState
 starting_thread script thread = record { commands = get_or script.threads thread []; at = starting_configuration script.fuel; waits = false; objects = length script.objects; regions = 0 }
 
--- accesses, safe points and pauses are demands
+-- the test whether a command is a demand: an access, a safe point or a pause
 abbrev pub is_demand : Command → Bool
 is_demand (Read to object) = true
 is_demand (Write object from) = true
@@ -30,7 +31,7 @@ is_demand Safe = true
 is_demand Pause = true
 is_demand _ = false
 
--- run on to the next command that is a demand, or to the thread's end
+-- the configuration at the next command that is a demand, or at the thread's end
 abbrev pub at_demand : List Command → Configuration → Configuration
 at_demand commands c = run_to is_demand commands c.fuel c
 
@@ -43,18 +44,19 @@ demand_of_command Safe registers = Some Safe
 demand_of_command Pause registers = Some Pause
 demand_of_command _ registers = None
 
--- done where no command is left, else spent where no fuel is left, else what the command demands; with fuel left, a run stops at no other command
+-- what a configuration demands at its command. Without a command its end is Done, without fuel Spent.
+-- A run with fuel left stops at no other command than a demand
 abbrev pub demand_from : Option Command → Configuration → Demand
 demand_from None c = Ended Done
 demand_from (Some command) c = elim c.fuel [ zero ↦ Ended Spent | suc fuel ↦ unwrap_or (demand_of_command command c.registers) (Ended Spent) ]
 
--- a read and an end stay where they are, the others go on to the next place
+-- the configuration after a demand. A read and an end stay where they are, the others go on to the next place
 abbrev pub past_demand : Demand → Configuration → Configuration
 past_demand (Read object) c = c
 past_demand (Ended end) c = c
 past_demand _ c = moved_to c (suc c.place)
 
--- whether a value is to be given
+-- the test whether a demand wants a value to be given
 abbrev pub is_read : Demand → Bool
 is_read (Read object) = true
 is_read _ = false
@@ -63,22 +65,22 @@ is_read _ = false
 abbrev pub next_demand : ThreadState → Demand
 next_demand s = let c = at_demand s.commands s.at in demand_from (slice_get s.commands c.place) c
 
--- where it stands then
+-- the state of a thread after its next demand
 abbrev pub after_demand : ThreadState → ThreadState
 after_demand s = record { commands = s.commands; at = past_demand (next_demand s) (at_demand s.commands s.at); waits = is_read (next_demand s); objects = s.objects; regions = s.regions + regions_to is_demand s.commands s.at.fuel s.at }
 
--- past the read that waits, with its value
+-- the state after the read that waits, with its value
 abbrev pub given : ThreadState → ℕ → ThreadState
 given s value = record { commands = s.commands; at = past_access (slice_get s.commands s.at.place) s.at value; waits = false; objects = s.objects; regions = s.regions }
 
--- its object is one of so many, and its value or amount below 2 ^ 64
+-- a demand's object is one of so many, and its value or amount is below 2 ^ 64
 abbrev pub IsPossible : ℕ → Demand → Type 0
 IsPossible objects (Read object) = object < objects
 IsPossible objects (Write object value) = (object < objects) × (value < 2 ^ 64)
 IsPossible objects (Bump object amount) = (object < objects) × (amount < 2 ^ 64)
 IsPossible objects _ = Unit {0}
 
--- a demand takes fuel: a read when its value is given, the others as they are answered. The end takes none
+-- each demand but the end takes fuel. A read takes it when its value is given, the others when they are demanded
 abbrev pub TakesFuel : Demand → ℕ → ℕ → Type 0
 TakesFuel (Read object) before after = (0 < after) × (after ≤ before)
 TakesFuel (Ended end) before after = after ≤ before

@@ -11,6 +11,7 @@ use Rattle.octet_interp.specs.declared.context.Context.{Context}
 use Rattle.octet_interp.specs.Leads.{IsLeadTable}
 use Rattle.octet_interp.specs.Regions.{regions_before}
 
+-- the test whether a command is a `region`
 abbrev pub is_region : Command → Bool
 is_region Region = true
 is_region _ = false
@@ -28,18 +29,19 @@ region_places commands (suc fuel) c =
       | Some command ↦ elim (is_access command) [ true ↦ [] | false ↦ region_place command c.place ++ region_places commands fuel (stepped commands c command) ]
     ]
 
--- the places of those from here on, up to the access or the end that is demanded
+-- the places of the `region` commands from here on, up to the access or the end that is demanded
 abbrev pub places_ahead : List Command → Configuration → List ℕ
 places_ahead commands c = region_places commands c.fuel c
 
--- the last event of a journal is a mark
+-- the test whether the last event of a journal is a mark
 abbrev pub ends_in_mark : List Event → Bool
 ends_in_mark [] = false
 ends_in_mark (Marked mark ∷ []) = true
 ends_in_mark (event ∷ []) = false
 ends_in_mark (event ∷ other ∷ journal) = ends_in_mark (other ∷ journal)
 
--- the places of the `region` commands that a thread runs after its last access, before its next event: none after a mark, since they were run before it
+-- the places of the `region` commands that a thread runs between its last access and its next event.
+-- After a mark there are none, since they were run before the mark
 abbrev pub places_before_next : List Command → Configuration → List Event → List ℕ
 places_before_next commands start journal = elim (ends_in_mark journal) [ true ↦ [] | false ↦ places_ahead commands (configuration_after commands start journal) ]
 
@@ -47,34 +49,36 @@ places_before_next commands start journal = elim (ends_in_mark journal) [ true �
 abbrev pub access_place : List Command → Configuration → List Event → ℕ
 access_place commands start journal = (settled commands (configuration_after commands start journal)).place
 
--- what callers know of a thread that follows a journal: its commands, where it stands, and how many `region` commands it ran
+-- the state of a thread that follows a journal: its commands, where it stands,
+-- and how many `region` commands it ran
 pub record FollowerState : Type 0 where
   pub commands : List Command
   pub at : Configuration
   pub regions : ℕ
 
--- of the `region` commands that the thread runs up to its next access by the journal, those at these places are still to be told; the last of them has the number of the access's region
+-- the thread has these `region` commands still to tell before its next access by the journal.
+-- The last of them has the number of the access's region
 pub record IsBeforeRegions (start : Configuration) (journal : List Event) (places : List ℕ) (s : FollowerState) : Type 0 where
   pub ahead : places_ahead s.commands s.at ≡ places
   pub settles : settled s.commands s.at ≡ settled s.commands (configuration_after s.commands start journal)
   pub counts : s.regions + length places ≡ regions_before s.commands start journal
 
--- it followed the journal from its start, and no further
+-- the thread followed the journal from its start, and no further
 abbrev pub IsFollowing : Configuration → List Event → FollowerState → Type 0
 IsFollowing start journal s = IsBeforeRegions start journal (places_before_next s.commands start journal) s
 
--- all were told, and it stands where the next access is
+-- the thread told all `region` commands before its next access, and stands at this access
 pub record IsBeforeAccess (start : Configuration) (journal : List Event) (s : FollowerState) : Type 0 where
   pub told : IsBeforeRegions start journal [] s
   pub stands : s.at ≡ settled s.commands (configuration_after s.commands start journal)
 
--- the next `region` command ahead was passed
+-- the thread passed the next `region` command ahead
 pub record PassesRegion (before : FollowerState) (place : ℕ) (after : FollowerState) : Type 0 where
   pub ahead : places_ahead before.commands before.at ≡ place ∷ places_ahead after.commands after.at
   pub regions : after.regions ≡ suc before.regions
   pub settles : settled after.commands after.at ≡ settled before.commands before.at
 
--- none is ahead, and it stands where its next access is
+-- no `region` command is ahead, and the thread stands at its next access
 pub record PassesNone (before after : FollowerState) : Type 0 where
   pub none : places_ahead before.commands before.at ≡ []
   pub none_left : places_ahead after.commands after.at ≡ []
@@ -82,17 +86,18 @@ pub record PassesNone (before after : FollowerState) : Type 0 where
   pub stands : after.at ≡ settled before.commands before.at
   pub settles : settled after.commands after.at ≡ settled before.commands before.at
 
+-- the thread passed the `region` command that it told, or none is ahead
 abbrev pub TellsRegion : FollowerState → Option ℕ → FollowerState → Type 0
 TellsRegion before (Some place) after = PassesRegion before place after
 TellsRegion before None after = PassesNone before after
 
--- it stands where a configuration settles that the event fits
+-- the thread stands where some configuration settles that the event fits
 pub record CanFollow (event : Event) (s : FollowerState) : Type 0 where
   pub from : Configuration
   pub stands : s.at ≡ settled s.commands from
   pub fits : FitsFrom s.commands from (event ∷ [])
 
--- it followed the event too
+-- the thread followed the event too
 abbrev pub FollowsOn : FollowerState → Event → FollowerState → Type 0
 FollowsOn before event after = (start : Configuration) (journal : List Event) → IsBeforeAccess start journal before → IsFollowing start (journal ++ event ∷ []) after
 
@@ -101,7 +106,8 @@ pub record HasAccess (s : FollowerState) : Type 0 where
   pub within : s.at.place < length s.commands
   pub fuelled : 0 < s.at.fuel
 
--- commands of a thread with the table of their leads; each `region` command that it ran took fuel
+-- the commands of a thread name registers that are there, and the table has their leads.
+-- Each `region` command that was run took fuel
 pub record IsFollower (commands : List Command) (leads : List ℕ) (context : Context) : Type 0 where
   pub registers_there : All HasRegisters commands
   pub lead_table : IsLeadTable commands leads

@@ -10,7 +10,8 @@ use Rattle.octet_interp.specs.declared.demand.Demand.TheVariants.{Read, Write, B
 use Rattle.octet_interp.specs.Regions.{regions_ahead, regions_before}
 use Rattle.octet_interp.specs.Demands.{ThreadState, next_demand, after_demand, given, TakesFuel}
 
--- an access or an end that `next` answers is the one that the thread demands with safe points and pauses left out, and leaves it where that does; a safe point and a pause change nothing of where it settles; an end is told again
+-- an access or end that `next` answers is what the thread demands without safe points and pauses.
+-- A safe point and a pause keep where the thread settles, and an end is told again
 abbrev pub Agrees : Demand → ThreadState → ThreadState → Type 0
 Agrees (Read object) before after =
     (demanded before.commands before.at ≡ ToRead object) × ((value : ℕ) → (given after value).at ≡ past_demanded before.commands before.at value)
@@ -21,11 +22,11 @@ Agrees (Bump object amount) before after =
 Agrees (Ended end) before after = (demanded before.commands before.at ≡ ToEnd end) × (next_demand after ≡ Ended end)
 Agrees _ before after = settled before.commands after.at ≡ settled before.commands before.at
 
--- with safe points and pauses left out, the demands of a run are those of the thread
+-- the demands of a run, without safe points and pauses, are those of the thread
 abbrev pub DemandsAreThoseOfTheThread : Type 0
 DemandsAreThoseOfTheThread = (s : ThreadState) → Agrees (next_demand s) s (after_demand s)
 
--- each demand takes fuel but the end
+-- each demand but the end takes fuel
 abbrev pub DemandsTakeFuel : Type 0
 DemandsTakeFuel = (s : ThreadState) → TakesFuel (next_demand s) s.at.fuel (after_demand s).at.fuel
 
@@ -34,12 +35,13 @@ abbrev pub DemandsFollowFromWhereItSettles : Type 0
 DemandsFollowFromWhereItSettles = (commands : List Command) (c d : Configuration) → settled commands c ≡ settled commands d
     → (demanded commands c ≡ demanded commands d) × ((value : ℕ) → past_demanded commands c value ≡ past_demanded commands d value)
 
--- from this start, the journal fits the thread and leaves it where it stands, but for commands that are no access
+-- the journal fits the thread from this start. After it, the thread stands before the same access or end
 pub record IsJournalOf (start : Configuration) (journal : List Event) (s : ThreadState) : Type 0 where
   pub fits : FitsFrom s.commands start journal
   pub settles : settled s.commands (configuration_after s.commands start journal) ≡ settled s.commands s.at
 
--- with the event of the demand, the journal is one of the thread past the demand; at the end it fits the thread to its end
+-- the journal with the event of the demand is one of the thread past the demand.
+-- At the end, the journal fits the thread to its end
 abbrev pub IsJournalPast : Configuration → List Event → Demand → ThreadState → Type 0
 IsJournalPast start journal (Read object) after = (value : ℕ) → IsJournalOf start (journal ++ Read object value ∷ []) (given after value)
 IsJournalPast start journal (Write object value) after = IsJournalOf start (journal ++ Write object value ∷ []) after
@@ -51,15 +53,17 @@ IsJournalPast start journal _ after = IsJournalOf start journal after
 abbrev pub JournalsKeepUp : Type 0
 JournalsKeepUp = (start : Configuration) (journal : List Event) (s : ThreadState) → IsJournalOf start journal s → IsJournalPast start journal (next_demand s) (after_demand s)
 
--- and when it gets a mark
+-- a journal keeps up with its thread when it gets a mark
 abbrev pub JournalsTakeMarks : Type 0
 JournalsTakeMarks = (start : Configuration) (journal : List Event) (s : ThreadState) (mark : Mark) → IsJournalOf start journal s → IsJournalOf start (journal ++ Marked mark ∷ []) s
 
--- from this start, the `region` commands that the thread ran, and those ahead of the access that it demands, are those before this access by the journal
+-- the `region` commands that the thread ran, and those ahead of its next access,
+-- are those before this access by the journal from this start
 abbrev pub CountsRegions : Configuration → List Event → ThreadState → Type 0
 CountsRegions start journal s = s.regions + regions_ahead s.commands s.at ≡ regions_before s.commands start journal
 
--- where the thread is asked for an access, it ran just those; and past the access they are counted on
+-- a thread that is asked for an access ran just the `region` commands before it by its journal.
+-- The count goes on past the access
 abbrev pub CountsPast : Configuration → List Event → Demand → ThreadState → Type 0
 CountsPast start journal (Read object) after =
     (after.regions ≡ regions_before after.commands start journal) × ((value : ℕ) → CountsRegions start (journal ++ Read object value ∷ []) (given after value))
@@ -75,7 +79,7 @@ abbrev pub RegionsAreCounted : Type 0
 RegionsAreCounted = (start : Configuration) (journal : List Event) (s : ThreadState)
     → IsJournalOf start journal s → CountsRegions start journal s → CountsPast start journal (next_demand s) (after_demand s)
 
--- a mark changes nothing of that
+-- a mark changes nothing of the count of regions
 abbrev pub MarksCountNoRegion : Type 0
 MarksCountNoRegion = (start : Configuration) (journal : List Event) (s : ThreadState) (mark : Mark)
     → CountsRegions start journal s → CountsRegions start (journal ++ Marked mark ∷ []) s

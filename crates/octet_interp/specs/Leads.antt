@@ -5,7 +5,8 @@ use Rattle.octet_model.specs.declared.command.Command.TheVariants.{Loop, Branch,
 use Rattle.octet_model.specs.Script.{is_nested}
 use Rattle.octet_model.specs.Thread.{end_from, matching_end, is_opened_at, place_after_close}
 
--- an opener leads past its end, an end where it says, and no other command leads anywhere
+-- the lead of a command: an opener leads past its end, an end to where its opener says.
+-- Any other command leads nowhere
 abbrev pub lead_of : List Command → ℕ → Option Command → ℕ
 lead_of commands place (Some (Loop test)) = suc (matching_end commands place)
 lead_of commands place (Some (Branch test)) = suc (matching_end commands place)
@@ -16,7 +17,7 @@ lead_of commands place _ = 0
 abbrev pub LeadsRight : List Command → List ℕ → ℕ → Type 0
 LeadsRight commands leads place = slice_index leads place ≡ lead_of commands place (slice_get commands place)
 
--- a table with the lead of each command
+-- the table has the lead of each command
 pub record IsLeadTable (commands : List Command) (leads : List ℕ) : Type 0 where
   pub len : length leads ≡ length commands
   pub right : (place : ℕ) → place < length commands → LeadsRight commands leads place
@@ -30,7 +31,8 @@ pub record HasItsLead (commands : List Command) (leads : List ℕ) (here place :
   pub right : LeadsRight commands leads place
   pub ended : (end : ℕ) → here ≤ end → is_opened_at commands place end ≡ false
 
--- the open ones of the openers below this place, lowest first, and a table that is right for all other commands below it and empty from it on
+-- the openers below this place that are still open, lowest first.
+-- The table is right for all other commands below this place, and empty from it on
 pub record IsMatched (commands : List Command) (here : ℕ) (opened leads : List ℕ) : Type 0 where
   pub len : length leads ≡ length commands
   pub nested : is_nested (length opened) (drop here commands) ≡ true

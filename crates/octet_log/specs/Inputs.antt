@@ -13,6 +13,7 @@ pub record IsInput (bytes : List ℕ) : Type 0 where
   pub fits : AreBytes bytes
   pub short : length bytes ≤ MAX_LOG_FILE
 
--- within its first four bytes a spelling lacks its word, and after them a field or a mark
+-- the cause to refuse a spelling without its last bytes: no magic within its first four bytes,
+-- and cut short after them
 abbrev pub cut_cause : List ℕ → LogCause
 cut_cause front = if nat_lt (length front) 4 then NoMagic else CutShort (length front)

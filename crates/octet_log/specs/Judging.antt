@@ -5,23 +5,23 @@ use Rattle.octet_log.specs.declared.cause.LogCause.TheVariants.{CutShort}
 use Rattle.octet_log.specs.declared.cause.LogFault.{LogFault}
 use Rattle.octet_log.specs.declared.cause.LogFault.TheVariants as faults
 
--- first the one, and then the other with what the one gave, unless it refuses
+-- the second reading with what the first gave, unless the first is refused
 infixl 10 ◌>>=◌
 abbrev pub ◌>>=◌ : {A B : Type 0} → Result A LogCause → (A → Result B LogCause) → Result B LogCause
 (Ok x) >>= f = f x
 (Err e) >>= f = Err e
 
--- a test that is to hold, and the cause where it does not
+-- the refusal for the cause, where the test does not hold
 abbrev pub wanted : Bool → LogCause → Result (Unit {0}) LogCause
 wanted true cause = Ok tt
 wanted false cause = Err cause
 
--- a field of one byte, and the bytes after it; total is the length of the whole input
+-- a field of one byte, and the bytes after it. The length of the whole input is `total`
 abbrev pub byte_at : ℕ → List ℕ → Result (ℕ × List ℕ) LogCause
 byte_at total [] = Err (CutShort total)
 byte_at total (byte ∷ rest) = Ok (byte, rest)
 
--- count things in a row, each read after the one before it, with a state that it changes
+-- a list of `count` things, each read after the one before it, with a state that each one changes
 unfoldable pub each_at : {A S : Type 0} → ℕ → (S → List ℕ → Result (A × List ℕ) LogCause) → (S → A → S) → S → List ℕ → Result (List A × List ℕ) LogCause
 each_at zero read next state bytes = Ok ([], bytes)
 each_at (suc count) read next state bytes = do
@@ -34,11 +34,11 @@ abbrev pub Fails : {Y : Type 0} → LogFault → Result Y LogCause → Type 0
 Fails faults.OutOfMemory judged = Unit {0}
 Fails (faults.Refused cause) judged = judged ≡ Err cause
 
--- what a call returned, seen by view, is what is decoded, unless memory ran out
+-- the call returned what is decoded, as `view` sees its result, unless memory ran out
 abbrev pub Gives : {X Y : Type 0} → (X → Y) → Result X LogFault → Result Y LogCause → Type 0
 Gives view (Ok x) judged = judged ≡ Ok (view x)
 Gives view (Err fault) judged = Fails fault judged
 
--- what was read before, and what is still read
+-- what is read, with the items read before put in front
 abbrev pub with_front : {A : Type 0} → List A → Result (List A × List ℕ) LogCause → Result (List A × List ℕ) LogCause
 with_front front read = read >>= λ x. Ok (front ++ x.0, x.1)

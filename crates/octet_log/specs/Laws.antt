@@ -6,7 +6,7 @@ use Rattle.octet_log.specs.Inputs.{IsInput}
 use Rattle.octet_log.specs.Spellings.{IsSpelling}
 use Rattle.octet_log.specs.Loading.{loaded}
 
--- what is judged to be a log is spelled so and valid, and each valid log is judged so by each of its spellings
+-- the bytes load as a log exactly where they spell it and it is valid, in either version
 abbrev pub LoadsLogs : Type 0
 LoadsLogs = (bytes : List ℕ) (logs : List ThreadLog) (digest : Option (List ℕ)) → IsInput bytes → (loaded bytes ≡ Ok (record { logs = logs; digest = digest })) ↔ (IsSpelling bytes digest logs × IsTrue (is_log logs))
 
@@ -14,6 +14,6 @@ LoadsLogs = (bytes : List ℕ) (logs : List ThreadLog) (digest : Option (List �
 abbrev pub SpellingsSpellOneLog : Type 0
 SpellingsSpellOneLog = (bytes : List ℕ) (one other : List ThreadLog) (digest second : Option (List ℕ)) → IsTrue (is_log one) → IsTrue (is_log other) → IsSpelling bytes digest one → IsSpelling bytes second other → (one ≡ other) × (digest ≡ second)
 
--- a log's spelling goes on in no other log's
+-- the spelling of one log is never a proper front of another's
 abbrev pub NoSpellingIsAPrefix : Type 0
 NoSpellingIsAPrefix = (front rest : List ℕ) (one other : List ThreadLog) (digest second : Option (List ℕ)) → IsTrue (is_log one) → IsTrue (is_log other) → IsSpelling front digest one → IsSpelling (front ++ rest) second other → rest ≡ []

@@ -19,13 +19,13 @@ pub record Reading : Type 0 where
   pub logs : List ThreadLog
   pub digest : Option (List ℕ)
 
--- all of the bytes: in version 2 where they begin so, and else in version 1
+-- what all of the bytes spell: in version 2 where they begin with its word, else in version 1
 unfoldable pub loaded : List ℕ → Result Reading LogCause
 loaded bytes =
     if bytes_eq (take 5 bytes) second_word
     then (second_at (length bytes) (drop 5 bytes) >>= λ read. Ok (record { logs = read.0; digest = Some read.1 }))
     else (decoded bytes >>= λ logs. Ok (record { logs = logs; digest = None }))
 
--- what spells a valid log is read as that log with its digest, unless memory ran out
+-- a spelling of a valid log is read as that log with its digest, unless memory ran out
 abbrev pub LoadsSpelling : {X : Type 0} → (X → Reading) → List ℕ → Result X LogFault → Type 0
 LoadsSpelling view bytes result = (logs : List ThreadLog) (digest : Option (List ℕ)) → IsTrue (is_log logs) → IsSpelling bytes digest logs → Gives view result (Ok (record { logs = logs; digest = digest }))

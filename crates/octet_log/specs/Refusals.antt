@@ -12,18 +12,18 @@ use Rattle.octet_log.specs.Loading.{loaded}
 abbrev pub BytesLackMagic : Type 0
 BytesLackMagic = (bytes : List ℕ) → take 4 bytes ≢ codes "OCTL" → loaded bytes ≡ Err NoMagic
 
--- after OCTL, a version other than 1 and 2 is bad
+-- a version other than 1 and 2 is bad
 abbrev pub NoVersionIsBad : Type 0
 NoVersionIsBad = (version : ℕ) (rest : List ℕ) → version ≢ 1 → version ≢ 2 → loaded (codes "OCTL" ++ version ∷ rest) ≡ Err BadVersion
 
--- after either version, a number of threads that is 0 or above the limit is bad
+-- a number of threads that is 0 or above the limit is bad, in either version
 abbrev pub NoThreadsAreBad : Type 0
 NoThreadsAreBad = (version threads : ℕ) (rest : List ℕ) → (version ≡ 1) ⊎ (version ≡ 2) → (threads ≡ 0) ⊎ (MAX_THREADS < threads) → loaded (codes "OCTL" ++ version ∷ threads ∷ rest) ≡ Err BadThreads
 
--- a byte after a spelling, in either version, is trailing, at its place
+-- a byte after a spelling is trailing at its place, in either version
 abbrev pub ByteAfterSpellingIsTrailing : Type 0
 ByteAfterSpellingIsTrailing = (bytes : List ℕ) (digest : Option (List ℕ)) (logs : List ThreadLog) (next : ℕ) (rest : List ℕ) → IsTrue (is_log logs) → IsSpelling bytes digest logs → loaded (bytes ++ next ∷ rest) ≡ Err (Trailing (length bytes))
 
--- a spelling without some of its last bytes lacks its word, or is cut where it ends
+-- a spelling without some of its last bytes has no magic, or is cut where it ends
 abbrev pub FrontOfSpellingIsCut : Type 0
 FrontOfSpellingIsCut = (front : List ℕ) (next : ℕ) (rest : List ℕ) (digest : Option (List ℕ)) (logs : List ThreadLog) → IsTrue (is_log logs) → IsSpelling (front ++ next ∷ rest) digest logs → loaded front ≡ Err (cut_cause front)

@@ -15,11 +15,11 @@ mark_words (Join from upto) = codes "join " ++ decimal from ++ codes " " ++ deci
 mark_words (Draw number) = codes "draw " ++ decimal number
 mark_words (Fence number) = codes "fence " ++ decimal number
 
--- a mark with its gap
+-- the line of a mark with its gap
 abbrev pub mark_line : Gapped → List ℕ
 mark_line gapped = codes "gap " ++ decimal gapped.gap ++ codes " " ++ mark_words gapped.mark ++ codes "\n"
 
--- a line for the thread, and one for each of its marks
+-- the line of a thread, and a line for each of its marks
 abbrev pub thread_text : ℕ → ThreadLog → List ℕ
 thread_text thread log =
     codes "thread " ++ decimal thread ++ codes " accesses " ++ decimal log.accesses ++ codes " marks " ++ decimal (length log.marks) ++ codes "\n"
@@ -30,11 +30,11 @@ abbrev pub thread_texts : ℕ → List ThreadLog → List ℕ
 thread_texts thread [] = []
 thread_texts thread (log ∷ logs) = thread_text thread log ++ thread_texts (suc thread) logs
 
--- how many threads there are, and the text of each
+-- the text of a log: its number of threads, and the text of each
 abbrev pub log_text : List ThreadLog → List ℕ
 log_text logs = codes "threads " ++ decimal (length logs) ++ codes "\n" ++ thread_texts 0 logs
 
--- the number of a cause, what it is called, and its place or its thread where it has one
+-- the number of a cause, its words, and its place or its thread where it has one
 abbrev pub refusal_words : LogCause → List ℕ
 refusal_words NoMagic = codes "1 no magic"
 refusal_words BadVersion = codes "2 bad version"
@@ -48,6 +48,6 @@ refusal_words (BadPiece at) = codes "9 bad piece at " ++ decimal at
 refusal_words (GapsOver thread) = codes "10 gaps over accesses of thread " ++ decimal thread
 refusal_words TooManyMarks = codes "11 too many marks"
 
--- the line that says why
+-- the line that says why bytes are refused as a log
 abbrev pub refusal_line : LogCause → List ℕ
 refusal_line cause = codes "log: " ++ refusal_words cause ++ codes "\n"

@@ -7,19 +7,19 @@ use Rattle.octet_state.specs.Steps.{May}
 use Rattle.octet_machine.specs.Machine.{MachineState, opening_machine, runner_of, next_kind, after_turn, have_ended, plain_state}
 use Rattle.octet_machine.specs.Running.{IsRunning}
 
--- before the first step the machine runs
+-- the machine before the first step is running
 abbrev pub OpeningIsRunning : Type 0
 OpeningIsRunning = (script : Script) → IsRunning (opening_machine script)
 
--- and each turn keeps it so
+-- each turn keeps a running machine running
 abbrev pub TurnsKeepRunning : Type 0
 TurnsKeepRunning = (m : MachineState) (me : ℕ) → IsRunning m → me < length m.runners → IsRunning (after_turn m me)
 
--- the step that is next for a thread that has not ended is one that it may take
+-- the next step of a thread that has not ended is one that it may take
 abbrev pub NextStepsMayBeTaken : Type 0
 NextStepsMayBeTaken = (m : MachineState) (me : ℕ) → IsRunning m → me < length m.runners → (runner_of m me).end ≡ None → May (next_kind m me) me m.protocol
 
--- once all threads have ended, the log of the journals and the cells make a faithful recording
+-- the log of the journals and the cells make a faithful recording, once all threads have ended
 abbrev pub EndIsFaithful : Type 0
 EndIsFaithful = (m : MachineState) → IsRunning m → have_ended m ≡ true
     → IsFaithful m.script (log_of m.protocol.journals) (outcome_of m.script (plain_state m.protocol))

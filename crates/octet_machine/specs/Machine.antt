@@ -30,22 +30,23 @@ pub record MachineState : Type 0 where
   pub runners : List Runner
   pub script : Script
 
--- a thread at its start
+-- the runner of a thread at its start
 abbrev pub starting_runner : ThreadState → Runner
 starting_runner state = record { config = state; value = 0; end = None }
 
--- there is none of that number
+-- the runner of a thread that is not there
 abbrev pub no_runner : Runner
 no_runner = starting_runner (record { commands = []; at = record { place = 0; registers = []; fuel = 0 }; waits = false; objects = 0; regions = 0 })
 
+-- the runner of a thread
 abbrev pub runner_of : MachineState → ℕ → Runner
 runner_of m thread = slice_index_or m.runners thread no_runner
 
--- the first `many` threads of a script, each at its start
+-- the runners of the first `many` threads of a script, each at its start
 abbrev pub starting_runners : Script → ℕ → List Runner
 starting_runners script many = map (λ thread. starting_runner (starting_thread script thread)) (range_with_len 0 many)
 
--- before the first step
+-- the machine of a script before the first step
 abbrev pub opening_machine : Script → MachineState
 opening_machine script = record {
   protocol = opening (length script.threads) (starting_heap script);
@@ -67,28 +68,30 @@ abbrev pub next_kind : MachineState → ℕ → Kind
 next_kind m me = let runner = runner_of m me in
     next_kind_by (length m.protocol.threads) me (kind_of_demand (next_demand runner.config)) runner.value (thread_of m.protocol me)
 
--- a thread that was told what its script demands next
+-- the runner after it was told what its script demands next
 abbrev pub taken_up : Demand → Runner → Runner
 taken_up (demand.Write object value) runner = record { config = after_demand runner.config; value = value; end = runner.end }
 taken_up (demand.Bump object amount) runner = record { config = after_demand runner.config; value = amount; end = runner.end }
 taken_up (demand.Ended end) runner = record { config = after_demand runner.config; value = runner.value; end = Some end }
 taken_up _ runner = record { config = after_demand runner.config; value = runner.value; end = runner.end }
 
--- what the step of a phase makes of a thread's run. A read gives it the word that it is told
+-- the runner after the step of a phase. A read gives it the word that it is told
 abbrev pub run_in_phase : ℕ → Phase → Runner → Runner
 run_in_phase word Idle runner = taken_up (next_demand runner.config) runner
 run_in_phase word (Pass object Read) runner = record { config = given runner.config word; value = runner.value; end = runner.end }
 run_in_phase word _ runner = runner
 
+-- the runner after the step, where the thread owed nothing, else the runner before it
 abbrev pub run_by_due : Due → Runner → Runner → Runner
 run_by_due Nothing before after = after
 run_by_due _ before after = before
 
+-- the runner after the thread's next step
 abbrev pub next_run : MachineState → ℕ → Runner
 next_run m me = let x = thread_of m.protocol me in
     run_by_due x.due (runner_of m me) (run_in_phase (told (next_kind m me) me m.protocol) x.phase (runner_of m me))
 
--- after the thread's next step
+-- the machine after the thread's next step
 abbrev pub after_step : MachineState → ℕ → MachineState
 after_step m me = record {
   protocol = step (next_kind m me) me m.protocol;
@@ -96,58 +99,63 @@ after_step m me = record {
   script = m.script;
 }
 
--- why it waits then, if it waits
+-- the reason why the thread waits after its next step, if it waits
 abbrev pub next_waits : MachineState → ℕ → Option Why
 next_waits m me = waits (next_kind m me) me (told (next_kind m me) me m.protocol) (thread_of m.protocol me)
 
+-- the answer of a turn whose thread waits for this reason, or for none
 abbrev pub turned_by : Option Why → Turned
 turned_by None = Moved
 turned_by (Some why) = Waits why
 
--- a turn of a thread that has ended changes nothing
+-- the machine after a turn. A turn of a thread that has ended changes nothing
 abbrev pub state_of_turn : Option End → MachineState → MachineState → MachineState
 state_of_turn None before after = after
 state_of_turn (Some end) before after = before
 
+-- the answer of a turn, which is Ended for a thread that has ended
 abbrev pub answer_of_turn : Option End → Turned → Turned
 answer_of_turn None turned = turned
 answer_of_turn (Some end) turned = Ended
 
--- after a turn of the thread
+-- the machine after a turn of the thread
 abbrev pub after_turn : MachineState → ℕ → MachineState
 after_turn m me = state_of_turn (runner_of m me).end m (after_step m me)
 
--- what the turn answers
+-- the answer of a turn of the thread
 abbrev pub turned : MachineState → ℕ → Turned
 turned m me = answer_of_turn (runner_of m me).end (turned_by (next_waits m me))
 
--- all threads have ended
+-- the test whether all threads have ended
 abbrev pub have_ended : MachineState → Bool
 have_ended m = list_all (λ runner. is_some runner.end) m.runners
 
--- the plain state of a run that has come to this: the cells are its heap
+-- the plain state of a run that has come to this state: its heap is the cells
 abbrev pub plain_state : ProtocolState → PlainState
 plain_state s = record { heap = s.cells; journals = s.journals; draws = s.counter }
 
+-- the test whether a demand is an access
 abbrev pub is_access : Demand → Bool
 is_access (demand.Read object) = true
 is_access (demand.Write object value) = true
 is_access (demand.Bump object amount) = true
 is_access _ = false
 
+-- the test whether a phase is idle
 abbrev pub is_idle : Phase → Bool
 is_idle Idle = true
 is_idle _ = false
 
--- idle, and nothing is due
+-- the test whether a thread is at rest: it is idle, and owes nothing
 abbrev pub is_at_rest : Thread → Bool
 is_at_rest x = is_idle x.phase && is_nothing x.due
 
--- how many accesses the thread has made, where it is idle, owes nothing, and is to demand an access next
+-- the number of accesses that a thread has made, if it is at rest and is to demand an access next
 abbrev pub wanted : MachineState → ℕ → Option ℕ
 wanted m thread =
     if is_at_rest (thread_of m.protocol thread) && is_access (next_demand (runner_of m thread).config) then Some (access_count (journal_of m.protocol.journals thread)) else None
 
--- after the thread has marked itself blocked for a while, between two demands. A thread that is not at rest changes nothing
+-- the machine after a thread at rest has marked itself blocked for a while, between two demands.
+-- A thread that is not at rest changes nothing
 abbrev pub after_rest : MachineState → ℕ → MachineState
 after_rest m me = if is_at_rest (thread_of m.protocol me) then record { protocol = step (ToBlock false) me m.protocol; runners = m.runners; script = m.script } else m

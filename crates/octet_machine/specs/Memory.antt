@@ -12,10 +12,11 @@ use Rattle.octet_state.specs.NextStep.{waits}
 use Rattle.octet_machine.specs.declared.memory.ProtocolThread.{ProtocolThread}
 use Rattle.octet_machine.specs.declared.memory.Memory.{Memory}
 
+-- the thread of the protocol that the memory holds
 abbrev pub thread_in : ProtocolThread → Thread
 thread_in x = record { phase = x.phase; due = x.due; count = x.count }
 
--- the state that the memory holds, of a run that started with these values
+-- the protocol's state that the memory holds, of a run that started with these values
 abbrev pub held : List ℕ → Memory → ProtocolState
 held starts m = record {
   counter = m.counter;
@@ -27,7 +28,7 @@ held starts m = record {
   starts = starts;
 }
 
--- how much there is of each, and for how many events each journal has room
+-- the shape of a memory: how much there is of each, and how many events each journal has room for
 pub record Shape : Type 0 where
   pub threads : ℕ
   pub statuses : ℕ
@@ -35,6 +36,7 @@ pub record Shape : Type 0 where
   pub cells : ℕ
   pub rooms : List ℕ
 
+-- the shape of this memory
 abbrev pub shape : Memory → Shape
 shape m = record {
   threads = length m.threads.items;
@@ -56,11 +58,11 @@ pub record IsObject (s : Shape) (object : ℕ) : Type 0 where
   pub there : object < s.cells
   pub states : s.states ≡ s.cells
 
--- with a thread in another place
+-- the state with this thread in its place
 abbrev pub with_thread : ProtocolState → ℕ → Thread → ProtocolState
 with_thread s me x = record s { threads = slice_set s.threads me x }
 
--- with one more event of a thread
+-- the state with one more event of a thread
 abbrev pub with_event : ProtocolState → ℕ → Event → ProtocolState
 with_event s me event = record s { journals = appended s.journals me event }
 
@@ -68,16 +70,16 @@ with_event s me event = record s { journals = appended s.journals me event }
 abbrev pub HasRoom : Memory → ℕ → Type 0
 HasRoom m me = now (held [] m) me < get_or (shape m).rooms me 0
 
--- a claim of this object for such an access
+-- the phase is a claim of this object for such an access
 abbrev pub IsClaimOf : ℕ → Mode → Phase → Type 0
 IsClaimOf object mode (Claimed claimed how prior done asked) = (claimed ≡ object) × (how ≡ mode)
 IsClaimOf object mode _ = ⊥
 
--- where the thread stands that the memory holds
+-- the thread as the memory holds it
 abbrev pub thread_here : Memory → ℕ → Thread
 thread_here m me = thread_of (held [] m) me
 
--- the memory holds what this makes of the state that it held, of whatever start, and is as large
+-- the memory holds what `made` makes of the state that it held, whatever the start, and keeps its shape
 pub record Becomes (made : ProtocolState → ProtocolState) (before after : Memory) : Type 0 where
   pub state : (starts : List ℕ) → held starts after ≡ made (held starts before)
   pub same_shape : shape after ≡ shape before
@@ -86,6 +88,6 @@ pub record Becomes (made : ProtocolState → ProtocolState) (before after : Memo
 abbrev pub TakesStep : Kind → ℕ → Memory → Memory → Type 0
 TakesStep k me = Becomes (step k me)
 
--- why the thread waits after it, if it waits
+-- the reason why the thread waits after the step, if it waits
 abbrev pub waits_here : Kind → ℕ → Memory → Option Why
 waits_here k me m = waits k me (told k me (held [] m)) (thread_here m me)

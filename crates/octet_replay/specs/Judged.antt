@@ -18,43 +18,47 @@ IsLawful script log = IsLawfulOrder script log (lowest_order script log)
 abbrev pub last_state : Script → List ThreadLog → PlainState
 last_state script log = state_after script log (lowest_order script log)
 
+-- the journal of a thread in that state
 abbrev pub last_journal : Script → List ThreadLog → ℕ → List Event
 last_journal script log thread = journal_of (last_state script log).journals thread
 
--- what the thread demands then
+-- what a thread demands in that state
 abbrev pub last_demand : Script → List ThreadLog → ℕ → AccessOrEnd
 last_demand script log thread =
     demanded (commands_of script thread) (configuration_after (commands_of script thread) (starting_configuration script.fuel) (last_journal script log thread))
 
+-- the demand is an end
 abbrev pub DemandsEnd : AccessOrEnd → Type 0
 DemandsEnd (ToEnd end) = Unit {0}
 DemandsEnd _ = ⊥
 
+-- the demand is an access
 abbrev pub DemandsAccess : AccessOrEnd → Type 0
 DemandsAccess (ToEnd end) = ⊥
 DemandsAccess _ = Unit {0}
 
--- a thread that is at its end too early: it demands its end, and has made fewer accesses than its log says
+-- a thread that ends too early: it demands its end, and has made fewer accesses than its log says
 pub record EndsEarly (demand : AccessOrEnd) (log : ThreadLog) (journal : List Event) : Type 0 where
   pub ends : DemandsEnd demand
   pub fewer : access_count journal < log.accesses
 
--- a thread that goes on too long: it has made as many accesses as its log says and no mark of it is left, and it demands one more access
+-- a thread that goes on too long: it demands one more access than its log says, and no mark of its log is left
 pub record GoesOn (demand : AccessOrEnd) (log : ThreadLog) (journal : List Event) : Type 0 where
   pub demands : DemandsAccess demand
   pub made : access_count journal ≡ log.accesses
   pub no_mark_left : length log.marks ≤ mark_count journal
 
--- how many accesses are found of a thread that does not fit its log: those that it made where it ends early, and one more than its log says where it goes on
+-- the number of accesses found of a thread that does not fit its log. A thread that ends early has made so many.
+-- A thread that goes on has one more than its log says
 abbrev pub Finds : AccessOrEnd → ThreadLog → List Event → ℕ → Type 0
 Finds demand log journal found =
     (EndsEarly demand log journal × (found ≡ access_count journal)) ⊎ (GoesOn demand log journal × (found ≡ suc log.accesses))
 
--- the same, of a thread when no thread may step
+-- the number of accesses found of a thread that does not fit its log, when no thread may step
 abbrev pub FindsOf : Script → List ThreadLog → ℕ → ℕ → Type 0
 FindsOf script log thread found = Finds (last_demand script log thread) (thread_log_of log thread) (last_journal script log thread) found
 
--- a misfit, for any number of accesses that is found
+-- a misfit is a thread of which some number of accesses is found
 abbrev pub IsMisfitThread : Script → List ThreadLog → ℕ → Type 0
 IsMisfitThread script log thread = (found : ℕ) × FindsOf script log thread found
 
@@ -68,7 +72,7 @@ pub record IsThreadsDiffer (script : Script) (log : List ThreadLog) (of_script o
   pub log_has : of_log ≡ length log
   pub differ : of_script ≢ of_log
 
--- the thread is the lowest misfit, `wanted` is how many accesses its log says, and `found` how many are found of it
+-- the thread is the lowest misfit. Its log says `wanted` accesses, and `found` are found of it
 pub record IsMisfit (script : Script) (log : List ThreadLog) (thread wanted found : ℕ) : Type 0 where
   pub agree : length script.threads ≡ length log
   pub within : thread < length log
@@ -76,14 +80,14 @@ pub record IsMisfit (script : Script) (log : List ThreadLog) (thread wanted foun
   pub finds : FindsOf script log thread found
   pub lowest : (lower : ℕ) → lower < thread → ¬ IsMisfitThread script log lower
 
--- no thread is a misfit, some thread has not finished, and these are the numbers of events that the threads made
+-- no thread is a misfit, but some thread has not finished. These are the numbers of events that the threads made
 pub record IsStuck (script : Script) (log : List ThreadLog) (positions : List ℕ) : Type 0 where
   pub agree : length script.threads ≡ length log
   pub fit : (thread : ℕ) → thread < length log → ¬ IsMisfitThread script log thread
   pub waits : (thread : ℕ) × (thread < length log) × ¬ IsFinished script log thread
   pub made : positions ≡ map (λ journal. length journal) (last_state script log).journals
 
--- when a replay is refused so. Out of memory alone may come at any time
+-- the refusal of a replay has its cause. Out of memory alone may come at any time
 abbrev pub HasCause : Script → List ThreadLog → ReplayFault → Type 0
 HasCause script log (ThreadsDiffer of_script of_log) = IsThreadsDiffer script log of_script of_log
 HasCause script log (Stuck positions) = IsStuck script log positions

@@ -19,12 +19,12 @@ pub record IsWholeOutcome (script : Script) (outcome : Outcome) : Type 0 where
   pub reads : length outcome.reads ≡ length script.threads
   pub heap : length outcome.heap ≡ length script.objects
 
--- one of the refusals has its cause, or the lowest order is lawful
+-- either the lowest order is lawful, or one of the refusals has its cause
 abbrev pub LawfulOrRefused : Type 0
 LawfulOrRefused = (script : Script) (log : List ThreadLog)
     → IsLawful script log ⊎ ((fault : ReplayFault) × (fault ≢ OutOfMemory) × HasCause script log fault)
 
--- where the lowest order is lawful, no refusal has its cause
+-- no refusal has its cause, where the lowest order is lawful
 abbrev pub LawfulIsNotRefused : Type 0
 LawfulIsNotRefused = (script : Script) (log : List ThreadLog) (fault : ReplayFault)
     → IsLawful script log → fault ≢ OutOfMemory → ¬ HasCause script log fault
@@ -43,24 +43,24 @@ FaithfulIsLawful = (script : Script) (log : List ThreadLog) (outcome : Outcome) 
 abbrev pub ExecutionIsWhole : Type 0
 ExecutionIsWhole = (script : Script) (log : List ThreadLog) (order : List ℕ) → IsWholeOutcome script (execution script log order)
 
--- the events of a trace that are of one thread
+-- the events of one thread in a trace
 abbrev pub told_of : ℕ → List (Place × Event) → List (Place × Event)
 told_of thread trace = filter (λ item. item.0.thread == thread) trace
 
--- a thread's events, each with its place, numbered from here on
+-- the events of a thread with their places, numbered from this number on
 abbrev pub placed_from : ℕ → List Event → ℕ → List (Place × Event)
 placed_from thread [] number = []
 placed_from thread (event ∷ journal) number = (record { thread = thread; event = number }, event) ∷ placed_from thread journal (suc number)
 
--- of each thread the trace of the lowest order has the journal, event by event, at the places 0, 1, 2 and so on
+-- the events of a thread in the trace of the lowest order are its journal, at the places 0, 1, 2 and on
 abbrev pub TraceHasJournals : Type 0
 TraceHasJournals = (script : Script) (log : List ThreadLog) (thread : ℕ)
     → told_of thread (trace_of script log) ≡ placed_from thread (journal_of (journals_after script log (lowest_order script log)) thread) 0
 
--- and its events are of the threads that step, in their order
+-- the events of the trace are of the threads that step, in their order
 abbrev pub TraceFollowsOrder : Type 0
 TraceFollowsOrder = (script : Script) (log : List ThreadLog) → map (λ item. item.0.thread) (trace_of script log) ≡ lowest_order script log
 
--- and after them no thread may step
+-- no thread may step after the events of the trace
 abbrev pub TraceIsWhole : Type 0
 TraceIsWhole = (script : Script) (log : List ThreadLog) (thread : ℕ) → length script.threads ≡ length log → IsFalse (may_step (by_log script log) (last_state script log) thread)

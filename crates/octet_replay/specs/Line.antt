@@ -6,7 +6,8 @@ use Rattle.octet_model.specs.Texts.{value_word}
 use Rattle.octet_replay.specs.declared.fault.ReplayFault.{ReplayFault}
 use Rattle.octet_replay.specs.declared.fault.ReplayFault.TheVariants.{ThreadsDiffer, Stuck, Misfit, OutOfMemory}
 
--- both counts of threads, each thread's position, or the misfit's accesses; out of memory has no line
+-- the line of a refusal: both counts of threads, each thread's position, or the misfit's accesses.
+-- Out of memory has no line
 abbrev pub fit_line : ReplayFault → List ℕ
 fit_line (ThreadsDiffer script log) = codes "fit: threads " ++ decimal script ++ codes " in the script, " ++ decimal log ++ codes " in the log\n"
 fit_line (Stuck positions) = codes "fit: stuck at" ++ flat_map value_word positions ++ codes "\n"

@@ -16,7 +16,7 @@ use Rattle.octet_replay.specs.declared.stepped.Stepped.TheVariants.{Made, Halted
 use Rattle.octet_replay.specs.Judged.{IsThreadsDiffer}
 use Rattle.octet_replay.specs.NextSteps.{as_next}
 
--- a script, a log, and how many steps of their lowest order were made
+-- the state of a replay: a script, a log, and how many steps of their lowest order were made
 pub record ReplayState : Type 0 where
   pub script : Script
   pub log : Log
@@ -26,6 +26,7 @@ pub record ReplayState : Type 0 where
 abbrev pub state_at : Script → List ThreadLog → ℕ → PlainState
 state_at script log steps = state_after script log (take steps (lowest_order script log))
 
+-- the plain machine's state at this point of the replay
 abbrev pub plain_state : ReplayState → PlainState
 plain_state r = state_at r.script r.log.threads r.steps
 
@@ -52,23 +53,24 @@ pub record IsLowestStep (r : ReplayState) (step : LowestStep) : Type 0 where
   pub of_thread : IsNextThread r step.thread
   pub is : as_next step.next ≡ next_of (by_log r.script r.log.threads) (plain_state r) step.thread
 
--- one step more, or nothing where no thread may step
+-- the replay made one step more, or made none since no thread may step
 abbrev pub StepsTo : ReplayState → Stepped → ReplayState → Type 0
 StepsTo before (Made thread event) after = IsNextStep before thread event × (after ≡ record before { steps = suc before.steps })
 StepsTo before Halted after = HasHalted before × (after ≡ before)
 
--- one step more, or several
+-- the replay made one step more, or several
 pub record GoesOn (before after : ReplayState) : Type 0 where
   pub same_script : after.script ≡ before.script
   pub same_log : after.log ≡ before.log
   pub more : before.steps < after.steps
   pub within : after.steps ≤ length (lowest_order before.script before.log.threads)
 
--- how many `region` commands a thread has run before its next access, or before its end where it makes none more
+-- the number of `region` commands that a thread has run before its next access,
+-- or before its end where no access follows
 abbrev pub regions_of : ReplayState → ℕ → ℕ
 regions_of r thread = regions_before (commands_of r.script thread) (starting_configuration r.script.fuel) (journal_of (plain_state r).journals thread)
 
--- why no replay is begun: the numbers of threads differ. Out of memory alone may come at any time
+-- a replay is not begun where the numbers of threads differ. Out of memory alone may come at any time
 abbrev pub IsNotBegun : Script → List ThreadLog → ReplayFault → Type 0
 IsNotBegun script log (ThreadsDiffer of_script of_log) = IsThreadsDiffer script log of_script of_log
 IsNotBegun script log OutOfMemory = Unit {0}

@@ -23,16 +23,16 @@ use Rattle.octet_replay.specs.ReplayState.{ReplayState, plain_state}
 use Rattle.octet_replay.specs.Threads.{need_of, next_by_counts, DemandsWithin, Grown, HasCounts, HasRoomFor, IsReplayOf, StandsFor, WritesWithin}
 use Rattle.octet_replay.specs.Judged.{Finds}
 
--- what contracts of a replayer see: as many steps were made as the threads have made events
+-- the state that contracts see of a replayer: it made as many steps as its threads have events
 abbrev pub state_of : Replay → ReplayState
 state_of r = record { script = r.script.value; log = r.log.value; steps = sum r.waits.events }
 
--- each thread of the script as far as it is replayed
+-- each thread of the script is replayed as far as its journal says
 abbrev pub AreReplaysOf : Script → List ThreadLog → Journals → List ThreadReplay → Type 0
 AreReplaysOf script log journals threads = (thread : ℕ) (t : ThreadReplay) → slice_get threads thread ≡ Some t
     → IsReplayOf (commands_of script thread) (starting_configuration script.fuel) (length script.objects) (thread_log_of log thread) (journal_of journals thread) t
 
--- as many needs as threads: each thread waits for what is next for it by its log
+-- each thread has one need: it waits for what is next for it by its log
 pub record AreNeedsOf (log : List ThreadLog) (threads : List ThreadReplay) (needs : List Need) : Type 0 where
   pub as_many : length needs ≡ length threads
   pub each : (thread : ℕ) (t : ThreadReplay) (need : Need) → slice_get threads thread ≡ Some t → slice_get needs thread ≡ Some need → need ≡ need_of (next_by_counts (thread_log_of log thread) t)
@@ -45,7 +45,7 @@ pub record AwaitsNext (behavior : Behavior) (s : PlainState) (w : NeedsAndCounts
   pub events : (thread : ℕ) → slice_index w.events thread ≡ length (journal_of s.journals thread)
   pub draws : w.draws ≡ s.draws
 
--- threads, heap and needs in a state of the plain machine
+-- the threads, the heap and the needs are those of a state of the plain machine
 pub record StandsAt (script : Script) (log : List ThreadLog) (s : PlainState) (threads : List ThreadReplay) (heap : List ℕ) (w : NeedsAndCounts) : Type 0 where
   pub as_many : length threads ≡ length s.journals
   pub each : AreReplaysOf script log s.journals threads
@@ -58,6 +58,7 @@ pub record IsAt (r : Replay) : Type 0 where
   pub agree : length r.script.value.threads ≡ length r.log.value.threads
   pub stands : StandsAt r.script.value r.log.value.threads (plain_state (state_of r)) r.threads.items r.heap.items r.waits
 
+-- the test whether an event is a draw
 abbrev pub is_draw : Event → Bool
 is_draw (Marked (Draw number)) = true
 is_draw _ = false
@@ -73,7 +74,7 @@ pub record CanMake (r : Replay) (thread : ℕ) (event : Event) : Type 0 where
   pub events : suc (slice_index r.waits.events thread) < 2 ^ 64
   pub draws : is_draw event ≡ true → suc r.waits.draws < 2 ^ 64
 
--- what is next for a thread with this log; an access names one of the objects where what it demands does
+-- what is next for a thread with this log. An access names one of the objects, where the thread's demand does
 pub record IsNextOf (log : ThreadLog) (t : ThreadReplay) (next : NextStep) : Type 0 where
   pub is : as_next next ≡ next_by_counts log t
   pub within : (objects : ℕ) → DemandsWithin objects t → AccessesWithin objects next
@@ -82,7 +83,7 @@ pub record IsNextOf (log : ThreadLog) (t : ThreadReplay) (next : NextStep) : Typ
 abbrev pub IsNextAt : Replay → ℕ → NextStep → Type 0
 IsNextAt r thread next = (t : ThreadReplay) → slice_get r.threads.items thread ≡ Some t → IsNextOf (thread_log_of r.log.value.threads thread) t next
 
--- after the thread's event, with what is next for it then
+-- the replay made the thread's event, and this is what is next for the thread
 pub record MakesEvent (before : Replay) (thread : ℕ) (event : Event) (next : NextStep) (after : Replay) : Type 0 where
   pub was : ThreadReplay
   pub becomes : ThreadReplay
@@ -95,14 +96,15 @@ pub record MakesEvent (before : Replay) (thread : ℕ) (event : Event) (next : N
   pub script : after.script ≡ before.script
   pub log : after.log ≡ before.log
 
--- how many accesses are found of a thread that does not fit its log, by what it demands next
+-- the number of accesses found of a thread that does not fit its log, by what it demands next
 abbrev pub FindsIn : ThreadLog → ThreadReplay → ℕ → Type 0
 FindsIn log t found = (journal : List Event) → HasCounts journal t → Finds (demand_of t.up_next) log journal found
 
+-- no number of accesses is found of the thread: it is no misfit
 abbrev pub FindsNothing : ThreadLog → ThreadReplay → Type 0
 FindsNothing log t = (journal : List Event) (found : ℕ) → HasCounts journal t → ¬ Finds (demand_of t.up_next) log journal found
 
--- the lowest misfit, as it is told
+-- the thread is the lowest misfit, with the accesses that its log says and those found of it
 pub record IsLowestMisfit (log : List ThreadLog) (threads : List ThreadReplay) (thread wanted found : ℕ) : Type 0 where
   pub it : ThreadReplay
   pub is_there : slice_get threads thread ≡ Some it
@@ -110,6 +112,7 @@ pub record IsLowestMisfit (log : List ThreadLog) (threads : List ThreadReplay) (
   pub finds : FindsIn (thread_log_of log thread) it found
   pub lowest : (lower : ℕ) (t : ThreadReplay) → lower < thread → slice_get threads lower ≡ Some t → FindsNothing (thread_log_of log lower) t
 
+-- the fault tells the lowest misfit
 abbrev pub TellsMisfit : List ThreadLog → List ThreadReplay → ReplayFault → Type 0
 TellsMisfit log threads (Misfit thread wanted found) = IsLowestMisfit log threads thread wanted found
 TellsMisfit log threads _ = ⊥

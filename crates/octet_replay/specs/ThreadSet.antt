@@ -4,6 +4,7 @@ use Rattle.std.specs.Int.{bit_at}
 use Rattle.octet_model.specs.declared.limits.TheConstants.{MAX_THREADS}
 use Rattle.octet_replay.specs.declared.thread_set.ThreadSet.{ThreadSet}
 
+-- the test whether a thread is in the set
 abbrev pub has : ThreadSet → ℕ → Bool
 has set thread = bit_at set.bits thread == 1
 

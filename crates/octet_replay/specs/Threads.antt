@@ -18,13 +18,14 @@ use Rattle.octet_replay.specs.declared.need.Need.TheVariants.{Free, Events, Draw
 use Rattle.octet_replay.specs.declared.thread.ThreadReplay.{ThreadReplay}
 use Rattle.octet_replay.specs.NextDemand.{demand_of, CountsAhead, IsDemandedNext, NamesObject}
 
--- the counts are those of the journal
+-- the counts of the thread are those of the journal
 pub record HasCounts (journal : List Event) (t : ThreadReplay) : Type 0 where
   pub counts_marks : t.marks ≡ mark_count journal
   pub counts_accesses : t.accesses ≡ access_count journal
   pub counts_gap : t.gap ≡ gap_after 0 journal
 
--- a thread with these commands and this log, after a journal from the start: its counts and the values read are those of the journal, what it demands next is what it demands then, and the `region` commands that it ran are those before that
+-- a thread of these commands and this log, replayed to the end of a journal. Its counts, its values read,
+-- its next demand and the `region` commands run before are those of the journal
 pub record IsReplayOf (commands : List Command) (start : Configuration) (objects : ℕ) (log : ThreadLog) (journal : List Event) (t : ThreadReplay) : Type 0 where
   pub counts : HasCounts journal t
   pub comes : IsDemandedNext commands (configuration_after commands start journal) t.up_next t.config
@@ -37,27 +38,29 @@ pub record IsReplayOf (commands : List Command) (start : Configuration) (objects
   pub few_accesses : t.accesses ≤ log.accesses
   pub few_marks : t.marks ≤ length log.marks
 
--- what is next by the log, from the counts and what it demands next
+-- what is next for a thread by its log, from its counts and what it demands next
 abbrev pub next_by_counts : ThreadLog → ThreadReplay → Next
 next_by_counts log t =
     mark_first (due_mark (slice_get log.marks t.marks) t.gap)
     (next_access (demand_of t.up_next) (nat_lt t.accesses log.accesses) (nat_lt t.marks (length log.marks)))
 
--- how it ended, where it demands its end
+-- the end of a thread that demands its end
 abbrev pub end_told : ThreadReplay → End
 end_told t = end_of (demand_of t.up_next)
 
+-- the number of accesses that the thread has made
 abbrev pub accesses_made : ThreadReplay → ℕ
 accesses_made t = t.accesses
 
+-- the values that the thread has read
 abbrev pub values_of : ThreadReplay → List ℕ
 values_of t = t.reads.items
 
--- what it demands next names one of the objects, by their number
+-- the object that the thread's next demand names is one of so many objects
 abbrev pub DemandsWithin : ℕ → ThreadReplay → Type 0
 DemandsWithin objects t = NamesObject objects t.up_next
 
--- what a thread waits for that is to step so
+-- the need of a thread that is to step next like this
 abbrev pub need_of : Next → Need
 need_of (Wants (MakeMark (Join from upto))) = Events from upto
 need_of (Wants (MakeMark (Draw zero))) = Never
@@ -69,46 +72,46 @@ need_of (Wants (MakeUpdate object change)) = Free
 need_of Finished = Never
 need_of NothingFits = Never
 
--- the event that is next on this heap, if an operation is next
+-- the event that the next operation makes on this heap, if an operation is next
 abbrev pub next_event : Next → List ℕ → Option Event
 next_event (Wants operation) heap = Some (event_made operation heap)
 next_event _ heap = None
 
--- the thread stands before the event: a read waits for its value, and no other does
+-- the thread stands before the event. A thread before a read waits for its value, any other does not
 abbrev pub StandsFor : Event → ThreadReplay → Type 0
 StandsFor (Read object value) t = t.config.waits ≡ true
 StandsFor (Write object value) t = t.config.waits ≡ false
 StandsFor (Update object old new) t = t.config.waits ≡ false
 StandsFor (Marked mark) t = Unit {0}
 
--- there is room to count the event
+-- the thread has room to count the event
 abbrev pub HasRoomFor : Event → ThreadReplay → Type 0
 HasRoomFor (Marked mark) t = suc t.marks < 2 ^ 64
 HasRoomFor (Read object value) t = (suc t.accesses < 2 ^ 32) × (suc t.gap < 2 ^ 32) × (vec_len t.reads < vec_capacity t.reads)
 HasRoomFor (Write object value) t = (suc t.accesses < 2 ^ 32) × (suc t.gap < 2 ^ 32)
 HasRoomFor (Update object old new) t = (suc t.accesses < 2 ^ 32) × (suc t.gap < 2 ^ 32)
 
--- a write or an update names one of the objects, by their number
+-- the object of a write or an update is one of so many objects
 abbrev pub WritesWithin : ℕ → Event → Type 0
 WritesWithin objects (Write object value) = object < objects
 WritesWithin objects (Update object old new) = object < objects
 WritesWithin objects _ = Unit {0}
 
--- after an access the thread comes to what it demands past it; a mark changes nothing of that
+-- the thread comes to what it demands past the access. A mark changes nothing of what it demands
 abbrev pub IsPastEvent : Event → ThreadReplay → ThreadReplay → Type 0
 IsPastEvent (Read object value) before after = IsDemandedNext before.config.commands (given before.config value).at after.up_next after.config
 IsPastEvent (Write object value) before after = IsDemandedNext before.config.commands before.config.at after.up_next after.config
 IsPastEvent (Update object old new) before after = IsDemandedNext before.config.commands before.config.at after.up_next after.config
 IsPastEvent (Marked mark) before after = (after.up_next ≡ before.up_next) × (after.config ≡ before.config)
 
--- past an access it ran the `region` commands up to the next one
+-- the thread counts the `region` commands past an access, up to the next one
 abbrev pub CountsOn : Event → ThreadReplay → ThreadReplay → Type 0
 CountsOn (Read object value) before after = CountsAhead (given before.config value) after.config
 CountsOn (Write object value) before after = CountsAhead before.config after.config
 CountsOn (Update object old new) before after = CountsAhead before.config after.config
 CountsOn (Marked mark) before after = after.config.regions ≡ before.config.regions
 
--- one thread before an event and after it
+-- a thread before an event and after it
 pub record Grown (before : ThreadReplay) (event : Event) (after : ThreadReplay) : Type 0 where
   pub reads : after.reads.items ≡ before.reads.items ++ values_read (event ∷ [])
   pub room : vec_capacity after.reads ≡ vec_capacity before.reads
@@ -121,7 +124,7 @@ pub record Grown (before : ThreadReplay) (event : Event) (after : ThreadReplay) 
   pub has : after.config.objects ≡ before.config.objects
   pub names : NamesObject before.config.objects before.up_next → NamesObject before.config.objects after.up_next
 
--- one thread before an access is counted and after it
+-- a thread before an access is counted and after it
 pub record Counted (before after : ThreadReplay) : Type 0 where
   pub reads : after.reads ≡ before.reads
   pub marks : after.marks ≡ before.marks

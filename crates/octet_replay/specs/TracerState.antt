@@ -9,7 +9,7 @@ use Rattle.octet_model.specs.Orders.{lowest_order}
 use Rattle.octet_model.specs.Traces.{trace_of}
 use Rattle.octet_replay.specs.ReplayState.{ReplayState, plain_state}
 
--- a script, a log, and how many events of their trace were told
+-- the state of a tracer: a script, a log, and how many events of their trace were told
 pub record TracerState : Type 0 where
   pub script : Script
   pub log : Log
@@ -19,12 +19,13 @@ pub record TracerState : Type 0 where
 abbrev pub HasToldAll : TracerState → Type 0
 HasToldAll t = t.told ≡ length (trace_of t.script t.log.threads)
 
--- the event of the trace that comes next, with its place, and one more was told; or none is left, and nothing is changed
+-- the tracer told the next event of the trace with its place.
+-- It told nothing, and nothing changed, where no event is left
 abbrev pub TellsNext : TracerState → Option (Place × Event) → TracerState → Type 0
 TellsNext before (Some item) after = (slice_get (trace_of before.script before.log.threads) before.told ≡ Some item) × (after ≡ record before { told = suc before.told })
 TellsNext before None after = HasToldAll before × (after ≡ before)
 
--- the replay has not gone past the lowest order, and of each thread so many events were made
+-- the replay has not gone past the lowest order, and these are the numbers of events that its threads made
 pub record IsTracedTo (r : ReplayState) (made : List ℕ) : Type 0 where
   pub agree : length r.script.threads ≡ length r.log.threads
   pub within : r.steps ≤ length (lowest_order r.script r.log.threads)

@@ -13,11 +13,11 @@ pub record Awaits (list : WaitingList) (thread number : ℕ) : Type 0 where
   pub is_in : has list.threads thread ≡ true
   pub soonest : list.soonest ≤ number
 
--- the needs and the counts
+-- the needs and the counts of the lists
 abbrev pub counts_of : Lists → NeedsAndCounts
 counts_of l = record { needs = l.needs.items; events = l.events.items; draws = l.draws }
 
--- where a need may change, the thread is on the list of the count at which it does
+-- the thread is on the list of the count at which its need may change, if there is such a count
 abbrev pub IsListed : Lists → ℕ → Need → Type 0
 IsListed l thread (Events of count) = (list : WaitingList) → slice_get l.at_events.items of ≡ Some list → slice_index l.events.items of < count → Awaits list thread count
 IsListed l thread (DrawsAre count) = (l.draws ≡ count → Awaits l.at_draws thread (suc count)) × (l.draws < count → Awaits l.at_draws thread count)
@@ -29,7 +29,8 @@ pub record IsPlaced (l : Lists) (thread : ℕ) : Type 0 where
   pub ready : has l.ready thread ≡ is_ready (counts_of l) thread
   pub listed : (need : Need) → slice_get l.needs.items thread ≡ Some need → IsListed l thread need
 
--- no more threads than a script may have, as many counts and lists, and needs of these threads
+-- the lists have a need, a count and a list for each thread, needs name these threads,
+-- and there are no more threads than a script may have
 pub record IsSized (l : Lists) : Type 0 where
   pub few : length l.needs.items ≤ MAX_THREADS
   pub events : length l.events.items ≡ length l.needs.items
@@ -40,16 +41,16 @@ pub record IsSized (l : Lists) : Type 0 where
 abbrev pub ArePlacedBut : Lists → ℕ → Type 0
 ArePlacedBut l but = (thread : ℕ) → thread ≢ but → IsPlaced l thread
 
--- the needs and the counts are these, and there are as many lists as before
+-- the lists have these needs and counts, and are as many as before
 pub record Keeps (counts : NeedsAndCounts) (before after : Lists) : Type 0 where
   pub counts_are : counts_of after ≡ counts
   pub as_many : length after.at_events.items ≡ length before.at_events.items
 
--- after one more draw
+-- the needs and counts after one more draw
 abbrev pub with_draw : NeedsAndCounts → NeedsAndCounts
 with_draw w = record w { draws = suc w.draws }
 
--- every thread is placed
+-- every thread is placed, and the lists are sized
 pub record AreKept (l : Lists) : Type 0 where
   pub sized : IsSized l
   pub placed : (thread : ℕ) → IsPlaced l thread

@@ -7,6 +7,7 @@ use Rattle.octet_model.specs.Script.{is_command, is_nested, is_thread, are_disti
 use Rattle.octet_script.specs.declared.builder.Builder.{Builder}
 use Rattle.octet_script.specs.Parsing.{Draft, threads_of, names_of, fuel_of}
 
+-- what the lines so far have said, as the builder holds it
 abbrev pub draft : Builder → Draft
 draft b = record {
   fuel = b.fuel;
@@ -17,11 +18,12 @@ draft b = record {
   openers = reverse b.openers.items;
 }
 
--- with the present thread among those before
+-- the draft whose present thread stands among the threads before it
 abbrev pub with_present_thread : Draft → Draft
 with_present_thread p = record p { threads = threads_of p; commands = [] }
 
--- with the openers that are still open: each is ended once all is valid
+-- a draft is valid so far: all it says is within its limits.
+-- Its openers are those that are still open and need an `end`
 pub record IsValidSoFar (p : Draft) : Type 0 where
   pub fuel : IfSome p.fuel (λ fuel. (1 ≤ fuel) × (fuel ≤ MAX_FUEL))
   pub objects : length p.objects ≤ MAX_OBJECTS

@@ -3,6 +3,7 @@ use Rattle.std.specs.Prelude.{ℕ, List, codes}
 use Rattle.octet_script.specs.declared.cause.ScriptCause.{ScriptCause}
 use Rattle.octet_script.specs.declared.cause.ScriptCause.TheVariants.{NotUtf8, UnknownWord, WrongCount, BadNumber, BadName, NameTwice, NoSuchObject, BadRegister, Misplaced, Unclosed, EndWithoutOpen, TooMany, NoThread, BadFuel}
 
+-- the number of a cause
 abbrev pub cause_number : ScriptCause → ℕ
 cause_number NotUtf8 = 1
 cause_number UnknownWord = 2
@@ -19,6 +20,7 @@ cause_number TooMany = 12
 cause_number NoThread = 13
 cause_number BadFuel = 14
 
+-- the words for a cause
 abbrev pub cause_text : ScriptCause → List ℕ
 cause_text NotUtf8 = codes "not UTF-8"
 cause_text UnknownWord = codes "unknown word"

@@ -6,7 +6,7 @@ use Rattle.octet_model.specs.Name.{is_name}
 use Rattle.octet_script.specs.Spelling.{Spells, contents, object_names, canonical_text}
 use Rattle.octet_script.specs.Parsing.{parsed}
 
--- a text is judged to say what a script says exactly where it spells the script
+-- the parsed text says what a script says exactly where the text spells this script
 abbrev pub ParsedIsSpelled : Type 0
 ParsedIsSpelled = (text : List ℕ) (script : Script) → (parsed text ≡ Ok (contents script)) ↔ Spells text script
 
@@ -14,7 +14,7 @@ ParsedIsSpelled = (text : List ℕ) (script : Script) → (parsed text ≡ Ok (c
 abbrev pub OneScript : Type 0
 OneScript = (text : List ℕ) (script other : Script) → Spells text script → Spells text other → other ≡ script
 
--- the objects' names have the form of names; each `Name` has it by its type
+-- the objects' names have the form of names. Each `Name` has this form by its type
 abbrev pub AreNamed : Script → Type 0
 AreNamed script = IsTrue (list_all is_name (object_names script.objects))
 

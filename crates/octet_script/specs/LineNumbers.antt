@@ -9,18 +9,21 @@ pub record NumberedLine : Type 0 where
   pub number : ℕ
   pub words : List (List ℕ)
 
--- lines, numbered from here on
+-- the lines with their numbers, counted from this number
 abbrev pub numbered_from : ℕ → List (List ℕ) → List NumberedLine
 numbered_from number [] = []
 numbered_from number (line ∷ more) = record { number = number; words = words_of_line line } ∷ numbered_from (suc number) more
 
+-- the test whether the first word is `thread`
 abbrev pub begin_thread : List (List ℕ) → Bool
 begin_thread [] = false
 begin_thread (first ∷ others) = bytes_eq first (codes "thread")
 
+-- the test whether a line begins a thread
 abbrev pub is_thread_line : NumberedLine → Bool
 is_thread_line line = begin_thread line.words
 
+-- the test whether a line has words
 abbrev pub has_words : NumberedLine → Bool
 has_words line = is_filled line.words
 
@@ -28,6 +31,7 @@ has_words line = is_filled line.words
 abbrev pub numbers_of : List NumberedLine → List ℕ
 numbers_of part = map (λ line. line.number) (filter has_words part)
 
--- of each thread the numbers of its commands' lines, where lines count from 1: those with words that stand after its `thread` line and before the next one
+-- the numbers of the lines of each thread's commands, counted from 1.
+-- They are the lines with words after its `thread` line, up to the next one
 abbrev pub command_lines : List ℕ → List (List ℕ)
 command_lines text = map numbers_of (drop 1 (slice_split is_thread_line (numbered_from 1 (lines text))))

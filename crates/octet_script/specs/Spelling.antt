@@ -12,7 +12,7 @@ use Rattle.octet_model.specs.declared.limits.TheConstants.{DEFAULT_FUEL}
 use Rattle.octet_model.specs.Name.{IsName}
 use Rattle.octet_script.specs.Words.{lines_with_words}
 
--- 1 to 20 digits, with a value below 2 ^ 64
+-- the test for a number: 1 to 20 digits, with a value below 2 ^ 64
 abbrev pub is_number : List ℕ → Bool
 is_number word = nat_le 1 (length word) && nat_le (length word) 20 && all_ascii_digits word && nat_lt (digits_value 10 word) (2 ^ 64)
 
@@ -34,7 +34,8 @@ register_of word = position (bytes_eq word) register_words
 abbrev pub object_named : List (List ℕ) → List ℕ → Option ℕ
 object_named names word = position (bytes_eq word) names
 
--- what stands at a place of a line: a word of the language, a number, a register, an object or the name of a new one
+-- what stands at a place of a line: a word of the language, a number, a register, an object,
+-- or the name of a new object
 pub data Part : Type 0 where
   Word : (word : List ℕ) → Part
   Number : (number : ℕ) → Part
@@ -75,6 +76,7 @@ pub record Declaration : Type 0 where
   pub name : List ℕ
   pub start : ℕ
 
+-- what a line declares of an object: its name and its starting value
 abbrev pub declaration : Object → Declaration
 declaration object = record { name = object.name; start = object.start }
 
@@ -83,15 +85,16 @@ pub data Head : Type 0 where
   FuelHead : (fuel : ℕ) → Head
   ObjectHead : (object : Declaration) → Head
 
+-- the parts of a head's line
 abbrev pub head_form : Head → List Part
 head_form (FuelHead fuel) = Word (codes "fuel") ∷ Number fuel ∷ []
 head_form (ObjectHead object) = Word (codes "object") ∷ New object.name ∷ Number object.start ∷ []
 
--- `thread` and the thread's commands
+-- the parts of a thread's lines: `thread` and the thread's commands
 abbrev pub thread_forms : List Command → List (List Part)
 thread_forms commands = (Word (codes "thread") ∷ []) ∷ map command_form commands
 
--- all lines, in order
+-- the parts of all lines of a script, in order
 abbrev pub script_forms : List Head → List (List Command) → List (List Part)
 script_forms heads threads = map head_form heads ++ flat_map thread_forms threads
 
@@ -111,10 +114,11 @@ declared (ObjectHead object ∷ heads) = object ∷ declared heads
 abbrev pub declared_names : List Declaration → List (List ℕ)
 declared_names objects = map (λ o. o.name) objects
 
+-- the names of the objects
 abbrev pub object_names : List Object → List (List ℕ)
 object_names objects = declared_names (map declaration objects)
 
--- one fuel line gives the fuel; without one it is 16,384
+-- the fuel is what the one fuel line gives. Without a fuel line it is 16,384
 abbrev pub IsFuel : List ℕ → ℕ → Type 0
 IsFuel [] fuel = fuel ≡ DEFAULT_FUEL
 IsFuel (given ∷ []) fuel = fuel ≡ given
@@ -126,6 +130,7 @@ pub record Contents : Type 0 where
   pub objects : List Declaration
   pub threads : List (List Command)
 
+-- what a script says, as its text spells it
 abbrev pub contents : Script → Contents
 contents script = record { fuel = script.fuel; objects = map declaration script.objects; threads = script.threads }
 
@@ -133,7 +138,8 @@ contents script = record { fuel = script.fuel; objects = map declaration script.
 abbrev pub AreForms : List (List ℕ) → List (List Part) → List (List (List ℕ)) → Type 0
 AreForms names forms lines = AllZip (AllZip (IsPart names)) forms lines
 
--- the text's lines that have words are, in order: the fuel, or not where it is 16,384, and the script's objects in any mixture, then each thread
+-- the lines of the text that have words are the heads, then the threads in order.
+-- The heads are the objects in order and the fuel, mixed in any way. A fuel of 16,384 may be left out
 pub record SpellsContents (text : List ℕ) (said : Contents) : Type 0 where
   pub heads : List Head
   pub utf8 : IsUtf8 text
@@ -145,9 +151,11 @@ pub record SpellsContents (text : List ℕ) (said : Contents) : Type 0 where
 abbrev pub Spells : List ℕ → Script → Type 0
 Spells text script = SpellsContents text (contents script)
 
+-- the word of a register
 abbrev pub register_word : ℕ → List ℕ
 register_word register = codes "r" ++ decimal register
 
+-- the name of an object
 abbrev pub object_word : List (List ℕ) → ℕ → List ℕ
 object_word names object = slice_index_or names object []
 
@@ -159,15 +167,15 @@ canonical_word names (Register register) = register_word register
 canonical_word names (Known object) = object_word names object
 canonical_word names (New name) = name
 
--- one blank between words
+-- the words of a canonical line, with one blank between words
 abbrev pub canonical_words : List (List ℕ) → List Part → List ℕ
 canonical_words names form = join_with_byte 32 (map (canonical_word names) form)
 
--- and LF at the end
+-- a canonical line: its words, and LF at the end
 abbrev pub canonical_line : List (List ℕ) → List Part → List ℕ
 canonical_line names form = canonical_words names form ++ codes "\n"
 
--- the fuel, then each object, then each thread
+-- the parts of all canonical lines: the fuel, then each object, then each thread
 abbrev pub canonical_forms : Contents → List (List Part)
 canonical_forms said = script_forms (FuelHead said.fuel ∷ map (λ o. ObjectHead o) said.objects) said.threads
 

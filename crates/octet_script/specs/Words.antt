@@ -3,29 +3,32 @@ use denote.Ref.{Bor}
 use Rattle.std.specs.Prelude.{ℕ, ◌||◌, ◌==◌, List, [], ◌∷◌, Bool, true, false, map}
 use Rattle.std.specs.List.{slice_split, before_first, filter}
 
--- LF ends a line; what stands after the last LF is a line too
+-- the test for LF, which ends a line. The bytes after the last LF are a line too
 abbrev pub is_line_end : ℕ → Bool
 is_line_end b = b == 10
 
+-- the lines of a text
 abbrev pub lines : List ℕ → List (List ℕ)
 lines text = slice_split is_line_end text
 
+-- the test for #, which begins a comment
 abbrev pub is_comment_start : ℕ → Bool
 is_comment_start b = b == 35
 
--- what is read of a line: all that stands before its first #
+-- the bytes of a line before its first #, which alone are read
 abbrev pub uncommented : List ℕ → List ℕ
 uncommented line = before_first is_comment_start line
 
--- a blank, a tab or CR
+-- the test for a blank, a tab or CR
 abbrev pub is_blank : ℕ → Bool
 is_blank b = b == 32 || b == 9 || b == 13
 
+-- the test whether a list has an item
 abbrev pub is_filled : {X : Type 0} → List X → Bool
 is_filled [] = false
 is_filled (x ∷ xs) = true
 
--- what stands between blanks, tabs and CRs
+-- the words of a text: the bytes between blanks, tabs and CRs
 abbrev pub words : List ℕ → List (List ℕ)
 words text = filter is_filled (slice_split is_blank text)
 

@@ -16,7 +16,7 @@ use Rattle.octet_log.specs.Judging.{◌>>=◌, wanted, byte_at, each_at}
 abbrev pub number_at : Width → ℕ → List ℕ → Result (ℕ × List ℕ) LogCause
 number_at w total bytes = if nat_lt (length bytes) (byte_len w) then Err (CutShort total) else Ok (from_be_bytes w (take (byte_len w) bytes), drop (byte_len w) bytes)
 
--- the mark that a kind, a thread and a number spell: a Draw and a Fence have the thread 0
+-- the mark that a kind, a thread and a number spell. A Draw or a Fence has the thread 0
 abbrev pub spelled_mark : ℕ → ℕ → ℕ → Option Mark
 spelled_mark kind thread number =
     if kind == 1 then Some (Join thread number)
@@ -24,7 +24,8 @@ spelled_mark kind thread number =
     else if (kind == 3) && (thread == 0) then Some (Fence number)
     else None
 
--- a mark is to be one of that thread, among the log's threads, and its gap to be at most the accesses that are left
+-- the mark with its gap, or its refusal. It is refused where it is no valid mark of the thread,
+-- or where its gap passes the accesses that are left
 abbrev pub judged_mark : ℕ → ℕ → ℕ → ℕ → ℕ → Option Mark → Result Gapped LogCause
 judged_mark place threads thread left gap None = Err (BadMark place)
 judged_mark place threads thread left gap (Some mark) =
@@ -41,11 +42,11 @@ mark_at total threads thread left bytes = do
   mark ← judged_mark (total - length bytes) threads thread left gap.0 (spelled_mark kind.0 named.0 number.0)
   Ok (mark, number.1)
 
--- count marks, whose gaps use up the accesses of the thread
+-- the next `count` marks of a thread, whose gaps use up the thread's accesses
 abbrev pub marks_at : ℕ → ℕ → ℕ → ℕ → ℕ → List ℕ → Result (List Gapped × List ℕ) LogCause
 marks_at total threads thread accesses count bytes = each_at count (mark_at total threads thread) (λ left mark. left - mark.gap) accesses bytes
 
--- the log of a thread, after threads with that many accesses before
+-- the log of a thread, where the threads before it have so many accesses
 unfoldable pub thread_at : ℕ → ℕ → ℕ → ℕ → List ℕ → Result (ThreadLog × List ℕ) LogCause
 thread_at total threads thread before bytes = do
   accesses ← number_at w32 total bytes
@@ -54,11 +55,11 @@ thread_at total threads thread before bytes = do
   marks ← marks_at total threads thread accesses.0 count.0 count.1
   Ok (record { accesses = accesses.0; marks = marks.0 }, marks.1)
 
--- the logs of all threads; beside each thread's number stand the accesses of those before it
+-- the logs of all threads, each read with its number and the accesses of the threads before it
 abbrev pub threads_at : ℕ → ℕ → List ℕ → Result (List ThreadLog × List ℕ) LogCause
 threads_at total threads bytes = each_at threads (λ (thread, before). thread_at total threads thread before) (λ (thread, before) log. (suc thread, before + log.accesses)) (0, 0) bytes
 
--- after the word OCTL: the version, the number of threads, their logs, and nothing more
+-- the logs that the bytes after the word OCTL spell: the version, the number of threads, their logs, nothing more
 unfoldable pub body_at : ℕ → List ℕ → Result (List ThreadLog) LogCause
 body_at total bytes = do
   version ← byte_at total bytes
@@ -69,7 +70,7 @@ body_at total bytes = do
   ended ← wanted (length logs.1 == 0) (Trailing (total - length logs.1))
   Ok logs.0
 
--- all of the bytes
+-- the logs that all of the bytes spell in version 1, or the cause to refuse them
 unfoldable pub decoded : List ℕ → Result (List ThreadLog) LogCause
 decoded bytes = do
   magic ← wanted (bytes_eq (take 4 bytes) (codes "OCTL")) NoMagic

@@ -16,15 +16,15 @@ NumberIsReadAgain w limit = (number : ℕ) → number < limit → from_be_bytes 
 abbrev pub NumberHasOneSpelling : Width → Type 0
 NumberHasOneSpelling w = (bytes : List ℕ) (number : ℕ) → length bytes ≡ byte_len w → AreBytes bytes → from_be_bytes w bytes ≡ number → bytes ≡ to_be_bytes w number
 
--- what is judged to be a log is spelled so and valid, and each valid log is judged so by its spelling
+-- the bytes decode as a log exactly where they spell it and it is valid
 abbrev pub DecodesLogs : Type 0
 DecodesLogs = (bytes : List ℕ) (logs : List ThreadLog) → IsInput bytes → (decoded bytes ≡ Ok logs) ↔ (bytes ≡ log_bytes logs × IsTrue (is_log logs))
 
--- logs of one spelling are equal
+-- two valid logs with one spelling are equal
 abbrev pub BytesSpellOneLog : Type 0
 BytesSpellOneLog = (one other : List ThreadLog) → IsTrue (is_log one) → IsTrue (is_log other) → log_bytes one ≡ log_bytes other → one ≡ other
 
--- a log's spelling goes on in no other log's
+-- the spelling of one log is never a proper front of another's
 abbrev pub NoLogIsAPrefix : Type 0
 NoLogIsAPrefix = (one other : List ThreadLog) (rest : List ℕ) → IsTrue (is_log one) → IsTrue (is_log other) → log_bytes other ≡ log_bytes one ++ rest → rest ≡ []
 

@@ -11,9 +11,11 @@ use Rattle.octet_log.specs.declared.cause.LogCause.TheVariants.{NoMagic, BadVers
 use Rattle.octet_log.specs.v1.Decoding.{decoded}
 use Rattle.octet_log.specs.Inputs.{IsInput}
 
+-- the number of accesses of all logs
 abbrev pub accesses_of : List ThreadLog → ℕ
 accesses_of logs = sum_by (λ log. log.accesses) logs
 
+-- the sum of the gaps of the marks
 abbrev pub gaps_of : List Gapped → ℕ
 gaps_of marks = sum_by (λ m. m.gap) marks
 
@@ -21,25 +23,27 @@ gaps_of marks = sum_by (λ m. m.gap) marks
 abbrev pub LacksMagic : Type 0
 LacksMagic = (bytes : List ℕ) → take 4 bytes ≢ codes "OCTL" → decoded bytes ≡ Err NoMagic
 
--- after OCTL, a version other than 1 is bad
+-- a version other than 1 is bad
 abbrev pub OtherVersionIsBad : Type 0
 OtherVersionIsBad = (version : ℕ) (rest : List ℕ) → version ≢ 1 → decoded (codes "OCTL" ++ version ∷ rest) ≡ Err BadVersion
 
--- after the version, a number of threads that is 0 or above the limit is bad
+-- a number of threads that is 0 or above the limit is bad
 abbrev pub ThreadsAreBad : Type 0
 ThreadsAreBad = (threads : ℕ) (rest : List ℕ) → (threads ≡ 0) ⊎ (MAX_THREADS < threads) → decoded (codes "OCTL" ++ 1 ∷ threads ∷ rest) ≡ Err BadThreads
 
--- the logs of the first threads, all good, with more threads to come
+-- the logs of the first threads are all good, and more threads are to come
 pub record IsStart (threads : ℕ) (logs : List ThreadLog) : Type 0 where
   pub few : threads ≤ MAX_THREADS
   pub more : length logs < threads
   pub good : IsTrue (are_thread_logs threads 0 logs)
   pub accesses : accesses_of logs ≤ MAX_ACCESSES
 
+-- the bytes of the head and of the logs of the first threads
 abbrev pub start_bytes : ℕ → List ThreadLog → List ℕ
 start_bytes threads logs = codes "OCTL" ++ 1 ∷ threads ∷ flat_map thread_bytes logs
 
--- within the next thread: its accesses, the number of its marks, and the first of these, all good, with more marks to come
+-- the next thread is read in part: its accesses, the number of its marks, and the first marks.
+-- All are good, and more marks are to come
 pub record IsWithin (threads : ℕ) (logs : List ThreadLog) (accesses count : ℕ) (marks : List Gapped) : Type 0 where
   pub start : IsStart threads logs
   pub sum : accesses_of logs + accesses ≤ MAX_ACCESSES
@@ -48,26 +52,31 @@ pub record IsWithin (threads : ℕ) (logs : List ThreadLog) (accesses count : �
   pub gaps : gaps_of marks ≤ accesses
   pub good : IsTrue (list_all (λ m. is_mark threads (length logs) m.mark) marks)
 
+-- the bytes up to and with the first marks of the next thread
 abbrev pub within_bytes : ℕ → List ThreadLog → ℕ → ℕ → List Gapped → List ℕ
 within_bytes threads logs accesses count marks = start_bytes threads logs ++ (to_be_bytes w32 accesses ++ to_be_bytes w32 count ++ flat_map mark_bytes marks)
 
--- an input that ends within the head, or within a thread's accesses, its number of marks or a mark, is cut where it ends
+-- an input that ends within the head is cut where it ends
 abbrev pub HeadIsCut : Type 0
 HeadIsCut = (decoded (codes "OCTL") ≡ Err (CutShort 4)) × (decoded (codes "OCTL" ++ 1 ∷ []) ≡ Err (CutShort 5))
 
+-- an input that ends within a thread's accesses is cut where it ends
 abbrev pub AccessesAreCut : Type 0
 AccessesAreCut = (threads : ℕ) (logs : List ThreadLog) (field : List ℕ) → IsStart threads logs → length field < 4
     → decoded (start_bytes threads logs ++ field) ≡ Err (CutShort (length (start_bytes threads logs ++ field)))
 
+-- an input that ends within a thread's number of marks is cut where it ends
 abbrev pub CountIsCut : Type 0
 CountIsCut = (threads : ℕ) (logs : List ThreadLog) (accesses : ℕ) (field : List ℕ) → IsStart threads logs → accesses_of logs + accesses ≤ MAX_ACCESSES → length field < 4
     → decoded (start_bytes threads logs ++ (to_be_bytes w32 accesses ++ field)) ≡ Err (CutShort (length (start_bytes threads logs ++ (to_be_bytes w32 accesses ++ field))))
 
+-- an input that ends within a mark is cut where it ends
 abbrev pub MarkIsCut : Type 0
 MarkIsCut = (threads : ℕ) (logs : List ThreadLog) (accesses count : ℕ) (marks : List Gapped) (mark : List ℕ) → IsWithin threads logs accesses count marks → length mark < 14
     → decoded (within_bytes threads logs accesses count marks ++ mark) ≡ Err (CutShort (length (within_bytes threads logs accesses count marks ++ mark)))
 
--- the bytes spell no mark that may stand next: one of the thread, with a gap of at most the accesses that are left
+-- the bytes spell no mark that may stand next.
+-- Such a mark is valid for the thread and has a gap of at most the accesses left
 abbrev pub SpellsNoNext : ℕ → List ThreadLog → ℕ → List Gapped → List ℕ → Type 0
 SpellsNoNext threads logs accesses marks bytes = (next : Gapped) → IsTrue (is_mark threads (length logs) next.mark) → gaps_of marks + next.gap ≤ accesses → bytes ≢ mark_bytes next
 

@@ -11,7 +11,7 @@ use Rattle.octet_log.specs.declared.limits.TheConstants.{MAX_MARKS}
 use Rattle.octet_log.specs.Judging.{◌>>=◌, wanted, byte_at, each_at}
 use Rattle.octet_log.specs.v2.Short.{short_at}
 
--- what a Join says after its gap: another thread of the log, and a number
+-- the Join that the bytes after its gap spell: another thread of the log, and a number
 abbrev pub join_at : ℕ → ℕ → ℕ → ℕ → List ℕ → Result (Mark × List ℕ) LogCause
 join_at total threads thread place bytes = do
   named ← byte_at total bytes
@@ -19,13 +19,14 @@ join_at total threads thread place bytes = do
   upto ← short_at total named.1
   Ok (Join named.0 upto.0, upto.1)
 
--- what a Draw or a Fence says after its gap: a number of at least 1
+-- the Draw or Fence that the bytes after its gap spell: a number of at least 1
 abbrev pub numbered_at : ℕ → ℕ → (ℕ → Mark) → List ℕ → Result (Mark × List ℕ) LogCause
 numbered_at total place mark bytes = do
   number ← short_at total bytes
   some_number ← wanted (nat_le 1 number.0) (BadMark place)
   Ok (mark number.0, number.1)
 
+-- the mark of this kind that the bytes after its gap spell
 abbrev pub kind_at : ℕ → ℕ → ℕ → ℕ → ℕ → List ℕ → Result (Mark × List ℕ) LogCause
 kind_at total threads thread place kind bytes =
     if kind == 1 then join_at total threads thread place bytes
@@ -42,11 +43,11 @@ short_mark_at total threads thread bytes = do
   mark ← kind_at total threads thread (total - length bytes) kind.0 gap.1
   Ok (record { gap = gap.0; mark = mark.0 }, mark.1)
 
--- count marks of a thread
+-- the next `count` marks of a thread, and the bytes after them
 abbrev pub short_marks_at : ℕ → ℕ → ℕ → ℕ → List ℕ → Result (List Gapped × List ℕ) LogCause
 short_marks_at total threads thread count bytes = each_at {S = Unit {0}} count (λ _. short_mark_at total threads thread) (λ state _. state) tt bytes
 
--- the marks of the piece at a place, behind its thread, after that many marks before
+-- the marks of the piece at a place, where the pieces before it have so many marks
 unfoldable pub piece_at : ℕ → ℕ → ℕ → ℕ → ℕ → List ℕ → Result (List Gapped × List ℕ) LogCause
 piece_at total threads place thread before bytes = do
   known ← wanted (nat_lt thread threads) (BadPiece place)
@@ -55,12 +56,13 @@ piece_at total threads place thread before bytes = do
   few ← wanted (nat_le (before + count.0) MAX_MARKS) TooManyMarks
   short_marks_at total threads thread count.0 count.1
 
--- more marks of one thread, behind those that it has; the first of the logs is of the thread with that number
+-- the logs with more marks of one thread. The first of the logs is of the thread with the first number
 unfoldable pub added : ℕ → ℕ → List Gapped → List ThreadLog → List ThreadLog
 added first thread more [] = []
 added first thread more (log ∷ logs) = record { accesses = log.accesses; marks = log.marks ++ (if first == thread then more else []) } ∷ added (suc first) thread more logs
 
--- pieces up to the byte ff, fewer than most, after that many marks before: their marks are added to the logs
+-- the logs with the marks of all pieces up to the byte ff.
+-- There are fewer pieces than `most`, and `before` marks stand before them
 unfoldable pub pieces_at : ℕ → ℕ → ℕ → ℕ → List ThreadLog → List ℕ → Result (List ThreadLog × List ℕ) LogCause
 pieces_at zero total threads before logs bytes = Err (CutShort total)
 pieces_at (suc most) total threads before logs bytes = do
@@ -69,7 +71,7 @@ pieces_at (suc most) total threads before logs bytes = do
     marks ← piece_at total threads (total - length bytes) thread.0 before thread.1
     pieces_at most total threads (before + length marks.0) (added 0 thread.0 marks.0 logs) marks.1
 
--- the accesses of a thread, after threads with that many accesses before
+-- the log of a thread with its accesses, where the threads before it have so many
 unfoldable pub accesses_at : ℕ → ℕ → ℕ → ThreadLog → List ℕ → Result (ThreadLog × List ℕ) LogCause
 accesses_at total thread before log bytes = do
   accesses ← short_at total bytes
@@ -77,7 +79,7 @@ accesses_at total thread before log bytes = do
   within ← wanted (nat_le (sum_by (λ m. m.gap) log.marks) accesses.0) (GapsOver thread)
   Ok (record { accesses = accesses.0; marks = log.marks }, accesses.1)
 
--- those of all threads from a number on
+-- the logs of the threads from a number on, with their accesses
 unfoldable pub tail_at : ℕ → ℕ → ℕ → List ThreadLog → List ℕ → Result (List ThreadLog × List ℕ) LogCause
 tail_at total thread before [] bytes = Ok ([], bytes)
 tail_at total thread before (log ∷ logs) bytes = do
@@ -85,15 +87,16 @@ tail_at total thread before (log ∷ logs) bytes = do
   others ← tail_at total (suc thread) (before + first.0.accesses) logs first.1
   Ok (first.0 ∷ others.0, others.1)
 
--- a digest
+-- a digest, and the bytes after it
 abbrev pub digest_at : ℕ → List ℕ → Result (List ℕ × List ℕ) LogCause
 digest_at total bytes = if nat_lt (length bytes) 32 then Err (CutShort total) else Ok (take 32 bytes, drop 32 bytes)
 
--- the threads before their pieces
+-- the logs of the threads before any piece is read
 abbrev pub no_marks : ℕ → List ThreadLog
 no_marks threads = replicate threads (record { accesses = 0; marks = [] })
 
--- after the word OCTL and the version 2: the number of threads, the digest, pieces, the tail, and nothing more. Each piece has bytes of its own, so there are fewer than bytes
+-- the log and digest that the bytes after OCTL and the version 2 spell: threads, digest, pieces, tail, nothing more.
+-- Each piece takes bytes of its own, which limits the number of pieces
 unfoldable pub second_at : ℕ → List ℕ → Result (List ThreadLog × List ℕ) LogCause
 second_at total bytes = do
   threads ← byte_at total bytes

@@ -12,12 +12,13 @@ use Rattle.octet_log.specs.v2.Short.{short_bytes}
 abbrev pub head_bytes : ℕ → List ℕ → List ℕ
 head_bytes threads digest = codes "OCTL" ++ 2 ∷ threads ∷ digest
 
--- kind and gap; the thread that a Join names; the number
+-- the bytes of a mark: its kind, its gap, the thread if it is a Join, and its number
 abbrev pub short_mark_of : ℕ → Mark → List ℕ
 short_mark_of gap (Join from upto) = 1 ∷ short_bytes gap ++ from ∷ short_bytes upto
 short_mark_of gap (Draw number) = 2 ∷ short_bytes gap ++ short_bytes number
 short_mark_of gap (Fence number) = 3 ∷ short_bytes gap ++ short_bytes number
 
+-- the bytes of a gapped mark
 abbrev pub short_mark_bytes : Gapped → List ℕ
 short_mark_bytes gapped = short_mark_of gapped.gap gapped.mark
 
@@ -30,6 +31,7 @@ pub record Piece : Type 0 where
   pub thread : ℕ
   pub marks : List Gapped
 
+-- the bytes of a piece: its thread and its marks
 abbrev pub piece_bytes : Piece → List ℕ
 piece_bytes piece = piece.thread ∷ marks_bytes piece.marks
 
@@ -42,11 +44,12 @@ pub record IsPiece (threads : ℕ) (piece : Piece) : Type 0 where
   pub thread : piece.thread < threads
   pub some_mark : 1 ≤ length piece.marks
 
+-- each of these is a piece of one of the threads
 abbrev pub ArePieces : ℕ → List Piece → Type 0
 ArePieces threads [] = Unit {0}
 ArePieces threads (piece ∷ pieces) = IsPiece threads piece × ArePieces threads pieces
 
--- a thread's marks are those of its pieces, in the pieces' order
+-- the marks of a thread: those of its pieces, in the order of the pieces
 abbrev pub marks_of : ℕ → List Piece → List Gapped
 marks_of thread [] = []
 marks_of thread (piece ∷ pieces) = (if thread == piece.thread then piece.marks else []) ++ marks_of thread pieces
@@ -56,7 +59,7 @@ abbrev pub HaveMarks : ℕ → List Piece → List ThreadLog → Type 0
 HaveMarks thread pieces [] = Unit {0}
 HaveMarks thread pieces (log ∷ logs) = (marks_of thread pieces ≡ log.marks) × HaveMarks (suc thread) pieces logs
 
--- how many marks a log has, of all its threads
+-- the number of marks of a log, of all its threads
 abbrev pub marks_in : List ThreadLog → ℕ
 marks_in logs = sum_by (λ log. length log.marks) logs
 
@@ -64,7 +67,7 @@ marks_in logs = sum_by (λ log. length log.marks) logs
 abbrev pub pieced_bytes : List ℕ → List Piece → List ThreadLog → List ℕ
 pieced_bytes digest pieces logs = head_bytes (length logs) digest ++ (flat_map piece_bytes pieces ++ tail_bytes logs)
 
--- the bytes spell the log in version 2, with that digest: the head, pieces that have the marks of each thread, and the tail
+-- the bytes spell the log in version 2 with this digest: the head, pieces with the marks of each thread, the tail
 pub record SpellsPieces (bytes digest : List ℕ) (logs : List ThreadLog) : Type 0 where
   pub pieces : List Piece
   pub whole : length digest ≡ 32

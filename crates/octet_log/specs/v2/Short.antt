@@ -29,16 +29,17 @@ pub record SpellsShort (bytes : List ℕ) (number : ℕ) : Type 0 where
   pub groups : number_of_groups bytes ≡ number
   pub fits : number < 2 ^ 64
 
--- a number in at most one group more than that many
+-- the bytes of a number in at most `more` groups and one
 unfoldable pub groups : ℕ → ℕ → List ℕ
 groups zero number = number ∷ []
 groups (suc more) number = if nat_lt number 128 then number ∷ [] else (number % 128 + 128) ∷ groups more (number / 128)
 
--- the bytes of a number below 2 ^ 64: at most ten
+-- the bytes of a number below 2 ^ 64, of which there are at most ten
 abbrev pub short_bytes : ℕ → List ℕ
 short_bytes number = groups 9 number
 
--- a number in at most one group more than that many, and the bytes after it; it is refused at its place where it is not shortest, or is not below 2 ^ 64
+-- a number in at most `more` groups and one, and the bytes after it. A number is refused at its place
+-- where it is not shortest or not below 2 ^ 64
 unfoldable pub groups_at : ℕ → ℕ → ℕ → List ℕ → Result (ℕ × List ℕ) LogCause
 groups_at zero total place bytes = do
   byte ← byte_at total bytes
@@ -51,6 +52,6 @@ groups_at (suc more) total place bytes = do
     fits ← wanted (nat_le 1 higher.0 && nat_lt higher.0 (2 ^ 57)) (BadNumber place)
     Ok (byte.0 - 128 + 128 * higher.0, higher.1)
 
--- a short number, and the bytes after it; total is the length of the whole input
+-- a short number, and the bytes after it. The length of the whole input is `total`
 abbrev pub short_at : ℕ → List ℕ → Result (ℕ × List ℕ) LogCause
 short_at total bytes = groups_at 9 total (total - length bytes) bytes
