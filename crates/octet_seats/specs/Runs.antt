@@ -15,7 +15,7 @@ abbrev pub after_all : {S N T : Type 0} → Moves S N T → S → List N → S
 after_all moves s [] = s
 after_all moves s (next ∷ run) = after_all moves (moves.after next s) run
 
--- the steps that one thread takes in a run from a state, in their order, as it is told of them
+-- the steps that one thread takes in a run from a state, in order, as the thread is told of them
 abbrev pub steps_by : {S N T : Type 0} → Moves S N T → ℕ → S → List N → List T
 steps_by moves thread s [] = []
 steps_by moves thread s (next ∷ run) = (if moves.who next == thread then moves.taken s next ∷ [] else []) ++ steps_by moves thread (moves.after next s) run
@@ -25,7 +25,7 @@ abbrev pub MayAll : {S N T : Type 0} → Moves S N T → (N → S → Type 0) �
 MayAll moves May s [] = Unit {0}
 MayAll moves May s (next ∷ run) = May next s × MayAll moves May (moves.after next s) run
 
--- in a run from a state there is a step of this thread that it is told of so, after those that it took first
+-- a run from a state has a step of this thread that tells it this, after the steps that it took first
 pub record IsStepBy {S N T : Type 0} (moves : Moves S N T) (May : N → S → Type 0) (s : S) (run : List N) (thread : ℕ) (first : List T) (taken : T) : Type 0 where
   pub before : List N
   pub step : N
@@ -36,7 +36,8 @@ pub record IsStepBy {S N T : Type 0} (moves : Moves S N T) (May : N → S → Ty
   pub may : May step (after_all moves s before)
   pub is : taken ≡ moves.taken (after_all moves s before) step
 
--- by a rule the live views tell the words: where each of one table is one of another too, both have the same words
+-- the live views tell the words by a rule. Two tables of the rule have the same words,
+-- where each live view of one stands at its place in the other
 abbrev pub ViewsTell : {V : Type 0} → (V → Bool) → (State (Unit {0}) V → Type 0) → Type 0
 ViewsTell {V} is_live Rule = (table other : State (Unit {0}) V) → Rule table → Rule other
     → ((place : ℕ) (v : V) → get_elem? table.views place ≡ some v → is_live v ≡ true → get_elem? other.views place ≡ some v)
@@ -46,14 +47,14 @@ ViewsTell {V} is_live Rule = (table other : State (Unit {0}) V) → Rule table �
 abbrev pub ChangesNothing : {V : Type 0} → (ℕ → ℕ) → ℕ → State (Unit {0}) V → Type 0
 ChangesNothing operation place table = slice_set table.words place (operation (slice_index table.words place)) ≡ table.words
 
--- where an operation is allowed to a seat whatever the table is, and tells it nothing, it changes nothing
+-- an operation that a seat is allowed on every table, and that tells the seat nothing, changes nothing
 abbrev pub SilenceKeeps : {V : Type 0} → (State (Unit {0}) V → Type 0) → Type 0
 SilenceKeeps {V} Rule = (slots id place : ℕ) (me : Me (Unit {0}) V) (operation : ℕ → ℕ)
     → Allows Rule slots id me place operation (λ word next. next.0 ≡ me.0)
     → (table : State (Unit {0}) V) → Rule table → length table.homes ≡ slots → get_elem? table.views id ≡ some me.0 → slice_index table.words place < 2 ^ 64
     → ChangesNothing operation place table
 
--- and where a new seat is allowed to come by an operation, that changes nothing
+-- an operation by which a new seat may come changes nothing
 abbrev pub ArrivalKeeps : {V : Type 0} → (State (Unit {0}) V → Type 0) → Type 0
 ArrivalKeeps {V} Rule = (slots place : ℕ) (operation : ℕ → ℕ) → Arrives Rule slots place operation (λ word next. Unit {0})
     → (table : State (Unit {0}) V) → Rule table → length table.homes ≡ slots → slice_index table.words place < 2 ^ 64
