@@ -10,7 +10,7 @@ use Rattle.octet_model.specs.declared.script.Script.{Script}
 abbrev pub next_number : ℕ → ℕ
 next_number x = (x * 6364136223846793005 + 1442695040888963407) % 2 ^ 64
 
--- a number, after a number of draws
+-- the number after so many draws
 unfoldable pub number_after : ℕ → ℕ → ℕ
 number_after number zero = number
 number_after number (suc draws) = next_number (number_after number draws)
@@ -19,15 +19,16 @@ number_after number (suc draws) = next_number (number_after number draws)
 abbrev pub draw_at : ℕ → ℕ → ℕ
 draw_at number place = number_after number (suc place) / 2 ^ 33
 
--- fourteen of sixteen draws name one of the thread's own four objects, the others one of the 32 that all threads share
+-- the object that a draw names: one of the thread's own four objects for fourteen of sixteen draws,
+-- else one of the 32 that all threads share
 abbrev pub object_of_draw : ℕ → ℕ → ℕ
 object_of_draw thread draw = if nat_lt (draw % 16) 14 then 4 * thread + (draw % 16) % 4 else 32 + (draw / 16) % 32
 
--- one of four draws is a write of register 0, the others are reads into register 2
+-- the access of a draw: a write of register 0 for one of four draws, else a read into register 2
 abbrev pub access_of_draw : ℕ → ℕ → Command
 access_of_draw thread draw = if (draw / 512) % 4 == 0 then Write (object_of_draw thread draw) 0 else Read 2 (object_of_draw thread draw)
 
--- a thread's accesses, by the draws from a place of the sequence on
+-- the accesses of a thread, by the draws from a place of the sequence on
 unfoldable pub accesses_from : ℕ → ℕ → ℕ → ℕ → List Command
 accesses_from number start thread count = map (λ place. access_of_draw thread (draw_at number (start + place))) (range_with_len 0 count)
 

@@ -14,7 +14,7 @@ object_named (Write object from) = Some object
 object_named (Bump object from) = Some object
 object_named _ = None
 
--- a write or a bump
+-- the test whether a command is a write or a bump
 abbrev pub is_writer : Command → Bool
 is_writer (Write object from) = true
 is_writer (Bump object from) = true
@@ -27,21 +27,21 @@ pub record Names (commands : List Command) (object : ℕ) : Type 0 where
   pub stands : slice_get commands place ≡ Some command
   pub named : object_named command ≡ Some object
 
--- and writes it
+-- one of the commands writes the object
 pub record Writes (commands : List Command) (object : ℕ) : Type 0 where
   pub names : Names commands object
   pub writer : IsTrue (is_writer names.command)
 
--- apart: what a thread writes, no other thread names
+-- the threads are apart: no other thread names what a thread writes
 abbrev pub AreApart : Script → Type 0
 AreApart script = (thread other object : ℕ) → thread ≢ other
     → Writes (commands_of script thread) object → ¬ Names (commands_of script other) object
 
--- how an object is used, as far as it is kept
+-- the use of an object, as far as it is kept
 abbrev pub use_of : List Use → ℕ → Use
 use_of uses object = get_or uses object (record { first = None; by_others = false; is_written = false })
 
--- a use by the thread, a write or a read, is among those that are kept of an object
+-- the use that is kept of an object covers a write or a read by the thread
 pub record Covers (kept : Use) (thread : ℕ) (writes : Bool) : Type 0 where
   pub named : kept.by_others ≡ false → kept.first ≡ Some thread
   pub written : writes ≡ true → kept.is_written ≡ true
@@ -54,17 +54,17 @@ pub record AreTwoNaming (threads : List (List Command)) (object : ℕ) : Type 0 
   pub by_one : Names (get_or threads one []) object
   pub by_other : Names (get_or threads other []) object
 
--- what is kept of the object is seen in these threads
+-- the use that is kept of the object is seen in these threads
 pub record IsSeenIn (threads : List (List Command)) (object : ℕ) (kept : Use) : Type 0 where
   pub named : (thread : ℕ) → kept.first ≡ Some thread → Names (get_or threads thread []) object
   pub by_two : kept.by_others ≡ true → AreTwoNaming threads object
   pub written : kept.is_written ≡ true → (thread : ℕ) × Writes (get_or threads thread []) object
 
--- what is kept of each object is seen in them
+-- the use that is kept of each object is seen in these threads
 abbrev pub AreSeenIn : List (List Command) → List Use → Type 0
 AreSeenIn threads uses = (object : ℕ) → IsSeenIn threads object (use_of uses object)
 
--- one more use was added, and all that were there still are
+-- the use after has one more use, and all that the use before had
 pub record AddsUse (before : Use) (thread : ℕ) (writes : Bool) (after : Use) : Type 0 where
   pub seen : (threads : List (List Command)) (object : ℕ) → Names (get_or threads thread []) object
       → (writes ≡ true → Writes (get_or threads thread []) object) → IsSeenIn threads object before
@@ -72,12 +72,12 @@ pub record AddsUse (before : Use) (thread : ℕ) (writes : Bool) (after : Use) :
   pub kept : (other : ℕ) (wrote : Bool) → Covers before other wrote → Covers after other wrote
   pub added : Covers after thread writes
 
--- the command of the thread is known, where it is an access
+-- the object that the command names, if it is an access, has this use by the thread
 abbrev pub Knows : List Use → ℕ → Command → Type 0
 Knows uses thread command = (object : ℕ) → object_named command ≡ Some object
     → Covers (use_of uses object) thread (is_writer command)
 
--- what was known still is
+-- all commands that were known before are known after
 abbrev pub KeepsKnown : List Use → List Use → Type 0
 KeepsKnown before after = (thread : ℕ) (command : Command) → Knows before thread command → Knows after thread command
 
@@ -101,6 +101,6 @@ abbrev pub KnowsThreads : List Use → List (List Command) → ℕ → Type 0
 KnowsThreads uses threads upto = (thread place : ℕ) (command : Command) → thread < upto
     → slice_get (get_or threads thread []) place ≡ Some command → Knows uses thread command
 
--- not both written and named by several threads
+-- the object is not both written and named by several threads
 abbrev pub IsUnshared : Use → Type 0
 IsUnshared kept = IsFalse (kept.is_written && kept.by_others)

@@ -32,20 +32,23 @@ use Rattle.octet_parallel.specs.Rule.{Steps}
 use Rattle.octet_parallel.specs.Tracks.{IsOnTrack}
 use Rattle.octet_parallel.specs.Seats.{view, script_of, log_of, IsSeatOf}
 
--- what the player's seat knows
+-- the view of the player's seat
 abbrev pub view_of : Player → PlayerView
 view_of player = view player.seat
 
+-- the script of a field
 abbrev pub script_in : Field → Script
 script_in field = script_of field.words
 
+-- the log of a field
 abbrev pub log_in : Field → Log
 log_in field = log_of field.words
 
+-- the number of players of a field
 abbrev pub players_in : Field → ℕ
 players_in field = field.words.players
 
--- the player of a seat at first
+-- the player of a seat as it is at first
 pub record IsPlayerAt (script : Script) (log : List ThreadLog) (number : ℕ) (seat : Seat) (player : Player) : Type 0 where
   pub seated : player.seat ≡ seat
   pub numbered : player.number ≡ number
@@ -54,13 +57,13 @@ pub record IsPlayerAt (script : Script) (log : List ThreadLog) (number : ℕ) (s
   pub replay : IsReplayOf (commands_of script number) (starting_configuration script.fuel) (length script.objects) (thread_log_of log number) [] player.replay
   pub room : (thread_log_of log number).accesses + length (thread_log_of log number).marks ≤ vec_capacity player.journal
 
--- those of the seats from a number on
+-- the players of the seats from a number on, as they are at first
 abbrev pub ArePlayersAt : Script → List ThreadLog → ℕ → List Seat → List Player → Type 0
 ArePlayersAt script log number [] [] = Unit {0}
 ArePlayersAt script log number (seat ∷ seats) (player ∷ players) = IsPlayerAt script log number seat player × ArePlayersAt script log (number + 1) seats players
 ArePlayersAt script log number _ _ = ⊥
 
--- the room that the journal has is enough for the thread's log
+-- the player's journal has room for all events of the thread's log
 abbrev pub HasRoom : ThreadLog → Player → Type 0
 HasRoom log player = log.accesses + length log.marks ≤ vec_capacity player.journal
 
@@ -76,31 +79,31 @@ pub record IsPlayerOf (field : Field) (player : Player) : Type 0 where
   pub replay : IsReplayOf (commands_of (script_in field) player.number) (starting_configuration (script_in field).fuel) (length (script_in field).objects) (thread_log_of (log_in field).threads player.number) player.journal.items player.replay
   pub room : HasRoom (thread_log_of (log_in field).threads player.number) player
 
--- by the player's own log and replay this is next, and its object is one of the script's
+-- the step is next for the player by its own log and replay, and its object is one of the script's
 pub record IsNextStep (field : Field) (player : Player) (next : NextStep) : Type 0 where
   pub by_log : as_next next ≡ next_by_counts (thread_log_of (log_in field).threads player.number) player.replay
   pub within : (objects : ℕ) → DemandsWithin objects player.replay → AccessesWithin objects next
 
--- an access is next, which the configuration demands
+-- an access is next
 abbrev pub IsAccess : Next → Type 0
 IsAccess (Wants (MakeRead object)) = Unit {0}
 IsAccess (Wants (MakeWrite object value)) = Unit {0}
 IsAccess (Wants (MakeUpdate object change)) = Unit {0}
 IsAccess _ = ⊥
 
--- whether an access is next, and how many were made
+-- the number of accesses that the player made, where an access is next, else none
 abbrev pub TellsAccess : PlayerView → Option ℕ → Type 0
 TellsAccess v None = ¬ IsAccess (next_in v)
 TellsAccess v (Some made) = IsAccess (next_in v) × (made ≡ access_count v.player.journal)
 
--- one step on a cell
+-- the kind of step is one on a cell
 abbrev pub IsOnCell : Kind → Type 0
 IsOnCell ToRead = Unit {0}
 IsOnCell ToWrite = Unit {0}
 IsOnCell ToBump = Unit {0}
 IsOnCell _ = ⊥
 
--- a step on a cell makes an access, and an advance counts it
+-- the player makes an access by a step on a cell, and counts it by an advance
 pub record MakesAccess (v w : PlayerView) : Type 0 where
   pub kind : Kind
   pub on_cell : IsOnCell kind
@@ -110,14 +113,14 @@ pub record MakesAccess (v w : PlayerView) : Type 0 where
   pub events : ℕ
   pub count : Steps ToAdvance between events w
 
--- an advance makes this mark
+-- the player makes this mark by an advance
 pub record MarkMade (v : PlayerView) (mark : Mark) (w : PlayerView) : Type 0 where
   pub events : ℕ
   pub advance : Steps ToAdvance v events w
   pub is_next : next_in v ≡ Wants (MakeMark mark)
   pub journal : w.player.journal ≡ v.player.journal ++ Marked mark ∷ []
 
--- an advance makes a mark that needs nothing of others
+-- the player makes a mark that needs nothing of others, by an advance
 pub record MakesOwnMark (v w : PlayerView) : Type 0 where
   pub mark : Mark
   pub is_next : next_in v ≡ Wants (MakeMark mark)
@@ -125,7 +128,7 @@ pub record MakesOwnMark (v w : PlayerView) : Type 0 where
   pub events : ℕ
   pub advance : Steps ToAdvance v events w
 
--- the one look found what the mark needs of another, and an advance makes it
+-- the player makes a mark by an advance, after one look found what the mark needs of another
 pub record MakesMark (v w : PlayerView) : Type 0 where
   pub mark : Mark
   pub is_next : next_in v ≡ Wants (MakeMark mark)
@@ -149,7 +152,7 @@ pub record MakesNext (v w : PlayerView) : Type 0 where
   pub journal : w.player.journal ≡ v.player.journal ++ event ∷ []
   pub steps : MakesAccess v w ⊎ (MakesOwnMark v w ⊎ MakesMark v w)
 
--- the one look found too small a number
+-- the player looked once, and found too small a number
 pub record WaitsFor (v : PlayerView) (whom needs found : ℕ) (w : PlayerView) : Type 0 where
   pub mark : Mark
   pub is_next : next_in v ≡ Wants (MakeMark mark)
@@ -159,7 +162,7 @@ pub record WaitsFor (v : PlayerView) (whom needs found : ℕ) (w : PlayerView) :
   pub fewer : found < needs
   pub no_stop : found ≢ stop_number
 
--- the one look found the stop number in the word of a player that the mark needs, and the player stops
+-- the player stops, after one look found the stop number in the word of a player that its mark needs
 pub record StopsAt (v : PlayerView) (whom : ℕ) (w : PlayerView) : Type 0 where
   pub mark : Mark
   pub is_next : next_in v ≡ Wants (MakeMark mark)
@@ -170,7 +173,7 @@ pub record StopsAt (v : PlayerView) (whom : ℕ) (w : PlayerView) : Type 0 where
   pub look : Steps (ToLook whom) v stop_number between
   pub stop : Steps (ToStop (Stopped whom)) between stop_number w
 
--- what a step of a player that plays comes to
+-- the answer to a step of a player that plays
 abbrev pub PlaysTo : PlayerView → Played → PlayerView → Type 0
 PlaysTo v Made w = MakesNext v w
 PlaysTo v (Waits whom needs found) w = WaitsFor v whom needs found w
@@ -178,34 +181,36 @@ PlaysTo v Through w = (w ≡ v) × (next_in v ≡ Finished)
 PlaysTo v GoneAmiss w = IsAmissBy v.script v.log.threads v.number v.player.journal × Steps (ToStop Amiss) v stop_number w
 PlaysTo v (HasStopped whom) w = StopsAt v whom w
 
--- and one of a player that is amiss or stopped: nothing, and the same answer again
+-- the answer to a step of a player by its fate. One that is amiss or stopped takes no step
+-- and gives the same answer again
 abbrev pub StepsBy : Fate → PlayerView → Played → PlayerView → Type 0
 StepsBy Playing v played w = PlaysTo v played w
 StepsBy Amiss v played w = (w ≡ v) × (played ≡ GoneAmiss)
 StepsBy (Stopped whom) v played w = (w ≡ v) × (played ≡ HasStopped whom)
 
+-- the answer to a step of a player
 abbrev pub StepsTo : PlayerView → Played → PlayerView → Type 0
 StepsTo v played w = StepsBy v.player.fate v played w
 
--- the player has taken no step
+-- the player of this number has taken no step
 abbrev pub IsUnbegun : ℕ → Player → Type 0
 IsUnbegun number player = ((view_of player).number ≡ number) × ((view_of player).player ≡ unbegun) × ((view_of player).trail ≡ [])
 
--- each player is that of its number, and has taken no step
+-- each player has its own number, and has taken no step
 abbrev pub EachUnbegun : Field → List Player → Type 0
 EachUnbegun field players = (number : ℕ) (none : Player) → number < length players → IsPlayerOf field (slice_index_or players number none) × IsUnbegun number (slice_index_or players number none)
 
--- the player is through, or amiss or stopped
+-- the player is through, amiss or stopped
 abbrev pub HasEnded : PlayerView → Type 0
 HasEnded v = (v.player.fate ≡ Playing → next_in v ≡ Finished)
 
--- a step that says so leaves the player at its end
+-- a step with an answer that says so leaves the player at its end
 abbrev pub EndsBy : Played → PlayerView → Type 0
 EndsBy Made w = Unit {0}
 EndsBy (Waits whom needs found) w = Unit {0}
 EndsBy _ w = HasEnded w
 
--- each player is that of its number, and has ended
+-- each player has its own number, and has ended
 abbrev pub EachEnded : Field → List Player → Type 0
 EachEnded field players = (number : ℕ) (none : Player) → number < length players
     → IsPlayerOf field (slice_index_or players number none) × ((view_of (slice_index_or players number none)).number ≡ number) × HasEnded (view_of (slice_index_or players number none))
@@ -216,7 +221,7 @@ fate_at [] place = Playing
 fate_at (player ∷ players) zero = player.fate
 fate_at (player ∷ players) (suc place) = fate_at players place
 
--- and what its seat knows of it
+-- the fate of the player at a place, as its seat knows it
 abbrev pub fate_in : List Player → ℕ → Fate
 fate_in [] place = Playing
 fate_in (player ∷ players) zero = (view_of player).player.fate
@@ -228,11 +233,11 @@ pub record SomeStopped (players : List Player) : Type 0 where
   pub within : number < length players
   pub stopped : fate_in players number ≢ Playing
 
--- all play on
+-- all players play on
 abbrev pub NoneStopped : List Player → Type 0
 NoneStopped players = (number : ℕ) → number < length players → fate_in players number ≡ Playing
 
--- after a lawful front some thread is amiss
+-- some thread is amiss after some lawful front
 pub record SomeFrontIsAmiss (script : Script) (log : List ThreadLog) : Type 0 where
   pub front : List ℕ
   pub lawful : IsLawfulFront script log front
@@ -247,16 +252,18 @@ pub record IsFinishedReplay (script : Script) (log : List ThreadLog) (result : f
   pub journals : result.journals ≡ journals_after script log order
   pub outcome : result.outcome ≡ execution script log order
 
--- the players' journals
+-- the journals of the players
 abbrev pub journals_in : List Player → List (List Event)
 journals_in players = map (λ player. (view_of player).player.journal) players
 
--- what a closed field gives: nothing exactly where a player is amiss or stopped, and else the players' journals, which are those of a lawful order, and its outcome
+-- a closed field gives nothing exactly where a player is amiss or stopped.
+-- Otherwise it gives the players' journals, which are those of a lawful order, and its outcome
 abbrev pub ClosesTo : Script → List ThreadLog → List Player → Option finished.Finished → Type 0
 ClosesTo script log players None = SomeStopped players × SomeFrontIsAmiss script log
 ClosesTo script log players (Some result) = NoneStopped players × (result.journals ≡ journals_in players) × IsFinishedReplay script log result
 
--- a field closes after a run from its opening, in which each player took the steps of its trail and no others; the heap that it gives is that of the state after it
+-- a field closes after a run from its opening, in which each player took the steps of its trail and no others.
+-- The heap that the field gives is that of the state after the run
 pub record ClosesAfterRun (script : Script) (log : Log) (players : List Player) (closed : Option finished.Finished) : Type 0 where
   pub run : List PlayerStep
   pub is_run : IsRun (opening script log) run

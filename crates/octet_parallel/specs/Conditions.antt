@@ -13,15 +13,15 @@ use Rattle.octet_parallel.specs.Views.{PlayerView, next_in}
 abbrev pub IsFreeIn : PlayerView → Type 0
 IsFreeIn v = IsFree v.player
 
--- it has found what the mark needs of others
+-- the player has found what the mark needs of others
 abbrev pub HasFound : PlayerView → Mark → Type 0
 HasFound v mark = (whom events : ℕ) → Needs v.log.threads mark whom events → whom ≢ v.number → (events ≤ found_of v.player whom) × (found_of v.player whom ≢ stop_number)
 
--- it may make the mark
+-- the player may make the mark
 abbrev pub MayMark : PlayerView → Mark → Type 0
 MayMark v mark = IsFreeIn v × (next_in v ≡ Wants (MakeMark mark)) × HasFound v mark
 
--- why it stops
+-- the reason why the player stops: it is amiss, or it has found the stop number
 abbrev pub StopsIn : PlayerView → Fate → Type 0
 StopsIn v Playing = ⊥
 StopsIn v Amiss = IsAmissBy v.script v.log.threads v.number v.player.journal

@@ -9,15 +9,17 @@ use Rattle.octet_parallel.specs.declared.player.Player.{Player}
 use Rattle.octet_parallel.specs.declared.field.Field.{Field}
 use Rattle.octet_parallel.specs.Calls.{view_of, IsPlayerOf, HasEnded}
 
--- the player has played to its end
+-- the player is one of the field's, and has played to its end
 pub record HasPlayed (field : Field) (player : Player) : Type 0 where
   pub own : IsPlayerOf field player
   pub ended : HasEnded (view_of player)
 
+-- the player has the same number
 abbrev pub IsSamePlayer : Player → Player → Type 0
 IsSamePlayer before after = (view_of after).number ≡ (view_of before).number
 
--- the outcome is that of the lowest order, which is lawful and has ordered journals; there is none exactly where it is not or has not
+-- the outcome is that of the lowest order, which is lawful and has ordered journals.
+-- There is none exactly where that order is not lawful or its journals are not ordered
 abbrev pub IsJudged : Script → List ThreadLog → Option Outcome → Type 0
 IsJudged script log None = ¬ OrdersConflicts script log
 IsJudged script log (Some outcome) = OrdersConflicts script log × (outcome ≡ execution script log (lowest_order script log))

@@ -17,7 +17,8 @@ use Rattle.octet_parallel.specs.Views.{PlayerView, Taken}
 use Rattle.octet_parallel.specs.Runs.{PlayerStep, IsRun, field_after, steps_of, IsStepOf}
 use Rattle.octet_parallel.specs.Rule.{IsRuled}
 
--- what a step does: it finds a word in its place and leaves what an operation makes of it, changes the player by the word told alone, and leaves the other players as they are
+-- the effect of a step: it finds a word in its place and leaves there what an operation makes of this word.
+-- It changes its player by the word told alone, and leaves the other players as they are
 pub record Does (k : Kind) (t place : ℕ) (operation : ℕ → ℕ) (s : FieldState) : Type 0 where
   pub finds : slice_index (words s) place ≡ word_found k t s
   pub leaves : slice_set (words s) place (operation (word_found k t s)) ≡ words (step k t s)
@@ -25,13 +26,13 @@ pub record Does (k : Kind) (t place : ℕ) (operation : ℕ → ℕ) (s : FieldS
   pub others : (u : ℕ) → u ≢ t → player_of (step k t s) u ≡ player_of s u
   pub many : length (step k t s).players ≡ length s.players
 
--- the player may take the step, which keeps the state sound and does to this place what it says
+-- the player may take the step, which keeps the state sound and has this effect at this place
 pub record IsLawfulStep (k : Kind) (t place : ℕ) (operation : ℕ → ℕ) (s : FieldState) : Type 0 where
   pub may : May k t s
   pub sound : IsSoundField (step k t s)
   pub does : Does k t place operation s
 
--- what a mark needs of others was found
+-- the player has found what a mark needs of others
 abbrev pub AreFound : FieldState → ℕ → Mark → Type 0
 AreFound s t mark = (whom events : ℕ) → Needs s.log.threads mark whom events → whom ≢ t → (events ≤ found_of (player_of s t) whom) × (found_of (player_of s t) whom ≢ stop_number)
 
@@ -41,41 +42,43 @@ LookIsLawful = (s : FieldState) (t place whom : ℕ) → IsSoundField s → t < 
     → IsFree (player_of s t) → whom < length s.players
     → place ≡ progress_place whom → IsLawfulStep (ToLook whom) t place (λ word. word) s
 
--- it may read, write or update where that is next for it
+-- a player may read a cell where a read is next for it
 abbrev pub ReadIsLawful : Type 0
 ReadIsLawful = (s : FieldState) (t place object : ℕ) → IsSoundField s → t < length s.players
     → IsFree (player_of s t) → next_of_player s t ≡ Wants (MakeRead object)
     → place ≡ cell_place (length s.players) object → IsLawfulStep ToRead t place (λ word. word) s
 
+-- a player may write a cell where a write is next for it
 abbrev pub WriteIsLawful : Type 0
 WriteIsLawful = (s : FieldState) (t place object value : ℕ) → IsSoundField s → t < length s.players
     → IsFree (player_of s t) → next_of_player s t ≡ Wants (MakeWrite object value)
     → place ≡ cell_place (length s.players) object → IsLawfulStep ToWrite t place (λ word. value) s
 
+-- a player may add to a cell where an update is next for it
 abbrev pub BumpIsLawful : Type 0
 BumpIsLawful = (s : FieldState) (t place object amount : ℕ) → IsSoundField s → t < length s.players
     → IsFree (player_of s t) → next_of_player s t ≡ Wants (MakeUpdate object (added amount))
     → place ≡ cell_place (length s.players) object → IsLawfulStep ToBump t place (λ word. (word + amount) % 2 ^ 64) s
 
--- it counts the access that it owes
+-- a player may count the access that it owes
 abbrev pub CountIsLawful : Type 0
 CountIsLawful = (s : FieldState) (t place new : ℕ) → IsSoundField s → t < length s.players
     → (player_of s t).owes ≡ true
     → place ≡ progress_place t → new ≡ made_by s t → IsLawfulStep ToAdvance t place (λ word. new) s
 
--- it makes the mark that is next for it, where it has found what the mark needs of others
+-- a player may make the mark that is next for it, once it has found what the mark needs of others
 abbrev pub MarkIsLawful : Type 0
 MarkIsLawful = (s : FieldState) (t place new : ℕ) (mark : Mark) → IsSoundField s → t < length s.players
     → IsFree (player_of s t) → next_of_player s t ≡ Wants (MakeMark mark) → AreFound s t mark
     → place ≡ progress_place t → new ≡ made_by s t + 1 → IsLawfulStep ToAdvance t place (λ word. new) s
 
--- it stops where it is amiss, or where it has found the stop number
+-- a player may stop where it is amiss, or where it has found the stop number
 abbrev pub StopIsLawful : Type 0
 StopIsLawful = (s : FieldState) (t place : ℕ) (fate : Fate) → IsSoundField s → t < length s.players
     → IsFree (player_of s t) → StopsAs s t fate
     → place ≡ progress_place t → IsLawfulStep (ToStop fate) t place (λ word. stop_number) s
 
--- before the first step the state is sound, for a script and an untied log of equally many threads
+-- the state before the first step is sound, for a script and an untied log of equally many threads
 abbrev pub OpeningIsSound : Type 0
 OpeningIsSound = (script : Script) (log : Log) → length script.threads ≡ length log.threads → IsUntied log.threads → IsSoundField (opening script log)
 
@@ -88,20 +91,21 @@ abbrev pub StepsAreOfRun : Type 0
 StepsAreOfRun = (script : Script) (log : Log) (run : List PlayerStep) (player : ℕ) (first more : List Taken) (taken : Taken) → IsRun (opening script log) run
     → steps_of player script log run ≡ first ++ taken ∷ more → IsStepOf script log run player first taken
 
--- what each player does in a run, with the words that it is told, tells the words that the run leaves: two runs that differ in no player leave the same. So no word changes but by a step that a player knows of
+-- the steps of each player in a run, with the words told, tell the words that the run leaves.
+-- No word changes but by a step that a player knows of
 abbrev pub StepsTellWords : Type 0
 StepsTellWords = (script : Script) (log : Log) (run other : List PlayerStep) → IsRun (opening script log) run → IsRun (opening script log) other
     → ((player : ℕ) → steps_of player script log run ≡ steps_of player script log other)
     → words (field_after script log run) ≡ words (field_after script log other)
 
--- by the rule the live views tell the words
+-- the live views tell the words by the rule
 abbrev pub ViewsTellWords : Type 0
 ViewsTellWords = (script : Script) (log : Log) → ViewsTell (λ (v : PlayerView). v.is_live) (IsRuled script log)
 
--- where an operation is allowed to a player whatever the table is, and tells it nothing, it leaves the words as they are
+-- an operation that a player is allowed on every table, and that tells the player nothing, changes no word
 abbrev pub SilenceChangesNothing : Type 0
 SilenceChangesNothing = (script : Script) (log : Log) → SilenceKeeps (IsRuled script log)
 
--- and where a new player is allowed to come by an operation, that leaves them as they are
+-- an operation by which a new player may come changes no word
 abbrev pub ArrivalChangesNothing : Type 0
 ArrivalChangesNothing = (script : Script) (log : Log) → ArrivalKeeps (IsRuled script log)

@@ -11,11 +11,12 @@ abbrev pub mark_at : List Gapped → ℕ → Option Mark
 mark_at [] event = None
 mark_at (next ∷ marks) event = if event == next.gap then Some next.mark else (if nat_lt next.gap event then mark_at marks (event - suc next.gap) else None)
 
--- the log has this mark there
+-- the thread's log has this mark at this place
 abbrev pub HasMarkAt : List ThreadLog → ℕ → ℕ → Mark → Type 0
 HasMarkAt log thread event mark = mark_at (thread_log_of log thread).marks event ≡ Some mark
 
--- the mark needs so many events of that thread: a Join those that it names, a Draw the draw before it, and a Fence the draw of its number
+-- the mark needs so many events of that thread. A Join needs those that it names,
+-- a Draw the draw before it, and a Fence the draw of its number
 abbrev pub Needs : List ThreadLog → Mark → ℕ → ℕ → Type 0
 Needs log (Join from upto) whom events = (whom ≡ from) × (events ≡ upto)
 Needs log (Draw number) whom events = (1 < number) × (place : ℕ) × (events ≡ suc place) × HasMarkAt log whom place (Draw (pred number))

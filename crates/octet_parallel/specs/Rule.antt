@@ -14,7 +14,7 @@ use Rattle.octet_seats.specs.Seats.{AreSeats}
 use Rattle.octet_parallel.specs.Views.{PlayerView, Left, facts_of, new_view, next_in, stepped_by}
 use Rattle.octet_parallel.specs.Runs.{PlayerStep, IsRun, field_after, steps_of}
 
--- in a sound state the player is as its view has it
+-- the player is as its view has it, in a sound state
 pub record IsSeenBy (v : PlayerView) (s : FieldState) : Type 0 where
   pub sound : IsSoundField s
   pub script : s.script ≡ v.script
@@ -22,7 +22,7 @@ pub record IsSeenBy (v : PlayerView) (s : FieldState) : Type 0 where
   pub inside : v.number < length s.players
   pub stands : player_of s v.number ≡ v.player
 
--- after a run the player is as its view has it, and the steps that it took are those of the view's trail
+-- the player is as its view has it after a run, and the steps that it took are those of the view's trail
 pub record Follows (script : Script) (log : Log) (run : List PlayerStep) (v : PlayerView) : Type 0 where
   pub seen : IsSeenBy v (field_after script log run)
   pub trail : steps_of v.number script log run ≡ v.trail
@@ -32,12 +32,13 @@ pub record HasLeft (script : Script) (log : Log) (run : List PlayerStep) (number
   pub stands : player_of (field_after script log run) number ≡ left.player
   pub trail : steps_of number script log run ≡ left.trail
 
--- a player that isn't made yet has made no event and no step
+-- a player that is not made yet has made no event and no step
 pub record IsUnmade (script : Script) (log : Log) (run : List PlayerStep) (number : ℕ) : Type 0 where
   pub stands : player_of (field_after script log run) number ≡ unbegun
   pub trail : steps_of number script log run ≡ []
 
--- the words are those after a run from the opening. In it each player has taken the steps that its view tells of, and no others
+-- the words are those after a run from the opening. Each player has taken the steps in it that its view tells of,
+-- and no others
 pub record IsRuled (script : Script) (log : Log) (table : State (Unit {0}) PlayerView) : Type 0 where
   pub agree : length script.threads ≡ length log.threads
   pub untied : IsUntied log.threads
@@ -50,7 +51,7 @@ pub record IsRuled (script : Script) (log : Log) (table : State (Unit {0}) Playe
 abbrev pub first_view : Script → Log → PlayerView
 first_view script log = new_view 0 script log 1
 
--- a view that is spent. Its script and its log are the shortest ones
+-- the view that is spent. Its script and its log are the shortest ones
 abbrev pub spent : PlayerView
 spent = record {
   is_live = false;
@@ -63,15 +64,17 @@ spent = record {
   joined = [];
 }
 
--- of whom a player has found its last number
+-- the player in whose word a player has last found a number
 abbrev pub last_whom : List (ℕ × ℕ) → ℕ
 last_whom [] = 0
 last_whom (look ∷ looks) = look.0
 
+-- the player of the last look, which found the stop number
 abbrev pub stop_found : PlayerView → ℕ
 stop_found v = last_whom v.player.found
 
--- a table steps from one state to another under the rule: the player of this view takes one step, and the run grows by that. The views of the others stay
+-- the table steps from one state to another under the rule. The player of this view takes one step,
+-- the run grows by this step, and the views of the others stay
 pub record IsRuledStep (k : Kind) (s : FieldState) (v w : PlayerView) : Type 0 where
   pub table : State (Unit {0}) PlayerView
   pub seat : ℕ
@@ -81,11 +84,12 @@ pub record IsRuledStep (k : Kind) (s : FieldState) (v w : PlayerView) : Type 0 w
   pub rule_after : IsRuled v.script v.log record { words = words (step k v.number s); homes = table.homes; views = slice_set table.views seat w }
   pub grows : rule_after.run ≡ rule.run ++ record { player = v.number; kind = k } ∷ []
 
--- the same, closed to the search for proofs, which seldom need it
+-- a ruled step, closed to the search for proofs, which seldom need it
 unfoldable pub KeepsRule : Kind → FieldState → PlayerView → PlayerView → Type 0
 KeepsRule k s v w = IsRuledStep k s v w
 
--- one step by the player of a view, which is told this word. It is taken in the state after a run from the opening, is the next of that run, and comes to a sound state
+-- one step by the player of a view, which is told this word. The step is taken in the state after a run from the
+-- opening, comes next in that run, and leads to a sound state
 pub record Steps (k : Kind) (v : PlayerView) (told : ℕ) (w : PlayerView) : Type 0 where
   pub before : FieldState
   pub seen : IsSeenBy v before
@@ -103,10 +107,10 @@ place_by ToWrite v = cell_place (length v.log.threads) (target (next_in v))
 place_by ToBump v = cell_place (length v.log.threads) (target (next_in v))
 place_by _ v = progress_place v.number
 
--- a step on the table, with what its operation is given
+-- the step on the table at a place, with what its operation is given
 abbrev pub operation_on : ℕ → ℕ → ℕ → TableStep (Unit {0})
 operation_on slots place given = table_step slots place given 0 none
 
--- one step of the player, by the one operation that is its own, on its own word
+-- the player takes one step, by the one operation that is its own, on the step's own word
 abbrev pub Acts : Kind → TableStep (Unit {0}) → Me (Unit {0}) PlayerView → ℕ → Me (Unit {0}) PlayerView → Type 0
 Acts k operation me told next = (next.1 ≡ me.1) × Steps k me.0 told next.0 × (operation.word ≡ place_by k me.0)

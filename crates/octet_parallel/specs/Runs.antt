@@ -7,16 +7,16 @@ use Rattle.octet_parallel.specs.State.{FieldState, opening}
 use Rattle.octet_parallel.specs.Steps.{Kind, May, step, told}
 use Rattle.octet_parallel.specs.Views.{Taken}
 
--- a step of a run: of which player, and of which kind
+-- one step of a run: its player and its kind
 pub record PlayerStep : Type 0 where
   pub player : ℕ
   pub kind : Kind
 
--- as its player knows it: with the word that it is told
+-- the step as its player knows it: with the word that it is told
 abbrev pub taken_in : FieldState → PlayerStep → Taken
 taken_in s next = record { kind = next.kind; word = told next.kind next.player s }
 
--- each step is one of its player, changes the field as its kind says, and is told its word
+-- the moves of players: each step is one of its player, changes the field as its kind says, and is told its word
 abbrev pub moves : Moves FieldState PlayerStep Taken
 moves = record { who = λ next. next.player; after = λ next s. step next.kind next.player s; taken = taken_in }
 
@@ -32,10 +32,11 @@ IsRun s run = MayAll moves MayStep s run
 abbrev pub field_after : Script → Log → List PlayerStep → FieldState
 field_after script log run = after_all moves (opening script log) run
 
--- the steps that one player takes in it, in their order
+-- the steps that one player takes in a run from the opening, in order
 abbrev pub steps_of : ℕ → Script → Log → List PlayerStep → List Taken
 steps_of player script log run = steps_by moves player (opening script log) run
 
--- in a run from the opening there is this step of a player, after those that it took first: it may be taken there, and is told this word
+-- a run from the opening has this step of a player, after those that it took first.
+-- The step may be taken there, and is told this word
 abbrev pub IsStepOf : Script → Log → List PlayerStep → ℕ → List Taken → Taken → Type 0
 IsStepOf script log run player first taken = IsStepBy moves MayStep (opening script log) run player first taken

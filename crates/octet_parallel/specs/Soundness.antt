@@ -7,22 +7,24 @@ use Rattle.octet_clock.specs.Untied.{IsUntied}
 use Rattle.octet_parallel.specs.State.{PlayerState, FieldState, SomeAmiss, player_of, made_by, stop_number, plain}
 use Rattle.octet_parallel.specs.Steps.{IsAmissBy}
 
--- what holds of a look: where it found the stop number, some player is amiss. Any other number is at most the length of that player's journal
+-- a sound look. Where the look found the stop number, some player is amiss.
+-- Any other number is at most the length of that player's journal
 pub record IsSoundLook (s : FieldState) (look : ℕ × ℕ) : Type 0 where
   pub stop : look.1 ≡ stop_number → SomeAmiss s
   pub number : look.1 ≢ stop_number → look.1 ≤ made_by s look.0
 
--- what holds of each player
+-- a sound player: what it owes, its fate and its looks are true of the state
 pub record IsSoundPlayer (s : FieldState) (t : ℕ) (p : PlayerState) : Type 0 where
-  -- it owes the count of an access that it has made
+  -- a player that owes has made an access and plays
   pub owes : p.owes ≡ true → (p.fate ≡ Playing) × (0 < length p.journal)
-  -- it is amiss only where its journal, the script and the log say so
+  -- a player is amiss only where its journal, the script and the log say so
   pub amiss : p.fate ≡ Amiss → IsAmissBy s.script s.log.threads t p.journal
-  -- where it is stopped, some player is amiss
+  -- some player is amiss where this one is stopped
   pub stopped : (whom : ℕ) → p.fate ≡ Stopped whom → SomeAmiss s
-  -- each of its looks is sound
+  -- each look of the player is sound
   pub looks : All (IsSoundLook s) p.found
 
+-- a sound state: what was made so far is a front of the script and the log, and each player is sound
 pub record IsSoundField (s : FieldState) : Type 0 where
   pub agree : length s.script.threads ≡ length s.log.threads
   pub untied : IsUntied s.log.threads

@@ -9,14 +9,15 @@ use Rattle.octet_parallel.specs.declared.fate.Fate.{Fate}
 use Rattle.octet_parallel.specs.declared.fate.Fate.TheVariants.{Playing, Amiss, Stopped}
 use Rattle.octet_parallel.specs.declared.words.TheConstants.{STOP_NUMBER}
 
--- a player's journal, whether its last event is an access that its progress word doesn't count yet, whether it is amiss or stopped, and what it found in the progress words of others, the last first: of whom, and the number
+-- the state of a player: its journal, and whether this ends in an access that its word does not count yet.
+-- Its fate is told, and the numbers found in the words of others, the last first
 pub record PlayerState : Type 0 where
   pub journal : List Event
   pub owes : Bool
   pub fate : Fate
   pub found : List (ℕ × ℕ)
 
--- the script, the log, the steps that were made in their order, the players, and the values of the cells
+-- the state of a field: the script, the log, the steps made in order, the players, and the values of the cells
 pub record FieldState : Type 0 where
   pub script : Script
   pub log : Log
@@ -24,14 +25,15 @@ pub record FieldState : Type 0 where
   pub players : List PlayerState
   pub cells : List ℕ
 
--- before the first event
+-- the player before its first event
 abbrev pub unbegun : PlayerState
 unbegun = record { journal = []; owes = false; fate = Playing; found = [] }
 
+-- the player of a number in this state
 abbrev pub player_of : FieldState → ℕ → PlayerState
 player_of s player = get_or s.players player unbegun
 
--- how many events a player has made
+-- the number of events that a player has made
 abbrev pub made_by : FieldState → ℕ → ℕ
 made_by s player = length (player_of s player).journal
 
@@ -40,6 +42,7 @@ abbrev pub found_last : List (ℕ × ℕ) → ℕ → ℕ
 found_last [] whom = 0
 found_last (look ∷ looks) whom = if whom == look.0 then look.1 else found_last looks whom
 
+-- the number that a player found last of another, 0 where it found none
 abbrev pub found_of : PlayerState → ℕ → ℕ
 found_of p whom = found_last p.found whom
 
@@ -47,31 +50,32 @@ found_of p whom = found_last p.found whom
 abbrev pub stop_number : ℕ
 stop_number = STOP_NUMBER
 
--- how many of its events a player shows
+-- the number of its events that a player shows
 abbrev pub shown : PlayerState → ℕ
 shown p = elim p.owes [ true ↦ pred (length p.journal) | false ↦ length p.journal ]
 
--- its progress word
+-- the progress word of a player
 abbrev pub progress : PlayerState → ℕ
 progress p = elim p.fate [ Playing ↦ shown p | Amiss ↦ stop_number | Stopped whom ↦ stop_number ]
 
--- the words lie eight apart, so that players at work on different words do not disturb each other
+-- the words laid out, each eight words from the next. Players at work on different words do not disturb each other
 abbrev pub spread : List ℕ → List ℕ
 spread [] = []
 spread (word ∷ words) = word ∷ 0 ∷ 0 ∷ 0 ∷ 0 ∷ 0 ∷ 0 ∷ 0 ∷ spread words
 
--- a progress word for each player, and a cell for each object
+-- the words of a field: a progress word for each player, and a cell for each object
 abbrev pub words : FieldState → List ℕ
 words s = spread (map progress s.players ++ s.cells)
 
--- where they lie
+-- the place of a player's progress word
 abbrev pub progress_place : ℕ → ℕ
 progress_place player = 8 * player
 
+-- the place of an object's cell
 abbrev pub cell_place : ℕ → ℕ → ℕ
 cell_place players object = 8 * (players + object)
 
--- what is next for a player by the log
+-- what a player does next by the log
 abbrev pub next_of_player : FieldState → ℕ → Next
 next_of_player s player = by_log s.script s.log.threads player (player_of s player).journal
 
@@ -79,7 +83,7 @@ next_of_player s player = by_log s.script s.log.threads player (player_of s play
 abbrev pub plain : FieldState → PlainState
 plain s = state_after s.script s.log.threads s.front
 
--- before the first step
+-- the state before the first step
 abbrev pub opening : Script → Log → FieldState
 opening script log = record { script = script; log = log; front = []; players = replicate (length log.threads) unbegun; cells = starting_heap script }
 

@@ -5,7 +5,7 @@ use Rattle.octet_model.specs.declared.log.Gapped.{Gapped}
 use Rattle.octet_model.specs.declared.log.ThreadLog.{ThreadLog}
 use Rattle.octet_model.specs.Journals.{access_count, gap_after, gapped_marks}
 
--- no mark of these comes before so many accesses
+-- no mark of the rest comes before so many accesses
 abbrev pub Ahead : List Gapped → ℕ → Type 0
 Ahead rest gap = (next : Gapped) → slice_get rest 0 ≡ Some next → gap ≤ next.gap
 

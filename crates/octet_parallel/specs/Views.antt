@@ -13,12 +13,13 @@ pub record Taken : Type 0 where
   pub kind : Kind
   pub word : ℕ
 
--- what a player leaves that is joined back: how far it is, and the steps that it took
+-- what a player leaves when it is joined back: how far it is, and the steps that it took
 pub record Left : Type 0 where
   pub player : PlayerState
   pub trail : List Taken
 
--- a player's number, the script and the log, how far it is, and the steps that it took. The first player's view also holds how many players were made, and the numbers of those that were joined back, with what they left. The view of a player that was joined back is spent: it is not live
+-- the view of a player: its number, the script and the log, how far it is, and the steps that it took.
+-- The first player's view also tells the players made and joined back. A view joined back is spent
 pub record PlayerView : Type 0 where
   pub is_live : Bool
   pub number : ℕ
@@ -29,36 +30,37 @@ pub record PlayerView : Type 0 where
   pub players_made : ℕ
   pub joined : List (ℕ × Left)
 
--- what it tells of its seat
+-- what a view tells of its seat
 abbrev pub facts_of : PlayerView → SeatFacts Left
 facts_of v = record { is_live = v.is_live; number = v.number; seats_made = v.players_made; joined = v.joined }
 
--- a player that has taken no step
+-- the view of a player that has taken no step
 abbrev pub new_view : ℕ → Script → Log → ℕ → PlayerView
 new_view number script log players_made = record { is_live = true; number = number; script = script; log = log; player = unbegun; trail = []; players_made = players_made; joined = [] }
 
--- what is next for it by the log
+-- what the player of a view does next by the log
 abbrev pub next_in : PlayerView → Next
 next_in v = by_log v.script v.log.threads v.number v.player.journal
 
--- after a step of this kind that was told this word
+-- the view after a step of this kind that was told this word
 abbrev pub stepped_by : Kind → ℕ → PlayerView → PlayerView
 stepped_by k told v = record v {
   player = after k (next_in v) told v.player;
   trail = v.trail ++ record { kind = k; word = told } ∷ [];
 }
 
--- the next player that the first one splits off, and its own view after that
+-- the view of the next player that the first one splits off
 abbrev pub split_off : PlayerView → PlayerView
 split_off v = new_view v.players_made v.script v.log 0
 
+-- the view of the first player after it has split off another
 abbrev pub after_split : PlayerView → PlayerView
 after_split v = record v { players_made = suc v.players_made }
 
--- what a player leaves
+-- what the player of a view leaves
 abbrev pub left_of : PlayerView → Left
 left_of v = record { player = v.player; trail = v.trail }
 
--- the first player's after another was joined to it, whose own is spent
+-- the view of the first player after another was joined to it
 abbrev pub after_join : PlayerView → PlayerView → PlayerView
 after_join v w = record v { joined = v.joined ++ (w.number, left_of w) ∷ [] }

@@ -11,14 +11,14 @@ use Rattle.octet_interp.specs.Regions.{regions_before}
 use Rattle.octet_regions.specs.declared.region.Region.{Region}
 use Rattle.octet_regions.specs.declared.access.Access.{Access}
 
--- the region of a thread's next access: its thread, and the number of `region` commands that it runs before it
+-- the region of a thread's next access: its thread, and the number of `region` commands run before the access
 abbrev pub region_in : Script → PlainState → ℕ → Region
 region_in script s thread = record {
   thread = thread;
   number = regions_before (commands_of script thread) (starting_configuration script.fuel) (journal_of s.journals thread);
 }
 
--- an event in its region, if it is an access
+-- the event as an access of its region, if it is an access
 abbrev pub access_in : Region → Event → List Access
 access_in region (Marked mark) = []
 access_in region event = record { region = region; event = event } ∷ []
@@ -29,12 +29,12 @@ access_made script s thread (Wants operation) = access_in (region_in script s th
 access_made script s thread Finished = []
 access_made script s thread NothingFits = []
 
--- those of a front
+-- the accesses of a front, in the order in which they are made
 abbrev pub accesses_along : Script → List ThreadLog → PlainState → List ℕ → List Access
 accesses_along script log s [] = []
 accesses_along script log s (thread ∷ front) =
     access_made script s thread (next_of (by_log script log) s thread) ++ accesses_along script log (step (by_log script log) s thread) front
 
--- those of the lowest order
+-- the accesses of the lowest order of a script and a log
 abbrev pub accesses_of : Script → List ThreadLog → List Access
 accesses_of script log = accesses_along script log (opening_state script) (lowest_order script log)

@@ -12,14 +12,14 @@ pub record InConflict (a b : Access) : Type 0 where
   pub of_same : object_of b.event ≡ Some object
   pub one_writes : IsTrue (is_write a.event || is_write b.event)
 
--- a region: one that has an access
+-- a region is one that has an access
 pub record IsRegion (accesses : List Access) (region : Region) : Type 0 where
   pub place : ℕ
   pub access : Access
   pub is_there : slice_get accesses place ≡ Some access
   pub in_region : access.region ≡ region
 
--- a region is before another: an access of it comes earlier than a conflicting access of the other
+-- a region is before another: an access of the first comes earlier than a conflicting access of the other
 pub record RegionBefore (accesses : List Access) (region other : Region) : Type 0 where
   pub first : ℕ
   pub second : ℕ

@@ -4,6 +4,6 @@ use Rattle.octet_regions.specs.declared.access.Access.{Access}
 use Rattle.octet_regions.specs.declared.serial.Serial.{Serial}
 use Rattle.octet_regions.specs.Choice.{IsSerial}
 
--- accesses have one serial choice, and where it ends with regions left one cycle
+-- accesses have only one answer: the order of all regions, or the cycle to which the choice leads
 abbrev pub OneAnswer : Type 0
 OneAnswer = (accesses : List Access) (serial other : Serial) → IsSerial accesses serial → IsSerial accesses other → serial ≡ other

@@ -16,6 +16,7 @@ module _ {T A P : Type 0} where
   abbrev pub ring_of_consumer : Consumer T A P → RingName
   ring_of_consumer c = record { words = c.end.words; slots = c.end.slots; names = c.end.names }
 
+-- what contracts see of a sender
 abbrev pub sender_view : InsideOfSender → SenderView
 sender_view s = record {
   ring = ring_of_producer s.end;
@@ -25,6 +26,7 @@ sender_view s = record {
   taken = length (sent s.end) + known_free s.end - producer_capacity s.end;
 }
 
+-- the room of the sender's ring is within its limit
 abbrev pub HasRoom : InsideOfSender → Type 0
 HasRoom s = producer_capacity s.end ≤ MAX_ROOM
 
@@ -36,5 +38,6 @@ module _ {A P : Type 0} where
     known = map (λ end. length (known_items end)) ends;
   }
 
+-- what contracts see of a drain
 abbrev pub drain_view : InsideOfDrain → DrainView
 drain_view d = ends_view d.ends.items

@@ -17,7 +17,7 @@ use Rattle.octet_rule.specs.Views.{SeatView, Left, facts_of, new_view, stepped_b
 use Rattle.octet_rule.specs.Runs.{state_after, steps_of}
 use Rattle.octet_rule.specs.Conditions.{IsResting}
 
--- in a sound state the thread of a seat is where the seat knows it to be
+-- the thread of a seat is where the seat knows it to be, in a sound state
 pub record IsSeenBy (v : SeatView) (s : ProtocolState) : Type 0 where
   pub sound : IsSound s
   pub as_many : length s.threads ≡ v.threads
@@ -26,7 +26,8 @@ pub record IsSeenBy (v : SeatView) (s : ProtocolState) : Type 0 where
   pub stands : thread_of s v.number ≡ v.thread
   pub has_made : journal_of s.journals v.number ≡ v.journal
 
--- after a run the thread of a seat is where the seat knows it to be, and the steps that it took are those of the seat's trail
+-- the thread of a seat is where the seat knows it to be after a run.
+-- The steps that it took are those of the seat's trail
 pub record Follows (threads : ℕ) (starts : List ℕ) (run : List ThreadStep) (v : SeatView) : Type 0 where
   pub seen : IsSeenBy v (state_after threads starts run)
   pub trail : steps_of v.number (opening threads starts) run ≡ v.trail
@@ -43,7 +44,8 @@ pub record IsUnmade (threads : ℕ) (starts : List ℕ) (run : List ThreadStep) 
   pub journal : journal_of (state_after threads starts run).journals number ≡ []
   pub trail : steps_of number (opening threads starts) run ≡ []
 
--- the words are those after a run from the opening. In it each thread has taken the steps that its seat knows of, and no others
+-- the words are those after a run from the opening. Each thread has taken the steps in it that its seat knows of,
+-- and no others
 pub record IsRuled (threads : ℕ) (starts : List ℕ) (table : State (Unit {0}) SeatView) : Type 0 where
   pub some_thread : 0 < threads
   pub few_threads : threads ≤ MAX_THREADS
@@ -56,7 +58,8 @@ pub record IsRuled (threads : ℕ) (starts : List ℕ) (table : State (Unit {0})
 abbrev pub first_view : ℕ → List ℕ → SeatView
 first_view threads starts = new_view 0 threads starts 1
 
--- a table steps from one state to another under the rule: this seat's thread takes one step, and the run grows by that. The views of the other seats stay
+-- the table steps from one state to another under the rule. This seat's thread takes one step,
+-- the run grows by this step, and the views of the other seats stay
 pub record IsRuledStep (k : Kind) (s : ProtocolState) (v w : SeatView) : Type 0 where
   pub table : State (Unit {0}) SeatView
   pub seat : ℕ
@@ -66,11 +69,12 @@ pub record IsRuledStep (k : Kind) (s : ProtocolState) (v w : SeatView) : Type 0 
   pub rule_after : IsRuled v.threads v.starts record { words = words (step k v.number s); homes = table.homes; views = slice_set table.views seat w }
   pub grows : rule_after.run ≡ rule.run ++ record { thread = v.number; kind = k } ∷ []
 
--- the same, closed to the search for proofs, which seldom need it
+-- a ruled step, closed to the search for proofs, which seldom need it
 unfoldable pub KeepsRule : Kind → ProtocolState → SeatView → SeatView → Type 0
 KeepsRule k s v w = IsRuledStep k s v w
 
--- one step of the protocol by the seat's thread, which is told this word. It is taken in the state after a run from the opening, and is the next of that run
+-- one step of the protocol by the seat's thread, which is told this word.
+-- The step is taken in the state after a run from the opening, and comes next in that run
 pub record Steps (k : Kind) (v : SeatView) (told : ℕ) (w : SeatView) : Type 0 where
   pub before : ProtocolState
   pub seen : IsSeenBy v before
@@ -80,10 +84,11 @@ pub record Steps (k : Kind) (v : SeatView) (told : ℕ) (w : SeatView) : Type 0 
   pub seen_after : IsSeenBy w (step k v.number before)
   pub ruled : KeepsRule k before v w
 
--- where the state of an object lies, and its cell beside it
+-- the place of an object's state
 abbrev pub state_place : SeatView → ℕ → ℕ
 state_place v object = object_place v.threads object
 
+-- the place of an object's cell, beside its state
 abbrev pub cell_place : SeatView → ℕ → ℕ
 cell_place v object = state_place v object + 1
 
@@ -103,7 +108,8 @@ place_by ToDraw v = counter_place
 place_by ToFence v = counter_place
 place_by _ v = status_place v.number
 
--- what its operation is given: the word that it stores, the bit that it sets, what it adds, or the word that it exchanges
+-- the first word that a step gives its operation: the word that it stores, the bit that it sets, what it adds,
+-- or the word that it exchanges
 abbrev pub first_given : Kind → SeatView → ℕ
 first_given ToAnswer v = packed_status (shown false (length v.journal))
 first_given (ToBlock ends) v = packed_status (shown true (length v.journal))
@@ -118,22 +124,23 @@ first_given ToRaise v = word_seen v.thread.phase
 first_given ToShare v = word_seen v.thread.phase
 first_given _ v = 0
 
--- and the word that takes the place of an exchanged one
+-- the second word that a step gives its operation: the one that takes the place of an exchanged word
 abbrev pub second_given : Kind → SeatView → ℕ
 second_given ToClaim v = packed_state (claiming v.number (mode_of v.thread.phase))
 second_given ToRaise v = packed_state (WrEx v.number)
 second_given ToShare v = packed_state (ShInt v.number)
 second_given _ v = 0
 
--- an operation on the word of the step, and with what the step is to give it
+-- the operation is on the word of the step, with what the step gives it
 pub record IsOperationOf (k : Kind) (v : SeatView) (operation : TableStep (Unit {0})) : Type 0 where
   pub place : operation.word ≡ place_by k v
   pub first : operation.first ≡ first_given k v
   pub second : operation.second ≡ second_given k v
 
+-- the step on the table at a place, with what its operation is given
 abbrev pub operation_on : ℕ → ℕ → ℕ → ℕ → TableStep (Unit {0})
 operation_on slots place first second = table_step slots place first second none
 
--- one step of the protocol, by the one operation that is its own
+-- the thread takes one step of the protocol, by the one operation that is its own
 abbrev pub Acts : Kind → TableStep (Unit {0}) → Me (Unit {0}) SeatView → ℕ → Me (Unit {0}) SeatView → Type 0
 Acts k operation me told next = (next.1 ≡ me.1) × Steps k me.0 told next.0 × IsOperationOf k me.0 operation

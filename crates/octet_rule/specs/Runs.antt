@@ -10,7 +10,7 @@ use Rattle.octet_rule.specs.Views.{Taken}
 abbrev pub state_after : ℕ → List ℕ → List ThreadStep → ProtocolState
 state_after threads starts run = after_run (opening threads starts) run
 
--- a step as its thread knows it: with the word that it is told
+-- the step as its thread knows it: with the word that it is told
 abbrev pub taken_in : ProtocolState → ThreadStep → Taken
 taken_in s next = record { kind = next.kind; word = told next.kind next.thread s }
 
@@ -19,11 +19,12 @@ abbrev pub steps_of : ℕ → ProtocolState → List ThreadStep → List Taken
 steps_of thread s [] = []
 steps_of thread s (next ∷ run) = (if next.thread == thread then taken_in s next ∷ [] else []) ++ steps_of thread (step next.kind next.thread s) run
 
--- the same state with every thread off, as each is once its seat was given back. It has the same words
+-- the state with every thread off, as each is once its seat was given back. The words are the same
 abbrev pub all_off : ProtocolState → ProtocolState
 all_off s = record s { threads = map (moved Off Nothing) s.threads }
 
--- in a run from a state there is this step of a thread, after those that it took first: it may be taken there, and is told this word
+-- a run from a state has this step of a thread, after those that it took first.
+-- The step may be taken there, and is told this word
 pub record IsStepOf (s : ProtocolState) (run : List ThreadStep) (thread : ℕ) (first : List Taken) (taken : Taken) : Type 0 where
   pub before : List ThreadStep
   pub after : List ThreadStep

@@ -10,12 +10,13 @@ pub record Taken : Type 0 where
   pub kind : Kind
   pub word : ℕ
 
--- what a seat leaves that joins thread 0's: its thread's journal, and the steps that it took
+-- what a seat leaves when it joins thread 0's: its thread's journal, and the steps that it took
 pub record Left : Type 0 where
   pub journal : List Event
   pub trail : List Taken
 
--- a thread's number, where it stands, its journal, and the steps that it took; how many threads there are, and what the cells had at first. The seat of thread 0 also knows how many seats were made, and the numbers of those that have joined it, with what they left. A seat that has joined it is spent: it is not live
+-- the view of a seat: its thread and number, its journal and steps, the number of threads, and the cells' first values.
+-- Thread 0's view also tells the seats made and joined. The view of a seat that joined is spent
 pub record SeatView : Type 0 where
   pub is_live : Bool
   pub number : ℕ
@@ -27,15 +28,15 @@ pub record SeatView : Type 0 where
   pub seats_made : ℕ
   pub joined : List (ℕ × Left)
 
--- what it tells of its seat
+-- what a view tells of its seat
 abbrev pub facts_of : SeatView → SeatFacts Left
 facts_of v = record { is_live = v.is_live; number = v.number; seats_made = v.seats_made; joined = v.joined }
 
--- a seat whose thread has not started
+-- the view of a seat whose thread has not started
 abbrev pub new_view : ℕ → ℕ → List ℕ → ℕ → SeatView
 new_view number threads starts seats_made = record { is_live = true; number = number; thread = unstarted; journal = []; trail = []; threads = threads; starts = starts; seats_made = seats_made; joined = [] }
 
--- after a step of this kind that was told this word
+-- the view after a step of this kind that was told this word
 abbrev pub stepped_by : Kind → ℕ → SeatView → SeatView
 stepped_by k told v = record v {
   thread = after k v.number told v.thread;
@@ -43,20 +44,22 @@ stepped_by k told v = record v {
   trail = v.trail ++ record { kind = k; word = told } ∷ [];
 }
 
--- the next seat that thread 0 splits off, and its own after that
+-- the view of the next seat that thread 0 splits off
 abbrev pub split_off : SeatView → SeatView
 split_off v = new_view v.seats_made v.threads v.starts 0
 
+-- the view of thread 0's seat after it has split off another
 abbrev pub after_split : SeatView → SeatView
 after_split v = record v { seats_made = suc v.seats_made }
 
--- what a seat leaves
+-- what the seat of a view leaves
 abbrev pub left_of : SeatView → Left
 left_of v = record { journal = v.journal; trail = v.trail }
 
--- the seat of thread 0 after another has joined it, which is spent
+-- the view of thread 0's seat after another has joined it
 abbrev pub after_join : SeatView → SeatView → SeatView
 after_join v w = record v { joined = v.joined ++ (w.number, left_of w) ∷ [] }
 
+-- the view that is spent
 abbrev pub spent : SeatView
 spent = record { is_live = false; number = 0; thread = unstarted; journal = []; trail = []; threads = 0; starts = []; seats_made = 0; joined = [] }

@@ -6,7 +6,7 @@ use Rattle.octet_model.specs.declared.event.Place.{Place}
 use Rattle.octet_slice.specs.declared.finding.Found.{Found}
 use Rattle.octet_slice.specs.declared.finding.Found.TheVariants.{At, Nowhere}
 
--- the trace is events at which the test answers no, then this one, at which it answers yes, and the rest
+-- the trace has this event at which the test answers yes, after events at which it answers no
 pub record IsFirstMatch (answers : Event → Bool → Type 0) (trace : List (Place × Event)) (place : Place) (event : Event) : Type 0 where
   pub before : List (Place × Event)
   pub rest : List (Place × Event)
@@ -14,7 +14,7 @@ pub record IsFirstMatch (answers : Event → Bool → Type 0) (trace : List (Pla
   pub accepted : answers event true
   pub refused : All (λ item. answers item.1 false) before
 
--- that is the event found; or the test answers no at every event of the trace
+-- the event found is the first match. With none found, the test answers no at every event of the trace
 abbrev pub IsFound : (Event → Bool → Type 0) → List (Place × Event) → Found → Type 0
 IsFound answers trace (At place event) = IsFirstMatch answers trace place event
 IsFound answers trace Nowhere = All (λ item. answers item.1 false) trace

@@ -12,7 +12,8 @@ use Rattle.octet_model.specs.Past.{InPast}
 use Rattle.octet_slice.specs.code.Cursors.{IsCursorOf}
 use Rattle.octet_slice.specs.code.Reached.{Gathered, count_of, reach_of}
 
--- journals of a log, none too long: Joins name events that are there, draws have numbers of at least 1, and each thread's draws are in order
+-- the journals are those of a log, and none is too long. Joins name events that are there,
+-- draws have numbers of at least 1, and each thread's draws are in order
 pub record AreOfLog (journals : Journals) (log : List ThreadLog) : Type 0 where
   pub is_log : log ≡ log_of journals
   pub short : (thread : ℕ) → length (journal_of journals thread) < 2 ^ 32
@@ -21,13 +22,14 @@ pub record AreOfLog (journals : Journals) (log : List ThreadLog) : Type 0 where
   pub rising : (thread sooner later first then : ℕ) → sooner < later
       → event_at journals (record { thread = thread; event = sooner }) ≡ Some (Marked (Draw first)) → event_at journals (record { thread = thread; event = later }) ≡ Some (Marked (Draw then)) → first < then
 
--- what a mark has before it is gathered
+-- the events before a mark are gathered: those that a Join names, and the draws before a Draw or up to a Fence
 abbrev pub IsTakenIn : Gathered → Mark → Type 0
 IsTakenIn g (Join from upto) = upto ≤ count_of g.threads from
 IsTakenIn g (Draw number) = pred number ≤ g.draws
 IsTakenIn g (Fence number) = number ≤ g.draws
 
--- what is gathered lies in the past of a thread's first events, and has these: the first events of each thread, and draws up to a number; the marks that were taken in have what is before them gathered, and the draws that were searched past are gathered
+-- all that is gathered lies in the past of a thread's first events, and has these. The events before each mark taken in
+-- are gathered, and each draw that was searched past is
 pub record IsPartOfPast (journals : Journals) (thread now : ℕ) (g : Gathered) : Type 0 where
   pub as_many : length g.threads ≡ length journals
   pub whole : now ≤ count_of g.threads thread
@@ -43,16 +45,16 @@ pub record IsPartOfPast (journals : Journals) (thread now : ℕ) (g : Gathered) 
 abbrev pub HasMarks : Journals → Gathered → ℕ → Type 0
 HasMarks journals g thread = (event : ℕ) (mark : Mark) → event < count_of g.threads thread → event_at journals (record { thread = thread; event = event }) ≡ Some (Marked mark) → event < (reach_of g.threads thread).taken_in.events
 
--- all its draws up to the number are searched past
+-- all draws of the thread up to the gathered number are searched past
 abbrev pub HasDraws : Journals → Gathered → ℕ → Type 0
 HasDraws journals g thread = (event number : ℕ) → event_at journals (record { thread = thread; event = event }) ≡ Some (Marked (Draw number)) → number ≤ g.draws → event < (reach_of g.threads thread).searched.events
 
--- nothing more is to be gathered by a thread's marks
+-- the marks of a thread ask for nothing more to be gathered
 pub record IsSettled (journals : Journals) (g : Gathered) (thread : ℕ) : Type 0 where
   pub marks : HasMarks journals g thread
   pub draws : HasDraws journals g thread
 
--- all that a past needs is gathered
+-- all of a past is gathered
 pub record GathersPast (journals : Journals) (thread now : ℕ) (g : Gathered) : Type 0 where
   pub part : IsPartOfPast journals thread now g
   pub settled : (of : ℕ) → of < length journals → IsSettled journals g of

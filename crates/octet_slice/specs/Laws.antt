@@ -7,7 +7,8 @@ use Rattle.octet_model.specs.HappensBefore.{IsOrdered}
 use Rattle.octet_model.specs.Orders.{journals_after, lowest_order, IsLawfulOrder}
 use Rattle.octet_slice.specs.FirstEvents.{first_events, IsClosed}
 
--- where the journals of a lawful order are ordered, first events that are closed under edges are made by themselves as they are made among all: the lowest order of their log makes these very events, with their values
+-- first events that are closed under edges are made by themselves as among all: the lowest order of their log
+-- makes these very events. The journals are those of a lawful order, and ordered
 abbrev pub ClosedEventsReplayAlone : Type 0
 ClosedEventsReplayAlone = (script : Script) (log : List ThreadLog) (order counts : List ℕ)
     → IsLawfulOrder script log order → IsOrdered (journals_after script log order) → IsClosed (journals_after script log order) counts

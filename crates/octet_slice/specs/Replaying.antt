@@ -11,7 +11,7 @@ use Rattle.octet_slice.specs.declared.replaying.Replayed.{Replayed}
 abbrev pub MakesEventAt : Script → List ThreadLog → Place → Type 0
 MakesEventAt script log place = IsEvent (journals_after script log (lowest_order script log)) place
 
--- it is this one, and the order has so many steps
+-- the event at the place is this one, and the lowest order has so many steps
 pub record IsReplayedTo (script : Script) (log : List ThreadLog) (place : Place) (replayed : Replayed) : Type 0 where
   pub is_event : event_at (journals_after script log (lowest_order script log)) place ≡ Some replayed.event
   pub made : replayed.made ≡ length (lowest_order script log)

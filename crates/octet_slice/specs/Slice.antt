@@ -16,7 +16,7 @@ pub record CountsPast (journals : Journals) (thread now : ℕ) (counts : List �
   pub as_many : length counts ≡ length journals
   pub each : (place : Place) → InPast journals thread now place ↔ (place.event < slice_index counts place.thread)
 
--- the event at the place, how many events lie in its past (with it), and how many there are
+-- the event at the place, the number of events in its past (with it), and the number of all events
 pub record IsSliceOf (journals : Journals) (place : Place) (sliced : Sliced) : Type 0 where
   pub is_event : event_at journals place ≡ Some sliced.event
   pub past : List ℕ
@@ -24,25 +24,27 @@ pub record IsSliceOf (journals : Journals) (place : Place) (sliced : Sliced) : T
   pub made : sliced.made ≡ sum past
   pub all : sliced.all ≡ sum_by (λ journal. length journal) journals
 
--- how many events a thread has by its log
+-- the number of events that a thread has by its log
 abbrev pub events_of : ThreadLog → ℕ
 events_of log = log.accesses + length log.marks
 
--- there is such a thread, and it has such an event
+-- the thread is there, and has an event of this number
 pub record HasEvent (log : List ThreadLog) (thread event : ℕ) : Type 0 where
   pub has_thread : thread < length log
   pub has_event : event < events_of (thread_log_of log thread)
 
+-- the thread is not there, since only so many threads are
 pub record IsNoThread (log : List ThreadLog) (thread threads : ℕ) : Type 0 where
   pub past : length log ≤ thread
   pub has : threads ≡ length log
 
+-- the thread has no event of this number, and has so many events
 pub record IsNoEvent (log : List ThreadLog) (thread event events : ℕ) : Type 0 where
   pub has_thread : thread < length log
   pub past : events_of (thread_log_of log thread) ≤ event
   pub has : events ≡ events_of (thread_log_of log thread)
 
--- why nothing is told. Out of memory alone may come at any time
+-- the refusal of a slice has its cause. Out of memory alone may come at any time
 abbrev pub HasSliceCause : List ThreadLog → ℕ → ℕ → SliceFault → Type 0
 HasSliceCause log thread event (NoThread threads) = IsNoThread log thread threads
 HasSliceCause log thread event (NoEvent events) = IsNoEvent log thread event events

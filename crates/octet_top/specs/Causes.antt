@@ -7,11 +7,12 @@ use Rattle.octet_top.specs.Answer.{Answer}
 use Rattle.octet_top.specs.Request.{Quarry, Hunt, request_in}
 use Rattle.octet_top.specs.Commands.{IsAnswer}
 
--- the words, with what is told of the files, have an answer of this status
+-- the words have an answer of this status, by what is told of the files
 abbrev pub IsDue : List (List ℕ) → Option Contents → Status → Type 0
 IsDue words contents status = (answer : Answer) × IsAnswer words contents answer × (answer.status ≡ status)
 
--- the words ask for a hunt, and of the two statuses one says that a run was found and the other that none was: which of them comes depends on the schedules that are tried
+-- the words ask for a hunt, and the two statuses say that a run was found and that none was.
+-- Which of them comes depends on the schedules that are tried
 pub record FindsOrNot (words : List (List ℕ)) (status other : Status) : Type 0 where
   pub quarry : Quarry
   pub script_name : List ℕ
@@ -20,7 +21,8 @@ pub record FindsOrNot (words : List (List ℕ)) (status other : Status) : Type 0
   pub asked : request_in words ≡ Some (Hunt quarry script_name log_name tries)
   pub differ : ((status ≡ Done) × (other ≡ NotFound)) ⊎ ((status ≡ NotFound) × (other ≡ Done))
 
--- a status comes only with its cause: a write failed in this call; refused memory, which needs none; a take failed, or a file is not there; or the status is due
+-- a status comes only with its cause: Write with a counted fault of a write,
+-- Read with one of a take or where it is due. Memory needs no cause, and any other status is due
 abbrev pub IsCause : List (List ℕ) → DeskState → DeskState → Status → Type 0
 IsCause words before after Write = Rose before.write_faults after.write_faults
 IsCause words before after Memory = Unit {0}

@@ -22,7 +22,7 @@ use Rattle.octet_top.specs.Inputs.{IsScriptRead, IsLogRead, IsScriptChosen, IsPa
 use Rattle.octet_top.specs.Commands.{IsAnswer}
 use Rattle.octet_top.specs.Outputs.{IsWhole, IsCutShort, IsPartlyWritten}
 
--- the status is one of the thirteen
+-- the number is one of the thirteen statuses
 abbrev pub IsStatus : ℕ → Type 0
 IsStatus code = (status : Status) × (code ≡ code_of status)
 
@@ -30,20 +30,22 @@ IsStatus code = (status : Status) × (code ≡ code_of status)
 abbrev pub AsksRun : List (List ℕ) → Type 0
 AsksRun words = (script : List ℕ) × (log : List ℕ) × (request_in words ≡ Some (Run AsTheyCome script log))
 
--- a failure is counted only with the status that tells it; but where memory is refused to a run whose log could not be written, that is told
+-- a failed write is counted only with the status Write, or with Memory for the words of `run`.
+-- A failed take is counted only with the status Read, Write or Memory
 pub record CountsFailures (words : List (List ℕ)) (before after : DeskState) (code : ℕ) : Type 0 where
   pub writes : code ≢ code_of Write → (after.write_faults ≡ before.write_faults) ⊎ (AsksRun words × (code ≡ code_of Memory))
   pub takes : code ≢ code_of Read → code ≢ code_of Write → code ≢ code_of Memory → after.take_faults ≡ before.take_faults
 
--- the words' answer, or that reading failed, where a take did
+-- the answer is that of the words, or it says that reading failed, where a take did
 abbrev pub IsGivenAnswer : List (List ℕ) → Contents → ℕ → ℕ → Answer → Type 0
 IsGivenAnswer words contents before after answer = IsAnswer words (Some contents) answer ⊎ ((answer ≡ read_failed) × Rose before after)
 
--- a call failed, or memory was refused
+-- the status says that a call failed, or that memory was refused
 abbrev pub IsCut : ℕ → Type 0
 IsCut code = (code ≡ code_of Write) ⊎ (code ≡ code_of Memory)
 
--- an answer is given whole, and the status is its own; or giving it was cut short, by a call that failed or by refused memory
+-- an answer is given whole, and the status is its own. Otherwise giving the answer was cut short,
+-- by a call that failed or by refused memory
 abbrev pub IsDelivered : Answer → Contents → Contents → ℕ → Type 0
 IsDelivered answer before after code =
     (IsWhole answer before after × (code ≡ code_of answer.status))
@@ -55,7 +57,8 @@ pub record IsUntouched (before after : Contents) (code : ℕ) : Type 0 where
   pub files : after.files ≡ before.files
   pub said : after.said ≡ before.said
 
--- the words are those of `run`, and the script was read; the file of its log is as before, or has some first bytes of a spelling, with the digest of the script's text, of a log with as many threads, and nothing was said
+-- the words are those of `run`, the script was read, and nothing was said. The file of its log is as before, or has some
+-- first bytes of a spelling, with the digest of the script's text, of a log with as many threads
 pub record LeavesLog (words : List (List ℕ)) (before after : Contents) : Type 0 where
   pub script_name : List ℕ
   pub log_name : List ℕ
@@ -69,7 +72,7 @@ pub record LeavesLog (words : List (List ℕ)) (before after : Contents) : Type 
   pub file : IsPartlyWritten (log_name, bytes) before.files after.files
   pub said : after.said ≡ before.said
 
--- what is left in the files and in what was said, where the desk tells them
+-- what the call leaves in the files and in what was said, where the desk tells them
 abbrev pub Leaves : List (List ℕ) → DeskState → DeskState → ℕ → Type 0
 Leaves words before after code =
     (contents contents' : Contents) → before.contents ≡ Some contents → after.contents ≡ Some contents'
@@ -77,7 +80,8 @@ Leaves words before after code =
     ⊎ (((answer : Answer) × IsGivenAnswer words contents before.take_faults after.take_faults answer × IsDelivered answer contents contents' code)
     ⊎ (LeavesLog words contents contents' × IsCut code))
 
--- a run was cut while its outcome was said: its log was written whole, and some first bytes of the outcome's text were said
+-- a run was cut while its outcome was said. Its log was written whole,
+-- and some first bytes of the outcome's text were said
 pub record LeavesText (script_name log_name : List ℕ) (before after : Contents) : Type 0 where
   pub source : Source
   pub read : IsScriptRead script_name (Some before) (Ok source)
@@ -90,17 +94,18 @@ pub record LeavesText (script_name log_name : List ℕ) (before after : Contents
   pub files : after.files ≡ insert before.files log_name bytes
   pub said : after.said ≡ before.said ++ take count (outcome_text source.script outcome)
 
--- no file was written, and nothing was said but some first bytes of the line of another status
+-- no file was written, and at most some first bytes of the line of a status other than Done were said
 pub record LeavesLine (words : List (List ℕ)) (faults after_faults : ℕ) (before after : Contents) : Type 0 where
   pub files : after.files ≡ before.files
   pub said : (after.said ≡ before.said) ⊎ ((answer : Answer) × IsGivenAnswer words before faults after_faults answer × (answer.status ≢ Done) × ((n : ℕ) × (after.said ≡ before.said ++ take n answer.text)))
 
--- what a run leaves that was cut
+-- what a run that was cut leaves: part of its log, part of its outcome's text, or part of a line
 abbrev pub CutsRun : List (List ℕ) → DeskState → DeskState → ℕ → Type 0
 CutsRun words before after code =
     (script_name log_name : List ℕ) (contents contents' : Contents) → request_in words ≡ Some (Run AsTheyCome script_name log_name) → IsCut code → before.contents ≡ Some contents → after.contents ≡ Some contents'
     → LeavesLog words contents contents' ⊎ (LeavesText script_name log_name contents contents' ⊎ LeavesLine words before.take_faults after.take_faults contents contents')
 
+-- the name is one of these
 abbrev pub IsOneOf : List ℕ → List (List ℕ) → Type 0
 IsOneOf name [] = ⊥
 IsOneOf name (other ∷ others) = (name ≡ other) ⊎ IsOneOf name others
@@ -110,12 +115,12 @@ abbrev pub KeepsOthers : List (List ℕ) → DeskState → DeskState → Type 0
 KeepsOthers words before after =
     (contents contents' : Contents) (name : List ℕ) → before.contents ≡ Some contents → after.contents ≡ Some contents' → ¬ IsOneOf name (outputs_in (request_in words)) → get contents'.files name ≡ get contents.files name
 
--- all files are as before, but where all was done, a call failed or memory was refused
+-- all files are as before, unless all was done, a call failed or memory was refused
 abbrev pub KeepsFiles : DeskState → DeskState → ℕ → Type 0
 KeepsFiles before after code =
     (contents contents' : Contents) → before.contents ≡ Some contents → after.contents ≡ Some contents' → code ≢ code_of Done → code ≢ code_of Write → code ≢ code_of Memory → contents'.files ≡ contents.files
 
--- a script that has the object that is named, and a log that is of it, of a faithful recording
+-- the files of a script that has the named object, and of a log of this script from a faithful recording
 abbrev pub HasPair : List ℕ → List ℕ → Option (List ℕ) → Contents → Type 0
 HasPair script log object contents =
     (pair : Pair) × (outcome : Outcome) × IsPairRead script log object (Some contents) (Ok pair) × IsOfScript pair.source.text pair.loaded.digest × IsFaithful pair.source.script pair.loaded.log.threads outcome
@@ -130,23 +135,25 @@ HasFiles (Run task script log) contents = (source : Source) × IsScriptRead scri
 HasFiles (Gen number script log) contents = Unit {0}
 HasFiles (Hunt quarry script log tries) contents = (chosen : Source × Option ℕ) × IsScriptChosen script (named_by quarry) (Some contents) (Ok chosen)
 
--- with what status a task may end beside success, although all that it takes is as it should be: regions may be in a cycle, and a log may not have the event that is asked for; a hunt may find nothing
+-- a task may end with this status although it has all that it takes:
+-- regions may be in a cycle, and a log may lack the event asked for
 abbrev pub MayLack : PairTask → Status → Type 0
 MayLack Regions Cycle = Unit {0}
 MayLack (Slice thread event) NoEvent = Unit {0}
 MayLack _ _ = ⊥
 
+-- a request may end with this status although all that it takes is as it should be. A hunt may find nothing
 abbrev pub MayEndWith : Request → Status → Type 0
 MayEndWith (OfPair task script log object) status = MayLack task status
 MayEndWith (Hunt quarry script log tries) status = status ≡ NotFound
 MayEndWith _ _ = ⊥
 
--- all is done, or memory was refused; or the words ask for something that may end so
+-- all is done, memory was refused, or the words ask for something that may end with this status
 abbrev pub IsCompleted : List (List ℕ) → ℕ → Type 0
 IsCompleted words code =
     (code ≡ code_of Done) ⊎ ((code ≡ code_of Memory)
     ⊎ ((request : Request) × (status : Status) × (request_in words ≡ Some request) × MayEndWith request status × (code ≡ code_of status)))
 
--- the words ask for something that has its files
+-- the words ask for something whose files are all there
 abbrev pub IsWellMet : List (List ℕ) → Contents → Type 0
 IsWellMet words contents = (request : Request) × (request_in words ≡ Some request) × HasFiles request contents

@@ -12,13 +12,13 @@ use Rattle.octet_top.specs.Answer.{place_text}
 abbrev pub object_name : Script → ℕ → List ℕ
 object_name script object = elim (slice_get script.objects object) [ None ↦ [] | Some found ↦ found.name ]
 
--- an access of an object with its values, or a mark with its numbers
+-- the text of an event: an access of an object with its values, or a mark with its numbers
 abbrev pub event_text : Script → Event → List ℕ
 event_text script (Read object value) = codes "read " ++ object_name script object ++ codes " " ++ decimal value
 event_text script (Write object value) = codes "write " ++ object_name script object ++ codes " " ++ decimal value
 event_text script (Update object before after) = codes "update " ++ object_name script object ++ codes " " ++ decimal before ++ codes " " ++ decimal after
 event_text script (Marked mark) = mark_words mark
 
--- a place, and the event there
+-- the text of a place and of the event there
 abbrev pub placed_text : Script → Place → Event → List ℕ
 placed_text script place event = place_text place ++ codes " " ++ event_text script event

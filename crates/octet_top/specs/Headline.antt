@@ -15,13 +15,14 @@ use Rattle.octet_top.specs.declared.reply.Status.TheVariants.{Done}
 use Rattle.octet_top.specs.Answer.{code_of}
 use Rattle.octet_top.specs.Request.{Way, AsTheyCome, BehindLock, ByPicks, Run, request_in}
 
--- the digest that is written with the log: that of the script's text, where its threads come beside each other
+-- the digest that is written with the log: that of the script's text where threads run beside each other, else none
 abbrev pub digest_kept : Way → List ℕ → Option (List ℕ)
 digest_kept AsTheyCome text = Some (sha256 text)
 digest_kept BehindLock text = None
 digest_kept (ByPicks picks) text = None
 
--- the file of the script, as it was, spells a script; that of the log, as it is, has bytes that spell a log, no more than a log's file may have: of threads that come beside each other in version 2, with the digest of the script's text; what was said grew by the text of an outcome; and the three are a faithful recording
+-- the script's file, as it was, spells a script. The log's file, as it is now, spells a log within its limit.
+-- The text of an outcome was said, and the three are a faithful recording
 pub record IsFaithfulRun (way : Way) (script_name log_name : List ℕ) (before after : Contents) : Type 0 where
   pub text : List ℕ
   pub script : Script
@@ -36,7 +37,7 @@ pub record IsFaithfulRun (way : Way) (script_name log_name : List ℕ) (before a
   pub contents : after.said ≡ before.said ++ outcome_text script outcome
   pub faithful : IsFaithful script log.threads outcome
 
--- where the words ask for a run of a script, all was done, and the desk tells its contents
+-- a run of a script for which all was done is a faithful run, where the desk tells its contents
 abbrev pub RunsFaithfully : List (List ℕ) → DeskState → DeskState → ℕ → Type 0
 RunsFaithfully words before after code =
     (way : Way) (script_name log_name : List ℕ) (contents contents' : Contents) → request_in words ≡ Some (Run way script_name log_name) → code ≡ code_of Done → before.contents ≡ Some contents → after.contents ≡ Some contents'

@@ -22,13 +22,14 @@ use Rattle.octet_top.specs.declared.reply.Reply.{Reply}
 use Rattle.octet_top.specs.Profile.{wanted_by}
 use Rattle.octet_top.specs.Answer.{Answer, answer_of, read_failed, too_long, no_such_object, script_refused, log_refused}
 
--- one step, and then the next with its value
+-- the second step with what the first gave, unless the first ends with an answer that refuses
 infixl 10 ◌>>=◌
 abbrev pub ◌>>=◌ : {A B : Type 0} → (Result A Answer → Type 0) → (A → Result B Answer → Type 0) → Result B Answer → Type 0
 (first >>= next) (Ok y) = (x : _) × first (Ok x) × next x (Ok y)
 (first >>= next) (Err answer) = first (Err answer) ⊎ ((x : _) × first (Ok x) × next x (Err answer))
 
--- a file is there with these bytes, within the limit; or it is not there; or it is over the limit. Of a desk that tells nothing no file is known
+-- a file is there with these bytes within the limit, is not there, or is over the limit.
+-- A desk that tells nothing says nothing of its files
 abbrev pub IsTaken : List ℕ → ℕ → Option Contents → Result (List ℕ) Answer → Type 0
 IsTaken name limit contents (Ok bytes) = IfSome contents (λ t. get t.files name ≡ Some bytes) × (length bytes ≤ limit)
 IsTaken name limit contents (Err answer) =
@@ -45,47 +46,48 @@ abbrev pub IsDecoded : List ℕ → Result Loaded Answer → Type 0
 IsDecoded bytes (Ok loaded) = IsSpelling bytes (reading_of loaded).digest (reading_of loaded).logs
 IsDecoded bytes (Err answer) = (cause : LogCause) × (log.loaded bytes ≡ Err cause) × (answer ≡ log_refused cause)
 
--- the script has the object that is named, if one is; or it has not
+-- the script has the object that is named, if one is, or the answer says that it has none
 abbrev pub IsChosen : Script → Option (List ℕ) → Result (Option ℕ) Answer → Type 0
 IsChosen script name (Ok wanted) = wanted_by script name ≡ Some wanted
 IsChosen script name (Err answer) = (wanted_by script name ≡ None) × (answer ≡ no_such_object)
 
--- what reading a script comes to
+-- the script of a file, or the answer that refuses the file
 abbrev pub IsScriptRead : List ℕ → Option Contents → Result Source Answer → Type 0
 IsScriptRead name contents = IsTaken name MAX_SCRIPT_FILE contents >>= IsParsed
 
--- a log
+-- the log of a file, or the answer that refuses the file
 abbrev pub IsLogRead : List ℕ → Option Contents → Result Loaded Answer → Type 0
 IsLogRead name contents = IsTaken name MAX_LOG_FILE contents >>= IsDecoded
 
--- a script that has the object that is named
+-- the script of a file with the object that is named, or the answer that refuses them
 abbrev pub IsScriptChosen : List ℕ → Option (List ℕ) → Option Contents → Result (Source × Option ℕ) Answer → Type 0
 IsScriptChosen name object contents = IsScriptRead name contents >>= λ source. IsChosen source.script object >>= λ wanted read. read ≡ Ok (source, wanted)
 
--- the script's file is there, its text spells a script, and that has the object that is named, if one is
+-- the script's file is there, its text spells a script, and the script has the object that is named, if one is
 abbrev pub PassesScript : List ℕ → Option (List ℕ) → Option Contents → Type 0
 PassesScript name object contents = (chosen : Source × Option ℕ) × IsScriptChosen name object contents (Ok chosen)
 
--- and then a log
+-- the script of a file and then the log of another, or the answer that refuses them
 abbrev pub IsPairRead : List ℕ → List ℕ → Option (List ℕ) → Option Contents → Result Pair Answer → Type 0
 IsPairRead script_name log_name object contents =
     IsScriptChosen script_name object contents >>= λ chosen. IsLogRead log_name contents >>= λ loaded read. read ≡ Ok (record { source = chosen.0; wanted = chosen.1; loaded = loaded })
 
--- why reading ended early: the reply that refuses, if there was memory for it
+-- the reason why reading ended early: the reply that refuses, if there was memory for it
 abbrev pub Refusal : Type 0
 Refusal = Result Reply NoMemory
 
+-- the result is a refusal
 abbrev pub WasRefused : {T E : Type 0} → Result T E → Type 0
 WasRefused (Ok value) = ⊥
 WasRefused (Err fault) = Unit {0}
 
--- what a step comes to, unless memory was refused
+-- the result of a step, unless memory was refused
 abbrev pub Comes : {T : Type 0} → (Result T Answer → Type 0) → Result T Refusal → Type 0
 Comes Step (Ok value) = Step (Ok value)
 Comes Step (Err (Ok reply)) = Step (Err (answer_of reply))
 Comes Step (Err (Err none)) = Unit {0}
 
--- a reading ends as its steps say, with no failed take; or a take failed, and that is said; or memory was refused
+-- a reading ends as its steps say, with no failed take. Otherwise a take failed, which is said, or memory was refused
 abbrev pub Ends : {T : Type 0} → (Result T Answer → Type 0) → ℕ → Result T Refusal → ℕ → Type 0
 Ends Steps before (Ok value) after = Steps (Ok value) × (after ≡ before)
 Ends Steps before (Err (Ok reply)) after = (Steps (Err (answer_of reply)) × (after ≡ before)) ⊎ ((answer_of reply ≡ read_failed) × Rose before after)
@@ -95,7 +97,8 @@ Ends Steps before (Err (Err none)) after = Unit {0}
 abbrev pub TakesOne : List ℕ → ℕ → Type 0 → DeskState → DeskState → Type 0
 TakesOne name limit Short before after = (taken : Result (Vec ℕ) DeskFault) × Takes name limit before taken after × (Short ⊎ (¬ WasRefused taken))
 
--- a script's file is asked for, and where it is taken and passes, that of the log; or the script's alone, and what follows is short
+-- a script's file is asked for, then the log's, where the script's was taken and passes.
+-- Otherwise only the script's is asked for, and what follows is short
 abbrev pub TakesBoth : List ℕ → List ℕ → Option (List ℕ) → Type 0 → DeskState → DeskState → Type 0
 TakesBoth script log object Short before after =
     ((bytes : Vec ℕ) × (mid : DeskState) × Takes script MAX_SCRIPT_FILE before (Ok bytes) mid × PassesScript script object before.contents × TakesOne log MAX_LOG_FILE Short mid after)

@@ -4,7 +4,7 @@ use Rattle.std.specs.FinMap.{insert}
 use Rattle.octet_base.specs.Desk.{Files, Contents}
 use Rattle.octet_top.specs.Answer.{Answer}
 
--- all files written, in order
+-- the files with all of an answer's files written, in order
 abbrev pub written : List (List ℕ × List ℕ) → Files → Files
 written [] files = files
 written (file ∷ rest) files = written rest (insert files file.0 file.1)
@@ -23,7 +23,8 @@ pub record IsWhole (answer : Answer) (before after : Contents) : Type 0 where
   pub files : after.files ≡ written answer.files before.files
   pub said : after.said ≡ before.said ++ answer.text
 
--- giving it was cut short: the files are partly written and nothing is said, or all are written and some first bytes of the text are said
+-- the answer is cut short. The files are partly written and nothing is said,
+-- or all are written and some first bytes of the text are said
 abbrev pub IsCutShort : Answer → Contents → Contents → Type 0
 IsCutShort answer before after =
     (ArePartlyWritten answer.files before.files after.files × (after.said ≡ before.said))

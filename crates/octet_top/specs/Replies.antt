@@ -10,7 +10,8 @@ use Rattle.octet_top.specs.Request.{Request, OfScript, OfLog, OfPair, Convert, R
 use Rattle.octet_top.specs.Inputs.{TakesOne, TakesBoth}
 use Rattle.octet_top.specs.Commands.{Answers}
 
--- the reply is one of these answers, and no take failed; or a take failed, and that is the reply; or memory was refused
+-- the reply is one of these answers, and no take failed. Otherwise a take failed, which the reply says,
+-- or memory was refused
 abbrev pub Finds : (Answer → Type 0) → ℕ → Result Reply OutOfMemory → ℕ → Type 0
 Finds Answers before (Ok reply) after = (Answers (answer_of reply) × (after ≡ before)) ⊎ ((answer_of reply ≡ read_failed) × Rose before after)
 Finds Answers before (Err none) after = Unit {0}
@@ -20,7 +21,8 @@ abbrev pub IsNoSuccess : Result Reply OutOfMemory → Type 0
 IsNoSuccess (Ok reply) = reply.status ≢ Done
 IsNoSuccess (Err none) = Unit {0}
 
--- the files of a request are taken, each once, in order, with its own limit; the second only after a first that was taken and passes
+-- the files of a request are taken, each once, in order, with its own limit.
+-- The second is asked for only after a first that was taken and passes
 abbrev pub TakesFiles : Option Request → Type 0 → DeskState → DeskState → Type 0
 TakesFiles None Short before after = after ≡ before
 TakesFiles (Some (OfScript task script)) Short before after = TakesOne script MAX_SCRIPT_FILE Short before after
@@ -31,7 +33,7 @@ TakesFiles (Some (Run task script log)) Short before after = TakesOne script MAX
 TakesFiles (Some (Gen number script log)) Short before after = after ≡ before
 TakesFiles (Some (Hunt quarry script log tries)) Short before after = TakesOne script MAX_SCRIPT_FILE Short before after
 
--- a reply is found for a request
+-- a reply is found for a request, with the calls that take its files
 pub record Replies (request : Option Request) (before : DeskState) (result : Result Reply OutOfMemory) (after : DeskState) : Type 0 where
   pub found : Finds (Answers request before.contents) before.take_faults result after.take_faults
   pub calls : TakesFiles request (IsNoSuccess result) before after

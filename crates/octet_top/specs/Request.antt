@@ -31,12 +31,13 @@ pub data Way : Type 0 where
   BehindLock : Way
   ByPicks : (picks : List ℕ) → Way
 
--- what a hunt looks for: a run that ends with another value than this number at the object of this name, or one whose regions have a cycle
+-- what a hunt looks for: a run that ends with a value other than this number at the object of this name,
+-- or one whose regions have a cycle
 pub data Quarry : Type 0 where
   OtherEnd : (name : List ℕ) (number : ℕ) → Quarry
   AnyCycle : Quarry
 
--- the object that is named in it
+-- the object that a quarry names
 abbrev pub named_by : Quarry → Option (List ℕ)
 named_by (OtherEnd name number) = Some name
 named_by AnyCycle = None
@@ -51,16 +52,17 @@ pub data Request : Type 0 where
   Gen : (number : ℕ) (script log : List ℕ) → Request
   Hunt : (quarry : Quarry) (script log : List ℕ) (tries : ℕ) → Request
 
--- a number of tries: 1 to 1,000,000
+-- the number of tries that a word says, from 1 to 1,000,000
 abbrev pub tries_of : List ℕ → Option ℕ
 tries_of word = elim (number_of word) [ None ↦ None | Some n ↦ if nat_le 1 n && nat_le n MAX_TRIES then Some n else None ]
 
--- what two, three, four, five and six words ask for that starts no thread
+-- what two words ask for that starts no thread
 abbrev pub reading_of_two : List ℕ → List ℕ → Option Request
 reading_of_two word file =
     if bytes_eq word (codes "tidy") then Some (OfScript Tidy file)
     else (if bytes_eq word (codes "show") then Some (OfLog Show file) else None)
 
+-- what three words ask for that starts no thread
 abbrev pub reading_of_three : List ℕ → List ℕ → List ℕ → Option Request
 reading_of_three word script log =
     if bytes_eq word (codes "replay") then Some (OfPair Replay script log None)
@@ -69,21 +71,25 @@ reading_of_three word script log =
     else (if bytes_eq word (codes "trace") then Some (OfPair Trace script log None)
     else (if bytes_eq word (codes "profile") then Some (OfPair Profile script log None) else None))))
 
+-- what four words ask for that starts no thread
 abbrev pub reading_of_four : List ℕ → List ℕ → List ℕ → List ℕ → Option Request
 reading_of_four word script log last =
     if bytes_eq word (codes "profile") then Some (OfPair Profile script log (Some last))
     else (if bytes_eq word (codes "convert") then Some (Convert script log last)
     else (if bytes_eq word (codes "hunt") then option_map (λ tries. Hunt AnyCycle script log tries) (tries_of last) else None))
 
+-- what five words ask for that starts no thread
 abbrev pub reading_of_five : List ℕ → List ℕ → List ℕ → List ℕ → List ℕ → Option Request
 reading_of_five word script log third last =
     if bytes_eq word (codes "slice") then elim (number_of third) [ None ↦ None | Some thread ↦ option_map (λ event. OfPair (Slice thread event) script log None) (number_of last) ]
     else (if bytes_eq word (codes "stop") then option_map (λ value. OfPair (Stop value) script log (Some third)) (number_of last) else None)
 
+-- what six words ask for that starts no thread
 abbrev pub reading_of_six : List ℕ → List ℕ → List ℕ → List ℕ → List ℕ → List ℕ → Option Request
 reading_of_six word script log name number last =
     if bytes_eq word (codes "hunt") then elim (number_of number) [ None ↦ None | Some n ↦ option_map (λ tries. Hunt (OtherEnd name n) script log tries) (tries_of last) ] else None
 
+-- what words ask for that starts no thread
 abbrev pub reading_in : List (List ℕ) → Option Request
 reading_in (word ∷ file ∷ []) = reading_of_two word file
 reading_in (word ∷ script ∷ log ∷ []) = reading_of_three word script log
@@ -92,18 +98,20 @@ reading_in (word ∷ script ∷ log ∷ third ∷ last ∷ []) = reading_of_five
 reading_in (word ∷ script ∷ log ∷ name ∷ number ∷ last ∷ []) = reading_of_six word script log name number last
 reading_in _ = None
 
--- what three and four words ask for that starts threads, or runs a script
+-- what three words ask for that starts threads
 abbrev pub running_of_three : List ℕ → List ℕ → List ℕ → Option Request
 running_of_three word script log =
     if bytes_eq word (codes "run") then Some (Run AsTheyCome script log)
     else (if bytes_eq word (codes "locked") then Some (Run BehindLock script log)
     else (if bytes_eq word (codes "parallel") then Some (OfPair Parallel script log None) else None))
 
+-- what four words ask for that runs a script
 abbrev pub running_of_four : List ℕ → List ℕ → List ℕ → List ℕ → Option Request
 running_of_four word first second third =
     if bytes_eq word (codes "gen") then option_map (λ n. Gen n second third) (number_of first)
     else (if bytes_eq word (codes "turns") then (if are_picks third then Some (Run (ByPicks (map digit_value third)) first second) else None) else None)
 
+-- what words ask for that starts threads or runs a script
 abbrev pub running_in : List (List ℕ) → Option Request
 running_in (word ∷ script ∷ log ∷ []) = running_of_three word script log
 running_in (word ∷ first ∷ second ∷ third ∷ []) = running_of_four word first second third
@@ -118,7 +126,7 @@ or_else (Some x) other = Some x
 abbrev pub request_in : List (List ℕ) → Option Request
 request_in words = or_else (running_in words) (reading_in words)
 
--- the files that it writes, in order
+-- the files that a request writes, in order
 abbrev pub outputs_of : Request → List (List ℕ)
 outputs_of (Convert script log out) = out ∷ []
 outputs_of (Run way script log) = log ∷ []
@@ -126,23 +134,26 @@ outputs_of (Gen number script log) = script ∷ log ∷ []
 outputs_of (Hunt quarry script log tries) = log ∷ []
 outputs_of _ = []
 
+-- the files that a request writes, if there is a request
 abbrev pub outputs_in : Option Request → List (List ℕ)
 outputs_in None = []
 outputs_in (Some request) = outputs_of request
 
--- a name, where there is one
+-- the bytes of a name, if there is one
 abbrev pub name_in : Option (Bor (List ℕ)) → Option (List ℕ)
 name_in name = option_map (λ (shown : Bor (List ℕ)). shown.now) name
 
+-- the way of a run, as the program has it
 abbrev pub shown_task : RunTask → Way
 shown_task run.Locked = BehindLock
 shown_task (run.Turns picks) = ByPicks (map digit_value picks.now)
 
+-- the quarry of a hunt, as the program has it
 abbrev pub shown_quarry : DeclaredQuarry → Quarry
 shown_quarry (quarry.OtherEnd name number) = OtherEnd name.now number
 shown_quarry quarry.AnyCycle = AnyCycle
 
--- a request as the program has it
+-- the request, as the program has it
 abbrev pub shown : declared.Request → Request
 shown (request.OfScript task script) = OfScript task script.now
 shown (request.OfLog task log) = OfLog task log.now
@@ -154,7 +165,7 @@ shown (request.Gen number script log) = Gen number script.now log.now
 shown (request.Hunt wanted script log tries) = Hunt (shown_quarry wanted) script.now log.now tries
 shown (request.Parallel script log) = OfPair Parallel script.now log.now None
 
--- whether it starts threads or runs a script
+-- the test whether a request starts threads or runs a script
 abbrev pub needs_runtime : declared.Request → Bool
 needs_runtime (request.Live script log) = true
 needs_runtime (request.Run task script log) = true
@@ -162,10 +173,11 @@ needs_runtime (request.Gen number script log) = true
 needs_runtime (request.Parallel script log) = true
 needs_runtime _ = false
 
--- a request that needs no runtime
+-- the request, if it needs no runtime
 abbrev pub shown_alone : declared.Request → Option Request
 shown_alone asked = if needs_runtime asked then None else Some (shown asked)
 
+-- the request, if there is one and it needs no runtime
 abbrev pub alone_in : Option declared.Request → Option Request
 alone_in None = None
 alone_in (Some asked) = shown_alone asked

@@ -8,14 +8,15 @@ use Rattle.octet_top.specs.Replies.{Replies, IsNoSuccess}
 use Rattle.octet_top.specs.Delivery.{IsGiven}
 use Rattle.octet_top.specs.Live.{IsRunLive}
 
--- first the reply is found, with all that is to be written and said, and then it is given
+-- the reply is found first, with all that is to be written and said, and is then given
 pub record IsReplied (request : Option Request) (before after : DeskState) (code : ℕ) : Type 0 where
   pub mid : DeskState
   pub reply : Result Reply NoMemory
   pub found : Replies request before reply mid
   pub given : IsGiven reply mid after code
 
--- a request is served, or words that ask for nothing: its reply is found and given. A run whose threads come beside each other is refused so; and else its log is written while they run
+-- a request is served, or words that ask for none: the reply is found and given. A run whose threads come beside
+-- each other has a reply only where it is refused. Otherwise its log is written while its threads run
 abbrev pub IsServed : Option Request → DeskState → DeskState → ℕ → Type 0
 IsServed (Some (Run AsTheyCome script log)) before after code =
     ((replied : IsReplied (Some (Run AsTheyCome script log)) before after code) × IsNoSuccess replied.reply) ⊎ IsRunLive script log before after code

@@ -20,25 +20,25 @@ use Rattle.octet_top.specs.declared.reply.Status.TheVariants as exit
 use Rattle.octet_top.specs.Answer.{Answer, says}
 use Rattle.octet_top.specs.EventTexts.{placed_text}
 
--- the place, its event, and how many events of all were made for it
+-- the text of a slice: the place, its event, and how many events of all lie in its past
 abbrev pub slice_text : Script → Place → Sliced → List ℕ
 slice_text script place sliced =
     codes "slice " ++ placed_text script place sliced.event ++ codes "\nevents " ++ decimal sliced.made ++ codes " of " ++ decimal sliced.all ++ codes "\n"
 
--- how many threads, or events of the thread, there are; out of memory has no line
+-- the line that tells how many threads, or events of the thread, there are. Out of memory has no line
 abbrev pub slice_line : SliceFault → List ℕ
 slice_line (NoThread threads) = codes "slice: threads " ++ decimal threads ++ codes "\n"
 slice_line (NoEvent events) = codes "slice: events " ++ decimal events ++ codes "\n"
 slice_line OutOfMemory = []
 
--- of a log that orders all conflicts: there is no such event, and why is said; or there is, and what a slice tells of it
+-- the answer tells the slice of an event, or why there is no such event, in a log that orders all conflicts
 abbrev pub SliceSays : Script → List ThreadLog → ℕ → ℕ → Answer → Type 0
 SliceSays script log thread event answer =
     ((fault : SliceFault) × (fault ≢ OutOfMemory) × HasSliceCause log thread event fault × (answer ≡ says exit.NoEvent (slice_line fault)))
     ⊎ ((sliced : Sliced) × HasEvent log thread event × IsSliceOf (journals_after script log (lowest_order script log)) (record { thread = thread; event = event }) sliced
     × (answer ≡ says Done (slice_text script (record { thread = thread; event = event }) sliced)))
 
--- an event that reads or writes this value of the object that is wanted, or updates that to the value
+-- the test whether an event reads or writes this value at the wanted object, or updates the object to it
 abbrev pub is_match : Option ℕ → ℕ → Event → Bool
 is_match None value event = false
 is_match (Some wanted) value (Read object read) = (object == wanted) && (read == value)
@@ -46,10 +46,11 @@ is_match (Some wanted) value (Write object written) = (object == wanted) && (wri
 is_match (Some wanted) value (Update object before after) = (object == wanted) && (after == value)
 is_match (Some wanted) value (Marked mark) = false
 
--- the place of the first such event, and the event, or that there is none
+-- the text of the first such event with its place, or the text that there is none
 abbrev pub stop_text : Script → Found → List ℕ
 stop_text script (At place event) = codes "stop " ++ placed_text script place event ++ codes "\n"
 stop_text script Nowhere = codes "no stop\n"
 
+-- the answer tells the first such event of the lowest order, or that there is none
 abbrev pub StopSays : Script → List ThreadLog → Option ℕ → ℕ → Answer → Type 0
 StopSays script log wanted value answer = (found : Found) × IsFound (λ event answer. answer ≡ is_match wanted value event) (trace_of script log) found × (answer ≡ says Done (stop_text script found))

@@ -9,7 +9,7 @@ use Rattle.octet_model.specs.Orders.{commands_of}
 use Rattle.octet_interp.specs.Following.{places_ahead, FollowerState, IsFollowing}
 use Rattle.octet_top.specs.TraceTexts.{event_lines, region_lines}
 
--- all `region` commands before the next access are told, and the thread stands there
+-- all `region` commands before the next access are told, and the thread stands at this access
 pub record TellsRegions (lines : List (List ℕ)) (place : Place) (before : FollowerState) (text : List ℕ) (after : FollowerState) : Type 0 where
   pub told : text ≡ region_lines lines place (before.regions + length (places_ahead before.commands before.at)) (places_ahead before.commands before.at)
   pub none_left : places_ahead after.commands after.at ≡ []
@@ -24,7 +24,7 @@ pub record FitsNext (event : Event) (s : FollowerState) : Type 0 where
   pub settles : settled s.commands s.at ≡ settled s.commands from
   pub fits : FitsFrom s.commands from (event ∷ [])
 
--- the event is told, with what comes before it, and followed
+-- the event is told, with the `region` commands before it, and is followed
 abbrev pub TellsEvent : List (List ℕ) → Script → Place × Event → FollowerState → List ℕ → FollowerState → Type 0
 TellsEvent lines script item before text after =
     (start : Configuration) (journal : List Event) → IsFollowing start journal before
@@ -35,7 +35,7 @@ pub record IsFollowerOf (script : Script) (thread : ℕ) (journal : List Event) 
   pub commands : s.commands ≡ commands_of script thread
   pub follows : IsFollowing (starting_configuration script.fuel) journal s
 
--- one for each thread
+-- each thread has its follower
 pub record AreFollowers (script : Script) (journals : Journals) (followers : List FollowerState) : Type 0 where
   pub as_many : length followers ≡ length script.threads
   pub each : (thread : ℕ) (s : FollowerState) → slice_get followers thread ≡ Some s → IsFollowerOf script thread (journal_of journals thread) s

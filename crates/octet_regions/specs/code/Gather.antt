@@ -8,17 +8,18 @@ use Rattle.octet_replay.specs.ReplayState.{HasHalted, ReplayState}
 use Rattle.octet_regions.specs.declared.access.Access.{Access}
 use Rattle.octet_regions.specs.Accesses.{accesses_along}
 
+-- the test whether an event is an access
 abbrev pub is_access : Event → Bool
 is_access (Marked mark) = false
 is_access _ = true
 
--- the accesses of the steps so far, of threads that are there, in regions of small numbers
+-- the accesses of the steps so far, by threads that are there, in regions of small numbers
 pub record AccessesSoFar (r : ReplayState) (accesses : List Access) : Type 0 where
   pub all : accesses ≡ accesses_along r.script r.log.threads (opening_state r.script) (take r.steps (lowest_order r.script r.log.threads))
   pub there : (place : ℕ) (access : Access) → slice_get accesses place ≡ Some access → access.region.thread < length r.script.threads
   pub few : (place : ℕ) (access : Access) → slice_get accesses place ≡ Some access → access.region.number ≤ MAX_FUEL
 
--- one access more, further in the lowest order; or the order has ended
+-- one more access comes next in the lowest order. With none told, the order has ended without one
 abbrev pub AddsAccess : ReplayState → Option Access → ReplayState → Type 0
 AddsAccess before (Some access) after =
     ((seen : List Access) → AccessesSoFar before seen → AccessesSoFar after (seen ++ access ∷ []))

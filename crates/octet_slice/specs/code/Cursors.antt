@@ -18,22 +18,22 @@ pub record IsCursorOf (journal : List Event) (cursor : Cursor) : Type 0 where
 abbrev pub NoMarks : List Event → ℕ → ℕ → Type 0
 NoMarks journal from upto = (event : ℕ) (mark : Mark) → from ≤ event → event < upto → slice_get journal event ≡ Some (Marked mark) → ⊥
 
--- the first mark from a place on
+-- the mark at its place is the first from a place on
 pub record IsFirstMark (journal : List Event) (from : ℕ) (next : Placed) : Type 0 where
   pub later : from ≤ next.event
   pub is_mark : slice_get journal next.event ≡ Some (Marked next.mark)
   pub none_between : NoMarks journal from next.event
 
--- it is this one, or there is none
+-- the first mark from a place on, if there is one
 abbrev pub IsNextMark : List Event → ℕ → Option Placed → Type 0
 IsNextMark journal from None = NoMarks journal from (length journal)
 IsNextMark journal from (Some next) = IsFirstMark journal from next
 
--- the log is that of a journal, which is not longer than journals are
+-- the log is that of a journal, which is no longer than journals are
 pub record IsLogOfOne (journal : List Event) (log : ThreadLog) : Type 0 where
   pub is_log : log ≡ log_of_journal journal
   pub short : length journal < 2 ^ 32
 
--- past the mark
+-- the cursor past the mark
 abbrev pub past_mark : Cursor → Placed → Cursor
 past_mark cursor next = record { marks = suc cursor.marks; events = suc next.event }
