@@ -52,30 +52,31 @@ use Rattle.octet_top.specs.Profile.{profile_text}
 use Rattle.octet_top.specs.Slices.{SliceSays, StopSays}
 use Rattle.octet_top.specs.Inputs.{IsScriptRead, IsLogRead, IsScriptChosen, IsPairRead}
 
--- what each way to run a script records of it
+-- the recording that each way to run a script makes of the script
 abbrev pub Records : Way → Script → Log → Outcome → Type 0
 Records AsTheyCome script log outcome = IsFaithful script log.threads outcome
 Records BehindLock script log outcome = IsFaithful script log.threads outcome
 Records (ByPicks picks) script log outcome = IsFaithful script log.threads outcome × IsPlayed script picks (record { log = log; outcome = outcome })
 
--- bytes that spell a log, with that digest or in version 1, no more of them than a log's file may have
+-- the bytes spell a log, with that digest or in version 1, and are no more than a log's file may have
 pub record IsLogFile (bytes : List ℕ) (digest : Option (List ℕ)) (logs : List ThreadLog) : Type 0 where
   pub spelled : IsSpelling bytes digest logs
   pub within_limit : length bytes ≤ MAX_LOG_FILE
 
--- the generated script of a number, and a log and an outcome that are a faithful recording of it: the script's canonical text and then the log's bytes are written, and the summary is said
+-- the answer to `gen`: the canonical text of the script of a number and the bytes of its log are written,
+-- and the summary is said. The log and an outcome are a faithful recording of the script
 abbrev pub IsGeneration : ℕ → List ℕ → List ℕ → Answer → Type 0
 IsGeneration number script_name log_name answer =
     (script : Script) × (log : Log) × (outcome : Outcome) × IsGenerated number script × IsFaithful script log.threads outcome
     × (answer ≡ writes_both (script_name, canonical_text script) (log_name, log_bytes log.threads) summary)
 
--- the log does not fit the script, and why is said; or it does, with which the command goes on
+-- the answer says why the log does not fit the script. Where the log fits, the command goes on
 abbrev pub Fitting : (ReplayFault → Answer) → (Answer → Type 0) → Script → List ThreadLog → Answer → Type 0
 Fitting refused Next script log answer =
     ((fault : ReplayFault) × (fault ≢ OutOfMemory) × HasCause script log fault × (answer ≡ refused fault))
     ⊎ (IsLawful script log × Next answer)
 
--- the log is of another script, and both digests are said; or it is not, with which the command goes on
+-- the answer says both digests where the log is of another script. Otherwise the command goes on
 abbrev pub Matching : (Answer → Type 0) → Pair → Answer → Type 0
 Matching Next pair answer =
     ((fault : FitFault) × IsOfAnother pair.source.text pair.loaded.digest fault × (answer ≡ wrong_script fault))
@@ -85,11 +86,11 @@ Matching Next pair answer =
 abbrev pub ScriptAnswers : ScriptTask → Source → Answer → Type 0
 ScriptAnswers Tidy source answer = answer ≡ says Done (canonical_text source.script)
 
--- of each on a log
+-- the answer of each task on a log
 abbrev pub LogAnswers : LogTask → Loaded → Answer → Type 0
 LogAnswers Show loaded answer = answer ≡ says Done (log_text loaded.log.threads)
 
--- the verdict, where the log does not order all conflicts; or it does, with which the command goes on
+-- the answer says the verdict where the log does not order all conflicts. Otherwise the command goes on
 abbrev pub WhereOrdered : (Answer → Type 0) → Pair → Answer → Type 0
 WhereOrdered Next pair answer =
     (verdict : Verdict) × IsVerified pair.source.script pair.loaded.log.threads verdict × elim verdict [
@@ -97,21 +98,23 @@ WhereOrdered Next pair answer =
       | Unordered first second ↦ answer ≡ verdict_said (Unordered first second)
     ]
 
--- the outcome of the lowest order
+-- the answer says the outcome of the lowest order
 abbrev pub OutcomeSays : Pair → Answer → Type 0
 OutcomeSays pair answer = answer ≡ says Done (outcome_text pair.source.script (execution pair.source.script pair.loaded.log.threads (lowest_order pair.source.script pair.loaded.log.threads)))
 
--- what `regions` says of a script and a log whose regions are in this serial order, or have this cycle
+-- the answer of `regions` to a script and a log whose regions are in this serial order, or have this cycle
 abbrev pub regions_said : Pair → Serial → Answer
 regions_said pair serial = serial_said pair.source.script (execution pair.source.script pair.loaded.log.threads (lowest_order pair.source.script pair.loaded.log.threads)) serial
 
--- the regions of the lowest order in the serial choice's order, which run so with its outcome; or the cycle to which it leads
+-- the answer says the regions in the order of the serial choice, which run so with the lowest order's outcome.
+-- Where the choice leaves regions, the answer says the cycle to which it leads
 abbrev pub SerialSays : Pair → Answer → Type 0
 SerialSays pair answer =
     (serial : Serial) × IsSerial (accesses_of pair.source.script pair.loaded.log.threads) serial × Shows pair.source.script pair.loaded.log.threads serial
     × (answer ≡ regions_said pair serial)
 
--- what each on a script and a log says where the log fits, of the lowest order: its outcome; that, where all conflicts are ordered; the verdict on its journals; its regions; the past of one event; the first event that leaves a value; its events; or the counts over them
+-- the answer of each task on a script and a log that fits the script. It says something of the lowest order:
+-- the outcome, the verdict, the regions, a past, a first event, the events or their counts
 abbrev pub PairSays : PairTask → Pair → Answer → Type 0
 PairSays Replay pair answer = OutcomeSays pair answer
 PairSays Parallel pair answer = WhereOrdered (OutcomeSays pair) pair answer
@@ -122,28 +125,30 @@ PairSays (Stop value) pair answer = StopSays pair.source.script pair.loaded.log.
 PairSays Trace pair answer = answer ≡ says Done (trace_text pair.source.text pair.source.script (trace_of pair.source.script pair.loaded.log.threads))
 PairSays Profile pair answer = answer ≡ says Done (profile_text pair.wanted (journals_after pair.source.script pair.loaded.log.threads (lowest_order pair.source.script pair.loaded.log.threads)))
 
--- the events that were made before the log was seen not to fit: `trace` says them, and no other task does
+-- the events that were made before the log was seen not to fit. Only `trace` says them
 abbrev pub told_before : PairTask → Pair → ReplayFault → List ℕ
 told_before Trace pair (ThreadsDiffer of_script of_log) = []
 told_before Trace pair fault = trace_text pair.source.text pair.source.script (trace_of pair.source.script pair.loaded.log.threads)
 told_before task pair fault = []
 
--- and then why it does not
+-- the answer where the log does not fit: the events that the task says, and then why the log does not fit
 abbrev pub misfit_said : PairTask → Pair → ReplayFault → Answer
 misfit_said task pair fault = says Misfit (told_before task pair fault ++ fit_line fault)
 
--- and its answer, by the log alone, or by its digest first
+-- the answer of a task on a script and a log, by whether the log fits the script
 abbrev pub PairReplays : PairTask → Pair → Answer → Type 0
 PairReplays task pair answer = Fitting (misfit_said task pair) (PairSays task pair) pair.source.script pair.loaded.log.threads answer
 
+-- the answer of a task on a script and a log, by the log's digest first
 abbrev pub PairAnswers : PairTask → Pair → Answer → Type 0
 PairAnswers task pair answer = Matching (PairReplays task pair) pair answer
 
--- a log in version 2, with the digest of a script's text: one piece for each thread that has marks
+-- the bytes of a log in version 2, with the digest of a script's text and one piece for each thread that has marks
 abbrev pub second_bytes : List ℕ → List ThreadLog → List ℕ
 second_bytes text logs = pieced_bytes (sha256 text) (whole_pieces 0 logs) logs
 
--- script and log have different numbers of threads, and both are said; or they have not, and the log is written in version 2
+-- the answer of a conversion writes the log in version 2, where it has as many threads as the script.
+-- Otherwise the answer says both numbers of threads
 abbrev pub Converts : List ℕ → Pair → Answer → Type 0
 Converts out pair answer =
     ((of_script of_log : ℕ) × HasCause pair.source.script pair.loaded.log.threads (ThreadsDiffer of_script of_log) × (answer ≡ does_not_fit (ThreadsDiffer of_script of_log)))
@@ -151,32 +156,34 @@ Converts out pair answer =
     × IsLogFile (second_bytes pair.source.text pair.loaded.log.threads) (Some (sha256 pair.source.text)) pair.loaded.log.threads
     × (answer ≡ writes_file out (second_bytes pair.source.text pair.loaded.log.threads) (codes "converted\n")))
 
--- the answer of a conversion
+-- the answer of a conversion, by the log's digest first
 abbrev pub ConvertAnswers : List ℕ → Pair → Answer → Type 0
 ConvertAnswers out pair answer = Matching (Converts out pair) pair answer
 
--- the answer of each way to run a script: a log and an outcome are recorded, bytes that spell the log are written, and the outcome is said
+-- the answer of each way to run a script: a log and an outcome are recorded, bytes that spell the log are written,
+-- and the outcome is said
 abbrev pub RunAnswers : Way → List ℕ → Source → Answer → Type 0
 RunAnswers way log_name source answer =
     (log : Log) × (outcome : Outcome) × (bytes : List ℕ) × Records way source.script log outcome × IsLogFile bytes (digest_kept way source.text) log.threads
     × (answer ≡ writes_file log_name bytes (outcome_text source.script outcome))
 
--- what a hunt looks for in a script, of which this object is named where one is
+-- the aim of a hunt in a script. The object is the one that the quarry names, if it names one
 abbrev pub aim_of : Quarry → Option ℕ → Aim
 aim_of (OtherEnd name number) (Some object) = aim.OtherValue object number
 aim_of _ _ = aim.Cycle
 
--- what is said of a run that was found: its outcome, or the cycle of its regions
+-- the text of a run that was found: its outcome, or the cycle of its regions
 abbrev pub found_said : Quarry → Script → Outcome → List Hop → List ℕ
 found_said (OtherEnd name number) script outcome hops = outcome_text script outcome
 found_said AnyCycle script outcome hops = cycle_text hops
 
--- that none was found
+-- the answer where no such run was found
 abbrev pub none_found : Quarry → ℕ → Answer
 none_found (OtherEnd name number) tries = no_other_end tries
 none_found AnyCycle tries = no_cycle tries
 
--- at one of the tries a run was found: what is recorded of a run that is looked for is written in version 2, with the digest of the script's text, and the try, the preemptions and what was found are said
+-- the answer where a run was found at one of the tries: its log is written in version 2, with the script's digest.
+-- The try, the preemptions and what was found are said
 pub record IsFind (quarry : Quarry) (log_name : List ℕ) (tries : ℕ) (source : Source) (wanted : Option ℕ) (answer : Answer) : Type 0 where
   pub attempt : ℕ
   pub preemptions : ℕ
@@ -192,7 +199,7 @@ pub record IsFind (quarry : Quarry) (log_name : List ℕ) (tries : ℕ) (source 
 abbrev pub HuntAnswers : Quarry → List ℕ → ℕ → Source × Option ℕ → Answer → Type 0
 HuntAnswers quarry log_name tries (source, wanted) answer = IsFind quarry log_name tries source wanted answer ⊎ (answer ≡ none_found quarry tries)
 
--- reading is refused, or the command answers by what was read
+-- the answer that refuses what was read, or the command's answer by what was read
 abbrev pub Answering : {T : Type 0} → (Result T Answer → Type 0) → (T → Answer → Type 0) → Answer → Type 0
 Answering Reading Answers answer = Reading (Err answer) ⊎ ((input : _) × Reading (Ok input) × Answers input answer)
 
@@ -206,11 +213,11 @@ RequestAnswers (Run way script log) contents answer = Answering (IsScriptRead sc
 RequestAnswers (Gen number script log) contents answer = IsGeneration number script log answer
 RequestAnswers (Hunt quarry script log tries) contents answer = Answering (IsScriptChosen script (named_by quarry) contents) (HuntAnswers quarry log tries) answer
 
--- to what words ask for, or that they are no command
+-- the answers to a request, or the one to words that are no command
 abbrev pub Answers : Option Request → Option Contents → Answer → Type 0
 Answers None contents answer = answer ≡ not_a_command
 Answers (Some request) contents answer = RequestAnswers request contents answer
 
--- the answers to words
+-- the answers to the words, by what the desk tells of its files
 abbrev pub IsAnswer : List (List ℕ) → Option Contents → Answer → Type 0
 IsAnswer words contents answer = Answers (request_in words) contents answer

@@ -57,8 +57,8 @@ pub record IsUntouched (before after : Contents) (code : ℕ) : Type 0 where
   pub files : after.files ≡ before.files
   pub said : after.said ≡ before.said
 
--- the words are those of `run`, the script was read, and nothing was said. The file of its log is as before, or has some
--- first bytes of a spelling, with the digest of the script's text, of a log with as many threads
+-- the words are those of `run`, the script was read, and nothing was said. The file of its log is as before,
+-- or has some first bytes of a spelling, with the digest of the script's text, of a log with as many threads
 pub record LeavesLog (words : List (List ℕ)) (before after : Contents) : Type 0 where
   pub script_name : List ℕ
   pub log_name : List ℕ

@@ -46,23 +46,25 @@ use Rattle.octet_top.specs.Slices.{slice_text, is_match, stop_text}
 use Rattle.octet_top.specs.TraceTexts.{trace_text}
 use Rattle.octet_top.specs.Commands.{aim_of, found_said, second_bytes, regions_said, told_before}
 
--- updates add up to the final values that were said, by the journals of each lawful order
+-- the updates of a faithful run add up to the final values that were said, by the journals of each lawful order
 abbrev pub HasExactTotals : {way : Way} {script_name log_name : List ℕ} {before after : Contents} → IsFaithfulRun way script_name log_name before after → Type 0
 HasExactTotals run = (order : List ℕ) → IsLawfulOrder run.script run.log.threads order → AddsUp run.script (journals_after run.script run.log.threads order) run.outcome.heap
 
--- where the headline speaks, totals are exact
+-- a run for which all was done is a faithful run with exact totals, where the desk tells its contents
 abbrev pub RunsWithExactTotals : List (List ℕ) → DeskState → DeskState → ℕ → Type 0
 RunsWithExactTotals words before after code =
     (way : Way) (script_name log_name : List ℕ) (contents contents' : Contents) → request_in words ≡ Some (Run way script_name log_name) → code ≡ code_of Done → before.contents ≡ Some contents → after.contents ≡ Some contents'
     → (run : IsFaithfulRun way script_name log_name contents contents') × HasExactTotals run
 
--- where the words ask for a run by picks, what the headline speaks of is a run of the machine by these picks
+-- a run by picks for which all was done is a faithful run, and is the machine's run by these picks,
+-- where the desk tells its contents
 abbrev pub RunsAsPicked : List (List ℕ) → DeskState → DeskState → ℕ → Type 0
 RunsAsPicked words before after code =
     (picks : List ℕ) (script_name log_name : List ℕ) (contents contents' : Contents) → request_in words ≡ Some (Run (ByPicks picks) script_name log_name) → code ≡ code_of Done → before.contents ≡ Some contents → after.contents ≡ Some contents'
     → (run : IsFaithfulRun (ByPicks picks) script_name log_name contents contents') × IsPlayed run.script picks (record { log = run.log; outcome = run.outcome })
 
--- a script and a log of it were taken; the lowest order of the log is lawful, its journals are ordered, and all lawful orders have one outcome
+-- a script and a log of it were taken. The lowest order of the log is lawful, its journals are ordered,
+-- and all lawful orders have one outcome
 pub record IsOrderedPair (script_name log_name : List ℕ) (contents : Option Contents) : Type 0 where
   pub pair : Pair
   pub read : IsPairRead script_name log_name None contents (Ok pair)
@@ -71,22 +73,23 @@ pub record IsOrderedPair (script_name log_name : List ℕ) (contents : Option Co
   pub ordered : IsOrdered (journals_after pair.source.script pair.loaded.log.threads (lowest_order pair.source.script pair.loaded.log.threads))
   pub one_outcome : HasOneOutcome pair.source.script pair.loaded.log.threads
 
--- where the words are those of `verify` and the status is 0. A desk that tells nothing has no file that could be another: there each ordered pair will do, and this binds nothing
+-- `verify` ends with status 0 only for an ordered pair. On a desk that tells nothing,
+-- any ordered pair will do, and this binds nothing
 abbrev pub VerifiesOrdered : List (List ℕ) → DeskState → ℕ → Type 0
 VerifiesOrdered words before code = (script_name log_name : List ℕ) → request_in words ≡ Some (OfPair Verify script_name log_name None) → code ≡ code_of Done → IsOrderedPair script_name log_name before.contents
 
--- a script and an ordered log of it were taken, and what is said is the outcome of the log's lowest order
+-- a script and an ordered log of it were taken, and the outcome of the log's lowest order was said
 pub record IsReplayedOnThreads (script_name log_name : List ℕ) (before after : Contents) : Type 0 where
   pub of : IsOrderedPair script_name log_name (Some before)
   pub contents : after.said ≡ before.said ++ outcome_text of.pair.source.script (execution of.pair.source.script of.pair.loaded.log.threads (lowest_order of.pair.source.script of.pair.loaded.log.threads))
 
--- where the words are those of `parallel`, all was done, and the desk tells its contents
+-- `parallel` with all done has replayed its pair, where the desk tells its contents
 abbrev pub ReplaysOnThreads : List (List ℕ) → DeskState → DeskState → ℕ → Type 0
 ReplaysOnThreads words before after code =
     (script_name log_name : List ℕ) (contents contents' : Contents) → request_in words ≡ Some (OfPair Parallel script_name log_name None) → code ≡ code_of Done → before.contents ≡ Some contents → after.contents ≡ Some contents'
     → IsReplayedOnThreads script_name log_name contents contents'
 
--- a script and an ordered log of it were taken; their regions have this serial order, or this cycle, and it is what was said
+-- a script and an ordered log of it were taken. Their regions have this serial order or this cycle, which was said
 pub record IsFoundRegions (script_name log_name : List ℕ) (before after : Contents) (code : ℕ) : Type 0 where
   pub of : IsOrderedPair script_name log_name (Some before)
   pub serial : Serial
@@ -95,32 +98,35 @@ pub record IsFoundRegions (script_name log_name : List ℕ) (before after : Cont
   pub status : code ≡ code_of (regions_said of.pair serial).status
   pub contents : after.said ≡ before.said ++ (regions_said of.pair serial).text
 
--- where the words are those of `regions`, the status is 0 or 10, and the desk tells its contents
+-- `regions` with status 0 or 10 has found the regions of its pair, where the desk tells its contents
 abbrev pub FindsRegions : List (List ℕ) → DeskState → DeskState → ℕ → Type 0
 FindsRegions words before after code =
     (script_name log_name : List ℕ) (contents contents' : Contents) → request_in words ≡ Some (OfPair Regions script_name log_name None) → (code ≡ code_of Done) ⊎ (code ≡ code_of Cycle) → before.contents ≡ Some contents → after.contents ≡ Some contents'
     → IsFoundRegions script_name log_name contents contents' code
 
--- where the words are those of `replay`, the status is 0, and the script and the log that are there are a faithful recording, what is said is what was recorded
+-- `replay` with status 0 says the recorded outcome, if the script and the log that are there
+-- are of a faithful recording with this outcome
 abbrev pub RepeatsRecordings : List (List ℕ) → DeskState → DeskState → ℕ → Type 0
 RepeatsRecordings words before after code =
     (script_name log_name : List ℕ) (contents contents' : Contents) (pair : Pair) (outcome : Outcome) → request_in words ≡ Some (OfPair Replay script_name log_name None) → code ≡ code_of Done → before.contents ≡ Some contents → after.contents ≡ Some contents'
     → IsPairRead script_name log_name None (Some contents) (Ok pair) → IsFaithful pair.source.script pair.loaded.log.threads outcome → contents'.said ≡ contents.said ++ outcome_text pair.source.script outcome
 
--- a script and an ordered log of it were taken; what is said is the event of the lowest order's journals at the place, and how many events lie in its past
+-- a script and an ordered log of it were taken. The event of the lowest order's journals at the place was said,
+-- with the number of events in its past
 pub record IsSlicedPair (script_name log_name : List ℕ) (thread event : ℕ) (before after : Contents) : Type 0 where
   pub of : IsOrderedPair script_name log_name (Some before)
   pub sliced : Sliced
   pub is_slice : IsSliceOf (journals_after of.pair.source.script of.pair.loaded.log.threads (lowest_order of.pair.source.script of.pair.loaded.log.threads)) (record { thread = thread; event = event }) sliced
   pub contents : after.said ≡ before.said ++ slice_text of.pair.source.script (record { thread = thread; event = event }) sliced
 
--- where the words are those of `slice`, all was done, and the desk tells its contents
+-- `slice` with all done has sliced its pair, where the desk tells its contents
 abbrev pub SlicesPasts : List (List ℕ) → DeskState → DeskState → ℕ → Type 0
 SlicesPasts words before after code =
     (script_name log_name : List ℕ) (thread event : ℕ) (contents contents' : Contents) → request_in words ≡ Some (OfPair (Slice thread event) script_name log_name None) → code ≡ code_of Done → before.contents ≡ Some contents → after.contents ≡ Some contents'
     → IsSlicedPair script_name log_name thread event contents contents'
 
--- a script, an object of it and a log of it were taken, whose lowest order is lawful; what is said is the first event of that order that leaves the value in the object or reads it there, or that there is none
+-- a script, an object of it and a log of it with a lawful lowest order were taken. The first event of that order
+-- that leaves the value in the object or reads it there was said, or that there is none
 pub record IsStoppedPair (script_name log_name name : List ℕ) (value : ℕ) (before after : Contents) : Type 0 where
   pub pair : Pair
   pub read : IsPairRead script_name log_name (Some name) (Some before) (Ok pair)
@@ -130,13 +136,14 @@ pub record IsStoppedPair (script_name log_name name : List ℕ) (value : ℕ) (b
   pub is_found : IsFound (λ event answer. answer ≡ is_match pair.wanted value event) (trace_of pair.source.script pair.loaded.log.threads) found
   pub contents : after.said ≡ before.said ++ stop_text pair.source.script found
 
--- where the words are those of `stop`, all was done, and the desk tells its contents
+-- `stop` with all done has stopped its pair at the first such event, where the desk tells its contents
 abbrev pub StopsAtFirst : List (List ℕ) → DeskState → DeskState → ℕ → Type 0
 StopsAtFirst words before after code =
     (script_name log_name name : List ℕ) (value : ℕ) (contents contents' : Contents) → request_in words ≡ Some (OfPair (Stop value) script_name log_name (Some name)) → code ≡ code_of Done → before.contents ≡ Some contents → after.contents ≡ Some contents'
     → IsStoppedPair script_name log_name name value contents contents'
 
--- a script and a log of it were taken, whose lowest order is lawful; what is said is all its events, each with its place
+-- a script and a log of it with a lawful lowest order were taken. All events of that order were said,
+-- each with its place
 pub record IsTracedPair (script_name log_name : List ℕ) (before after : Contents) : Type 0 where
   pub pair : Pair
   pub read : IsPairRead script_name log_name None (Some before) (Ok pair)
@@ -144,13 +151,14 @@ pub record IsTracedPair (script_name log_name : List ℕ) (before after : Conten
   pub lawful : IsLawful pair.source.script pair.loaded.log.threads
   pub contents : after.said ≡ before.said ++ trace_text pair.source.text pair.source.script (trace_of pair.source.script pair.loaded.log.threads)
 
--- where the words are those of `trace`, all was done, and the desk tells its contents
+-- `trace` with all done has traced its pair, where the desk tells its contents
 abbrev pub TracesOrders : List (List ℕ) → DeskState → DeskState → ℕ → Type 0
 TracesOrders words before after code =
     (script_name log_name : List ℕ) (contents contents' : Contents) → request_in words ≡ Some (OfPair Trace script_name log_name None) → code ≡ code_of Done → before.contents ≡ Some contents → after.contents ≡ Some contents'
     → IsTracedPair script_name log_name contents contents'
 
--- a script and a log of it were taken, which do not fit; what is said is the events that were made all the same, where there are as many threads, and then why
+-- a script and a log of it that does not fit were taken. The events made all the same were said,
+-- if there are as many threads, and then why the log does not fit
 pub record IsTracedMisfit (script_name log_name : List ℕ) (before after : Contents) : Type 0 where
   pub pair : Pair
   pub read : IsPairRead script_name log_name None (Some before) (Ok pair)
@@ -160,14 +168,16 @@ pub record IsTracedMisfit (script_name log_name : List ℕ) (before after : Cont
   pub cause : HasCause pair.source.script pair.loaded.log.threads fault
   pub contents : after.said ≡ before.said ++ (told_before Trace pair fault ++ fit_line fault)
 
--- where the words are those of `trace`, the script is the log's by its digest, the status is that of a misfit, and the desk tells its contents
+-- `trace` with the status of a misfit has traced its pair, if the log is of the script by its digest
+-- and the desk tells its contents
 abbrev pub TracesMisfits : List (List ℕ) → DeskState → DeskState → ℕ → Type 0
 TracesMisfits words before after code =
     (script_name log_name : List ℕ) (contents contents' : Contents) (pair : Pair) → request_in words ≡ Some (OfPair Trace script_name log_name None) → code ≡ code_of Misfit → before.contents ≡ Some contents → after.contents ≡ Some contents'
     → IsPairRead script_name log_name None (Some contents) (Ok pair) → IsOfScript pair.source.text pair.loaded.digest
     → IsTracedMisfit script_name log_name contents contents'
 
--- a script and a log of it were taken, of as many threads; the file that is written has the log in version 2, with the digest of the script's text, and no more bytes than a log's file may have
+-- a script and a log of it with as many threads were taken. The file written spells the log in version 2,
+-- with the script's digest, and is within the limit
 pub record IsConversion (script_name log_name out_name : List ℕ) (before after : Contents) : Type 0 where
   pub pair : Pair
   pub read : IsPairRead script_name log_name None (Some before) (Ok pair)
@@ -178,13 +188,14 @@ pub record IsConversion (script_name log_name out_name : List ℕ) (before after
   pub within_limit : length (second_bytes pair.source.text pair.loaded.log.threads) ≤ MAX_LOG_FILE
   pub contents : after.said ≡ before.said ++ codes "converted\n"
 
--- where the words are those of `convert`, all was done, and the desk tells its contents
+-- `convert` with all done has converted its log, where the desk tells its contents
 abbrev pub ConvertsLogs : List (List ℕ) → DeskState → DeskState → ℕ → Type 0
 ConvertsLogs words before after code =
     (script_name log_name out_name : List ℕ) (contents contents' : Contents) → request_in words ≡ Some (Convert script_name log_name out_name) → code ≡ code_of Done → before.contents ≡ Some contents → after.contents ≡ Some contents'
     → IsConversion script_name log_name out_name contents contents'
 
--- the files of the generated script and of its log, which are a faithful recording; of equal names the log's bytes stay. The log is within its limit and has as many accesses as the summary says
+-- the files of the generated script and of its log are a faithful recording. If both have one name, the log's bytes stay.
+-- The log is within its limit and has as many accesses as the summary says
 pub record IsGeneratedRun (number : ℕ) (script_name log_name : List ℕ) (before after : Contents) : Type 0 where
   pub script : Script
   pub log : Log
@@ -197,12 +208,14 @@ pub record IsGeneratedRun (number : ℕ) (script_name log_name : List ℕ) (befo
   pub accesses : sum_by (λ thread. thread.accesses) log.threads ≡ 160000
   pub faithful : IsFaithful script log.threads outcome
 
+-- `gen` with all done has written a generated script and a faithful log, where the desk tells its contents
 abbrev pub GeneratesFaithfully : List (List ℕ) → DeskState → DeskState → ℕ → Type 0
 GeneratesFaithfully words before after code =
     (number : ℕ) (script_name log_name : List ℕ) (contents contents' : Contents) → request_in words ≡ Some (Gen number script_name log_name) → code ≡ code_of Done → before.contents ≡ Some contents → after.contents ≡ Some contents'
     → IsGeneratedRun number script_name log_name contents contents'
 
--- a script was taken that has the object that is named; what was recorded is of a run that is looked for, and its log is written in version 2, with the digest of the script's text; what is said is the try, which is one of those that were asked for, the preemptions, and the outcome or the cycle
+-- a script with the named object was taken. The log of a run that is looked for was written in version 2,
+-- with the script's digest. One of the tries was said, with the preemptions and the outcome or the cycle
 pub record IsHuntedRun (quarry : Quarry) (script_name log_name : List ℕ) (tries : ℕ) (before after : Contents) : Type 0 where
   pub source : Source
   pub wanted : Option ℕ
@@ -219,7 +232,7 @@ pub record IsHuntedRun (quarry : Quarry) (script_name log_name : List ℕ) (trie
   pub within_limit : length (second_bytes source.text recorded.log.threads) ≤ MAX_LOG_FILE
   pub contents : after.said ≡ before.said ++ (try_text attempt preemptions ++ found_said quarry source.script recorded.outcome hops)
 
--- where the words are those of `hunt`, a run was found, and the desk tells its contents
+-- `hunt` with all done has found a run that it looked for, where the desk tells its contents
 abbrev pub HuntsFaithfully : List (List ℕ) → DeskState → DeskState → ℕ → Type 0
 HuntsFaithfully words before after code =
     (quarry : Quarry) (script_name log_name : List ℕ) (tries : ℕ) (contents contents' : Contents) → request_in words ≡ Some (Hunt quarry script_name log_name tries) → code ≡ code_of Done → before.contents ≡ Some contents → after.contents ≡ Some contents'
