@@ -11,10 +11,12 @@ use Rattle.octet_heap.specs.Growth.{AddsAccess}
 use Rattle.octet_heap.specs.SlowPath.{is_fast, slow_after}
 use Rattle.octet_heap.specs.Workers.{seat_of, IsPoll}
 
+-- the access of the object, with the value of a write or the amount of an update
 abbrev pub access_to : ℕ → Mode → ℕ → PendingAccess
 access_to object mode value = record { object = object; mode = mode; value = value }
 
--- for this access: its steps, why it is pending if it is, what it adds to its thread's journal, and the owner's path where the first step lets the thread pass
+-- a poll for this access: its steps, the reason why it is pending, and what it adds to its thread's journal.
+-- It takes the owner's path where the first step lets the thread pass
 pub record Polls (access : PendingAccess) (v : SeatView) (answer : Poll) (w : SeatView) : Type 0 where
   pub steps : IsPoll access v answer w
   pub cause : HasCause v.number (steps_since v w) answer

@@ -12,23 +12,24 @@ use Rattle.octet_heap.specs.declared.poll.Poll.{Poll}
 use Rattle.octet_heap.specs.declared.poll.Poll.TheVariants.{Ready, Pending}
 use Rattle.octet_heap.specs.OwnersPath.{value_by}
 
--- the event of an access whose step is told this word: a read is told the value that it reads, and an update its value before
+-- the event of an access whose step is told this word: the value that a read reads,
+-- or the value before an update
 abbrev pub access_event : Mode → ℕ → ℕ → ℕ → Event
 access_event Read object value told = event.Read object told
 access_event Write object value told = event.Write object value
 access_event Update object amount told = event.Update object told (added amount told)
 
--- the access that a poll has made, if it has made it
+-- the access that a poll has made, if it has made one
 abbrev pub access_made : PendingAccess → ℕ → Poll → List Event
 access_made access told (Ready value) = access_event access.mode access.object access.value told ∷ []
 access_made access told (Pending why) = []
 
--- it answers the value of that access
+-- the poll answers the value of the access that it has made
 abbrev pub AnswersValue : PendingAccess → ℕ → Poll → Type 0
 AnswersValue access told (Ready value) = value ≡ value_by access.mode access.value told
 AnswersValue access told (Pending why) = Unit {0}
 
--- the journal grows by marks and then, once it is made, by the access
+-- the journal grows by marks, and then by the access once the access is made
 pub record AddsAccess (access : PendingAccess) (v : SeatView) (answer : Poll) (w : SeatView) : Type 0 where
   pub marks : List Mark
   pub told : ℕ

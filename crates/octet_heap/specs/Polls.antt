@@ -11,7 +11,7 @@ use Rattle.octet_heap.specs.declared.poll.Poll.{Poll}
 use Rattle.octet_heap.specs.declared.poll.Poll.TheVariants.{Ready, Pending}
 use Rattle.octet_heap.specs.Walks.{access_task, after_steps, IsNext, WalksBy}
 
--- what a poll answers by a step that waits, or that makes the access. By any other it goes on
+-- the answer of a poll by a step that waits, or that makes the access. By any other step the poll goes on
 abbrev pub answer_by : Option Why → Kind → ℕ → Option Poll
 answer_by (Some why) kind word = Some (Pending why)
 answer_by None ToRead word = Some (Ready word)
@@ -19,6 +19,7 @@ answer_by None (ToWrite value) word = Some (Ready value)
 answer_by None (ToBump amount) word = Some (Ready (added amount word))
 answer_by None _ word = None
 
+-- the answer of a poll by a step of the seat's thread
 abbrev pub answer_to : SeatView → Taken → Option Poll
 answer_to v taken = answer_by (waits taken.kind v.number taken.word v.thread) taken.kind taken.word
 
@@ -26,19 +27,21 @@ answer_to v taken = answer_by (waits taken.kind v.number taken.word v.thread) ta
 abbrev pub GoesBy : PendingAccess → SeatView → List Taken → Type 0
 GoesBy access v going = WalksBy (λ v taken. answer_to v taken ≡ None) (access_task access) v going
 
--- a thread that owes a glance or an answer takes the next step, and so on, until it owes nothing
+-- the thread takes these steps while it owes a glance or an answer
 abbrev pub OwesBy : PendingAccess → SeatView → List Taken → Type 0
 OwesBy access v paid = WalksBy (λ v taken. v.thread.due ≢ Nothing) (access_task access) v paid
 
+-- the thread takes these steps until it owes nothing
 abbrev pub PaysBy : PendingAccess → SeatView → List Taken → Type 0
 PaysBy access v paid = OwesBy access v paid × ((after_steps paid v).thread.due ≡ Nothing)
 
--- the steps that are still due after an answer, at most
+-- the greatest number of steps that are still due after an answer
 abbrev pub steps_owed : Poll → ℕ
 steps_owed (Ready value) = 0
 steps_owed (Pending why) = 2
 
--- steps by which the poll goes on, and one more, by which it answers; with those that are due then at most `steps`
+-- the poll goes on by some steps, and answers by one more. With the steps that are then due,
+-- there are at most `steps`
 pub record Comes (access : PendingAccess) (v : SeatView) (answer : Poll) (steps : ℕ) (w : SeatView) : Type 0 where
   pub going : List Taken
   pub last : Taken

@@ -8,28 +8,31 @@ use Rattle.octet_heap.specs.declared.heap.Heap.{Heap}
 use Rattle.octet_heap.specs.declared.worker.Worker.{Worker}
 use Rattle.octet_heap.specs.Workers.{seat_of, IsWorkerOf}
 
+-- the seats of the workers
 abbrev pub seats_in : List Worker → List Seat
 seats_in workers = map (λ worker. worker.recorder.seat) workers
 
+-- the journals of the workers' threads
 abbrev pub journals_of : List Worker → Journals
 journals_of workers = map (λ worker. (seat_of worker).journal) workers
 
--- each has this fuel, and has begun no access and no update, and made none
+-- each worker has this fuel, has begun no access and no update, and counts no access on the slow path
 abbrev pub ArePlain : ℕ → List Worker → Type 0
 ArePlain fuel [] = Unit {0}
 ArePlain fuel (worker ∷ workers) = ((worker.recorder.fuel ≡ fuel) × (worker.pending ≡ None) × (worker.changing ≡ None) × (worker.slow ≡ 0)) × ArePlain fuel workers
 
--- the worker of this thread, which has taken no step
+-- the worker is that of this thread, and has taken no step
 abbrev pub IsNew : Heap → ℕ → Worker → Type 0
 IsNew heap thread worker = IsWorkerOf heap worker × ((seat_of worker).number ≡ thread) × ((seat_of worker).thread ≡ unstarted) × ((seat_of worker).journal ≡ []) × ((seat_of worker).trail ≡ []) × (worker.pending ≡ None) × (worker.slow ≡ 0)
 
--- the worker of this thread, which is off or blocked
+-- the worker is that of this thread, which is off or blocked
 abbrev pub RestsAs : Heap → ℕ → Worker → Type 0
 RestsAs heap thread worker = IsWorkerOf heap worker × ((seat_of worker).number ≡ thread) × IsResting (seat_of worker).thread.phase
 
--- so each one
+-- each worker is that of its thread, and has taken no step
 abbrev pub EachNew : Heap → List Worker → Type 0
 EachNew heap workers = (thread : ℕ) (none : Worker) → thread < length workers → IsNew heap thread (slice_index_or workers thread none)
 
+-- each worker is that of its thread, which is off or blocked
 abbrev pub EachRests : Heap → List Worker → Type 0
 EachRests heap workers = (thread : ℕ) (none : Worker) → thread < length workers → RestsAs heap thread (slice_index_or workers thread none)

@@ -12,28 +12,31 @@ use Rattle.octet_heap.specs.declared.pending_access.PendingAccess.{PendingAccess
 use Rattle.octet_heap.specs.declared.poll.Poll.{Poll}
 use Rattle.octet_heap.specs.declared.poll.Poll.TheVariants.{Ready, Pending}
 
+-- the test whether a phase is idle
 abbrev pub is_idle : Phase → Bool
 is_idle Idle = true
 is_idle _ = false
 
+-- the test whether an act is to pass
 abbrev pub is_pass : Act → Bool
 is_pass Pass = true
 is_pass _ = false
 
--- the first of these steps, a load, has found a state that lets the thread make the access
+-- the test whether the first of these steps, a load, has found a state that lets the thread make the access
 abbrev pub passes_by : PendingAccess → SeatView → List Taken → Bool
 passes_by access v [] = false
 passes_by access v (load ∷ more) = is_pass (decided (state_in (unpacked_state load.word)) v.number access.mode v.thread.count)
 
--- an access takes the fast path where it has not loaded the state before, and the state that it loads lets the thread make it
+-- the test whether an access takes the fast path: it has not loaded the state before,
+-- and the state that it loads lets the thread make the access
 abbrev pub is_fast : PendingAccess → SeatView → List Taken → Bool
 is_fast access v steps = is_idle v.thread.phase && passes_by access v steps
 
--- the accesses that took the slow path, after another one that is made
+-- the number of accesses that took the slow path, after one more is made
 abbrev pub slow_by : Bool → ℕ → ℕ
 slow_by fast slow = if fast then slow else suc slow
 
--- and after a poll
+-- the number of accesses that took the slow path, after a poll
 abbrev pub slow_after : Poll → Bool → ℕ → ℕ
 slow_after (Ready value) fast slow = slow_by fast slow
 slow_after (Pending why) fast slow = slow

@@ -13,15 +13,15 @@ use Rattle.octet_heap.specs.Walks.{access_task, after_steps, IsNext}
 use Rattle.octet_heap.specs.Polls.{answer_to, GoesBy, PaysBy}
 use Rattle.octet_heap.specs.Standing.{begun_of, IsOne, IsAbout, HasFuel, IsWithin}
 
--- a worker is seen as its seat is
+-- the view of a worker's seat
 abbrev pub seat_of : Worker → SeatView
 seat_of worker = view worker.recorder.seat
 
--- the access that it has begun
+-- the access that a worker has begun, if it has begun one
 abbrev pub begun_in : Worker → Option PendingAccess
 begun_in worker = begun_of worker.pending worker.changing
 
--- the worker is one of this heap's, and stands as it does between two calls
+-- the worker is one of this heap's, and stands as workers do between two calls
 pub record IsWorkerOf (heap : Heap) (worker : Worker) : Type 0 where
   pub own : IsSeatOf heap.words worker.recorder.seat
   pub same_fuel : worker.recorder.fuel ≡ heap.fuel
@@ -31,21 +31,22 @@ pub record IsWorkerOf (heap : Heap) (worker : Worker) : Type 0 where
   pub fuelled : HasFuel (begun_in worker) worker.recorder.log.accesses worker.recorder.fuel
   pub within : IsWithin (objects_of heap.words) (begun_in worker)
 
--- it runs, and has begun no access
+-- the worker runs, and has begun no access
 abbrev pub IsIdle : Worker → Type 0
 IsIdle worker = ((seat_of worker).thread.phase ≡ Idle) × (worker.pending ≡ None) × (worker.changing ≡ None)
 
--- once its access is made it has begun none
+-- the worker has begun no access once its access is made
 abbrev pub IsIdleIfMade : Poll → Worker → Type 0
 IsIdleIfMade (Ready value) worker = IsIdle worker
 IsIdleIfMade (Pending why) worker = Unit {0}
 
--- an access, or an update, stays begun until it is made
+-- the access or update that is begun after an answer: it stays begun until it is made
 abbrev pub pending_after : {A : Type 0} → Poll → Option A → Option A
 pending_after (Ready value) begun = None
 pending_after (Pending why) begun = begun
 
--- the steps of a poll, in the order of its thread's steps: some by which it goes on, one by which it answers, and, where it is pending, the safe point after that one. There are at most nineteen
+-- the steps of a poll, in order: some by which it goes on, and one by which it answers.
+-- A pending poll ends with a safe point. There are at most nineteen steps
 pub record IsPoll (access : PendingAccess) (v : SeatView) (answer : Poll) (w : SeatView) : Type 0 where
   pub going : List Taken
   pub last : Taken

@@ -7,48 +7,49 @@ use Rattle.octet_model.specs.Journals.{log_of}
 use Rattle.octet_model.specs.Orders.{outcome_of}
 use Rattle.octet_machine.specs.Machine.{MachineState, opening_machine, after_turn, after_rest, have_ended, plain_state}
 
--- after turns of these threads, one after another
+-- the machine after turns of these threads, one after another
 abbrev pub after_turns : MachineState → List ℕ → MachineState
 after_turns m [] = m
 after_turns m (thread ∷ threads) = after_turns (after_turn m thread) threads
 
--- after a turn for each pick: of the thread of its number modulo the number of threads
+-- the machine after a turn for each pick: of the thread with the pick's number modulo the number of threads
 abbrev pub after_picks : MachineState → List ℕ → MachineState
 after_picks m picks = after_turns m (map (λ pick. pick % length m.runners) picks)
 
--- after a round: one turn of each thread, in order
+-- the machine after a round: one turn of each thread, in order
 abbrev pub after_round : MachineState → MachineState
 after_round m = after_turns m (range_with_len 0 (length m.runners))
 
--- after a number of rounds
+-- the machine after a number of rounds
 abbrev pub after_rounds : MachineState → ℕ → MachineState
 after_rounds m zero = m
 after_rounds m (suc fewer) = after_round (after_rounds m fewer)
 
--- after the least number of rounds that ends all threads
+-- the machine after is reached by the least number of rounds that ends all threads
 pub record EndsByRounds (before after : MachineState) : Type 0 where
   pub rounds : ℕ
   pub comes : after ≡ after_rounds before rounds
   pub ended : have_ended after ≡ true
   pub least : (fewer : ℕ) → fewer < rounds → have_ended (after_rounds before fewer) ≡ false
 
--- the log is that of the journals of a machine, and the outcome is what its threads came to with the cells
+-- the log is that of the machine's journals, and the outcome is what its threads came to with the cells
 pub record IsRecordOf (m : MachineState) (recorded : Recorded) : Type 0 where
   pub log : recorded.log.threads ≡ log_of m.protocol.journals
   pub outcome : recorded.outcome ≡ outcome_of m.script (plain_state m.protocol)
 
--- the record of the run that these picks give from the start, and then the least number of rounds that ends all threads
+-- the record is of the run that these picks give from the start,
+-- followed by the least number of rounds that ends all threads
 pub record IsPlayed (script : Script) (picks : List ℕ) (recorded : Recorded) : Type 0 where
   pub end : MachineState
   pub played : EndsByRounds (after_picks (opening_machine script) picks) end
   pub record_of : IsRecordOf end recorded
 
--- after so many turns of the thread
+-- the machine after so many turns of the thread
 abbrev pub after_own_turns : MachineState → ℕ → ℕ → MachineState
 after_own_turns m thread zero = m
 after_own_turns m thread (suc fewer) = after_turn (after_own_turns m thread fewer) thread
 
--- after some turns of the thread, `most` at most, and its rest
+-- the machine after is reached by at most `most` turns of the thread, and its rest
 pub record HasGone (before : MachineState) (thread most : ℕ) (after : MachineState) : Type 0 where
   pub turns : ℕ
   pub few : turns ≤ most

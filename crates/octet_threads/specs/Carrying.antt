@@ -16,7 +16,7 @@ use Rattle.octet_heap.specs.Workers.{seat_of, IsIdle}
 abbrev pub HasAccessLeft : Heap → Worker → ThreadState → Type 0
 HasAccessLeft heap worker state = is_access (next_demand state) ≡ true → access_count (seat_of worker).journal < heap.fuel
 
--- after its end the worker is blocked, after any other demand idle
+-- the worker is blocked after its thread's end, and idle after any other demand
 abbrev pub IsLeftBy : Demand → Worker → Type 0
 IsLeftBy (Ended end) worker = ((seat_of worker).thread.phase ≡ Blocked) × (worker.pending ≡ None)
 IsLeftBy _ worker = IsIdle worker
@@ -25,15 +25,15 @@ IsLeftBy _ worker = IsIdle worker
 abbrev pub IsSameThread : ThreadState → ThreadState → Type 0
 IsSameThread before after = (after.commands ≡ before.commands) × (after.objects ≡ before.objects)
 
--- an end is demanded again
+-- an end that was demanded is demanded again
 abbrev pub TellsAgain : Demand → ThreadState → Type 0
 TellsAgain (Ended end) state = next_demand state ≡ Ended end
 TellsAgain _ state = Unit {0}
 
--- from whatever start the worker's journal fitted the thread and left it where it stood, it does so still
+-- the worker's journal fits the thread and leaves it where it stands, from any start from which it did so before
 abbrev pub KeepsUp : Worker → ThreadState → Worker → ThreadState → Type 0
 KeepsUp worker state worker_after state_after = (start : Configuration) → IsJournalOf start (seat_of worker).journal state → IsJournalOf start (seat_of worker_after).journal state_after
 
--- where the worker's thread starts, which has its heap's fuel
+-- the start of a worker's thread, with its heap's fuel
 abbrev pub start_of : Worker → Configuration
 start_of worker = starting_configuration worker.recorder.fuel

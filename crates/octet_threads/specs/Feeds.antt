@@ -9,25 +9,25 @@ use Rattle.octet_ring.specs.Views.{RingName, SenderView, DrainView, received_of}
 use Rattle.octet_threads.specs.declared.feed.Feed.{Feed}
 use Rattle.octet_threads.specs.Live.{AddsPieces}
 
--- the first of these marks were sent, so many
+-- the sender has sent the first `sent` of these marks
 abbrev pub HasSent : SenderView → ℕ → List Gapped → Type 0
 HasSent sender sent marks = (sender.sent ≡ take sent marks) × (sent ≤ length marks)
 
--- of which thread a worker's ring is, and which ring that is, if it has one
+-- the thread of a worker's ring and the ring's name, if the worker has one
 abbrev pub end_of : Option Feed → Option (ℕ × RingName)
 end_of feed = option_map (λ feed. (feed.sender.thread, feed.sender.ring)) feed
 
--- the pieces are of this thread, and have a mark each
+-- the pieces are of this thread, and each has a mark
 abbrev pub AreOf : ℕ → List Piece → Type 0
 AreOf thread [] = Unit {0}
 AreOf thread (piece ∷ pieces) = ((piece.thread ≡ thread) × (1 ≤ length piece.marks)) × AreOf thread pieces
 
--- the pieces are added where none was refused before, and else nothing is
+-- the pieces are added, if none was refused before
 abbrev pub GoesOn : Option DeskFault → List Piece → DeskState → Option DeskFault → DeskState → Type 0
 GoesOn None pieces before kept after = AddsPieces pieces before kept after
 GoesOn (Some fault) pieces before kept after = (pieces ≡ []) × (kept ≡ Some fault) × (after ≡ before)
 
--- what was received of a thread meanwhile was added, in pieces
+-- the marks that were received of a thread meanwhile are added in pieces
 pub record DrainsOne (thread : ℕ) (kept : Option DeskFault) (drain : DrainView) (before : DeskState) (kept' : Option DeskFault) (drain' : DrainView) (after : DeskState) : Type 0 where
   pub pieces : List Piece
   pub own : AreOf thread pieces
@@ -35,7 +35,7 @@ pub record DrainsOne (thread : ℕ) (kept : Option DeskFault) (drain : DrainView
   pub received : drain'.received ≡ slice_set drain.received thread (received_of drain thread ++ marks_of thread pieces)
   pub rings : drain'.rings ≡ drain.rings
 
--- what was received of each thread meanwhile was
+-- the marks that were received of each thread meanwhile are added in pieces
 pub record Drains (threads : ℕ) (kept : Option DeskFault) (drain : DrainView) (before : DeskState) (kept' : Option DeskFault) (drain' : DrainView) (after : DeskState) : Type 0 where
   pub pieces : List Piece
   pub are : ArePieces threads pieces
@@ -44,7 +44,7 @@ pub record Drains (threads : ℕ) (kept : Option DeskFault) (drain : DrainView) 
   pub as_many : length drain'.received ≡ length drain.received
   pub rings : drain'.rings ≡ drain.rings
 
--- the first of these marks of a thread were added, in pieces, and where none was refused all were
+-- some first of these marks of a thread are added in pieces, and all of them if no piece was refused
 pub record AddsFront (thread : ℕ) (marks : List Gapped) (kept : Option DeskFault) (before : DeskState) (kept' : Option DeskFault) (after : DeskState) : Type 0 where
   pub pieces : List Piece
   pub own : AreOf thread pieces
@@ -53,7 +53,7 @@ pub record AddsFront (thread : ℕ) (marks : List Gapped) (kept : Option DeskFau
   pub front : marks ≡ marks_of thread pieces ++ rest
   pub whole : kept' ≡ None → rest ≡ []
 
--- after what was received of a thread more of its own marks were added, and where no piece was refused, all
+-- more of a thread's own marks are added after those received. If no piece was refused, all are
 pub record AddsLeft (thread : ℕ) (own : List Gapped) (kept : Option DeskFault) (drain : DrainView) (before : DeskState) (kept' : Option DeskFault) (drain' : DrainView) (after : DeskState) : Type 0 where
   pub pieces : List Piece
   pub are : AreOf thread pieces
@@ -65,19 +65,19 @@ pub record AddsLeft (thread : ℕ) (own : List Gapped) (kept : Option DeskFault)
   pub as_many : length drain'.received ≡ length drain.received
   pub rings : drain'.rings ≡ drain.rings
 
--- so of one of the threads
+-- the marks added are the first of a thread's own, and all of them if no piece was refused
 pub record HasFront (own : List Gapped) (added : List Gapped) (kept : Option DeskFault) : Type 0 where
   pub rest : List Gapped
   pub front : own ≡ added ++ rest
   pub whole : kept ≡ None → rest ≡ []
 
--- and of all, of which each has its own marks
+-- more of each thread's own marks are added after those received. If no piece was refused, all are
 pub record AddsAllLeft (threads : ℕ) (own : ℕ → List Gapped) (kept : Option DeskFault) (drain : DrainView) (before : DeskState) (kept' : Option DeskFault) (after : DeskState) : Type 0 where
   pub pieces : List Piece
   pub are : ArePieces threads pieces
   pub goes : GoesOn kept pieces before kept' after
   pub each : (thread : ℕ) → thread < threads → HasFront (own thread) (received_of drain thread ++ marks_of thread pieces) kept'
 
--- it sends by the ring of this thread
+-- the feed sends by the ring of this thread
 abbrev pub SendsBy : List RingName → ℕ → Option Feed → Type 0
 SendsBy rings thread feed = (ring : RingName) × (end_of feed ≡ Some (thread, ring)) × (slice_get rings thread ≡ Some ring)

@@ -8,27 +8,29 @@ use Rattle.octet_model.specs.Log.{is_log}
 use Rattle.octet_log.specs.declared.limits.TheConstants.{MAX_MARKS}
 use Rattle.octet_log.specs.v2.Pieces.{Piece, piece_bytes, ArePieces, HaveMarks, marks_in}
 
--- the desk refuses to add the piece, of at most 256 marks; or there is no memory for its bytes, and it is not asked
+-- the desk refuses to add the piece, of at most 256 marks.
+-- Without memory for the piece's bytes, the desk is not asked
 abbrev pub IsRefused : Piece → DeskState → Option DeskFault → DeskState → Type 0
 IsRefused piece before kept after =
     ((kept ≡ Some OutOfMemory) × (after ≡ before))
     ⊎ ((fault : DeskFault) × (kept ≡ Some fault) × (length piece.marks ≤ 256) × Adds (piece_bytes piece) before (Err fault) after)
 
--- pieces of at most 256 marks are added to the file that is begun, one with each call of the desk, up to the first that is refused, and no call is made after it
+-- pieces of at most 256 marks are added to the file that is begun, one with each call of the desk.
+-- No call is made after the first that is refused
 abbrev pub AddsPieces : List Piece → DeskState → Option DeskFault → DeskState → Type 0
 AddsPieces [] before kept after = (kept ≡ None) × (after ≡ before)
 AddsPieces (piece ∷ pieces) before kept after =
     IsRefused piece before kept after
     ⊎ ((mid : DeskState) × (length piece.marks ≤ 256) × Adds (piece_bytes piece) before (Ok tt) mid × AddsPieces pieces mid kept after)
 
--- pieces that have the marks of a log are added: all of them, or those before the first that is refused
+-- the pieces that have the marks of a log are added: all of them, or those before the first that is refused
 pub record IsWritten (logs : List ThreadLog) (before : DeskState) (kept : Option DeskFault) (after : DeskState) : Type 0 where
   pub pieces : List Piece
   pub are : ArePieces (length logs) pieces
   pub have : HaveMarks 0 pieces logs
   pub adds : AddsPieces pieces before kept after
 
--- so far pieces of some valid log of so many threads are added, which has no more marks than a log may have
+-- the pieces added so far are of some valid log of so many threads, which has no more marks than a log may have
 pub record IsPartlyWritten (threads : ℕ) (before after : DeskState) : Type 0 where
   pub logs : List ThreadLog
   pub valid : IsTrue (is_log logs)

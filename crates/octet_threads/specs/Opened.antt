@@ -6,7 +6,8 @@ use Rattle.octet_threads.specs.declared.live.Opened.{Opened}
 use Rattle.octet_threads.specs.Runners.{AreOf, IsAtRest, IsHeapOf}
 use Rattle.octet_threads.specs.Work.{SendEach}
 
--- a heap for the script, a runner at rest for each of its threads, which sends by the ring of its thread, nothing received, and nothing refused
+-- a run begins with a heap for the script and a runner at rest for each thread, which sends by its thread's ring.
+-- Nothing is received, and nothing refused
 pub record IsOpened (script : Script) (opened : Opened) : Type 0 where
   pub heap : IsHeapOf script opened.heap
   pub runners : AreOf script opened.runners.items

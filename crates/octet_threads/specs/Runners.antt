@@ -19,47 +19,49 @@ use Rattle.octet_threads.specs.Feeds.{end_of}
 use Rattle.octet_threads.specs.Tasks.{task_of, Does}
 use Rattle.octet_threads.specs.declared.runner.Runner.{Runner}
 
--- the runner of one of this heap's workers, which is off or blocked, with a thread of as many objects
+-- the runner is at rest: its worker is one of this heap's, and is off or blocked.
+-- Its thread has as many objects as the heap
 pub record IsAtRest (heap : Heap) (runner : Runner) : Type 0 where
   pub own : IsWorkerOf heap runner.worker
   pub rests : IsResting (seat_of runner.worker).thread.phase
   pub objects : runner.config.objects ≡ objects_of heap.words
 
--- it is at work: it runs, and has begun no access
+-- the runner is at work: its worker runs, and has begun no access
 pub record IsAtWork (heap : Heap) (runner : Runner) : Type 0 where
   pub own : IsWorkerOf heap runner.worker
   pub idle : IsIdle runner.worker
   pub objects : runner.config.objects ≡ objects_of heap.words
 
--- it has carried out this demand, which it demands again if that is its end
+-- the runner has carried out this demand. If the demand is an end, the thread demands it again
 pub record HasCarried (heap : Heap) (demand : Demand) (runner : Runner) : Type 0 where
   pub own : IsWorkerOf heap runner.worker
   pub leaves : IsLeftBy demand runner.worker
   pub objects : runner.config.objects ≡ objects_of heap.words
   pub ends : TellsAgain demand runner.config
 
+-- the demand is an end
 abbrev pub IsEnd : Demand → Type 0
 IsEnd (Ended end) = Unit {0}
 IsEnd _ = ⊥
 
--- in some sound state its thread was where the worker's seat knows it to be
+-- the worker's thread was where its seat knows it to be, in some sound state
 pub record IsSeen (worker : Worker) : Type 0 where
   pub state : ProtocolState
   pub seen : IsSeenBy (seat_of worker) state
 
--- and its thread demands its end
+-- the runner is at rest, and its thread demands its end
 pub record HasEnded (heap : Heap) (runner : Runner) : Type 0 where
   pub rests : IsAtRest heap runner
   pub ends : IsEnd (next_demand runner.config)
   pub seen : IsSeen runner.worker
 
--- a runner of the same thread, which sends by the same ring, if it does
+-- the runner is of the same thread, and sends by the same ring, if it sends
 pub record IsSame (before after : Runner) : Type 0 where
   pub number : (seat_of after.worker).number ≡ (seat_of before.worker).number
   pub commands : after.config.commands ≡ before.config.commands
   pub end : end_of after.feed ≡ end_of before.feed
 
--- a worker that has rested, by the steps of a pause, while its thread stayed where it was
+-- the worker has rested, by the steps of a pause, and its thread stayed where it was
 pub record HasRested (before after : Runner) : Type 0 where
   pub steps : Does (task_of Pause) (seat_of before.worker) (seat_of after.worker)
   pub journal : (seat_of after.worker).journal ≡ (seat_of before.worker).journal
@@ -67,23 +69,23 @@ pub record HasRested (before after : Runner) : Type 0 where
   pub config : after.config ≡ before.config
   pub feed : after.feed ≡ before.feed
 
--- the runner of this thread of a script
+-- the runner is that of this thread of a script
 pub record IsOf (script : Script) (thread : ℕ) (runner : Runner) : Type 0 where
   pub number : (seat_of runner.worker).number ≡ thread
   pub commands : runner.config.commands ≡ commands_of script thread
 
--- one for each thread of a script, in order
+-- each thread of a script has its runner, in order
 pub record AreOf (script : Script) (runners : List Runner) : Type 0 where
   pub as_many : length runners ≡ length script.threads
   pub each : (thread : ℕ) (none : Runner) → thread < length runners → IsOf script thread (slice_index_or runners thread none)
 
--- a heap for the threads of a script, with its objects
+-- the heap is for the threads of a script, with its objects
 pub record IsHeapOf (script : Script) (heap : Heap) : Type 0 where
   pub threads : threads_of heap.words ≡ length script.threads
   pub fuel : heap.fuel ≡ script.fuel
   pub starts : starts_of heap.words ≡ starting_heap script
 
--- how a thread ended that demands its end
+-- the end of a thread that demands its end
 abbrev pub end_told : Demand → End
 end_told (Ended end) = end
 end_told _ = Spent

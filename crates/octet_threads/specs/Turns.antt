@@ -16,21 +16,22 @@ waited_for (Held by word) = Some by
 waited_for (Unanswered by word) = Some by
 waited_for (Changed seen found) = None
 
--- so by what a turn answered
+-- the thread that has to go first by what a turn answered, if there is one
 abbrev pub goes_first : Turned → Option ℕ
 goes_first (Waits why) = waited_for why
 goes_first _ = None
 
--- a thread of the machine, which has no gate to pass before its next turn
+-- the thread is one of the machine, and has no gate to pass before its next turn
 abbrev pub IsFree : MachineState → ℕ → Type 0
 IsFree m thread = (thread < length m.runners) × (at_gate m thread None ≡ None)
 
--- turns of these threads one after another: each is one that may be taken of the machine that it finds, after what the turn before answered
+-- turns of these threads one after another. Each may be taken of the machine that it finds,
+-- after what the turn before answered
 abbrev pub MayGo : (MachineState → Turned → ℕ → Type 0) → MachineState → Turned → List ℕ → Type 0
 MayGo May m answer [] = Unit {0}
 MayGo May m answer (thread ∷ threads) = May m answer thread × MayGo May (after_turn m thread) (turned m thread) threads
 
--- what the last of them answers
+-- the answer of the last of these turns
 abbrev pub last_turned : MachineState → Turned → List ℕ → Turned
 last_turned m answer [] = answer
 last_turned m answer (thread ∷ threads) = last_turned (after_turn m thread) (turned m thread) threads
@@ -39,24 +40,24 @@ last_turned m answer (thread ∷ threads) = last_turned (after_turn m thread) (t
 abbrev pub MayHelp : MachineState → Turned → ℕ → Type 0
 MayHelp m answer thread = (goes_first answer ≡ Some thread) × IsFree m thread
 
--- by this answer a thread went on, or has nobody to wait for
+-- this answer says that a thread went on, or has nobody to wait for
 abbrev pub GoesOn : Turned → Type 0
 GoesOn Moved = Unit {0}
 GoesOn (Waits why) = waited_for why ≡ None
 GoesOn Ended = ⊥
 
--- by this answer a thread has ended, or waits for one that is not free
+-- this answer says that a thread has ended, or waits for one that is not free
 abbrev pub IsStuck : MachineState → Turned → Type 0
 IsStuck m Moved = ⊥
 IsStuck m (Waits why) = (thread : ℕ) × (waited_for why ≡ Some thread) × (IsFree m thread → ⊥)
 IsStuck m Ended = Unit {0}
 
--- it helped where a thread went on, or so many turns were taken as may be at most
+-- the turns helped where a thread went on, or where the greatest number of turns was taken
 abbrev pub TellsHelp : ℕ → List ℕ → Turned → MachineState → Bool → Type 0
 TellsHelp most threads answer m true = GoesOn answer ⊎ (length threads ≡ most)
 TellsHelp most threads answer m false = IsStuck m answer
 
--- a turn of the thread that has to go first, then of the one for which that one waits, and so on
+-- the thread that has to go first takes a turn, then the one for which that one waits, and on in this way
 pub record Helps (most : ℕ) (why : Why) (before : MachineState) (helped : Bool) (after : MachineState) : Type 0 where
   pub threads : List ℕ
   pub may : MayGo MayHelp before (Waits why) threads
@@ -64,23 +65,25 @@ pub record Helps (most : ℕ) (why : Why) (before : MachineState) (helped : Bool
   pub few : length threads ≤ most
   pub tells : TellsHelp most threads (last_turned before (Waits why) threads) after helped
 
--- a turn of its own thread, past the gate, or of a thread that has to go first
+-- the turn is one of the worker's own thread, past the gate, or of a thread that has to go first
 abbrev pub MayTurn : ℕ → Option ℕ → MachineState → Turned → ℕ → Type 0
 MayTurn own passed m answer thread =
     ((thread ≡ own) × (own < length m.runners) × (at_gate m own passed ≡ None))
     ⊎ MayHelp m answer thread
 
+-- the number of turns of the worker's own thread
 abbrev pub own_turns : ℕ → List ℕ → ℕ
 own_turns own threads = count_by (λ thread. thread == own) threads
 
--- such turns, at least so many of its own thread
+-- the worker takes such turns, at least `least` of them of its own thread
 pub record TakesTurns (own : ℕ) (passed : Option ℕ) (least : ℕ) (before after : MachineState) : Type 0 where
   pub threads : List ℕ
   pub may : (answer : Turned) → MayGo (MayTurn own passed) before answer threads
   pub comes : after ≡ after_turns before threads
   pub enough : least ≤ own_turns own threads
 
--- such turns, then one of its own thread that has to wait, and those of the threads that have to go first, which did not help
+-- the worker takes such turns, then one of its own thread that has to wait.
+-- The turns of the threads that have to go first did not help
 pub record WaitsAfter (own : ℕ) (passed : Option ℕ) (why : Why) (before after : MachineState) : Type 0 where
   pub at : MachineState
   pub turns : TakesTurns own passed 0 before at

@@ -12,6 +12,7 @@ use Rattle.octet_threads.specs.declared.runner.Runner.{Runner}
 use Rattle.octet_threads.specs.Feeds.{SendsBy, HasFront}
 use Rattle.octet_threads.specs.Live.{AddsPieces}
 
+-- the workers of the runners
 abbrev pub workers_in : List Runner → List Worker
 workers_in runners = map (λ runner. runner.worker) runners
 
@@ -19,21 +20,21 @@ workers_in runners = map (λ runner. runner.worker) runners
 abbrev pub marks_made : List Runner → ℕ → List Gapped
 marks_made runners thread = slice_index_or (map (λ runner. gapped_marks 0 (seat_of runner.worker).journal) runners) thread []
 
--- the same worker, at the same place of its thread
+-- the runner has the same worker, at the same place of its thread
 pub record IsSameWork (before after : Runner) : Type 0 where
   pub worker : after.worker ≡ before.worker
   pub config : after.config ≡ before.config
 
--- the worker of the same thread
+-- the runner is of the same thread
 pub record IsOfThread (before after : Runner) : Type 0 where
   pub number : (seat_of after.worker).number ≡ (seat_of before.worker).number
   pub commands : after.config.commands ≡ before.config.commands
 
--- each sends by the ring of its thread
+-- each runner sends by the ring of its thread
 abbrev pub SendEach : List RingName → List Runner → Type 0
 SendEach rings runners = (thread : ℕ) (none : Runner) → thread < length runners → SendsBy rings thread (slice_index_or runners thread none).feed
 
--- the first of the marks of each thread are added in pieces, and where none is refused all are
+-- some first marks of each thread are added in pieces, and all of them if no piece is refused
 pub record Writes (threads : ℕ) (own : ℕ → List Gapped) (before : DeskState) (kept : Option DeskFault) (after : DeskState) : Type 0 where
   pub pieces : List Piece
   pub are : ArePieces threads pieces

@@ -194,8 +194,8 @@ ConvertsLogs words before after code =
     (script_name log_name out_name : List ℕ) (contents contents' : Contents) → request_in words ≡ Some (Convert script_name log_name out_name) → code ≡ code_of Done → before.contents ≡ Some contents → after.contents ≡ Some contents'
     → IsConversion script_name log_name out_name contents contents'
 
--- the files of the generated script and of its log are a faithful recording. If both have one name, the log's bytes stay.
--- The log is within its limit and has as many accesses as the summary says
+-- the files of the generated script and of its log are a faithful recording. With one name for both, the log's bytes
+-- stay. The log is within its limit and has as many accesses as the summary says
 pub record IsGeneratedRun (number : ℕ) (script_name log_name : List ℕ) (before after : Contents) : Type 0 where
   pub script : Script
   pub log : Log
