@@ -19,14 +19,13 @@ abbrev pub is_done : End → Bool
 is_done Done = true
 is_done Spent = false
 
--- the recording is faithful to a run whose threads are all done, and which leaves a value other than this one
--- in the object
+-- a faithful recording of a run whose threads are all done, and which leaves another value than this one in the object
 pub record EndsOtherwise (script : Script) (object number : ℕ) (recorded : Recorded) : Type 0 where
   pub faithful : IsFaithful script recorded.log.threads recorded.outcome
   pub done : list_all is_done recorded.outcome.ends ≡ true
   pub other : get_or recorded.outcome.heap object 0 ≢ number
 
--- the recording is faithful to a run whose regions have this cycle, as `regions` finds it
+-- a faithful recording of a run whose regions have this cycle, as `regions` finds it
 pub record HasCycle (script : Script) (recorded : Recorded) (hops : List Hop) : Type 0 where
   pub faithful : IsFaithful script recorded.log.threads recorded.outcome
   pub cycle : IsSerial (accesses_of script recorded.log.threads) (serial.Cycle hops)

@@ -1,4 +1,5 @@
--- Bytes judged from the front, field by field: what a field gives, or the cause to refuse it; and what a call owes to what is judged.
+-- Bytes judged from the front, field by field: what a field gives, or the cause to refuse it.
+-- A call gives what is judged, unless memory runs out.
 use Rattle.std.specs.Prelude.{◌≡◌, ℕ, zero, suc, ◌+◌, List, [], ◌∷◌, Bool, true, false, Result, Ok, Err, ◌++◌}
 use Rattle.octet_log.specs.declared.cause.LogCause.{LogCause}
 use Rattle.octet_log.specs.declared.cause.LogCause.TheVariants.{CutShort}

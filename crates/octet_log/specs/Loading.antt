@@ -1,4 +1,5 @@
--- Bytes of either version judged: the log that they spell, with a digest where they have one, or the first cause to refuse them.
+-- Bytes of either version judged: the log that they spell, with its digest if they have one, or the first cause
+-- to refuse them.
 use Rattle.std.specs.Prelude.{ℕ, ◌+◌, List, [], ◌∷◌, ◌++◌, length, take, drop, codes, Option, Some, None, Result, Ok, if◌then◌else◌, IsTrue}
 use Rattle.std.specs.Str.{bytes_eq}
 use Rattle.octet_model.specs.declared.log.ThreadLog.{ThreadLog}

@@ -45,7 +45,7 @@ pub record HasPlayedAlone (script : Script) (log : List ThreadLog) (thread : ℕ
   pub stops : Stops (by_log script log thread journal)
   pub through : (alone.is_through ≡ true) ↔ (by_log script log thread journal ≡ Finished)
 
--- each thread has made all that it can make alone, with a thread at each place
+-- each thread, at its place, has made all that it can make alone
 abbrev pub HavePlayedAlone : Script → List ThreadLog → List Alone → Type 0
 HavePlayedAlone script log threads =
     (length threads ≡ length log) × ((thread : ℕ) (none : Alone) → thread < length threads → HasPlayedAlone script log thread (slice_index_or threads thread none))

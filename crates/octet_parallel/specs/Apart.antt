@@ -72,7 +72,7 @@ pub record AddsUse (before : Use) (thread : ℕ) (writes : Bool) (after : Use) :
   pub kept : (other : ℕ) (wrote : Bool) → Covers before other wrote → Covers after other wrote
   pub added : Covers after thread writes
 
--- the object that the command names, if it is an access, has this use by the thread
+-- the command of the thread is known: the use kept of its object, if it names one, covers the command
 abbrev pub Knows : List Use → ℕ → Command → Type 0
 Knows uses thread command = (object : ℕ) → object_named command ≡ Some object
     → Covers (use_of uses object) thread (is_writer command)

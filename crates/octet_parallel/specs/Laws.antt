@@ -1,4 +1,5 @@
--- Each step of a player keeps what is sound, and does to the words and the players what it says; and what the players did tells the words.
+-- Each step of a player keeps what is sound, and does to the words and the players what it says.
+-- What the players did tells the words.
 use Rattle.std.specs.Prelude.{◌≡◌, ◌≢◌, ℕ, ◌+◌, ◌%◌, ◌^◌, ◌<◌, ◌≤◌, ◌↔◌, true, List, ◌∷◌, ◌++◌, length, slice_index, slice_set}
 use Rattle.octet_model.specs.declared.event.Mark.{Mark}
 use Rattle.octet_model.specs.declared.script.Script.{Script}

@@ -1,4 +1,5 @@
--- The rule: between any two steps the words are those after a run of the players, whose steps are those that their views tell of.
+-- The rule: between any two steps the words are those after a run of the players.
+-- The steps of the run are those that the players' views tell of.
 use Rattle.std.specs.Prelude.{◌≡◌, ℕ, ◌<◌, List, [], ◌∷◌, ◌++◌, true, false, length, slice_set}
 use mathlib.Core.Option.{some, none}
 use lib.ListN.{get_elem?}

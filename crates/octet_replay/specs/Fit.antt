@@ -1,4 +1,5 @@
--- Whether a log is of the script that it is taken with, by the digest that it has, and the line that says that it is of another.
+-- Whether a log is of the script that it is taken with, by the log's digest.
+-- A line says that the log is of another script.
 use Rattle.std.specs.Prelude.{ℕ, ◌≡◌, ◌≢◌, List, ◌++◌, codes, Option, None, Some, Result, Ok, Err}
 use Rattle.hex.specs.Hex.{encode_lower}
 use Rattle.sha2.specs.Sha256.{sha256}

@@ -18,11 +18,11 @@ IsLawful script log = IsLawfulOrder script log (lowest_order script log)
 abbrev pub last_state : Script → List ThreadLog → PlainState
 last_state script log = state_after script log (lowest_order script log)
 
--- the journal of a thread in that state
+-- the journal of a thread once no thread may step any more
 abbrev pub last_journal : Script → List ThreadLog → ℕ → List Event
 last_journal script log thread = journal_of (last_state script log).journals thread
 
--- what a thread demands in that state
+-- what a thread demands once no thread may step any more
 abbrev pub last_demand : Script → List ThreadLog → ℕ → AccessOrEnd
 last_demand script log thread =
     demanded (commands_of script thread) (configuration_after (commands_of script thread) (starting_configuration script.fuel) (last_journal script log thread))

@@ -1,4 +1,5 @@
--- The rule: between any two operations the words are those after a run of the protocol, whose steps are those that the seats know of.
+-- The rule: between any two operations the words are those after a run of the protocol.
+-- The steps of the run are those that the seats know of.
 use Rattle.std.specs.Prelude.{◌≡◌, ℕ, ◌+◌, ◌^◌, ◌<◌, ◌≤◌, List, [], ◌∷◌, ◌++◌, true, false, length, slice_set}
 use mathlib.Core.Option.{some, none}
 use lib.ListN.{get_elem?}

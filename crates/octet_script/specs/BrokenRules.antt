@@ -1,4 +1,5 @@
--- The rules of a line, each said of its words: the first line whose rules are broken is refused, for the first of its rules that is broken.
+-- The rules of a line, each said of its words. The first line that breaks a rule is refused,
+-- for the first rule that it breaks.
 use Rattle.std.specs.Prelude.{◌≡◌, ◌≢◌, ◌⊎◌, ℕ, ◌+◌, ◌*◌, ◌<◌, ◌≤◌, suc, not, if◌then◌else◌, true, false, List, [], ◌∷◌, ◌++◌, length, Option, Some, None, is_some, Ok, Err}
 use Rattle.std.specs.Str.{IsUtf8}
 use Rattle.octet_model.specs.declared.limits.TheConstants.{MAX_FUEL, MAX_OBJECTS, MAX_THREADS}

@@ -1,4 +1,4 @@
--- Which refusal a text meets first: the lines are judged in order, and within a line the rules in the order of this file.
+-- Which refusal a text meets first: the lines are judged in order, and within a line the rules in this file's order.
 use Rattle.std.specs.Prelude.{◌≡◌, ℕ, suc, ◌+◌, ◌*◌, ◌==◌, ◌||◌, if◌then◌else◌, Bool, true, false, not, nat_le, nat_lt, List, [], ◌∷◌, ◌++◌, codes, length, take, count_by, Option, Some, None, is_some, unwrap_or, Result, Ok, Err, slice_index_or}
 use Rattle.std.specs.Option.{ok_or}
 use Rattle.std.specs.Str.{bytes_eq}

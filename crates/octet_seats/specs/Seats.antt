@@ -23,7 +23,7 @@ after_dealing seat = record seat { seats_made = suc seat.seats_made }
 abbrev pub after_joining : {A : Type 0} → SeatFacts A → ℕ → A → SeatFacts A
 after_joining seat number left = record seat { joined = seat.joined ++ (number, left) ∷ [] }
 
--- these seats have joined seat 0, and `HasLeft` says what each has left
+-- the seats have joined seat 0, and `HasLeft` says what each has left
 abbrev pub AreJoined : {A : Type 0} → (ℕ → A → Type 0) → (ℕ → Bool) → List (ℕ × A) → Type 0
 AreJoined HasLeft has_joined [] = Unit {0}
 AreJoined HasLeft has_joined (seat ∷ seats) = (has_joined seat.0 ≡ true) × HasLeft seat.0 seat.1 × AreJoined HasLeft has_joined seats

@@ -21,7 +21,7 @@ abbrev pub IsLeftBy : Demand → Worker → Type 0
 IsLeftBy (Ended end) worker = ((seat_of worker).thread.phase ≡ Blocked) × (worker.pending ≡ None)
 IsLeftBy _ worker = IsIdle worker
 
--- the same thread of a script
+-- the states are of the same thread of a script
 abbrev pub IsSameThread : ThreadState → ThreadState → Type 0
 IsSameThread before after = (after.commands ≡ before.commands) × (after.objects ≡ before.objects)
 

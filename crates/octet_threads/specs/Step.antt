@@ -1,4 +1,4 @@
--- What a worker does while it has the machine: a turn of its thread, but for an access for which the gate was not passed.
+-- What a worker does while it has the machine: a turn of its thread, unless an access has still to pass the gate.
 use Rattle.std.specs.Prelude.{ℕ, ◌==◌, if◌then◌else◌, Option, Some, None}
 use Rattle.octet_machine.specs.declared.turned.Turned.{Turned}
 use Rattle.octet_machine.specs.Machine.{MachineState, wanted, turned, after_turn}

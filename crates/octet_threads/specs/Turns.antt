@@ -1,4 +1,5 @@
--- What the turns come to that a worker takes while it has the machine: those of its own thread, and those of threads that have to go first.
+-- What the turns come to that a worker takes while it has the machine:
+-- those of its own thread, and those of threads that have to go first.
 use Rattle.std.specs.Prelude.{◌≡◌, ℕ, ◌≤◌, ◌<◌, ◌==◌, ◌⊎◌, Bool, true, false, List, [], ◌∷◌, length, count_by, Option, Some, None}
 use Rattle.octet_state.specs.declared.why.Why.{Why}
 use Rattle.octet_state.specs.declared.why.Why.TheVariants.{Held, Changed, Unanswered}
@@ -40,13 +41,13 @@ last_turned m answer (thread ∷ threads) = last_turned (after_turn m thread) (t
 abbrev pub MayHelp : MachineState → Turned → ℕ → Type 0
 MayHelp m answer thread = (goes_first answer ≡ Some thread) × IsFree m thread
 
--- this answer says that a thread went on, or has nobody to wait for
+-- the answer says that a thread went on, or has nobody to wait for
 abbrev pub GoesOn : Turned → Type 0
 GoesOn Moved = Unit {0}
 GoesOn (Waits why) = waited_for why ≡ None
 GoesOn Ended = ⊥
 
--- this answer says that a thread has ended, or waits for one that is not free
+-- the answer says that a thread has ended, or waits for one that is not free
 abbrev pub IsStuck : MachineState → Turned → Type 0
 IsStuck m Moved = ⊥
 IsStuck m (Waits why) = (thread : ℕ) × (waited_for why ≡ Some thread) × (IsFree m thread → ⊥)
@@ -75,14 +76,14 @@ MayTurn own passed m answer thread =
 abbrev pub own_turns : ℕ → List ℕ → ℕ
 own_turns own threads = count_by (λ thread. thread == own) threads
 
--- the worker takes such turns, at least `least` of them of its own thread
+-- the worker takes turns that it may take, at least `least` of them of its own thread
 pub record TakesTurns (own : ℕ) (passed : Option ℕ) (least : ℕ) (before after : MachineState) : Type 0 where
   pub threads : List ℕ
   pub may : (answer : Turned) → MayGo (MayTurn own passed) before answer threads
   pub comes : after ≡ after_turns before threads
   pub enough : least ≤ own_turns own threads
 
--- the worker takes such turns, then one of its own thread that has to wait.
+-- the worker takes turns that it may take, then one of its own thread that has to wait.
 -- The turns of the threads that have to go first did not help
 pub record WaitsAfter (own : ℕ) (passed : Option ℕ) (why : Why) (before after : MachineState) : Type 0 where
   pub at : MachineState
@@ -92,7 +93,7 @@ pub record WaitsAfter (own : ℕ) (passed : Option ℕ) (why : Why) (before afte
   pub most : ℕ
   pub helps : Helps most why (after_turn at own) false after
 
--- what a worker finds by such turns: that they were taken, or how the last one of its own thread ended
+-- what a worker finds by its turns: that they were taken, or how the last one of its own thread ended
 abbrev pub Finds : ℕ → Option ℕ → ℕ → MachineState → Found → MachineState → Type 0
 Finds own passed least before (AtGate access) after =
     TakesTurns own passed 0 before after × (at_gate after own passed ≡ Some access)

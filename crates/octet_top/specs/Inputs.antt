@@ -1,4 +1,5 @@
--- What reading the files of a request comes to, step by step. A step ends with a value, or with the answer that refuses.
+-- What reading the files of a request comes to, step by step.
+-- A step ends with a value, or with the answer that refuses.
 use Rattle.octet_model.specs.declared.limits.TheConstants.{MAX_LOG_FILE, MAX_SCRIPT_FILE}
 use Rattle.std.specs.Prelude.{ℕ, ◌≡◌, ◌≤◌, ◌<◌, ◌⊎◌, List, length, Option, None, Some, Result, Ok, Err, IfSome, IsSomeAnd}
 use Rattle.std.specs.FinMap.{get}

@@ -26,7 +26,7 @@ MakesThen (act ∷ acts) Next before result after =
     ⊎ ((IsRefused result × Does act before result after)
     ⊎ ((mid : DeskState) × Does act before (Ok tt) mid × MakesThen acts Next mid result after))
 
--- the calls are made in this way, and nothing follows
+-- the calls are made one after the other, up to the first that is refused, and nothing follows
 abbrev pub MakesSome : List Act → DeskState → Result (Unit {0}) DeskFault → DeskState → Type 0
 MakesSome acts = MakesThen acts (λ before result after. (result ≡ Ok tt) × (after ≡ before))
 

@@ -46,11 +46,11 @@ is_match (Some wanted) value (Write object written) = (object == wanted) && (wri
 is_match (Some wanted) value (Update object before after) = (object == wanted) && (after == value)
 is_match (Some wanted) value (Marked mark) = false
 
--- the text of the first such event with its place, or the text that there is none
+-- the text of the first event that matches, with its place, or the text that there is none
 abbrev pub stop_text : Script → Found → List ℕ
 stop_text script (At place event) = codes "stop " ++ placed_text script place event ++ codes "\n"
 stop_text script Nowhere = codes "no stop\n"
 
--- the answer tells the first such event of the lowest order, or that there is none
+-- the answer tells the first event of the lowest order that matches, or that there is none
 abbrev pub StopSays : Script → List ThreadLog → Option ℕ → ℕ → Answer → Type 0
 StopSays script log wanted value answer = (found : Found) × IsFound (λ event answer. answer ≡ is_match wanted value event) (trace_of script log) found × (answer ≡ says Done (stop_text script found))

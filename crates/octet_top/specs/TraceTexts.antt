@@ -1,4 +1,5 @@
--- What `trace` says: each event, an access with the line of the script whose command made it, and before it the `region` commands that its thread ran since its last access.
+-- What `trace` says: each event, and before an event the `region` commands that its thread ran since its last access.
+-- An access has the line of the script whose command made it.
 use Rattle.std.specs.Prelude.{ℕ, ◌-◌, List, [], ◌∷◌, ◌++◌, codes, length, get_or}
 use Rattle.std.specs.Fmt.{decimal}
 use Rattle.octet_model.specs.declared.command.Command.{Command}

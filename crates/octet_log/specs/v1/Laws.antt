@@ -1,4 +1,4 @@
--- The laws of version 1: a number has one spelling in a field, bytes spell one log, and no log goes on where another ends.
+-- The laws of version 1: a number has one spelling in a field, bytes spell one log, and no log is a front of another.
 use Rattle.std.specs.Prelude.{◌≡◌, ℕ, ◌<◌, ◌↔◌, List, [], ◌∷◌, ◌++◌, length, Ok, Err, IsTrue}
 use Rattle.std.specs.Int.{Width, byte_len, from_be_bytes, to_be_bytes}
 use Rattle.octet_model.specs.declared.log.ThreadLog.{ThreadLog}

@@ -1,4 +1,4 @@
--- The refusals of bytes of version 1, each of a whole input: what stands before the refused field or mark is whole and good.
+-- The refusals of bytes of version 1, each of a whole input. All before the refused field or mark is whole and good.
 use Rattle.std.specs.Prelude.{◌≡◌, ◌≢◌, ◌⊎◌, ℕ, ◌+◌, ◌<◌, ◌≤◌, ◌^◌, List, [], ◌∷◌, ◌++◌, codes, length, take, sum_by, Err, IsTrue}
 use Rattle.std.specs.List.{list_all, flat_map}
 use Rattle.std.specs.Int.{w32, to_be_bytes}

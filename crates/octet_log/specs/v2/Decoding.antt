@@ -1,4 +1,5 @@
--- Bytes of version 2 judged from the front, field by field: the log and the digest that they spell, or the first cause to refuse them.
+-- Bytes of version 2 judged from the front, field by field: the log and the digest that they spell,
+-- or the first cause to refuse them.
 use Rattle.std.specs.Prelude.{ℕ, zero, suc, ◌+◌, ◌-◌, ◌==◌, ◌&&◌, List, [], ◌∷◌, ◌++◌, length, take, drop, replicate, Result, Ok, Err, nat_lt, nat_le, not, sum_by, if◌then◌else◌}
 use Rattle.octet_model.specs.declared.event.Mark.{Mark}
 use Rattle.octet_model.specs.declared.event.Mark.TheVariants.{Join, Draw, Fence}

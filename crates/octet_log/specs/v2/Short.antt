@@ -1,4 +1,5 @@
--- Short numbers: a number below 2 ^ 64 in groups of 7 bits, the lowest first, one group to a byte. Bit 7 is set in every byte but the last, which is 0 only where it stands alone.
+-- Short numbers: a number below 2 ^ 64 in groups of 7 bits, the lowest first, one group to a byte.
+-- Bit 7 is set in every byte but the last, which is 0 only where it stands alone.
 use Rattle.std.specs.Prelude.{◌≡◌, ◌≢◌, ℕ, zero, suc, ◌+◌, ◌*◌, ◌/◌, ◌%◌, ◌^◌, ◌-◌, ◌<◌, ◌≤◌, ◌&&◌, List, [], ◌∷◌, length, Result, Ok, nat_lt, nat_le, if◌then◌else◌}
 use Rattle.octet_log.specs.declared.cause.LogCause.{LogCause}
 use Rattle.octet_log.specs.declared.cause.LogCause.TheVariants.{BadNumber}

@@ -114,7 +114,7 @@ pub record IsUnmet (queue : RegionQueue) (taken : Bounds) (upto other : ℕ) : T
   pub of_thread : wait.of ≡ other
   pub above : bound_in taken other < wait.bound
 
--- the lowest thread with such a wait. With none told, no thread has one
+-- the lowest thread that some wait is unmet for. With none told, no wait is unmet
 abbrev pub LowestUnmet : RegionQueue → Bounds → ℕ → Option ℕ → Type 0
 LowestUnmet queue taken upto (Some other) = IsUnmet queue taken upto other × ((lower : ℕ) → lower < other → ¬ IsUnmet queue taken upto lower)
 LowestUnmet queue taken upto None = (other : ℕ) → ¬ IsUnmet queue taken upto other

@@ -8,8 +8,8 @@ use Rattle.octet_regions.specs.Choice.{IsWalk, walk_end}
 use Rattle.octet_regions.specs.Before.{RegionBefore}
 use Rattle.octet_regions.specs.code.Earlier.{KeepsLast, region_of}
 
--- the earliest region of a thread, from a number on, with an access before a region at or after a place.
--- With none told, there is no such region
+-- a region of the thread, from a number on, that is before this one. None that is so by an access at or after a
+-- place is earlier. With none told, there is none by such an access
 abbrev pub EarliestFrom : List Access → ℕ → ℕ → ℕ → Region → Option ℕ → Type 0
 EarliestFrom accesses place thread from region (Some number) =
     (from ≤ number) × RegionBefore accesses (region_of thread number) region
@@ -23,7 +23,7 @@ EarliestIs accesses thread from region (Some number) =
     × ((other : ℕ) → RegionBefore accesses (region_of thread other) region → from ≤ other → number ≤ other)
 EarliestIs accesses thread from region None = (other : ℕ) → RegionBefore accesses (region_of thread other) region → ¬ (from ≤ other)
 
--- the accesses of a region from a place on are noted as its last accesses
+-- the accesses of a region from a place on are noted
 pub record NotesFrom (accesses : List Access) (place : ℕ) (region : Region) (later : LastRegions) : Type 0 where
   pub seen : List Access
   pub keeps : KeepsLast seen later
