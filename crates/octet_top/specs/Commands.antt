@@ -106,7 +106,7 @@ OutcomeSays pair answer = answer ≡ says Done (outcome_text pair.source.script 
 abbrev pub regions_said : Pair → Serial → Answer
 regions_said pair serial = serial_said pair.source.script (execution pair.source.script pair.loaded.log.threads (lowest_order pair.source.script pair.loaded.log.threads)) serial
 
--- the answer says the regions in the order of the serial choice, which run so with the lowest order's outcome.
+-- the answer says the regions in the order of the serial choice, in which they run with the lowest order's outcome.
 -- Where the choice leaves regions, the answer says the cycle to which it leads
 abbrev pub SerialSays : Pair → Answer → Type 0
 SerialSays pair answer =

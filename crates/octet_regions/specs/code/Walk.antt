@@ -8,8 +8,8 @@ use Rattle.octet_regions.specs.Choice.{IsWalk, walk_end}
 use Rattle.octet_regions.specs.Before.{RegionBefore}
 use Rattle.octet_regions.specs.code.Earlier.{KeepsLast, region_of}
 
--- a region of the thread, from a number on, that is before this one. None that is so by an access at or after a
--- place is earlier. With none told, there is none by such an access
+-- a region of the thread, from a number on, that is before this one. None is earlier that is before this one by an
+-- access at or after a place. With none told, there is none by such an access
 abbrev pub EarliestFrom : List Access → ℕ → ℕ → ℕ → Region → Option ℕ → Type 0
 EarliestFrom accesses place thread from region (Some number) =
     (from ≤ number) × RegionBefore accesses (region_of thread number) region
