@@ -1,11 +1,13 @@
 -- Runs of the machine by picks, and then by rounds.
-use Rattle.std.specs.Prelude.{◌≡◌, ℕ, zero, suc, ◌%◌, ◌<◌, ◌≤◌, true, false, List, [], ◌∷◌, length, map}
+use Rattle.std.specs.Prelude.{◌≡◌, ℕ, zero, suc, ◌%◌, ◌<◌, ◌≤◌, ◌==◌, Bool, true, false, not, ◌||◌, List, [], ◌∷◌, length, map}
 use Rattle.std.specs.List.{range_with_len}
+use Rattle.std.specs.Option.{is_some}
 use Rattle.octet_model.specs.declared.outcome.Recorded.{Recorded}
 use Rattle.octet_model.specs.declared.script.Script.{Script}
-use Rattle.octet_model.specs.Journals.{log_of}
+use Rattle.octet_model.specs.Journals.{access_count, log_of}
+use Rattle.octet_model.specs.Machine.{journal_of}
 use Rattle.octet_model.specs.Orders.{outcome_of}
-use Rattle.octet_machine.specs.Machine.{MachineState, opening_machine, after_turn, after_rest, have_ended, plain_state}
+use Rattle.octet_machine.specs.Machine.{MachineState, opening_machine, after_turn, after_rest, have_ended, plain_state, runner_of}
 
 -- the machine after turns of these threads, one after another
 abbrev pub after_turns : MachineState → List ℕ → MachineState
@@ -49,8 +51,19 @@ abbrev pub after_own_turns : MachineState → ℕ → ℕ → MachineState
 after_own_turns m thread zero = m
 after_own_turns m thread (suc fewer) = after_turn (after_own_turns m thread fewer) thread
 
--- the machine after is reached by at most `most` turns of the thread, and its rest
+-- the number of accesses that a thread has made
+abbrev pub accesses_by : MachineState → ℕ → ℕ
+accesses_by m thread = access_count (journal_of m.protocol.journals thread)
+
+-- whether a thread has ended, or has made another number of accesses than this one
+abbrev pub is_through : MachineState → ℕ → ℕ → Bool
+is_through m thread accesses = is_some (runner_of m thread).end || not (accesses_by m thread == accesses)
+
+-- the machine after the least number of turns of the thread that brings one more access or its end, but `most` at most, and
+-- after the thread's rest
 pub record HasGone (before : MachineState) (thread most : ℕ) (after : MachineState) : Type 0 where
   pub turns : ℕ
   pub few : turns ≤ most
+  pub least : (fewer : ℕ) → fewer < turns → is_through (after_own_turns before thread fewer) thread (accesses_by before thread) ≡ false
+  pub through : turns < most → is_through (after_own_turns before thread turns) thread (accesses_by before thread) ≡ true
   pub comes : after ≡ after_rest (after_own_turns before thread turns) thread
