@@ -6,6 +6,7 @@ that one memory and any order allow. Each has to be reached, and no other one ev
 
 import itertools
 import pathlib
+import random
 import tempfile
 
 import judges
@@ -124,6 +125,25 @@ def mistakes():
                 wrong = "the same words say something else"
             if wrong is not None:
                 return f"{title}: {wrong}"
+    return None
+
+
+def varied(draws, objects, threads):
+    """The threads in another order, each after some accesses of an object of its own: the same tries, by other schedules."""
+    own = [f"object own{thread} 0" for thread in range(len(threads))]
+    later = [["read r15 own%d" % thread] * draws.randrange(4) + lines for thread, lines in enumerate(threads)]
+    draws.shuffle(later)
+    return script_of(objects + own, later, 1024)
+
+
+def variants():
+    """Of a hundred variants of each planted mistake, ninety-five are found in that many tries."""
+    draws = random.Random(63)
+    with tempfile.TemporaryDirectory() as folder:
+        for title, ((name, number), objects, threads) in MISTAKES.items():
+            found = sum(hunted(folder, varied(draws, objects, threads), name, number, TRIES)[0] == 0 for _ in range(100))
+            if found < 95:
+                return f"{title}: only {found} of 100"
     return None
 
 
@@ -257,6 +277,7 @@ def litmus():
 
 TESTS = {
     "hunt: planted mistakes are found": mistakes,
+    "hunt: a hundred variants of each planted mistake": variants,
     "hunt: the examples that have a mistake": examples,
     "hunt: where nothing goes wrong": nothing_found,
     "hunt: a cycle of regions": cycles,

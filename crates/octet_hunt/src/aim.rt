@@ -20,7 +20,7 @@ pub enum Aim {
 }
 
 /// What was recorded of a run that is looked for, with the hops of its cycle where that is the aim.
-#[derive(Debug, Drop)]
+#[derive(Drop)]
 pub(crate) struct Met {
     pub(crate) recorded: Recorded,
     pub(crate) hops: List<Hop>,

@@ -1,9 +1,9 @@
-//! A run that is looked for, with fewer preemptions.
-ghost use Rattle.std.specs.Prelude.{◌≡◌, ◌<◌, ◌≤◌, length, IfOk, IfSome};
-ghost use Rattle.octet_hunt.specs.Hunts.{IsAimAt, Meets};
+//! An interleaving that is looked for, with fewer preemptions.
+ghost use Rattle.std.specs.Prelude.{◌<◌, ◌≤◌, length, IfSome};
+ghost use Rattle.octet_hunt.specs.Hunts.{IsAimAt};
 
 use crate::aim::Aim;
-use crate::runs::{Course, Hit};
+use crate::runs::{Course, Interleaving};
 use crate::schedule::Schedule;
 use octet_model::{OutOfMemory, Script};
 use std::alloc::Global;
@@ -17,20 +17,18 @@ const TRIES_WITH_SWITCHES: u32 = 400;
 /// Up to so many switches are tried.
 const MOST_SWITCHES: u32 = 8;
 
-/// A run that is looked for as this one is, with as many preemptions or fewer: the fewest that a
-/// search finds which is bounded by the constants above.
+/// The interleaving of a run that is looked for as this one's is, with as many preemptions or fewer:
+/// the fewest that a search finds which is bounded by the constants above.
 pub(crate) fn with_fewer_preemptions(
     alloc: Global,
     script: &Script,
     aim: Aim,
-    hit: Hit,
+    found: Interleaving,
     course: &mut Course,
-) -> Result<Hit, OutOfMemory>
-    requires object { IsAimAt (length script.now.objects) aim }
-    requires meets { Meets script.now aim hit.recorded hit.hops }
-    ensures { IfOk result (λ best. Meets script.now aim best.recorded best.hops) }
+) -> Result<Interleaving, OutOfMemory>
+    requires { IsAimAt (length script.now.objects) aim }
 {
-    let joined = with_bursts_joined(alloc, script, aim, hit, course)?;
+    let joined = with_bursts_joined(alloc, script, aim, found, course)?;
     with_fewest_switches(alloc, script, aim, joined, course)
 }
 
@@ -39,26 +37,24 @@ fn with_fewest_switches(
     alloc: Global,
     script: &Script,
     aim: Aim,
-    hit: Hit,
+    found: Interleaving,
     course: &mut Course,
-) -> Result<Hit, OutOfMemory>
-    requires object { IsAimAt (length script.now.objects) aim }
-    requires meets { Meets script.now aim hit.recorded hit.hops }
-    ensures { IfOk result (λ best. Meets script.now aim best.recorded best.hops) }
+) -> Result<Interleaving, OutOfMemory>
+    requires { IsAimAt (length script.now.objects) aim }
 {
-    let accesses = hit.picks.len() as u64;
-    let most = hit.preemptions.min(MOST_SWITCHES);
+    let accesses = found.picks.len() as u64;
+    let most = found.preemptions.min(MOST_SWITCHES);
     for switches in 0..most {
         for number in 0..TRIES_WITH_SWITCHES {
             let mut schedule = Schedule::with_switches(number, switches, accesses);
-            if let Some(other) = course.run(alloc, script, aim, &mut schedule)? {
-                if other.preemptions < hit.preemptions {
+            if let Some(other) = course.interleaving(alloc, script, aim, &mut schedule)? {
+                if other.preemptions < found.preemptions {
                     return Ok(other);
                 }
             }
         }
     }
-    Ok(hit)
+    Ok(found)
 }
 
 /// A switch to another thread, and the next burst of the thread that was at work: its first place, and
@@ -131,14 +127,12 @@ fn with_bursts_joined(
     alloc: Global,
     script: &Script,
     aim: Aim,
-    hit: Hit,
+    found: Interleaving,
     course: &mut Course,
-) -> Result<Hit, OutOfMemory>
-    requires object { IsAimAt (length script.now.objects) aim }
-    requires meets { Meets script.now aim hit.recorded hit.hops }
-    ensures { IfOk result (λ best. Meets script.now aim best.recorded best.hops) }
+) -> Result<Interleaving, OutOfMemory>
+    requires { IsAimAt (length script.now.objects) aim }
 {
-    let mut best = hit;
+    let mut best = found;
     let mut after = 1;
     for _tried in 0..MOST_JOINS {
         let Some(join) = next_join(&best.picks, after) else {
@@ -146,7 +140,7 @@ fn with_bursts_joined(
         };
         let mut schedule = Schedule::written(joined(alloc, &best.picks, &join)?);
         after = join.switch + 1;
-        if let Some(other) = course.run(alloc, script, aim, &mut schedule)? {
+        if let Some(other) = course.interleaving(alloc, script, aim, &mut schedule)? {
             if other.preemptions < best.preemptions {
                 after = join.switch;
                 best = other;

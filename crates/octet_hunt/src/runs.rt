@@ -5,8 +5,7 @@ ghost use Rattle.octet_hunt.specs.Hunts.{IsAimAt, Meets};
 use crate::aim::{Aim, Met};
 use crate::schedule::Schedule;
 use octet_machine::{Machine, Rooms, go};
-use octet_model::{List, MAX_THREADS, OutOfMemory, Recorded, Script};
-use octet_regions::Hop;
+use octet_model::{MAX_THREADS, OutOfMemory, Script};
 use std::alloc::Global;
 
 /// A thread that makes no access in so many turns lets the others go on.
@@ -14,20 +13,25 @@ const MOST_TURNS: u32 = 64;
 
 /// What is kept from run to run: the room of journals, and the picks of the last run, a thread for
 /// each access.
-#[derive(Debug, Drop)]
+#[derive(Drop)]
 pub(crate) struct Course {
     rooms: Rooms,
     picks: Vec<u8>,
 }
 
-/// A run that is looked for: the threads that were picked, how often one was stopped that could have
-/// gone on, and what was recorded.
-#[derive(Debug, Drop)]
-pub(crate) struct Hit {
+/// In which order the threads of a run made their accesses: the thread that was picked for each, and
+/// how often one was stopped that could have gone on.
+#[derive(Drop)]
+pub(crate) struct Interleaving {
     pub(crate) picks: Vec<u8>,
     pub(crate) preemptions: u32,
-    pub(crate) recorded: Recorded,
-    pub(crate) hops: List<Hop>,
+}
+
+/// A run that is looked for, and what was recorded of it.
+#[derive(Drop)]
+pub(crate) struct Hit {
+    pub(crate) interleaving: Interleaving,
+    pub(crate) met: Met,
 }
 
 impl Course {
@@ -77,7 +81,7 @@ impl Course {
         schedule: &mut Schedule,
     ) -> Result<Option<Hit>, OutOfMemory>
         requires object { IsAimAt (length script.now.objects) aim }
-        ensures { IfOk result (λ found. IfSome found (λ hit. Meets script.now aim hit.recorded hit.hops)) }
+        ensures { IfOk result (λ found. IfSome found (λ hit. Meets script.now aim hit.met.recorded hit.met.hops)) }
     {
         let mut machine = Machine::in_rooms(alloc, script, &mut self.rooms)?;
         let preemptions = self.play(&mut machine, schedule, script.fuel)?;
@@ -88,11 +92,25 @@ impl Course {
         let Some(met) = aim.judge(alloc, script, machine, &mut self.rooms)? else {
             return Ok(None);
         };
-        Ok(Some(Hit {
-            picks: Vec::from_slice(alloc, &self.picks)?,
-            preemptions,
-            recorded: met.recorded,
-            hops: met.hops,
-        }))
+        let picks = Vec::from_slice(alloc, &self.picks)?;
+        let interleaving = Interleaving { picks, preemptions };
+        Ok(Some(Hit { interleaving, met }))
+    }
+
+    /// The interleaving of the run by the schedule, if that run is looked for. What was recorded of it
+    /// is not kept, so that a search holds one run's memory at a time.
+    pub(crate) fn interleaving(
+        &mut self,
+        alloc: Global,
+        script: &Script,
+        aim: Aim,
+        schedule: &mut Schedule,
+    ) -> Result<Option<Interleaving>, OutOfMemory>
+        requires { IsAimAt (length script.now.objects) aim }
+    {
+        Ok(
+            self.run(alloc, script, aim, schedule)?
+                .map(|hit| hit.interleaving),
+        )
     }
 }

@@ -13,7 +13,7 @@ const MOST_IN_A_ROW: u32 = 64;
 const DRAWN_RANKS: u64 = 1 << 32;
 
 /// How the next thread is picked, of those that have not ended.
-#[derive(Debug, Drop)]
+#[derive(Drop)]
 enum Way {
     /// Each is as likely as each other one.
     Uniform,
@@ -68,7 +68,7 @@ impl Way {
 }
 
 /// A schedule of one run.
-#[derive(Debug, Drop)]
+#[derive(Drop)]
 pub(crate) struct Schedule {
     draws: Draws,
     way: Way,

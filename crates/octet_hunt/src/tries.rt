@@ -25,8 +25,8 @@ pub struct Find {
 
 /// Runs the script up to so many times, each time by another schedule, and answers the first run that
 /// is looked for: in its place one with fewer preemptions, if one is found. The same script, aim and
-/// number of tries have the same answer. Takes as much memory as some runs of the machine. That none
-/// is found proves nothing.
+/// number of tries have the same answer. Holds the memory of one run of the machine at a time. That
+/// none is found proves nothing.
 pub fn hunt(
     alloc: Global,
     script: &Script,
@@ -41,13 +41,18 @@ pub fn hunt(
     let mut course = Course::new(alloc);
     for before in 0..tries {
         let mut schedule = Schedule::of_try(before);
+        let Some(found) = course.interleaving(alloc, script, aim, &mut schedule)? else {
+            continue;
+        };
+        let kept = with_fewer_preemptions(alloc, script, aim, found, &mut course)?;
+        // The same picks give the same run again. No contract says so: what is told is judged anew.
+        let mut schedule = Schedule::written(kept.picks);
         if let Some(hit) = course.run(alloc, script, aim, &mut schedule)? {
-            let kept = with_fewer_preemptions(alloc, script, aim, hit, &mut course)?;
             return Ok(Some(Find {
                 attempt: before + 1,
-                preemptions: kept.preemptions,
-                recorded: kept.recorded,
-                hops: kept.hops,
+                preemptions: hit.interleaving.preemptions,
+                recorded: hit.met.recorded,
+                hops: hit.met.hops,
             }));
         }
     }
