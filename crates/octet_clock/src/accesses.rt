@@ -13,7 +13,7 @@ use octet_model::{MAX_THREADS, OutOfMemory, Place};
 use std::alloc::Global;
 
 /// What is known of an object's accesses.
-#[derive(Clone, Copy, Debug, PartialEq, Eq)]
+#[derive(Clone, Copy)]
 pub(crate) struct ObjectAccesses {
     /// Knows each thread's events up to its last read.
     reads: Clock,
@@ -75,7 +75,7 @@ impl ObjectAccesses {
 }
 
 /// The accesses of all objects.
-#[derive(Debug, Drop)]
+#[derive(Drop)]
 pub(crate) struct Accesses {
     objects: Vec<ObjectAccesses>,
 }

@@ -23,7 +23,7 @@ use octet_replay::{NextStep, Replayer};
 use std::alloc::Global;
 
 /// What is known of the events so far.
-#[derive(Debug, Drop)]
+#[derive(Drop)]
 pub(crate) struct Checker {
     pub(crate) made: Clock,
     marks: Vec<Marks>,

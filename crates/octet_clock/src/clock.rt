@@ -7,7 +7,7 @@ use octet_model::MAX_THREADS;
 
 /// A vector clock, after Mattern and Fidge: for each thread, how many of its first events are
 /// known.
-#[derive(Clone, Copy, Debug, PartialEq, Eq)]
+#[derive(Clone, Copy)]
 pub(crate) struct Clock {
     counts: [u32; MAX_THREADS],
 }

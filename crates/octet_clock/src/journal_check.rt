@@ -44,7 +44,7 @@ fn needs_at_start(alloc: Global, journals: &[List<Event>]) -> Result<List<Need>,
 }
 
 /// What is known of the events so far, and what each thread waits for.
-#[derive(Debug, Drop)]
+#[derive(Drop)]
 struct JournalCheck {
     checker: Checker,
     waits: Waits,

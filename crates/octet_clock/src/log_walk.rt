@@ -14,7 +14,7 @@ use std::alloc::Global;
 
 /// How far a thread has come in its log: how many marks and accesses it has made, and how many
 /// accesses since its last mark.
-#[derive(Clone, Copy, Debug, PartialEq, Eq)]
+#[derive(Clone, Copy)]
 struct Progress {
     marks: usize,
     accesses: u32,
@@ -87,7 +87,7 @@ impl Progress {
 }
 
 /// The threads of a log as far as they have come, and what each waits for.
-#[derive(Debug, Drop)]
+#[derive(Drop)]
 struct LogWalk {
     threads: Vec<Progress>,
     waits: Waits,

@@ -14,7 +14,7 @@ use std::alloc::Global;
 /// The marks that a thread has made. What a thread knows of others changes at its marks alone,
 /// so they give its clock after any of its events. Each clock is kept as wide as there are
 /// threads.
-#[derive(Debug, Drop)]
+#[derive(Drop)]
 pub(crate) struct Marks {
     threads: usize,
     /// The places of the marks in their thread's journal.

@@ -6,7 +6,7 @@ use octet_model::{Event, List, OutOfMemory};
 use std::alloc::Global;
 
 /// How an object is used by the accesses so far.
-#[derive(Clone, Copy, Debug, PartialEq, Eq)]
+#[derive(Clone, Copy)]
 enum Sharing {
     /// By none.
     Unused,
@@ -42,7 +42,7 @@ impl Sharing {
 }
 
 /// How each object is used.
-#[derive(Debug, Drop)]
+#[derive(Drop)]
 struct Objects {
     sharing: Vec<Sharing>,
 }

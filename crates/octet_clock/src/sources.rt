@@ -12,7 +12,7 @@ use crate::marks::Marks;
 use octet_model::{MAX_THREADS, Mark, OutOfMemory};
 
 /// A thread, and how many of its first events are meant.
-#[derive(Clone, Copy, Debug, PartialEq, Eq)]
+#[derive(Clone, Copy)]
 pub(crate) struct Prefix {
     pub(crate) thread: u8,
     pub(crate) count: u32,

@@ -5,7 +5,7 @@ ghost use Rattle.octet_regions.specs.code.Holders.{may_have};
 use octet_model::MAX_THREADS;
 
 /// Which threads have a bound above 0.
-#[derive(Clone, Copy, Debug, PartialEq, Eq)]
+#[derive(Clone, Copy)]
 pub(crate) enum Holders {
     None,
     One { thread: u8 },
@@ -26,7 +26,7 @@ impl Holders {
 }
 
 /// For each thread a bound on the numbers of its regions: those that are meant are below it.
-#[derive(Clone, Copy, Debug, PartialEq, Eq)]
+#[derive(Clone, Copy)]
 pub(crate) struct Bounds {
     bounds: [u32; MAX_THREADS],
     holders: Holders,

@@ -18,7 +18,7 @@ use std::alloc::Global;
 
 /// The regions of each thread, of each thread a bound on the regions that were taken, and these in
 /// order.
-#[derive(Debug, Drop)]
+#[derive(Drop)]
 pub(crate) struct Chooser {
     pub(crate) queues: Vec<RegionQueue>,
     pub(crate) upto: Bounds,

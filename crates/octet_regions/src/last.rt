@@ -10,7 +10,7 @@ use octet_model::{MAX_THREADS, OutOfMemory};
 use std::alloc::Global;
 
 /// For each object bounds, above the numbers of each thread's regions with a noted access of it.
-#[derive(Debug, Drop)]
+#[derive(Drop)]
 pub(crate) struct LastByObject {
     objects: Vec<Bounds>,
 }
@@ -61,7 +61,7 @@ impl LastByObject {
 }
 
 /// The last regions with an access of an object, and with one that writes.
-#[derive(Debug, Drop)]
+#[derive(Drop)]
 pub(crate) struct LastRegions {
     all: LastByObject,
     writing: LastByObject,

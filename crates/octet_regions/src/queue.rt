@@ -11,14 +11,14 @@ use octet_model::{MAX_THREADS, OutOfMemory};
 use std::alloc::Global;
 
 /// A region of a thread, and how many waits its thread has up to the region's last one.
-#[derive(Clone, Copy, Debug, PartialEq, Eq)]
+#[derive(Clone, Copy)]
 pub(crate) struct QueuedRegion {
     pub(crate) number: u32,
     pub(crate) waits_upto: usize,
 }
 
 /// A wait for all regions of a thread below this number to be taken.
-#[derive(Clone, Copy, Debug, PartialEq, Eq)]
+#[derive(Clone, Copy)]
 pub(crate) struct Wait {
     pub(crate) of: u8,
     pub(crate) bound: u32,
@@ -27,7 +27,7 @@ pub(crate) struct Wait {
 /// The regions of one thread in order, how many of them were taken, and what they wait for, one
 /// after another. A region stands behind what earlier ones waited for, so that a wait is kept only
 /// where it goes beyond what is known; how many of them are over is kept, too.
-#[derive(Debug, Drop)]
+#[derive(Drop)]
 pub(crate) struct RegionQueue {
     pub(crate) regions: Vec<QueuedRegion>,
     pub(crate) waits: Vec<Wait>,

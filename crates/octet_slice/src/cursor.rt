@@ -6,14 +6,14 @@ ghost use Rattle.octet_slice.specs.code.Cursors.{past_mark, IsCursorOf, IsLogOfO
 use octet_model::{Mark, ThreadLog};
 
 /// A mark, and its place among the events of its thread.
-#[derive(Clone, Copy, Debug, PartialEq, Eq)]
+#[derive(Clone, Copy)]
 pub(crate) struct Placed {
     pub(crate) event: u64,
     pub(crate) mark: Mark,
 }
 
 /// How many marks of a thread were passed, and how many events it has made with the last of these.
-#[derive(Clone, Copy, Debug, PartialEq, Eq)]
+#[derive(Clone, Copy)]
 pub(crate) struct Cursor {
     pub(crate) marks: usize,
     pub(crate) events: u64,

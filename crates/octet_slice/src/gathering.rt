@@ -11,7 +11,7 @@ use std::alloc::Global;
 
 /// How much of a thread is gathered: how many first events, how far the marks among these were
 /// taken in, and how far its marks were searched for draws that are gathered.
-#[derive(Clone, Copy, Debug, PartialEq, Eq)]
+#[derive(Clone, Copy)]
 pub(crate) struct Reach {
     pub(crate) count: u64,
     pub(crate) taken_in: Cursor,
@@ -19,7 +19,7 @@ pub(crate) struct Reach {
 }
 
 /// What is gathered of each thread, and the number up to which draws lie in the past.
-#[derive(Debug, Drop)]
+#[derive(Drop)]
 pub(crate) struct Gathering {
     pub(crate) threads: Vec<Reach>,
     pub(crate) draws: u64,

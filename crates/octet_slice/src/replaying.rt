@@ -7,7 +7,7 @@ use octet_replay::Tracer;
 use std::alloc::Global;
 
 /// An event, and how many were made in all.
-#[derive(Clone, Copy, Debug, PartialEq, Eq)]
+#[derive(Clone, Copy)]
 pub(crate) struct Replayed {
     pub(crate) event: Event,
     pub(crate) made: u64,

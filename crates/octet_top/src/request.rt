@@ -8,19 +8,19 @@ use octet_hunt::MAX_TRIES;
 use octet_script::number_of;
 
 /// Tasks on a script.
-#[derive(Clone, Copy, Debug)]
+#[derive(Clone, Copy)]
 pub(crate) enum ScriptTask {
     Tidy,
 }
 
 /// Tasks on a log.
-#[derive(Clone, Copy, Debug)]
+#[derive(Clone, Copy)]
 pub(crate) enum LogTask {
     Show,
 }
 
 /// Tasks on a script and a log.
-#[derive(Clone, Copy, Debug)]
+#[derive(Clone, Copy)]
 pub(crate) enum PairTask {
     Replay,
     /// The same, where the log orders all conflicts; on threads, where there are some.
@@ -37,7 +37,7 @@ pub(crate) enum PairTask {
 }
 
 /// Ways to run a script and then write its log.
-#[derive(Clone, Copy, Debug)]
+#[derive(Clone, Copy)]
 pub(crate) enum RunTask<'a> {
     /// As its threads come, over a machine behind one lock.
     Locked,
@@ -46,7 +46,7 @@ pub(crate) enum RunTask<'a> {
 }
 
 /// What a hunt looks for.
-#[derive(Clone, Copy, Debug)]
+#[derive(Clone, Copy)]
 pub(crate) enum Quarry<'a> {
     /// A run whose threads are all done, and that ends with another value than this number at the
     /// object of this name.
@@ -68,7 +68,7 @@ impl<'a> Quarry<'a> {
 }
 
 /// What words ask for, with the names of its files.
-#[derive(Clone, Copy, Debug)]
+#[derive(Clone, Copy)]
 pub(crate) enum Request<'a> {
     OfScript {
         task: ScriptTask,
