@@ -5,7 +5,7 @@ use Rattle.octet_state.specs.declared.why.Why.{Why}
 use Rattle.octet_state.specs.declared.why.Why.TheVariants.{Held, Changed, Unanswered}
 use Rattle.octet_machine.specs.declared.turned.Turned.{Turned}
 use Rattle.octet_machine.specs.declared.turned.Turned.TheVariants.{Moved, Waits, Ended}
-use Rattle.octet_machine.specs.Machine.{MachineState, turned, after_turn}
+use Rattle.octet_machine.specs.Machine.{MachineState, turned, after_turn, after_rest}
 use Rattle.octet_machine.specs.Turns.{after_turns}
 use Rattle.octet_threads.specs.Step.{at_gate}
 use Rattle.octet_threads.specs.declared.step.Found.{Found}
@@ -105,3 +105,9 @@ Finds own passed least before (Took Ended) after = TakesTurns own passed 0 befor
 abbrev pub FindsSome : ℕ → Option ℕ → ℕ → MachineState → Option Found → MachineState → Type 0
 FindsSome own passed least before (Some found) after = (own < length before.runners) × Finds own passed least before found after
 FindsSome own passed least before None after = (length before.runners ≤ own) × (after ≡ before)
+
+-- a rest of the thread, between two demands; a thread that the machine does not have changes nothing
+abbrev pub RestsIfThere : ℕ → MachineState → MachineState → Type 0
+RestsIfThere thread before after =
+    ((thread < length before.runners) × (after ≡ after_rest before thread))
+    ⊎ ((length before.runners ≤ thread) × (after ≡ before))

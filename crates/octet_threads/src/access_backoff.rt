@@ -4,7 +4,6 @@ ghost use Rattle.std.specs.Duration.{as_nanos};
 ghost use Rattle.octet_threads.specs.Rests.{rest_after};
 ghost use Rattle.octet_threads.specs.declared.tuning.TheConstants.{POLLS_BEFORE_SLEEP, SHORTEST_SLEEP, LONGEST_SLEEP, SHORTEST_REST, LONGEST_REST, HEAT_OF_WAITING, HEAT_OF_SLEEP, HEAT_OF_REST};
 
-use crate::safe_points::SafePoints;
 use crate::tuning::{
     ACCESSES_OF_CALM, HEAT_OF_REST, HEAT_OF_SLEEP, HEAT_OF_WAITING, LONGEST_REST, LONGEST_SLEEP,
     POLLS_BEFORE_SLEEP, SHORTEST_REST, SHORTEST_SLEEP, SPINS_IF_HELD,
@@ -30,7 +29,6 @@ pub(crate) struct AccessBackoff {
     heat: u32,
     rest: u32,
     never: AtomicU64,
-    pub(crate) safe_points: SafePoints,
     ghost sleeps: { (SHORTEST_SLEEP ≤ sleep) × (sleep ≤ LONGEST_SLEEP) },
     ghost rests: { (SHORTEST_REST ≤ rest) × (rest ≤ LONGEST_REST) },
 }
@@ -49,7 +47,6 @@ impl AccessBackoff {
             heat: 0,
             rest: SHORTEST_REST,
             never: AtomicU64::new(0),
-            safe_points: SafePoints::new(),
         }
     }
 

@@ -120,7 +120,6 @@ pub(crate) fn carry_with_backoff<R: Threads + Wait + Sync, G: HeapGate>(
         }
         Demand::Safe => {
             heap.safe_point(worker);
-            backoff.safe_points.pass(worker.marks().len());
         }
         Demand::Pause => {
             heap.block(worker);

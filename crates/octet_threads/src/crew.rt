@@ -11,7 +11,8 @@ use std::time::Duration;
 /// as long as all of them run, and a handover takes as long as a hundred accesses, or some
 /// milliseconds where a thread has no processor. So a worker that has waited a lot stays away for a
 /// while, marked as blocked: others take what it has without waiting for it. The last one at work does
-/// not rest, and when it ends one of those that rest goes on. No claim rests on any of the counts.
+/// not rest, and when it ends, or only waits for what others are to do, one of those that rest goes on. No
+/// claim rests on any of the counts.
 #[derive(Drop)]
 pub(crate) struct Crew {
     workers: usize,
@@ -77,10 +78,18 @@ impl Crew {
     pub(crate) fn end(&self) {
         self.ended.fetch_add(1, Ordering::SeqCst);
         self.ended.wake_one();
-        if self.working.fetch_sub(1, Ordering::SeqCst) <= 1 {
+        self.leave();
+    }
+
+    // One worker less is at work. Where that was the last one, one of those that rest goes on. Tells
+    // whether it was.
+    fn leave(&self) -> bool {
+        let is_last = self.working.fetch_sub(1, Ordering::SeqCst) <= 1;
+        if is_last {
             self.rung.fetch_add(1, Ordering::SeqCst);
             self.rung.wake_one();
         }
+        is_last
     }
 
     /// Lets a worker stop work for a while, unless no other is at work. Tells how often the bell was
@@ -92,6 +101,20 @@ impl Crew {
         }
         self.working.fetch_add(1, Ordering::SeqCst);
         None
+    }
+
+    /// Lets a worker stop work for a while that waits for what others are to do, unless all others have
+    /// ended. Tells how often the bell was rung before others may ring it for this one.
+    pub(crate) fn stand_by(&self) -> Option<u32> {
+        if self.ended.load(Ordering::SeqCst).saturating_add(1) >= self.workers as u64 {
+            return None;
+        }
+        let rung = low_half(&self.rung);
+        Some(if self.leave() {
+            low_half(&self.rung)
+        } else {
+            rung
+        })
     }
 
     /// Rests for so long at most, where the bell was rung so often before, and goes back to work.

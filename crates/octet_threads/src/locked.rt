@@ -27,7 +27,8 @@ fn machine_of(alloc: Global, script: &Script, machine: Machine) -> Result<Machin
 /// a time, on a machine that all workers share behind one lock. Where its thread has to wait for
 /// another one, it takes turns of that one too, since the other worker may have no processor. Once
 /// before each access it passes the gate, without the lock. Where a thread has to pass the gate first, a
-/// worker that waits for it backs off.
+/// worker that waits for it backs off, and one that waited a lot rests before its next access, with its
+/// thread marked as blocked.
 /// May wait: nothing says that the workers come to an end.
 pub fn run_locked<R: Threads + Wait + Sync, G: Gate>(
     rt: &R,

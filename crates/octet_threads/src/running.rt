@@ -63,8 +63,9 @@ pub(crate) fn runners(
 /// Runs the script by a worker for each of its threads, all beside each other on one shared heap,
 /// and answers the log and the outcome, which are a faithful recording. Before each access a
 /// worker passes the gate and is noted by it. A worker whose access has to wait backs off, and one
-/// whose accesses had to wait a lot rests before the next one, marked as blocked. Reserves all the
-/// room that the run needs. May wait: nothing says that the workers come to an end.
+/// whose accesses had to wait a lot rests before the next one, marked as blocked. So does one whose
+/// thread passes safe points and writes nothing, now and then. Reserves all the room that the run needs.
+/// May wait: nothing says that the workers come to an end.
 pub fn run<R: Threads + Wait + Sync, G: HeapGate>(
     rt: &R,
     alloc: Global,

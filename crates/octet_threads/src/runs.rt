@@ -9,6 +9,7 @@ use crate::carrying::carry_with_backoff;
 use crate::crew::Crew;
 use crate::feed::send_new;
 use crate::gate::HeapGate;
+use crate::pace::Pace;
 use crate::runner::Runner;
 use octet_heap::Heap;
 use octet_interp::Demand;
@@ -75,6 +76,21 @@ impl Runner {
         }
     }
 
+    // Dozes, where its thread waits for what others are to do, unless all others have ended. Where all
+    // others rest, one of them goes on.
+    #[cold]
+    #[inline(never)]
+    fn doze<R: Wait>(&mut self, rt: &R, heap: &Heap, crew: &Crew, time: Duration)
+        requires work { IsAtWork heap.now self.old }
+        ensures work { IsAtWork heap.now self.new }
+        ensures rested { (self.new ≡ self.old) ⊎ HasRested self.old self.new }
+        ensures same { IsSame self.old self.new }
+    {
+        if let Some(rung) = crew.stand_by() {
+            self.stay_away(rt, heap, crew, rung, time);
+        }
+    }
+
     // Runs the thread to its end, and counts it then. Never a part of its caller, where each access would
     // first fetch the heap and the gate from a closure: a twentieth more for objects of one thread.
     #[inline(never)]
@@ -92,10 +108,15 @@ impl Runner {
         crew.begin(rt);
         heap.unblock(&mut self.worker);
         let mut backoff = AccessBackoff::new();
+        let mut pace = Pace::new();
         for _ in rt.forever() {
-            if let Demand::Ended { .. } = self.step(rt, heap, gate, &mut backoff) {
+            let demand = self.step(rt, heap, gate, &mut backoff);
+            if let Demand::Ended { .. } = demand {
                 crew.end();
                 return;
+            }
+            if let Some(time) = pace.after(demand, &self.worker) {
+                self.doze(rt, heap, crew, time);
             }
             if backoff.is_worn() {
                 self.rest(rt, heap, &mut backoff, crew);

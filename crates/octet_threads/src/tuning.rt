@@ -49,9 +49,20 @@ pub(crate) const YIELDS_AT_START: u32 = 100;
 /// How long it sleeps then at most, in microseconds.
 pub(crate) const LONGEST_START: u32 = 2_000;
 
-/// The safe points in a row, with no mark between, after which a worker gives its processor away for the
-/// first time; each next time it is twice as many.
-pub(crate) const SAFE_POINTS_BEFORE_YIELD: u32 = 16;
+/// The demands of its thread after which a worker yields for the first time; each next time it is four
+/// times as many. Without yields three scripts of `tests/racing.py` left 3, 9 and 27 different logs in 60
+/// runs on one busy processor, and with twice as many yields 9, 23 and 60.
+pub(crate) const DEMANDS_BEFORE_YIELD: u32 = 16;
+
+/// The safe points and pauses in a row, with no write and no mark between, after which a worker dozes for
+/// the first time; each next time it is twice as many.
+pub(crate) const SAFE_POINTS_BEFORE_DOZE: u32 = 16;
+
+/// The shortest and the longest doze, in microseconds; each is four times as long as the one before. So a
+/// thread with the fuel that scripts have by default waits for some 20 milliseconds.
+pub(crate) const SHORTEST_DOZE: u32 = 20;
+
+pub(crate) const LONGEST_DOZE: u32 = 4_000;
 
 /// Turns of its own thread that a worker takes at most before it lets go of the machine: enough that
 /// the lock costs little beside them, and few, since others wait for it meanwhile.

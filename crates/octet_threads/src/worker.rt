@@ -5,9 +5,10 @@ ghost use Rattle.octet_model.specs.declared.limits.TheConstants.{MAX_THREADS};
 ghost use Rattle.octet_machine.specs.declared.turned.Turned.TheVariants.{Moved};
 ghost use Rattle.octet_threads.specs.declared.step.Found.TheVariants.{Took};
 ghost use Rattle.octet_threads.specs.declared.tuning.TheConstants.{TURNS};
-ghost use Rattle.octet_threads.specs.Turns.{waited_for, IsFree, Helps, Finds, FindsSome};
+ghost use Rattle.octet_threads.specs.Turns.{waited_for, IsFree, Helps, Finds, FindsSome, RestsIfThere};
 
 use crate::access_backoff::AccessBackoff;
+use crate::crew::Crew;
 use crate::step::{Found, step};
 use crate::tuning::TURNS;
 use octet_base::Gate;
@@ -122,15 +123,54 @@ fn take_turns(machine: &mut Machine, thread: u8, passed: Option<u32>) -> Option<
     })
 }
 
-// Takes the turns of one thread until it has ended, and passes the gate before each access.
-fn work<R: Threads + Wait + Sync, G: Gate>(rt: &R, shared: &Mutex<Machine>, gate: &G, thread: u8) {
+// Marks a thread of the machine as blocked for a while, between two demands.
+fn rest(machine: &mut Machine, thread: u8)
+    ensures { RestsIfThere thread machine.old machine.new }
+{
+    if thread < machine.threads() {
+        machine.rest(thread);
+    }
+}
+
+// Stays away from work for a while, with its thread marked as blocked, unless no other worker is at work.
+#[cold]
+fn stay_away<R: Wait>(
+    rt: &R,
+    shared: &Mutex<Machine>,
+    crew: &Crew,
+    backoff: &mut AccessBackoff,
+    thread: u8,
+) {
+    let time = backoff.recover();
+    if let Some(rung) = crew.stop() {
+        rest(&mut shared.lock(rt), thread);
+        crew.rest(rt, rung, time);
+    }
+}
+
+// Takes the turns of one thread until it has ended, and passes the gate before each access. Before that
+// it rests, where the accesses of its thread have waited a lot.
+fn work<R: Threads + Wait + Sync, G: Gate>(
+    rt: &R,
+    shared: &Mutex<Machine>,
+    gate: &G,
+    crew: &Crew,
+    thread: u8,
+) {
+    crew.begin(rt);
     let mut backoff = AccessBackoff::new();
     let mut passed = None;
-    let mut moves = 0u32;
     for _ in rt.forever() {
         // The lock is let go of here, and not after the match.
         let found = take_turns(&mut shared.lock(rt), thread, passed);
         match found {
+            Some(Found::AtGate { .. }) if backoff.is_worn() => stay_away(
+                rt,
+                shared,
+                crew,
+                &mut backoff,
+                thread,
+            ),
             Some(Found::AtGate { access }) => {
                 gate.pass(rt, thread, access);
                 passed = Some(access);
@@ -139,12 +179,12 @@ fn work<R: Threads + Wait + Sync, G: Gate>(rt: &R, shared: &Mutex<Machine>, gate
                 Found::Took {
                     turned: Turned::Moved,
                 },
-            ) => moves = moves.wrapping_add(1),
+            ) => {}
             Some(
                 Found::Took {
                     turned: Turned::Waits { why },
                 },
-            ) => backoff.wait(rt, why, moves),
+            ) => backoff.wait(rt, why, passed.unwrap_or(0)),
             Some(
                 Found::Took {
                     turned: Turned::Ended,
@@ -153,6 +193,7 @@ fn work<R: Threads + Wait + Sync, G: Gate>(rt: &R, shared: &Mutex<Machine>, gate
             | None => break,
         }
     }
+    crew.end();
 }
 
 /// Runs a worker for each of so many threads, all beside each other.
@@ -164,12 +205,14 @@ pub(crate) fn run_workers<R: Threads + Wait + Sync, G: Gate>(
 ) {
     let mut places = [(); MAX_THREADS];
     let many = usize::from(threads).min(MAX_THREADS);
+    let crew = Crew::new(many);
+    let crew = &crew;
     thread::for_each_mut(
         rt,
         &mut places[..many],
         MAX_THREADS,
         &|thread, _: &mut ()| -> ()
             requires { IsSync R.row × IsSync G.row × (thread < MAX_THREADS) }
-        { work(rt, shared, gate, thread as u8) },
+        { work(rt, shared, gate, crew, thread as u8) },
     );
 }
