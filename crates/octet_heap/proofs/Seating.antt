@@ -22,26 +22,26 @@ use Rattle.octet_heap.specs.Workers.{seat_of, begun_in, IsWorkerOf}
 use Rattle.octet_heap.specs.Seated.{seats_in, journals_of, ArePlain, EachNew, EachRests}
 use Rattle.octet_heap.specs.Closings.{IsClosed}
 
-plain_more : (fuel : ℕ) (workers : List Worker) (worker : Worker) → ArePlain fuel workers → worker.recorder.fuel ≡ fuel → worker.pending ≡ None → worker.changing ≡ None → worker.slow ≡ 0 → ArePlain fuel (workers ++ worker ∷ [])
+plain_more : (fuel : ℕ) (workers : List Worker) (worker : Worker) → ArePlain fuel workers → worker.fuel ≡ fuel → worker.pending ≡ None → worker.changing ≡ None → worker.slow ≡ 0 → ArePlain fuel (workers ++ worker ∷ [])
 plain_more fuel [] worker plain is none no_change none_slow = ((is, none, no_change, none_slow), tt)
 plain_more fuel (w ∷ workers) worker plain is none no_change none_slow = (plain.0, plain_more fuel workers worker plain.1 is none no_change none_slow)
 
 plain_at : (fuel : ℕ) (workers : List Worker) (thread : ℕ) (none : Worker) → ArePlain fuel workers → thread < length workers
-    → ((slice_index_or workers thread none).recorder.fuel ≡ fuel) × ((slice_index_or workers thread none).pending ≡ None) × ((slice_index_or workers thread none).changing ≡ None) × ((slice_index_or workers thread none).slow ≡ 0)
+    → ((slice_index_or workers thread none).fuel ≡ fuel) × ((slice_index_or workers thread none).pending ≡ None) × ((slice_index_or workers thread none).changing ≡ None) × ((slice_index_or workers thread none).slow ≡ 0)
 plain_at fuel [] thread none plain there = absurd (omega (arith, there))
 plain_at fuel (w ∷ workers) zero none plain there = plain.0
 plain_at fuel (w ∷ workers) (suc thread) none plain there = plain_at fuel workers thread none plain.1 (omega (arith, there))
 
-map_more : {A B : Type 0} (f : A → B) (xs : List A) (x : A) → map f (xs ++ x ∷ []) ≡ map f xs ++ f x ∷ []
+pub map_more : {A B : Type 0} (f : A → B) (xs : List A) (x : A) → map f (xs ++ x ∷ []) ≡ map f xs ++ f x ∷ []
 map_more f [] x = refl
 map_more f (y ∷ xs) x = ap (λ (l : List _). f y ∷ l) (map_more f xs x)
 
-map_length : {A B : Type 0} (f : A → B) (xs : List A) → length (map f xs) ≡ length xs
+pub map_length : {A B : Type 0} (f : A → B) (xs : List A) → length (map f xs) ≡ length xs
 map_length f [] = refl
 map_length f (x ∷ xs) = ap suc (map_length f xs)
 
 pub seated_more : (fuel : ℕ) (seats : List Seat) (workers : List Worker) (worker : Worker) (seat : Seat) → seats_in workers ≡ seats → ArePlain fuel workers
-    → worker.recorder.seat ≡ seat → worker.recorder.fuel ≡ fuel → worker.pending ≡ None → worker.changing ≡ None → worker.slow ≡ 0 → (seats_in (workers ++ worker ∷ []) ≡ seats ++ seat ∷ []) × ArePlain fuel (workers ++ worker ∷ [])
+    → worker.recorder.seat ≡ seat → worker.fuel ≡ fuel → worker.pending ≡ None → worker.changing ≡ None → worker.slow ≡ 0 → (seats_in (workers ++ worker ∷ []) ≡ seats ++ seat ∷ []) × ArePlain fuel (workers ++ worker ∷ [])
 seated_more fuel seats workers worker seat are plain is same none no_change none_slow = (
   map_more (λ (w : Worker). w.recorder.seat) workers worker ∙ (λ i. are i ++ is i ∷ []),
   plain_more fuel workers worker plain same none no_change none_slow,
@@ -70,7 +70,7 @@ each_new heap seats workers are plain fresh thread none there =
         owes_nothing = ap (λ (x : Thread). x.due) own.1.1;
         one = subst (λ (o : Option PendingAccess). IsOne o w.changing) (sym p.1) tt;
         about = subst (λ (o : Option PendingAccess). IsAbout (seat_of w).threads o (seat_of w).thread.phase) (sym nothing) (subst IsAtRest (sym off) tt);
-        fuelled = subst (λ (o : Option PendingAccess). HasFuel o w.recorder.log.accesses w.recorder.fuel) (sym nothing) tt;
+        fuelled = subst (λ (o : Option PendingAccess). HasFuel o w.recorder.log.accesses w.fuel) (sym nothing) tt;
         within = subst (IsWithin (objects_of heap.words)) (sym nothing) tt;
       },
       own.1.0,
@@ -105,7 +105,7 @@ same_journals (w ∷ workers) = ap (λ (l : Journals). (seat_of w).journal ∷ l
 -- no worker has made more accesses than there was fuel for
 within_fuel : (heap : Heap) (workers : List Worker) → ((thread : ℕ) (none : Worker) → thread < length workers → IsWorkerOf heap (slice_index_or workers thread none)) → (thread : ℕ) → access_count (journal_of (journals_of workers) thread) ≤ heap.fuel
 within_fuel heap [] each thread = omega arith
-within_fuel heap (w ∷ workers) each zero = let few = w.recorder.few.0 in omega (arith, few, w.recorder.logged.accesses, (each zero w (omega arith)).same_fuel)
+within_fuel heap (w ∷ workers) each zero = let few = w.few.0 in omega (arith, few, w.recorder.logged.accesses, (each zero w (omega arith)).same_fuel)
 within_fuel heap (w ∷ workers) each (suc thread) = within_fuel heap workers (λ k none there. each (suc k) none (omega (arith, there))) thread
 
 pub all_closed : (heap : Heap) (workers : List Worker) (seats : List Seat) (closed : Closed) → length workers ≡ threads_of heap.words → EachRests heap workers → seats ≡ seats_in workers

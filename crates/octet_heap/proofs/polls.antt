@@ -7,3 +7,5 @@ pub mod Finding
 pub mod Growing
 pub mod Updated
 pub mod Begun
+pub mod Reading
+pub mod Pointed

@@ -19,6 +19,12 @@ access_event Read object value told = event.Read object told
 access_event Write object value told = event.Write object value
 access_event Update object amount told = event.Update object told (added amount told)
 
+-- the value that an access reads which answers this one, if it is a read
+abbrev pub read_by : Mode → ℕ → List ℕ
+read_by Read value = value ∷ []
+read_by Write value = []
+read_by Update value = []
+
 -- the access that a poll has made, if it has made one
 abbrev pub access_made : PendingAccess → ℕ → Poll → List Event
 access_made access told (Ready value) = access_event access.mode access.object access.value told ∷ []

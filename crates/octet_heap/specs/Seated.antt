@@ -19,7 +19,7 @@ journals_of workers = map (λ worker. (seat_of worker).journal) workers
 -- each worker has this fuel, has begun no access and no update, and counts no access on the slow path
 abbrev pub ArePlain : ℕ → List Worker → Type 0
 ArePlain fuel [] = Unit {0}
-ArePlain fuel (worker ∷ workers) = ((worker.recorder.fuel ≡ fuel) × (worker.pending ≡ None) × (worker.changing ≡ None) × (worker.slow ≡ 0)) × ArePlain fuel workers
+ArePlain fuel (worker ∷ workers) = ((worker.fuel ≡ fuel) × (worker.pending ≡ None) × (worker.changing ≡ None) × (worker.slow ≡ 0)) × ArePlain fuel workers
 
 -- the worker is that of this thread, and has taken no step
 abbrev pub IsNew : Heap → ℕ → Worker → Type 0

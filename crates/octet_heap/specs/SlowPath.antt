@@ -1,5 +1,5 @@
 -- Which accesses take the slow path.
-use Rattle.std.specs.Prelude.{ℕ, suc, Bool, true, false, ◌&&◌, if◌then◌else◌, List, [], ◌∷◌}
+use Rattle.std.specs.Prelude.{◌≡◌, ℕ, suc, Bool, true, false, ◌&&◌, if◌then◌else◌, List, [], ◌∷◌}
 use Rattle.octet_state.specs.declared.act.Act.{Act}
 use Rattle.octet_state.specs.declared.act.Act.TheVariants.{Pass}
 use Rattle.octet_state.specs.declared.phase.Phase.{Phase}
@@ -11,6 +11,7 @@ use Rattle.octet_rule.specs.Views.{SeatView, Taken}
 use Rattle.octet_heap.specs.declared.pending_access.PendingAccess.{PendingAccess}
 use Rattle.octet_heap.specs.declared.poll.Poll.{Poll}
 use Rattle.octet_heap.specs.declared.poll.Poll.TheVariants.{Ready, Pending}
+use Rattle.octet_heap.specs.OwnersPath.{steps_since}
 
 -- the test whether a phase is idle
 abbrev pub is_idle : Phase → Bool
@@ -40,3 +41,7 @@ slow_by fast slow = if fast then slow else suc slow
 abbrev pub slow_after : Poll → Bool → ℕ → ℕ
 slow_after (Ready value) fast slow = slow_by fast slow
 slow_after (Pending why) fast slow = slow
+
+-- whether it took the fast path is told of an access that a poll has made
+abbrev pub TellsPath : PendingAccess → SeatView → Poll → Bool → SeatView → Type 0
+TellsPath access v answer fast w = (slow : ℕ) → slow_after answer fast slow ≡ slow_after answer (is_fast access v (steps_since v w)) slow

@@ -24,11 +24,11 @@ begun_in worker = begun_of worker.pending worker.changing
 -- the worker is one of this heap's, and stands as workers do between two calls
 pub record IsWorkerOf (heap : Heap) (worker : Worker) : Type 0 where
   pub own : IsSeatOf heap.words worker.recorder.seat
-  pub same_fuel : worker.recorder.fuel ≡ heap.fuel
+  pub same_fuel : worker.fuel ≡ heap.fuel
   pub owes_nothing : (seat_of worker).thread.due ≡ Nothing
   pub one : IsOne worker.pending worker.changing
   pub about : IsAbout (seat_of worker).threads (begun_in worker) (seat_of worker).thread.phase
-  pub fuelled : HasFuel (begun_in worker) worker.recorder.log.accesses worker.recorder.fuel
+  pub fuelled : HasFuel (begun_in worker) worker.recorder.log.accesses worker.fuel
   pub within : IsWithin (objects_of heap.words) (begun_in worker)
 
 -- the worker runs, and has begun no access

@@ -20,13 +20,17 @@ fn parts(worker: Worker) -> (Seat, ThreadLog, List<u64>)
     ensures log { result.1 ≡ log_of_journal (seat_of worker).journal }
     ensures reads { result.2 ≡ values_read (seat_of worker).journal }
 {
-    let recorder = worker.recorder;
+    let Worker {
+        recorder,
+        reads,
+        ..
+    } = worker;
     let log = recorder.log;
     let thread_log = ThreadLog {
-        accesses: log.accesses,
+        accesses: log.accesses as u32,
         marks: List::from_vec(log.marks),
     };
-    (recorder.seat, thread_log, List::from_vec(log.reads))
+    (recorder.seat, thread_log, List::from_vec(reads))
 }
 
 // Those of all workers.

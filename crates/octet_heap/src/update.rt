@@ -9,7 +9,7 @@ ghost use Rattle.octet_heap.specs.Updates.{answer_after, update_to, MayUpdate, P
 ghost use Rattle.octet_heap.specs.Waiting.{accesses_after};
 ghost use Rattle.octet_heap.specs.Workers.{seat_of, pending_after, IsWorkerOf, IsIdle, IsIdleIfMade};
 
-use crate::calls::{is_idle, slow_by};
+use crate::calls::slow_by;
 use crate::heap::Heap;
 use crate::pending_update::PendingUpdate;
 use crate::poll::Poll;
@@ -18,7 +18,7 @@ use crate::worker::Worker;
 use octet_rule::Change;
 
 // What `poll` answers of it, which tells the value after.
-fn answer_after(updated: Updated, change: &Change) -> Poll
+pub(crate) fn answer_after(updated: Updated, change: &Change) -> Poll
     ensures { result ≡ answer_after change.now updated }
 {
     match updated {
@@ -71,13 +71,10 @@ impl Heap {
         ensures counts { access_count (seat_of worker.new).journal ≡ accesses_after (answer_after change result) (access_count (seat_of worker.old).journal) }
         ensures slow { CountsSlow (update_of object) worker.old (answer_after change result) worker.new }
     {
-        let (updated, passes) = self.load_to_change(&mut worker.recorder, object, change);
+        let (updated, fast) = self.start_change(&mut worker.recorder, object, change);
         match updated {
-            Updated::Made { .. } => worker.slow = slow_by(passes, worker.slow),
-            Updated::Pending { .. } => {
-                worker.changing = Some(PendingUpdate { object, change });
-                octet_safe::safe_point(&self.words, &mut worker.recorder.seat);
-            }
+            Updated::Made { .. } => worker.slow = slow_by(fast, worker.slow),
+            Updated::Pending { .. } => worker.changing = Some(PendingUpdate { object, change }),
         }
         updated
     }
@@ -96,19 +93,13 @@ impl Heap {
         ensures counts { access_count (seat_of worker.new).journal ≡ accesses_after (answer_after change result) (access_count (seat_of worker.old).journal) }
         ensures slow { CountsSlow (update_of object) worker.old (answer_after change result) worker.new }
     {
-        if is_idle(worker.recorder.seat.phase()) {
-            worker.changing = None;
-            return self.begin_update(worker, object, change);
-        }
-        let updated = self.go_on_to_change(&mut worker.recorder, object, change);
+        let (updated, fast) = self.resume_change(&mut worker.recorder, object, change);
         match updated {
             Updated::Made { .. } => {
                 worker.changing = None;
-                worker.slow += 1;
+                worker.slow = slow_by(fast, worker.slow);
             }
-            Updated::Pending { .. } => {
-                octet_safe::safe_point(&self.words, &mut worker.recorder.seat);
-            }
+            Updated::Pending { .. } => {}
         }
         updated
     }

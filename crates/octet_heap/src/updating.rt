@@ -9,7 +9,7 @@ ghost use Rattle.octet_rule.specs.Conditions.{MayLoad, MayPass};
 ghost use Rattle.octet_rule.specs.Rule.{Steps};
 ghost use Rattle.octet_rule.specs.Seats.{view, CanStep, objects_of};
 ghost use Rattle.octet_heap.specs.OwnersPath.{steps_since};
-ghost use Rattle.octet_heap.specs.Recorders.{CanAccess, KeepsSeat, KeepsSeatAfter};
+ghost use Rattle.octet_heap.specs.Recorders.{CanAccess, CanRecord, KeepsSeat, KeepsSeatAfter};
 ghost use Rattle.octet_heap.specs.SlowPath.{passes_by};
 ghost use Rattle.octet_heap.specs.Standing.{update_of};
 ghost use Rattle.octet_heap.specs.Updates.{answer_after, ComesBy, FinishesBy, EndsWith};
@@ -33,14 +33,14 @@ impl Recorder {
         requires can { CanStep words.now self.old.seat }
         requires object { object < objects_of words.now }
         requires phase { MayLoad object ForUpdate (view self.old.seat).journal (view self.old.seat).thread.phase }
-        requires more { self.old.log.accesses < self.old.fuel }
+        requires more { CanRecord self.old }
         ensures keeps { KeepsSeat words.now (accesses_after_load result self.old.log.accesses) self.old self.new }
         ensures steps { EntersToChange object change (view self.old.seat) result (view self.new.seat) }
         ensures led { IsLedIfMade change result }
     {
         let entered = words.enter_to_change(&mut self.seat, object, change);
         if let Entered::Made { .. } = entered {
-            self.log.add_write();
+            self.log.add_access();
         }
         entered
     }
@@ -50,13 +50,13 @@ impl Recorder {
         requires can { CanStep words.now self.old.seat }
         requires object { object < objects_of words.now }
         requires phase { MayPass object ForUpdate (view self.old.seat).thread.phase }
-        requires more { self.old.log.accesses < self.old.fuel }
+        requires more { CanRecord self.old }
         ensures keeps { KeepsSeat words.now (self.old.log.accesses + 1) self.old self.new }
         ensures step { Steps (ToBump (amount_by change result)) (view self.old.seat) result (view self.new.seat) }
         ensures led { IsLed change result }
     {
         let before = words.update(&mut self.seat, object, change);
-        self.log.add_write();
+        self.log.add_access();
         before
     }
 }

@@ -31,15 +31,15 @@ use Rattle.octet_rule.specs.Conditions.{HoldsWord, state_seen, decision, is_shar
 use Rattle.octet_rule.proofs.Allowed.{holding}
 
 -- a journal has at most so many events
-pub few_seen : (v : SeatView) (s : ProtocolState) → IsSeenBy v s → length v.journal ≤ 4194319
-few_seen v s seen = subst (λ (l : List Event). length l ≤ 4194319) seen.has_made (few_events s v.number seen.sound)
+pub few_seen : (v : SeatView) (s : ProtocolState) → IsSeenBy v s → length v.journal ≤ 70368744177679
+few_seen v s seen = subst (λ (l : List Event). length l ≤ 70368744177679) seen.has_made (few_events s v.number seen.sound)
 
-pub few_after : (k : Kind) (v : SeatView) (told : ℕ) (w : SeatView) → Steps k v told w → length w.journal ≤ 4194319
+pub few_after : (k : Kind) (v : SeatView) (told : ℕ) (w : SeatView) → Steps k v told w → length w.journal ≤ 70368744177679
 few_after k v told w took = few_seen w (step k v.number took.before) took.seen_after
 
 -- and the counter stands at most at so many
-pub few_drawn : (v : SeatView) (told : ℕ) (w : SeatView) → Steps ToDraw v told w → told ≤ 4194304
-few_drawn v told w took = subst (λ (n : ℕ). n ≤ 4194304) (sym took.word) (counter_is_small took.before took.seen.sound)
+pub few_drawn : (v : SeatView) (told : ℕ) (w : SeatView) → Steps ToDraw v told w → told ≤ 70368744177664
+few_drawn v told w took = subst (λ (n : ℕ). n ≤ 70368744177664) (sym took.word) (counter_is_small took.before took.seen.sound)
 
 -- the word that a load finds is that of a state, which the thread is not changing itself
 pub state_found : (object : ℕ) (mode : Mode) (v : SeatView) (told : ℕ) (w : SeatView) (took : Steps (ToLoad object mode) v told w) → unpacked_state told ≡ Some (state_of took.before object)

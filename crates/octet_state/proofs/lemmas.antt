@@ -4,3 +4,4 @@ pub mod Accesses
 pub mod Widths
 pub mod ValidLogs
 pub mod Laws
+pub mod OpenMarks

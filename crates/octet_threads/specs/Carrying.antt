@@ -36,4 +36,4 @@ KeepsUp worker state worker_after state_after = (start : Configuration) → IsJo
 
 -- the start of a worker's thread, with its heap's fuel
 abbrev pub start_of : Worker → Configuration
-start_of worker = starting_configuration worker.recorder.fuel
+start_of worker = starting_configuration worker.fuel

@@ -61,7 +61,7 @@ adds_update object change v w (Made before) adds ends =
     }
 
 -- the value has no part in what is begun
-begun_as : (threads object value : ℕ) (p : Phase) → HasBegun threads (update_of object) p → HasBegun threads (access_to object Update value) p
+pub begun_as : (threads object value : ℕ) (p : Phase) → HasBegun threads (update_of object) p → HasBegun threads (access_to object Update value) p
 begun_as threads object value Idle h = tt
 begun_as threads object value (Want o mode None) h = h
 begun_as threads object value (Claimed o mode prior done true) h = h

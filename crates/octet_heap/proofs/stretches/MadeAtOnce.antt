@@ -1,8 +1,7 @@
 -- A load with the access after it, where that is made at once.
-use Rattle.std.proofs.Common.{◌≡◌, ℕ, List, [], ◌∷◌, ◌++◌, ◌⊎◌, inl, inr, IsTrue, Some, None, sym, refl, ap, arith, subst}
+use Rattle.std.proofs.Common.{◌≡◌, ◌∙◌, ℕ, ◌≤◌, List, [], ◌∷◌, ◌++◌, IsTrue, None, sym, refl, ap, arith, subst}
 use Rattle.octet_model.specs.declared.event.Event.{Event}
 use Rattle.octet_model.specs.declared.event.Event.TheVariants as event
-use Rattle.octet_model.specs.HappensBefore.{is_write}
 use Rattle.octet_model.specs.Thread.{added}
 use Rattle.octet_state.specs.declared.act.Act.{Act}
 use Rattle.octet_state.specs.declared.act.Act.TheVariants.{Pass, Held}
@@ -14,46 +13,49 @@ use Rattle.octet_state.specs.declared.phase.Phase.TheVariants.{Pass}
 use Rattle.octet_state.specs.declared.phase.Due.TheVariants.{Nothing}
 use Rattle.octet_state.specs.Words.{unpacked_state}
 use Rattle.octet_state.specs.State.{Thread}
-use Rattle.octet_state.specs.Steps.{Kind, ToLoad, ToRead, ToWrite, ToBump, target, moved, state_in, made}
+use Rattle.octet_state.specs.Steps.{ToLoad, ToRead, ToWrite, ToBump, target, moved, state_in}
 use Rattle.octet_state.specs.NextStep.{access_of, held_by}
 use Rattle.octet_rule.specs.Views.{SeatView}
 use Rattle.octet_rule.specs.Rule.{Steps}
 use Rattle.octet_rule.specs.Entering.{IsMadeAtOnce, IsLoaded}
 use Rattle.octet_rule.proofs.Known.{load_moves}
 use Rattle.octet_rule.proofs.MadeAtOnce.{made_thread}
-use Rattle.octet_heap.specs.declared.running_log.RunningLog.{RunningLog}
 use Rattle.octet_heap.specs.declared.pending_access.PendingAccess.{PendingAccess}
 use Rattle.octet_heap.specs.declared.poll.Poll.TheVariants.{Ready, Pending}
-use Rattle.octet_heap.specs.Logs.{IsLogOf}
+use Rattle.octet_heap.specs.Logs.{is_access, open_marks}
 use Rattle.octet_heap.specs.OwnersPath.{value_by}
 use Rattle.octet_heap.specs.Polls.{Comes}
 use Rattle.octet_heap.specs.Waiting.{IsToLoad, Leaves}
-use Rattle.octet_heap.proofs.log.Entries.{keeps, follows}
+use Rattle.octet_heap.proofs.log.Entries.{gains, keeps, open_before}
 use Rattle.octet_heap.specs.Ways.{Goes}
 use Rattle.octet_heap.proofs.polls.Going.{comes_after}
 use Rattle.octet_heap.proofs.stretches.Loads.{load_goes, load_held}
 use Rattle.octet_heap.proofs.stretches.Stretches.{access_comes}
 
-module _ (object : ℕ) (mode : Mode) (value : ℕ) (v : SeatView) (told : ℕ) (w : SeatView) (log : RunningLog) (at_once : IsMadeAtOnce object mode value v told w) where
-  follows_both : (k : Kind) (e : Event) → Steps k at_once.between told w → made k at_once.between.number told at_once.between.thread ≡ Some e → IsLogOf log (v.journal ++ e ∷ []) → IsLogOf log w.journal
-  follows_both k e took makes is = follows k at_once.between w told e log took makes
-      (subst (λ (l : List Event). IsLogOf log (l ++ e ∷ [])) (sym (keeps (ToLoad object mode) v at_once.between at_once.word at_once.loads refl)) is)
+-- its journal grows by the access
+pub record MadeOne (v w : SeatView) : Type 0 where
+  pub event : Event
+  pub is : IsTrue (is_access event)
+  pub grown : w.journal ≡ v.journal ++ event ∷ []
+  pub few : open_marks v.journal ≤ 15
 
-  pub follows_read : mode ≡ Read → ((o : ℕ) → IsLogOf log (v.journal ++ event.Read o told ∷ [])) → IsLogOf log w.journal
-  follows_read is logs = let o : ℕ = target at_once.between.thread.phase in
-      follows_both ToRead (event.Read o told) (subst (λ (m : Mode). Steps (access_of m value) at_once.between told w) is at_once.accesses) refl (logs o)
+one_by : (mode : Mode) (value : ℕ) (v w : SeatView) (told : ℕ) → Steps (access_of mode value) v told w → MadeOne v w
+one_by Read value v w told took = let e : Event = event.Read (target v.thread.phase) told in
+    record { event = e; is = refl; grown = gains ToRead v w told e took refl; few = open_before ToRead v w told took }
+one_by Write value v w told took = let e : Event = event.Write (target v.thread.phase) value in
+    record { event = e; is = refl; grown = gains (ToWrite value) v w told e took refl; few = open_before (ToWrite value) v w told took }
+one_by Update value v w told took = let e : Event = event.Update (target v.thread.phase) told (added value told) in
+    record { event = e; is = refl; grown = gains (ToBump value) v w told e took refl; few = open_before (ToBump value) v w told took }
 
-  pub follows_write : mode ≡ Write → ((e : Event) → IsTrue (is_write e) → IsLogOf log (v.journal ++ e ∷ [])) → IsLogOf log w.journal
-  follows_write is logs = let e : Event = event.Write (target at_once.between.thread.phase) value in
-      follows_both (ToWrite value) e (subst (λ (m : Mode). Steps (access_of m value) at_once.between told w) is at_once.accesses) refl (logs e refl)
-
-  pub follows_update : mode ≡ Update → ((e : Event) → IsTrue (is_write e) → IsLogOf log (v.journal ++ e ∷ [])) → IsLogOf log w.journal
-  follows_update is logs = let e : Event = event.Update (target at_once.between.thread.phase) told (added value told) in
-      follows_both (ToBump value) e (subst (λ (m : Mode). Steps (access_of m value) at_once.between told w) is at_once.accesses) refl (logs e refl)
-
-  pub follows_other : (mode ≡ Write) ⊎ (mode ≡ Update) → ((e : Event) → IsTrue (is_write e) → IsLogOf log (v.journal ++ e ∷ [])) → IsLogOf log w.journal
-  follows_other (inl is) logs = follows_write is logs
-  follows_other (inr is) logs = follows_update is logs
+pub made_one : (object : ℕ) (mode : Mode) (value : ℕ) (v : SeatView) (told : ℕ) (w : SeatView) → IsMadeAtOnce object mode value v told w → MadeOne v w
+made_one object mode value v told w at_once =
+    let one = one_by mode value at_once.between w told at_once.accesses in
+    let same : at_once.between.journal ≡ v.journal = keeps (ToLoad object mode) v at_once.between at_once.word at_once.loads refl in record {
+      event = one.event;
+      is = one.is;
+      grown = one.grown ∙ ap (λ (l : List Event). l ++ one.event ∷ []) same;
+      few = subst (λ (l : List Event). open_marks l ≤ 15) same one.few;
+    }
 
 module _ (access : PendingAccess) (v : SeatView) (told : ℕ) (w : SeatView) (at_once : IsMadeAtOnce access.object access.mode access.value v told w) where
   passes_on : at_once.between.thread ≡ moved (Pass access.object access.mode) Nothing v.thread

@@ -111,13 +111,13 @@ module _ (script : Script) (heap : Heap) (runners : List Runner) (is : IsHeapOf 
     whole : FitsToEnd (commands_of script t) start (journal_of js t) × (end_of (demanded (commands_of script t) (configuration_after (commands_of script t) start (journal_of js t))) ≡ get_or (ends_in runners) t Spent)
     whole =
         let kept = ∥∥₁_elim r.fits (journal_prop (start_of r.worker) (seat_of r.worker).journal r.config) (λ k. k) in
-        let fuel : r.worker.recorder.fuel ≡ script.fuel = has_ended.rests.own.same_fuel ∙ is.fuel in
-        let own = ends_with (starting_configuration r.worker.recorder.fuel) (seat_of r.worker).journal r.config kept has_ended.ends in
+        let fuel : r.worker.fuel ≡ script.fuel = has_ended.rests.own.same_fuel ∙ is.fuel in
+        let own = ends_with (starting_configuration r.worker.fuel) (seat_of r.worker).journal r.config kept has_ended.ends in
         let Whole : List Command → ℕ → List Event → End → Type 0 = λ commands fuel journal end. FitsToEnd commands (starting_configuration fuel) journal × (end_of (demanded commands (configuration_after commands (starting_configuration fuel) journal)) ≡ end) in
         subst (λ (c : List Command). Whole c script.fuel (journal_of js t) (get_or (ends_in runners) t Spent)) is_of.commands
         (subst (λ (f : ℕ). Whole r.config.commands f (journal_of js t) (get_or (ends_in runners) t Spent)) fuel
-        (subst (λ (j : List Event). Whole r.config.commands r.worker.recorder.fuel j (get_or (ends_in runners) t Spent)) (sym (at runners t there).is_journal)
-        (subst (λ (e : End). Whole r.config.commands r.worker.recorder.fuel (seat_of r.worker).journal e) (sym (at runners t there).is_end) own)))
+        (subst (λ (j : List Event). Whole r.config.commands r.worker.fuel j (get_or (ends_in runners) t Spent)) (sym (at runners t there).is_journal)
+        (subst (λ (e : End). Whole r.config.commands r.worker.fuel (seat_of r.worker).journal e) (sym (at runners t there).is_end) own)))
 
     rests_here : RestsAs heap t r.worker
     rests_here = (has_ended.rests.own, is_of.number, has_ended.rests.rests)

@@ -1,11 +1,14 @@
 -- A worker does a task step by step.
-use Rattle.std.proofs.Common.{◌≡◌, ◌∙◌, ℕ, true, false, List, [], ◌∷◌, ◌++◌, sym, refl, ap, subst, append_assoc}
+use Rattle.std.proofs.Common.{◌≡◌, ◌∙◌, ℕ, Bool, true, false, List, [], ◌∷◌, ◌++◌, sym, refl, ap, subst, append_assoc}
+use Rattle.std.specs.Prelude.{◌==◌, not, if◌then◌else◌}
 use Rattle.octet_interp.specs.declared.demand.Demand.TheVariants as demand
 use Rattle.octet_state.specs.declared.phase.Phase.TheVariants.{Idle, Blocked}
-use Rattle.octet_state.specs.declared.phase.Due.TheVariants.{Nothing}
-use Rattle.octet_state.specs.Steps.{Kind, ToBlock, ToUnblock}
+use Rattle.octet_state.specs.declared.phase.Due.TheVariants.{Nothing, Answer}
+use Rattle.octet_state.specs.Words.{unpacked_status}
+use Rattle.octet_state.specs.Steps.{Kind, ToBlock, ToUnblock, ToGlance, ToAnswer}
 use Rattle.octet_rule.specs.Views.{SeatView, Taken}
 use Rattle.octet_rule.specs.Rule.{Steps}
+use Rattle.octet_safe.specs.Replies.{AnswersOr, PassesSafePoint}
 use Rattle.octet_heap.specs.Walks.{Task, next_step, after_steps, IsNext}
 use Rattle.octet_heap.proofs.lemmas.Walks.{after_more, next_in, next_by, walks_more}
 use Rattle.octet_threads.specs.Tasks.{task_of, GoesBy, Does}
@@ -72,3 +75,22 @@ pauses u v w found there due phase blocks unblocks =
     let stands : v.thread.phase ≡ Blocked = ap (λ (x : SeatView). x.thread.phase) blocks.moves in
     gone_and_done task u v w (gone_one task u v (ToBlock false) found blocks (sym (next_in task u Nothing Idle due phase)) refl)
     (done_by task v w ToUnblock there unblocks (sym (next_in task v Nothing Blocked owes stands)) refl)
+
+-- a safe point: a glance, and an answer where it found a bit
+pub safes : (u w : SeatView) (answered : Bool) → u.thread.due ≡ Nothing → u.thread.phase ≡ Idle → PassesSafePoint u answered w → Does (task_of demand.Safe) u w
+safes u w answered due phase point = go ((unpacked_status point.found).asked == 0) refl answered point.by_bits point.answers
+  where
+    task : Task
+    task = task_of demand.Safe
+
+    next : ToGlance ≡ next_step task u
+    next = sym (next_in task u Nothing Idle due phase)
+
+    go : (none : Bool) → ((unpacked_status point.found).asked == 0) ≡ none → (b : Bool) → b ≡ not ((unpacked_status point.found).asked == 0) → AnswersOr b point.between w → Does task u w
+    go true is false by_bits same = subst (λ (x : SeatView). Does task u x) (sym same) (done_by task u point.between ToGlance point.found point.glances next is)
+    go false is true by_bits answer =
+        let owes : point.between.thread.due ≡ Answer = ap (λ (x : SeatView). x.thread.due) point.glances.moves ∙ ap (λ (b : Bool). if b then Nothing else Answer) is in
+        gone_and_done task u point.between w (gone_one task u point.between ToGlance point.found point.glances next is)
+        (done_by task point.between w ToAnswer answer.0 answer.1 (sym (next_in task point.between Answer point.between.thread.phase owes refl)) refl)
+    go true is true by_bits same = absurd (let f : true ≡ false = by_bits ∙ ap not is in cc)
+    go false is false by_bits same = absurd (let f : false ≡ true = by_bits ∙ ap not is in cc)

@@ -6,7 +6,7 @@ use Rattle.octet_interp.specs.Laws.{IsJournalOf}
 use Rattle.octet_heap.specs.Workers.{seat_of}
 use Rattle.octet_threads.specs.Tasks.{task_of, Does}
 use Rattle.octet_threads.specs.Carrying.{TellsAgain}
-use Rattle.octet_threads.proofs.tasks.Doing.{pauses}
+use Rattle.octet_threads.proofs.tasks.Doing.{pauses, safes}
 use Rattle.octet_threads.proofs.tasks.Journals.{read_kept, write_kept, bump_kept, safe_kept, pause_kept, end_kept, end_told_again}
 use Rattle.octet_threads.proofs.carrying.carry_with_backoff.Goals as goal
 
@@ -31,6 +31,11 @@ returns-in-Bump-clause-journal g c = λ start kept.
     let tells : next_demand s ≡ Bump c.in-Bump.object c.in-Bump.amount = sym c.next-demand.ensures.demand ∙ c.in-Bump.is in
     subst (λ (t : ThreadState). IsJournalOf start (seat_of c.access-in-Bump.new.worker).journal t) (sym c.next-demand.ensures.state)
     (bump_kept start s c.in-Bump.object c.in-Bump.amount c.access-in-Bump.result (seat_of c.args.worker.now) (seat_of c.access-in-Bump.new.worker) tells c.access-in-Bump.ensures.journal kept)
+
+pub returns-in-Safe-clause-steps : goal.returns-in-Safe-clause-steps
+returns-in-Safe-clause-steps g c =
+    subst (λ (d : Demand). Does (task_of d) (seat_of c.args.worker.now) (seat_of c.safe_point.new.worker)) (sym c.in-Safe.is)
+    (safes (seat_of c.args.worker.now) (seat_of c.safe_point.new.worker) c.safe_point.result c.requires.own.owes_nothing c.requires.idle.0 c.safe_point.ensures.step)
 
 pub returns-in-Safe-clause-journal : goal.returns-in-Safe-clause-journal
 returns-in-Safe-clause-journal g c = λ start kept.

@@ -1,4 +1,4 @@
-use Rattle.std.proofs.Common.{rules, ◌≡◌, ◌∙◌, List, length, sym, ap, subst}
+use Rattle.std.proofs.Common.{rules, ◌≡◌, ◌∙◌, List, All, length, sym, ap, subst}
 use Rattle.std.specs.List.{AllZip}
 use Rattle.std.proofs.Math.ListN.{drop}
 use Rattle.std.proofs.lemmas.List.{take_at}
@@ -6,7 +6,7 @@ use Rattle.std.proofs.lemmas.List.Elements.{length_all_zip}
 use Rattle.octet_model.specs.Journals.{log_of}
 use Rattle.octet_heap.specs.Seated.{journals_of}
 use Rattle.octet_threads.specs.declared.runner.Runner.{Runner}
-use Rattle.octet_threads.specs.Runners.{AreOf}
+use Rattle.octet_threads.specs.Runners.{AreOf, HasEnded}
 use Rattle.octet_threads.specs.Work.{IsOfThread, SendEach, workers_in}
 use Rattle.octet_threads.proofs.live_log.Adding.{failed_rose, is_write_answer}
 use Rattle.octet_threads.proofs.live_log.Leaving.{log_written, partly_written, nothing_added}
@@ -27,6 +27,15 @@ finish_run-requires-clause-runners g c =
     let long : length made ≡ c.in-Ok.opened.runners.len = search rules in
     let many : length ran ≡ c.in-Ok.opened.runners.len = sym (length_all_zip IsOfThread made ran zip) ∙ long in
     subst (AreOf c.args.script.now) (sym (take_at ran (drop (length ran) made) c.in-Ok.opened.runners.len many)) (still_of c.args.script.now made ran c.in-Ok.ensures.runners zip)
+
+pub finish_run-requires-clause-ended : goal.finish_run-requires-clause-ended
+finish_run-requires-clause-ended g c =
+    let made = c.in-Ok.opened.runners.items in
+    let ran = c.run_written.new.runners in
+    let zip : AllZip IsOfThread made ran = search rules in
+    let long : length made ≡ c.in-Ok.opened.runners.len = search rules in
+    let many : length ran ≡ c.in-Ok.opened.runners.len = sym (length_all_zip IsOfThread made ran zip) ∙ long in
+    subst (λ (l : List Runner). All (HasEnded c.in-Ok.opened.heap) l) (sym (take_at ran (drop (length ran) made) c.in-Ok.opened.runners.len many)) c.run_written.ensures.ended
 
 pub returns-in-Ok-finish_run-clause-written : goal.returns-in-Ok-finish_run-clause-written
 returns-in-Ok-finish_run-clause-written g c =

@@ -1,50 +1,57 @@
-use Rattle.std.proofs.Common.{Bool, ◌∙◌, Some, refl, sym, ap, subst}
-use Rattle.octet_state.specs.declared.phase.Phase.{Phase}
-use Rattle.octet_heap.specs.declared.poll.Poll.{Poll}
-use Rattle.octet_heap.specs.declared.pending_access.PendingAccess.{PendingAccess}
-use Rattle.octet_heap.specs.Workers.{seat_of, IsPoll}
-use Rattle.octet_heap.specs.Standing.{IsAbout}
-use Rattle.octet_heap.specs.Polls.{Comes}
-use Rattle.octet_heap.specs.Waiting.{Leaves}
+use Rattle.std.proofs.Common.{◌≡◌, ℕ, ◌<◌, List, ◌++◌, ◌∙◌, sym, ap, subst, arith}
 use Rattle.octet_rule.specs.Seats.{view}
+use Rattle.octet_heap.specs.declared.poll.Poll.{Poll}
+use Rattle.octet_heap.specs.Calls.{access_to, Polls}
+use Rattle.octet_heap.specs.Growth.{read_by}
 use Rattle.octet_heap.specs.OwnersPath.{steps_since}
-use Rattle.octet_heap.specs.SlowPath.{is_idle, is_fast, slow_by, slow_after}
-use Rattle.octet_heap.specs.Calls.{access_to}
-use Rattle.octet_heap.proofs.polls.Fastness.{idle_fast}
-use Rattle.octet_heap.proofs.polls.Polled.{poll_ready, poll_pending}
-use Rattle.octet_heap.proofs.polls.Growing.{same_number}
-use Rattle.octet_heap.proofs.polls.WholePolls.{polls_by}
+use Rattle.octet_heap.specs.Recorders.{KeepsSeatAfter}
+use Rattle.octet_heap.specs.SlowPath.{is_fast, slow_after}
+use Rattle.octet_heap.specs.Workers.{seat_of}
+use Rattle.octet_heap.proofs.polls.Reading.{can_record, room_to_read, reads_made, reads_pending, slow_most, still_whole, still_room}
 use Rattle.octet_heap.proofs.heap.Heap.access_or_begin.Goals as goal
 
-pub returns-in-Ready-clause-polls : goal.returns-in-Ready-clause-polls
-returns-in-Ready-clause-polls c = let access = access_to c.args.object c.args.mode c.args.value in
-    let v = seat_of c.args.worker.now in let w = view c.load-poll.new.recorder.seat in
-    let about = subst (λ (p : Phase). IsAbout v.threads (Some access) p) (sym c.requires.idle.0) tt in
-    polls_by access (Some access) v w c.load-poll.result.0 about refl
-    (subst (λ (a : Poll). IsPoll access v a w) (sym c.in-Ready.is)
-    (poll_ready access v w c.in-Ready.value (subst (λ (a : Poll). Comes access v a 19 w) c.in-Ready.is c.load-poll.ensures.comes) (subst (λ (a : Poll). Leaves access a w) c.in-Ready.is c.load-poll.ensures.leaves).0))
+pub start-poll-requires-clause-can : goal.start-poll-requires-clause-can
+start-poll-requires-clause-can c = let w = c.args.worker.now in record {
+  own = c.requires.own.own;
+  object = c.requires.object;
+  more = can_record w (let more = c.requires.more in let a = w.recorder.logged.accesses in let b = c.requires.own.same_fuel in omega arith);
+}
 
-pub returns-in-Pending-clause-polls : goal.returns-in-Pending-clause-polls
-returns-in-Pending-clause-polls c = let access = access_to c.args.object c.args.mode c.args.value in
-    let v = seat_of c.args.worker.now in let u = view c.load-poll.new.recorder.seat in let w = view c.safe_point.new.seat in
-    let about = subst (λ (p : Phase). IsAbout v.threads (Some access) p) (sym c.requires.idle.0) tt in
-    polls_by access (Some access) v w c.load-poll.result.0 about refl
-    (subst (λ (a : Poll). IsPoll access v a w) (sym c.in-Pending.is)
-    (poll_pending access v u w c.in-Pending.why c.safe_point.result (subst (λ (a : Poll). Comes access v a 19 u) c.in-Pending.is c.load-poll.ensures.comes) (subst (λ (a : Poll). Leaves access a u) c.in-Pending.is c.load-poll.ensures.leaves).0 c.safe_point.ensures.step))
+pub keep_read-requires : goal.keep_read-requires
+keep_read-requires c = let w = c.args.worker.now in record {
+  room = room_to_read w (let more = c.requires.more in let a = w.recorder.logged.accesses in let b = c.requires.own.same_fuel in omega arith);
+}
 
-pub returns-in-Ready-clause-number : goal.returns-in-Ready-clause-number
-returns-in-Ready-clause-number c = same_number _ (seat_of c.args.worker.now) _ c.load-poll.result.0 (returns-in-Ready-clause-polls c).steps
+pub invariant_of-worker : goal.invariant_of-worker
+invariant_of-worker c =
+    let w = c.args.worker.now in let access = access_to c.args.object c.args.mode c.args.value in
+    let r = c.start-poll.new.recorder in let v = seat_of w in let u = view r.seat in
+    let more : w.recorder.log.accesses < w.fuel = let more = c.requires.more in let a = w.recorder.logged.accesses in let b = c.requires.own.same_fuel in omega arith in
+    let keeps = subst (λ (a : Poll). KeepsSeatAfter c.args.self.now.words a w.recorder r) c.in-Ready.is c.start-poll.ensures.keeps in
+    let polls = subst (λ (a : Poll). Polls access v a u) c.in-Ready.is c.start-poll.ensures.polls in record {
+      whole = still_whole w c.args.self.now.words _ r keeps;
+      reading = c.keep_read.ensures.value ∙ (ap (λ (l : List ℕ). l ++ read_by c.args.mode c.in-Ready.value) w.reading ∙ sym (reads_made access v u c.in-Ready.value polls.journal));
+      to_read = let a = w.to_read in let b = c.keep_read.ensures.room in omega arith;
+      room = still_room w c.args.self.now.words _ r keeps;
+      few = (let a = keeps.counts in omega arith, w.few.1);
+      least = let a = keeps.counts in let b = w.least in let d = c.slow_by-worker.ensures in let e = slow_most c.start-poll.result.1 w.slow in omega arith;
+    }
 
-pub returns-in-Pending-clause-number : goal.returns-in-Pending-clause-number
-returns-in-Pending-clause-number c = same_number _ (seat_of c.args.worker.now) _ c.load-poll.result.0 (returns-in-Pending-clause-polls c).steps
+pub invariant_of-worker-in-Pending : goal.invariant_of-worker-in-Pending
+invariant_of-worker-in-Pending c =
+    let w = c.args.worker.now in let access = access_to c.args.object c.args.mode c.args.value in
+    let r = c.start-poll.new.recorder in let v = seat_of w in let u = view r.seat in
+    let keeps = subst (λ (a : Poll). KeepsSeatAfter c.args.self.now.words a w.recorder r) c.in-Pending.is c.start-poll.ensures.keeps in
+    let polls = subst (λ (a : Poll). Polls access v a u) c.in-Pending.is c.start-poll.ensures.polls in record {
+      whole = still_whole w c.args.self.now.words _ r keeps;
+      reading = w.reading ∙ sym (reads_pending access v u c.in-Pending.why polls.journal);
+      to_read = w.to_read;
+      room = still_room w c.args.self.now.words _ r keeps;
+      few = (let a = keeps.counts in let b = w.few.0 in omega arith, w.few.1);
+      least = let a = keeps.counts in let b = w.least in omega arith;
+    }
 
 pub returns-in-Ready-clause-slow : goal.returns-in-Ready-clause-slow
-returns-in-Ready-clause-slow c = let access : PendingAccess = record { object = c.args.object; mode = c.args.mode; value = c.args.value } in
-    let v = seat_of c.args.worker.now in let steps = steps_since v (view c.load-poll.new.recorder.seat) in let slow = c.args.worker.now.slow in
-    let fast = c.load-poll.ensures.passes ∙ sym (idle_fast access v steps (ap is_idle c.requires.idle.0)) in
-    c.slow_by-worker.ensures ∙ (ap (λ (b : Bool). slow_by b slow) fast ∙ ap (λ (a : Poll). slow_after a (is_fast access v steps) slow) (sym c.in-Ready.is))
-
-pub returns-in-Pending-clause-slow : goal.returns-in-Pending-clause-slow
-returns-in-Pending-clause-slow c = let access : PendingAccess = record { object = c.args.object; mode = c.args.mode; value = c.args.value } in
-    let v = seat_of c.args.worker.now in
-    ap (λ (a : Poll). slow_after a (is_fast access v (steps_since v (view c.safe_point.new.seat))) c.args.worker.now.slow) (sym c.in-Pending.is)
+returns-in-Ready-clause-slow c = let access = access_to c.args.object c.args.mode c.args.value in
+    let v = seat_of c.args.worker.now in let fast = is_fast access v (steps_since v (view c.start-poll.new.recorder.seat)) in let slow = c.args.worker.now.slow in
+    c.slow_by-worker.ensures ∙ subst (λ (a : Poll). slow_after a c.start-poll.result.1 slow ≡ slow_after a fast slow) c.in-Ready.is (c.start-poll.ensures.path slow)

@@ -6,6 +6,7 @@ use Rattle.octet_heap.specs.declared.way.Way.{Way}
 use Rattle.octet_heap.specs.Ways.{with_value, ComesTo}
 use Rattle.octet_heap.proofs.polls.Going.{goes_on, comes_after}
 use Rattle.octet_heap.proofs.stretches.Pursuits.{ask_given, ask_waits, asks_few_more}
+use Rattle.octet_heap.proofs.log.Entries.{takes_both}
 use Rattle.octet_heap.proofs.heap.Heap.ask_on.Goals as goal
 
 pub loop-done-preserved : goal.loop-done-preserved
@@ -15,8 +16,9 @@ loop-done-preserved c = let i = c.loop-done.invariant in let v = view c.loop-don
     let given = ask_given (with_value c.args.access 0) c.args.prior c.loop-done.done c.next-next.result v u left next i.stands c.ask.result c.in-Given.upto c.ask.ensures.step (sym c.in-Given.is) in
     let ahead : c.args.from ≤ c.loop-done.done = search rules in record {
       own = c.ask.ensures.keeps.own;
-      fuel = c.ask.ensures.keeps.same_fuel ∙ i.fuel;
+      base = c.ask.ensures.keeps.same_base ∙ i.base;
       counts = c.ask.ensures.keeps.counts ∙ i.counts;
+      takes = takes_both c.args.recorder.now.log c.loop-done.recorder.log c.ask.new.self.log (view c.args.recorder.now.seat).journal v.journal u.journal i.takes c.ask.ensures.keeps.takes;
       number = ap (λ (x : SeatView). x.number) c.ask.ensures.step.step.moves ∙ i.number;
       stands = search rules;
       goes = λ value. goes_on (with_value c.args.access value) (view c.args.recorder.now.seat) v u (1 + (c.loop-done.done - c.args.from)) 2 (1 + (c.loop-done.done + 1 - c.args.from)) (i.goes value) (ask_given (with_value c.args.access value) c.args.prior c.loop-done.done c.next-next.result v u left next i.stands c.ask.result c.in-Given.upto c.ask.ensures.step (sym c.in-Given.is)).1 (omega arith);

@@ -1,18 +1,24 @@
-use Rattle.std.proofs.Common.{refl, arith}
+use Rattle.std.proofs.Common.{refl, rules}
 use Rattle.octet_model.specs.declared.event.Event.TheVariants.{Update}
 use Rattle.octet_model.specs.Thread.{added}
 use Rattle.octet_state.specs.Steps.{target, ToBump}
 use Rattle.octet_rule.specs.Seats.{view}
-use Rattle.octet_heap.proofs.log.Logged.{gap_within}
-use Rattle.octet_heap.proofs.log.Entries.{follows, same_room}
+use Rattle.octet_heap.proofs.log.Entries.{gains, open_before, follows, takes_access}
 use Rattle.octet_heap.proofs.recorder.Recorder.bump.Goals as goal
 
-pub add_write-requires : goal.add_write-requires
-add_write-requires c = let r = c.args.self.now in let more = c.requires.more in let few = r.few in record { few = (omega arith, gap_within r.log _ r.logged) }
+pub add_access-requires : goal.add_access-requires
+add_access-requires c = record { few = c.requires.more.few; near = c.requires.more.near }
 
 pub invariant_of-self : goal.invariant_of-self
-invariant_of-self c = let r = c.args.self.now in let v = view r.seat in let object = target v.thread.phase in let e = c.add_write.ensures in let update = Update object c.bump-before.result (added c.args.amount c.bump-before.result) in record {
-  logged = follows (ToBump c.args.amount) v _ c.bump-before.result update _ c.bump-before.ensures.step refl (e.log v.journal update refl r.logged);
-  room = same_room r.fuel r.log c.add_write.new.self e.room r.room;
-  few = (let more = c.requires.more in let counts = e.counts in omega arith, r.few.1);
+invariant_of-self c = let r = c.args.self.now in let v = view r.seat in let update = Update (target v.thread.phase) c.bump-before.result (added c.args.amount c.bump-before.result) in record {
+  logged = follows (ToBump c.args.amount) v _ c.bump-before.result update _ r.base c.bump-before.ensures.step refl (c.add_access.ensures.log r.base v.journal update refl r.logged);
 }
+
+pub returns-clause-keeps : goal.returns-clause-keeps
+returns-clause-keeps c = let r = c.args.self.now in let v = view r.seat in let w = view c.bump-before.new.seat in let e = c.add_access.ensures in
+    let update = Update (target v.thread.phase) c.bump-before.result (added c.args.amount c.bump-before.result) in record {
+      own = search rules;
+      same_base = refl;
+      counts = e.counts;
+      takes = takes_access v.journal w.journal update r.log c.add_access.new.self (gains (ToBump c.args.amount) v w c.bump-before.result update c.bump-before.ensures.step refl) refl (open_before (ToBump c.args.amount) v w c.bump-before.result c.bump-before.ensures.step) e.counts e.marked e.marks;
+    }

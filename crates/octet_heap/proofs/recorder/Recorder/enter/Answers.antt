@@ -1,29 +1,26 @@
-use Rattle.std.proofs.Common.{arith}
+use Rattle.std.proofs.Common.{◌≡◌, ◌∙◌, suc, sym, refl, ap, arith, subst}
 use Rattle.octet_rule.specs.Seats.{view}
-use Rattle.octet_heap.proofs.log.Logged.{gap_within, reads_within}
-use Rattle.octet_heap.proofs.log.Entries.{same_room}
-use Rattle.octet_heap.proofs.stretches.MadeAtOnce.{follows_read, follows_other}
+use Rattle.octet_rule.specs.declared.entered.Entered.{Entered}
+use Rattle.octet_heap.specs.Logs.{IsLogOf}
+use Rattle.octet_heap.specs.Waiting.{accesses_after_load}
+use Rattle.octet_heap.proofs.log.Entries.{takes_access}
+use Rattle.octet_heap.proofs.stretches.MadeAtOnce.{made_one}
 use Rattle.octet_heap.proofs.recorder.Recorder.enter.Goals as goal
 
-pub add_read-requires-clause-few : goal.add_read-requires-clause-few
-add_read-requires-clause-few c = let r = c.args.self.now in let more = c.requires.more in let few = r.few in (omega arith, gap_within r.log _ r.logged)
-
-pub add_read-requires-clause-room : goal.add_read-requires-clause-room
-add_read-requires-clause-room c = let r = c.args.self.now in let more = c.requires.more in let room = r.room.1 in let within = reads_within r.log _ r.logged in omega arith
-
-pub add_write-requires : goal.add_write-requires
-add_write-requires c = let r = c.args.self.now in let more = c.requires.more in let few = r.few in record { few = (omega arith, gap_within r.log _ r.logged) }
+pub add_access-requires : goal.add_access-requires
+add_access-requires c = record { few = c.requires.more.few; near = c.requires.more.near }
 
 pub invariant_of-self : goal.invariant_of-self
-invariant_of-self c = let r = c.args.self.now in let v = view r.seat in let e = c.add_read.ensures in record {
-  logged = follows_read c.args.access.object c.args.access.mode c.args.access.value v c.in-Made.told _ c.add_read.new.self c.in-Made.ensures.steps c.in-Read.is (λ o. e.log v.journal o r.logged);
-  room = same_room r.fuel r.log c.add_read.new.self e.room r.room;
-  few = (let more = c.requires.more in let counts = e.counts in omega arith, r.few.1);
-}
+invariant_of-self c = let r = c.args.self.now in let v = view r.seat in let e = c.add_access.ensures in
+    let one = made_one c.args.access.object c.args.access.mode c.args.access.value v c.in-Made.told _ c.in-Made.ensures.steps in record {
+      logged = subst (IsLogOf c.add_access.new.self r.base) (sym one.grown) (e.log r.base v.journal one.event one.is r.logged);
+    }
 
-pub invariant_of-self-in-Write : goal.invariant_of-self-in-Write
-invariant_of-self-in-Write c = let r = c.args.self.now in let v = view r.seat in let e = c.add_write.ensures in record {
-  logged = follows_other c.args.access.object c.args.access.mode c.args.access.value v c.in-Made.told _ c.add_write.new.self c.in-Made.ensures.steps c.in-Write.is (λ event writes. e.log v.journal event writes r.logged);
-  room = same_room r.fuel r.log c.add_write.new.self e.room r.room;
-  few = (let more = c.requires.more in let counts = e.counts in omega arith, r.few.1);
-}
+pub returns-in-Made-clause-keeps : goal.returns-in-Made-clause-keeps
+returns-in-Made-clause-keeps c = let r = c.args.self.now in let v = view r.seat in let e = c.add_access.ensures in
+    let one = made_one c.args.access.object c.args.access.mode c.args.access.value v c.in-Made.told (view c.enter-entered.new.seat) c.in-Made.ensures.steps in record {
+      own = c.enter-entered.ensures.own;
+      same_base = refl;
+      counts = (let more : c.add_access.new.self.accesses ≡ suc r.log.accesses = let counts = e.counts in omega arith in more) ∙ ap (λ (a : Entered). accesses_after_load a r.log.accesses) (sym c.in-Made.is);
+      takes = takes_access v.journal (view c.enter-entered.new.seat).journal one.event r.log c.add_access.new.self one.grown one.is one.few e.counts e.marked e.marks;
+    }

@@ -16,7 +16,7 @@ invariant_of-self g c =
     let self = c.args.self.now in
     let rested = c.unblock.new.worker in
     let same : (seat_of rested).journal ≡ (seat_of self.worker).journal = c.unblock.ensures.same ∙ c.block.ensures.same in
-    let fuel : rested.recorder.fuel ≡ self.worker.recorder.fuel = c.unblock.ensures.own.same_fuel ∙ sym c.requires.work.own.same_fuel in record {
+    let fuel : rested.fuel ≡ self.worker.fuel = c.unblock.ensures.own.same_fuel ∙ sym c.requires.work.own.same_fuel in record {
       fits = ∥∥₁_elim self.fits ∥∥₁_prop (λ kept.
           ∣ subst (λ (n : ℕ). IsJournalOf (starting_configuration n) (seat_of rested).journal self.config) (sym fuel)
           (subst (λ (journal : List Event). IsJournalOf (start_of self.worker) journal self.config) (sym same) kept) ∣₁);

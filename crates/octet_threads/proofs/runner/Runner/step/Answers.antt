@@ -24,7 +24,7 @@ carry_with_backoff-demand-requires-clause-more g c κs within = λ wants.
 pub invariant_of-self-clause-fits : goal.invariant_of-self-clause-fits
 invariant_of-self-clause-fits g c =
     let self = c.args.self.now in
-    let same : c.carry_with_backoff-demand.new.worker.recorder.fuel ≡ self.worker.recorder.fuel = c.carry_with_backoff-demand.ensures.own.same_fuel ∙ sym c.requires.work.own.same_fuel in
+    let same : c.carry_with_backoff-demand.new.worker.fuel ≡ self.worker.fuel = c.carry_with_backoff-demand.ensures.own.same_fuel ∙ sym c.requires.work.own.same_fuel in
     ∥∥₁_elim self.fits ∥∥₁_prop (λ kept.
     ∣ subst (λ (fuel : ℕ). IsJournalOf (starting_configuration fuel) (seat_of c.carry_with_backoff-demand.new.worker).journal c.carry_with_backoff-demand.new.config) (sym same) (c.carry_with_backoff-demand.ensures.journal (start_of self.worker) kept) ∣₁)
 

@@ -1,0 +1,79 @@
+//! What a marker tells, and the emptying of its buffer. None of it is a step.
+ghost use Rattle.std.specs.Prelude.{◌≡◌, ◌<◌, ◌≤◌, true, drop, vec_capacity};
+ghost use Rattle.octet_model.specs.Journals.{access_count, gap_after, gapped_marks};
+ghost use Rattle.octet_model.specs.declared.limits.TheConstants.{MAX_MARKS_BEFORE_ACCESS};
+ghost use Rattle.octet_state.specs.declared.limits.TheConstants.{MAX_ACCESSES_OF_THREAD};
+ghost use Rattle.octet_heap.specs.Markers.{marker_seat, IsMarkerOf, HasRoom, IsEmptied};
+
+use crate::heap::Heap;
+use crate::marker::Marker;
+use octet_model::Gapped;
+
+impl Marker {
+    /// The number of its thread.
+    pub fn thread(&self) -> u8
+        ensures { result ≡ (marker_seat self.now).number }
+    {
+        self.recorder.seat.thread()
+    }
+
+    /// How many accesses it has made.
+    pub fn accesses(&self) -> u64
+        ensures { result ≡ access_count (marker_seat self.now).journal }
+    {
+        self.recorder.log.accesses
+    }
+
+    /// How many of them took the slow path, as `Worker::slow_accesses` counts them.
+    pub fn slow_accesses(&self) -> u64
+        ensures count { result ≡ self.now.slow }
+        ensures most { result ≤ access_count (marker_seat self.now).journal }
+    {
+        self.slow
+    }
+
+    /// How many of its thread's events came before the marks that it has.
+    pub fn base(&self) -> u64
+        ensures { result ≡ self.now.recorder.base }
+    {
+        self.recorder.base
+    }
+
+    /// Its marks since they were last cleared, each with the accesses since the mark before it, or since
+    /// then.
+    pub fn marks(&self) -> &[Gapped]
+        ensures { result.now ≡ gapped_marks 0 (drop self.now.recorder.base (marker_seat self.now).journal) }
+    {
+        self.recorder.log.marks.as_slice()
+    }
+
+    /// The accesses after the last of these marks, or since they were cleared.
+    pub fn gap(&self) -> u32
+        ensures { result ≡ gap_after 0 (drop self.now.recorder.base (marker_seat self.now).journal) }
+    {
+        self.recorder.log.gap()
+    }
+
+    /// Whether it has room for the marks of one more access. Where it has none, clearing them makes it,
+    /// or the thread has made all accesses that the words can count.
+    #[inline(always)]
+    pub fn has_room(&self) -> bool
+        ensures { result ≡ true → HasRoom self.now }
+    {
+        self.recorder.log.accesses < self.recorder.log.limit
+    }
+
+    /// Drops its marks, which its user has handed on. A buffer for fifteen marks or more then has room.
+    pub fn clear(&mut self, heap: &Heap)
+        requires own { IsMarkerOf heap.now self.old }
+        ensures own { IsMarkerOf heap.now self.new }
+        ensures seat { marker_seat self.new ≡ marker_seat self.old }
+        ensures pending { self.new.pending ≡ self.old.pending }
+        ensures changing { self.new.changing ≡ self.old.changing }
+        ensures slow { self.new.slow ≡ self.old.slow }
+        ensures emptied { IsEmptied self.old self.new }
+        ensures room { MAX_MARKS_BEFORE_ACCESS ≤ vec_capacity self.old.recorder.log.marks → access_count (marker_seat self.old).journal < MAX_ACCESSES_OF_THREAD → HasRoom self.new }
+    {
+        self.recorder.clear();
+    }
+}
