@@ -1,0 +1,4 @@
+pub mod Programs
+pub mod Keeping
+pub mod Beginning
+pub mod Stillness

@@ -1,0 +1,4 @@
+pub mod Programs
+pub mod Tracks
+pub mod Polls
+pub mod Recordings

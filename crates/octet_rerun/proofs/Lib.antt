@@ -1,0 +1,4 @@
+pub mod Stepping
+pub mod Recorded
+pub mod Followers
+pub mod Repeating
