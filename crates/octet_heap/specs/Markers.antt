@@ -14,6 +14,7 @@ use Rattle.octet_heap.specs.declared.pending_access.PendingAccess.{PendingAccess
 use Rattle.octet_heap.specs.declared.poll.Poll.{Poll}
 use Rattle.octet_heap.specs.declared.poll.Poll.TheVariants.{Ready, Pending}
 use Rattle.octet_heap.specs.declared.recorder.Recorder.{Recorder}
+use Rattle.octet_heap.specs.Logs as logs
 use Rattle.octet_heap.specs.OwnersPath.{steps_since}
 use Rattle.octet_heap.specs.Recorders.{CanRecord}
 use Rattle.octet_heap.specs.SlowPath.{is_fast, slow_after}
@@ -31,6 +32,10 @@ begun_by marker = begun_of marker.pending marker.changing
 -- the marker has room for one more access and its marks
 abbrev pub HasRoom : Marker → Type 0
 HasRoom marker = CanRecord marker.recorder
+
+-- the marker has room for one more access and for fifteen marks more, as many as any access can need
+abbrev pub HasWholeRoom : Marker → Type 0
+HasWholeRoom marker = logs.HasWholeRoom marker.recorder.log
 
 -- the recorder has room for the access that is begun, if one is
 abbrev pub HasRoomIf : Option PendingAccess → Recorder → Type 0

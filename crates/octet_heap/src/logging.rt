@@ -16,6 +16,7 @@ fn limit_after(left: usize, marked: u64) -> u64
     ensures most { result ≤ MAX_ACCESSES_OF_THREAD }
     ensures near { result ≤ marked + MAX_GAP }
     ensures room { 0 < result → MAX_MARKS_BEFORE_ACCESS ≤ left }
+    ensures told { (n : ℕ) → MAX_MARKS_BEFORE_ACCESS ≤ left → n < marked + MAX_GAP → n < MAX_ACCESSES_OF_THREAD → n < result }
 {
     if left < MAX_MARKS_BEFORE_ACCESS {
         return 0;

@@ -1,9 +1,9 @@
 //! What a marker tells, and the emptying of its buffer. None of it is a step.
-ghost use Rattle.std.specs.Prelude.{◌≡◌, ◌<◌, ◌≤◌, true, drop, vec_capacity};
+ghost use Rattle.std.specs.Prelude.{◌≡◌, ◌↔◌, ◌<◌, ◌≤◌, true, drop, vec_capacity};
 ghost use Rattle.octet_model.specs.Journals.{access_count, gap_after, gapped_marks};
 ghost use Rattle.octet_model.specs.declared.limits.TheConstants.{MAX_MARKS_BEFORE_ACCESS};
 ghost use Rattle.octet_state.specs.declared.limits.TheConstants.{MAX_ACCESSES_OF_THREAD};
-ghost use Rattle.octet_heap.specs.Markers.{marker_seat, IsMarkerOf, HasRoom, IsEmptied};
+ghost use Rattle.octet_heap.specs.Markers.{marker_seat, IsMarkerOf, HasRoom, HasWholeRoom, IsEmptied};
 
 use crate::heap::Heap;
 use crate::marker::Marker;
@@ -54,11 +54,13 @@ impl Marker {
         self.recorder.log.gap()
     }
 
-    /// Whether it has room for the marks of one more access. Where it has none, clearing them makes it,
-    /// or the thread has made all accesses that the words can count.
+    /// Whether it has room for one more access and for fifteen marks more, which is enough for any access.
+    /// Where it has none, clearing its marks makes it, or the thread has made all accesses that the words
+    /// can count.
     #[inline(always)]
     pub fn has_room(&self) -> bool
-        ensures { result ≡ true → HasRoom self.now }
+        ensures whole { (result ≡ true) ↔ HasWholeRoom self.now }
+        ensures enough { result ≡ true → HasRoom self.now }
     {
         self.recorder.log.accesses < self.recorder.log.limit
     }
@@ -72,7 +74,7 @@ impl Marker {
         ensures changing { self.new.changing ≡ self.old.changing }
         ensures slow { self.new.slow ≡ self.old.slow }
         ensures emptied { IsEmptied self.old self.new }
-        ensures room { MAX_MARKS_BEFORE_ACCESS ≤ vec_capacity self.old.recorder.log.marks → access_count (marker_seat self.old).journal < MAX_ACCESSES_OF_THREAD → HasRoom self.new }
+        ensures room { MAX_MARKS_BEFORE_ACCESS ≤ vec_capacity self.old.recorder.log.marks → access_count (marker_seat self.old).journal < MAX_ACCESSES_OF_THREAD → HasWholeRoom self.new × HasRoom self.new }
     {
         self.recorder.clear();
     }

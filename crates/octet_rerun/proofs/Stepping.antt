@@ -34,6 +34,8 @@ module _ (v w : PlayerView) where
         mark = waits.mark;
         is_next = ap (λ (x : PlayerView). next_in x) moves ∙ waits.is_next;
         needed = subst (λ (log : Log). Needs log.threads waits.mark whom needs) (sym (ap (λ (x : PlayerView). x.log) moves)) waits.needed;
+        before = v;
+        look = waits.look;
         fewer = waits.fewer;
       }
 

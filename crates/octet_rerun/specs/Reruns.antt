@@ -17,6 +17,8 @@ use Rattle.octet_parallel.specs.declared.finished.Finished as finished
 use Rattle.octet_parallel.specs.declared.player.Player.{Player}
 use Rattle.octet_parallel.specs.Calls.{view_of, script_in, log_in, IsPlayerOf, HasEnded}
 use Rattle.octet_parallel.specs.Needs.{Needs}
+use Rattle.octet_parallel.specs.Rule.{Steps}
+use Rattle.octet_parallel.specs.Steps.{ToLook}
 use Rattle.octet_parallel.specs.Views.{PlayerView, next_in}
 use Rattle.octet_recorder.specs.declared.access.Access.{Access}
 use Rattle.octet_rerun.specs.declared.fault.RerunFault.{RerunFault}
@@ -94,11 +96,13 @@ pub record IsDivergence (asked : Option Access) (rerun : Rerun) (w : Follower) (
   pub no_mark : IsNoMark divergence.recorded
   pub differs : DiffersFrom asked divergence.recorded
 
--- the player's next mark needs so many events of another one, which shows fewer
+-- the player looked last at another one, which showed fewer events than the player's next mark needs
 pub record Awaits (v : PlayerView) (whom needs found : ℕ) : Type 0 where
   pub mark : Mark
   pub is_next : next_in v ≡ Wants (MakeMark mark)
   pub needed : Needs v.log.threads mark whom needs
+  pub before : PlayerView
+  pub look : Steps (ToLook whom) before found v
   pub fewer : found < needs
 
 -- the player waits for some other one
