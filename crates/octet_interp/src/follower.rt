@@ -1,6 +1,6 @@
 //! A thread of a script that follows its journal: which of its commands made the events.
 ghost use Rattle.std.specs.Prelude.{◌≡◌, ◌+◌, ◌<◌, ◌≤◌, ◌^◌, suc, [], ◌∷◌, get_or, length, slice_get, All, IfOk, IfSome, IsNone};
-ghost use Rattle.octet_model.specs.Thread.{is_access, past_access, settled, starting_configuration};
+ghost use Rattle.octet_model.specs.Thread.{past_access, settled, starting_configuration};
 ghost use Rattle.octet_model.specs.Validity.{HasRegisters};
 ghost use Rattle.octet_interp.specs.Context.{configuration_of};
 ghost use Rattle.octet_interp.specs.Leads.{IsLeadTable};
@@ -36,15 +36,6 @@ impl<'a> Model for Follower<'a> {
     ghost invariant = { λ f. IsFollower f.commands.now f.leads.items f.context };
 }
 
-fn is_access(command: Command) -> bool
-    ensures { result ≡ is_access command }
-{
-    match command {
-        Command::Read { .. } | Command::Write { .. } | Command::Bump { .. } => true,
-        _ => false,
-    }
-}
-
 fn is_region(command: Command) -> bool
     ensures { result ≡ is_region command }
 {
@@ -72,7 +63,7 @@ fn pass_region(commands: &[Command], leads: &[usize], context: &mut Context) -> 
         }
         let place = context.place;
         let command = commands[place];
-        if is_access(command) {
+        if command.is_access() {
             return None;
         }
         let lead = leads[place];

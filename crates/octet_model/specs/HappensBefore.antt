@@ -1,5 +1,5 @@
 -- Which events of journals happen before which.
-use Rattle.std.specs.Prelude.{◌≡◌, ◌≢◌, ℕ, suc, ◌<◌, ◌≤◌, ◌⊎◌, Bool, true, false, ◌||◌, IsTrue, List, [], ◌∷◌, ◌++◌, Option, Some, None, slice_get}
+use Rattle.std.specs.Prelude.{◌≡◌, ◌≢◌, ℕ, suc, ◌<◌, ◌≤◌, ◌⊎◌, Bool, true, false, ◌||◌, IsTrue, List, [], ◌∷◌, ◌++◌, Option, Some, None, is_some, slice_get}
 use Rattle.octet_model.specs.declared.event.Mark.TheVariants.{Join, Draw, Fence}
 use Rattle.octet_model.specs.declared.event.Event.{Event}
 use Rattle.octet_model.specs.declared.event.Event.TheVariants.{Read, Write, Update, Marked}
@@ -42,6 +42,10 @@ object_of (Read object value) = Some object
 object_of (Write object value) = Some object
 object_of (Update object before after) = Some object
 object_of (Marked mark) = None
+
+-- the test whether an event is an access
+abbrev pub is_access : Event → Bool
+is_access event = is_some (object_of event)
 
 -- the test whether an event is a write or an update
 abbrev pub is_write : Event → Bool

@@ -1,5 +1,6 @@
 -- How one thread of a script runs by itself.
-use Rattle.std.specs.Prelude.{◌≡◌, ℕ, zero, suc, pred, ◌+◌, ◌-◌, ◌*◌, ◌%◌, ◌^◌, Bool, true, false, if◌then◌else◌, ◌==◌, ◌&&◌, nat_lt, bit_xor, List, [], ◌∷◌, drop, replicate, Option, Some, None, slice_get, slice_index, slice_set}
+use Rattle.std.specs.Prelude.{◌≡◌, ℕ, zero, suc, pred, ◌+◌, ◌-◌, ◌*◌, ◌%◌, ◌^◌, Bool, true, false, if◌then◌else◌, ◌==◌, ◌&&◌, nat_lt, bit_xor, List, [], ◌∷◌, drop, replicate, Option, Some, None, is_some, slice_get, slice_index, slice_set}
+use Rattle.octet_model.specs.declared.command.Access.{Access}
 use Rattle.octet_model.specs.declared.command.Command.{Command}
 use Rattle.octet_model.specs.declared.command.Command.TheVariants.{Set, Copy, Add, Sub, Mul, Xor, Less, Same, Read, Write, Bump, Loop, Branch, Close}
 use Rattle.octet_model.specs.declared.event.Event.{Event}
@@ -91,12 +92,16 @@ stepped commands c (Branch test) = branched commands c test
 stepped commands c Close = moved_to c (place_after_close commands c.place)
 stepped commands c _ = moved_to c (suc c.place)
 
+-- the access that a command makes, if it makes one
+abbrev pub access_of : Command → Option Access
+access_of (Read to object) = Some (record { object = object; writes = false })
+access_of (Write object from) = Some (record { object = object; writes = true })
+access_of (Bump object from) = Some (record { object = object; writes = true })
+access_of _ = None
+
 -- the test whether a command is an access
 abbrev pub is_access : Command → Bool
-is_access (Read to object) = true
-is_access (Write object from) = true
-is_access (Bump object from) = true
-is_access _ = false
+is_access command = is_some (access_of command)
 
 -- the configuration at the first command that stops the run, or after as many commands as `fuel` allows
 abbrev pub run_to : (Command → Bool) → List Command → ℕ → Configuration → Configuration

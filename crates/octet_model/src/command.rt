@@ -1,4 +1,13 @@
 //! The commands of a script's threads.
+ghost use Rattle.std.specs.Prelude.{◌≡◌};
+ghost use Rattle.octet_model.specs.Thread.{access_of, is_access};
+
+/// What an access does: which object it is of, and whether it writes the object.
+#[derive(Clone, Copy, Debug, PartialEq, Eq)]
+pub struct Access {
+    pub object: u16,
+    pub writes: bool,
+}
 
 /// A command of a thread. Registers are named by their number, below 16, and objects by their
 /// place in the script. Arithmetic is modulo 2^64.
@@ -35,4 +44,32 @@ pub enum Command {
     Pause,
     /// Where a new region of the thread begins.
     Region,
+}
+
+impl Command {
+    /// The access that it makes, if it makes one. A bump writes its object.
+    #[inline(always)]
+    pub fn access(self) -> Option<Access>
+        ensures { result ≡ access_of self }
+    {
+        match self {
+            Command::Read { object, .. } => Some(Access {
+                object,
+                writes: false,
+            }),
+            Command::Write { object, .. } | Command::Bump { object, .. } => Some(Access {
+                object,
+                writes: true,
+            }),
+            _ => None,
+        }
+    }
+
+    /// Whether it is an access.
+    #[inline(always)]
+    pub fn is_access(self) -> bool
+        ensures { result ≡ is_access self }
+    {
+        self.access().is_some()
+    }
 }

@@ -1,4 +1,6 @@
 //! The events of a run: accesses of objects, and marks.
+ghost use Rattle.std.specs.Prelude.{◌≡◌};
+ghost use Rattle.octet_model.specs.HappensBefore.{is_access, is_write, object_of};
 
 /// A mark of a dependence between threads, as OCTET's transitions give them.
 #[derive(Clone, Copy, Debug, PartialEq, Eq)]
@@ -31,6 +33,43 @@ pub enum Event {
     Marked {
         mark: Mark,
     },
+}
+
+impl Event {
+    /// The object that it accesses. A mark accesses none.
+    #[inline(always)]
+    pub fn object(self) -> Option<u16>
+        ensures { result ≡ object_of self }
+    {
+        match self {
+            Event::Read { object, .. }
+            | Event::Write { object, .. }
+            | Event::Update { object, .. } => Some(object),
+            Event::Marked { .. } => None,
+        }
+    }
+
+    /// Whether it is an access, and no mark.
+    #[inline(always)]
+    pub fn is_access(self) -> bool
+        ensures { result ≡ is_access self }
+    {
+        match self {
+            Event::Read { .. } | Event::Write { .. } | Event::Update { .. } => true,
+            Event::Marked { .. } => false,
+        }
+    }
+
+    /// Whether it is an access that writes: a write or an update.
+    #[inline(always)]
+    pub fn writes(self) -> bool
+        ensures { result ≡ is_write self }
+    {
+        match self {
+            Event::Write { .. } | Event::Update { .. } => true,
+            Event::Read { .. } | Event::Marked { .. } => false,
+        }
+    }
 }
 
 /// Where an event stands: its thread, and its place in the thread's journal, counted from 0

@@ -18,7 +18,7 @@ mod script;
 mod start;
 mod text;
 
-pub use command::Command;
+pub use command::{Access, Command};
 pub use event::{Event, Mark, Place};
 pub use journal::{log_of, log_of_journal, reads_of, values_read};
 pub use limits::{

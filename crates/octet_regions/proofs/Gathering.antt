@@ -11,6 +11,7 @@ use Rattle.octet_model.specs.declared.log.ThreadLog.{ThreadLog}
 use Rattle.octet_model.specs.declared.script.Script.{Script}
 use Rattle.octet_model.specs.Thread.{Configuration, starting_configuration}
 use Rattle.octet_model.specs.Machine.{Journals, journal_of, PlainState, Behavior, Operation, Next, Wants, Finished, NothingFits, event_made, performed, next_of, step, after}
+use Rattle.octet_model.specs.HappensBefore.{is_access}
 use Rattle.octet_model.specs.Orders.{by_log, commands_of, lowest_order, opening_state, state_after}
 use Rattle.octet_model.proofs.lemmas.LogsOfJournals.{as_many_after}
 use Rattle.octet_model.proofs.lemmas.Steps.{by_step, Makes, what_it_makes, other_journal, same_journal}
@@ -24,7 +25,7 @@ use Rattle.octet_regions.specs.declared.region.Region.{Region}
 use Rattle.octet_regions.specs.Accesses.{access_in, access_made, accesses_along, accesses_of, region_in}
 use Rattle.octet_regions.specs.code.Chooser.{FitQueues}
 use Rattle.octet_regions.specs.code.Earlier.{RegionsRise}
-use Rattle.octet_regions.specs.code.Gather.{AccessesSoFar, is_access}
+use Rattle.octet_regions.specs.code.Gather.{AccessesSoFar}
 use Rattle.octet_regions.proofs.LastAccesses.{last_cases}
 
 -- an event is an access in its region, or adds nothing

@@ -4,10 +4,10 @@ use Rattle.std.specs.List.{filter}
 use Rattle.std.proofs.lemmas.Bool.{eqb-true}
 use Rattle.octet_model.specs.declared.event.Event.{Event}
 use Rattle.octet_model.specs.Machine.{event_made, heap_after}
+use Rattle.octet_model.specs.HappensBefore.{is_access}
 use Rattle.octet_model.specs.Plays.{operation_of}
 use Rattle.octet_model.proofs.lemmas.Fronts.{Apart}
 use Rattle.octet_regions.specs.declared.access.Access.{Access}
-use Rattle.octet_regions.specs.code.Gather.{is_access}
 
 -- what the accesses make of a heap
 abbrev pub heap_past : List Access → List ℕ → List ℕ

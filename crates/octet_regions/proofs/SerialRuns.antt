@@ -12,6 +12,7 @@ use Rattle.octet_model.specs.declared.script.Script.{Script}
 use Rattle.octet_model.specs.Thread.{Configuration, FitsFrom, FitsToEnd, configuration_after, demanded, past_demanded, starting_configuration}
 use Rattle.octet_model.specs.Journals.{access_count, gapped_marks, log_of, log_of_journal}
 use Rattle.octet_model.specs.Machine.{Journals, journal_of, PlainState, Operation, starting_state, is_enabled, event_made, heap_after, appended, step, after, IsFront, IsOrder}
+use Rattle.octet_model.specs.HappensBefore.{is_access}
 use Rattle.octet_model.specs.Orders.{by_log, commands_of, end_of, ends_of, execution, journals_after, lowest_order, opening_state, outcome_of, starting_heap, state_after, values_read, FitsScript, IsLawfulOrder}
 use Rattle.octet_model.specs.Plays.{MakesAll, by_journals, next_in, operation_of, state_after_play}
 use Rattle.octet_model.proofs.lemmas.Fronts.{no_journal}
@@ -26,7 +27,6 @@ use Rattle.octet_regions.specs.declared.access.Access.{Access}
 use Rattle.octet_regions.specs.declared.region.Region.{Region}
 use Rattle.octet_regions.specs.Accesses.{access_in, access_made, accesses_along, accesses_of, region_in}
 use Rattle.octet_regions.specs.Choice.{IsSerialChoice, TakesAll}
-use Rattle.octet_regions.specs.code.Gather.{is_access}
 use Rattle.octet_regions.specs.Runs.{RunsSerially, is_in, serial_run, without_marks}
 use Rattle.octet_regions.proofs.Gathering.{in_cases, rises_in_order}
 use Rattle.octet_regions.proofs.Reordering.{Reorders, Runs, by_thread, filtered, heap_past, of_thread}

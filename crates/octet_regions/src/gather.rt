@@ -2,23 +2,13 @@
 ghost use Rattle.std.specs.Prelude.{◌≡◌, IfErr, IfOk};
 ghost use Rattle.octet_replay.specs.ReplayState.{IsNotBegun};
 ghost use Rattle.octet_regions.specs.Accesses.{accesses_of};
-ghost use Rattle.octet_regions.specs.code.Gather.{AddsAccess, is_access};
+ghost use Rattle.octet_regions.specs.code.Gather.{AddsAccess};
 
 use crate::Region;
 use crate::access::Access;
-use octet_model::{Event, Log, Script};
+use octet_model::{Log, Script};
 use octet_replay::{ReplayFault, Replayer, Stepped};
 use std::alloc::Global;
-
-#[inline(always)]
-fn is_access(event: Event) -> bool
-    ensures { result ≡ is_access event }
-{
-    match event {
-        Event::Read { .. } | Event::Write { .. } | Event::Update { .. } => true,
-        Event::Marked { .. } => false,
-    }
-}
 
 /// Steps a replay on to the next access, which is told with its region, or to the end.
 #[inline(always)]
@@ -32,7 +22,7 @@ pub(crate) fn next_access(replayer: &mut Replayer<'_>) -> Option<Access>
         let Stepped::Made { event, .. } = replayer.step() else {
             unreachable!()
         };
-        if is_access(event) {
+        if event.is_access() {
             let region = Region { thread, number };
             return Some(Access { region, event });
         }

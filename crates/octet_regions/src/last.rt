@@ -84,10 +84,10 @@ impl LastRegions {
         ensures { (seen : List Access) → KeepsLast seen self.now → BoundConflicts seen access (bounds_of result) }
     {
         let thread = access.region.thread;
-        match access.object() {
+        match access.event.object() {
             None => None,
             Some(object) => {
-                if access.writes() {
+                if access.event.writes() {
                     self.all.beside(object, thread)
                 } else {
                     self.writing.beside(object, thread)
@@ -103,13 +103,13 @@ impl LastRegions {
         requires room { access.region.number + 1 < 2 ^ 32 }
         ensures { OnOk result ((seen : List Access) → KeepsLast seen self.old → KeepsLast (seen ++ access ∷ []) self.new) }
     {
-        let Some(object) = access.object() else {
+        let Some(object) = access.event.object() else {
             return Ok(());
         };
         let thread = access.region.thread;
         let bound = access.region.number + 1;
         self.all.note(object, thread, bound)?;
-        if access.writes() {
+        if access.event.writes() {
             self.writing.note(object, thread, bound)?;
         }
         Ok(())

@@ -1,12 +1,20 @@
 -- What a journal in two parts has, by its parts.
-use Rattle.std.proofs.Common.{◌≡◌, ℕ, suc, ◌+◌, List, [], ◌∷◌, ◌++◌, length, refl, ap, arith}
+use Rattle.std.proofs.Common.{◌≡◌, ℕ, suc, ◌+◌, cond, List, [], ◌∷◌, ◌++◌, length, refl, ap, arith}
 use Rattle.octet_model.specs.declared.command.Command.{Command}
 use Rattle.octet_model.specs.declared.event.Event.{Event}
 use Rattle.octet_model.specs.declared.event.Event.TheVariants.{Read, Write, Update, Marked}
 use Rattle.octet_model.specs.declared.log.Gapped.{Gapped}
 use Rattle.octet_model.specs.Thread.{Configuration, past_demanded, configuration_after, FitsFrom}
 use Rattle.octet_model.specs.Journals.{access_count, mark_count, gap_after, gapped_marks}
+use Rattle.octet_model.specs.HappensBefore.{is_access}
 use Rattle.octet_model.specs.Orders.{values_read}
+
+-- an event is one access, or none
+pub one_event : (event : Event) → access_count (event ∷ []) ≡ cond (is_access event) 1 0
+one_event (Read object value) = refl
+one_event (Write object value) = refl
+one_event (Update object before after) = refl
+one_event (Marked mark) = refl
 
 pub accesses_split : (pre post : List Event) → access_count (pre ++ post) ≡ access_count pre + access_count post
 accesses_split [] post = omega arith

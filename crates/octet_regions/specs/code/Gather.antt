@@ -1,17 +1,10 @@
 -- The accesses that a replay has made so far.
-use Rattle.std.specs.Prelude.{◌≡◌, ℕ, ◌<◌, ◌≤◌, ◌∷◌, ◌++◌, [], Bool, true, false, List, Option, Some, None, length, take, slice_get}
-use Rattle.octet_model.specs.declared.event.Event.{Event}
-use Rattle.octet_model.specs.declared.event.Event.TheVariants.{Marked}
+use Rattle.std.specs.Prelude.{◌≡◌, ℕ, ◌<◌, ◌≤◌, ◌∷◌, ◌++◌, [], List, Option, Some, None, length, take, slice_get}
 use Rattle.octet_model.specs.declared.limits.TheConstants.{MAX_FUEL}
 use Rattle.octet_model.specs.Orders.{lowest_order, opening_state}
 use Rattle.octet_replay.specs.ReplayState.{HasHalted, ReplayState}
 use Rattle.octet_regions.specs.declared.access.Access.{Access}
 use Rattle.octet_regions.specs.Accesses.{accesses_along}
-
--- the test whether an event is an access
-abbrev pub is_access : Event → Bool
-is_access (Marked mark) = false
-is_access _ = true
 
 -- the accesses of the steps so far, by threads that are there, in regions of small numbers
 pub record AccessesSoFar (r : ReplayState) (accesses : List Access) : Type 0 where
