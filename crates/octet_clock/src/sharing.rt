@@ -117,12 +117,9 @@ impl Objects {
     fn take_event(&mut self, thread: usize, event: Event) -> Result<bool, OutOfMemory>
         ensures { IfOk result (λ apart. apart ≡ true → TakesEvent self.old.sharing.items thread event self.new.sharing.items) }
     {
-        match event {
-            Event::Read { object, .. } => self.take_access(thread, object, false),
-            Event::Write { object, .. } | Event::Update { object, .. } => {
-                self.take_access(thread, object, true)
-            }
-            Event::Marked { .. } => Ok(true),
+        match event.object() {
+            Some(object) => self.take_access(thread, object, event.writes()),
+            None => Ok(true),
         }
     }
 

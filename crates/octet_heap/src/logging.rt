@@ -2,8 +2,9 @@
 ghost use Rattle.std.specs.Prelude.{◌≡◌, ℕ, ◌+◌, ◌<◌, ◌≤◌, ◌++◌, ◌∷◌, [], List, length, vec_capacity, IfOk, IsTrue};
 ghost use Rattle.octet_model.specs.declared.event.Event.{Event};
 ghost use Rattle.octet_model.specs.declared.event.Event.TheVariants.{Marked};
+ghost use Rattle.octet_model.specs.HappensBefore.{is_access};
 ghost use Rattle.octet_heap.specs.Gaps.{MAX_GAP};
-ghost use Rattle.octet_heap.specs.Logs.{IsLogOf, is_access};
+ghost use Rattle.octet_heap.specs.Logs.{IsLogOf};
 
 use crate::running_log::RunningLog;
 use octet_model::{Gapped, MAX_MARKS_BEFORE_ACCESS, Mark, OutOfMemory};

@@ -1,36 +1,26 @@
 -- Scripts of which no thread writes an object that another one names.
 use Rattle.std.specs.Prelude.{◌≡◌, ◌≢◌, ◌<◌, ◌&&◌, ℕ, Bool, true, false, IsTrue, IsFalse}
-use Rattle.std.specs.Prelude.{List, [], Option, Some, None, get_or, slice_get}
+use Rattle.std.specs.Prelude.{List, [], Some, None, get_or, slice_get}
+use Rattle.octet_model.specs.declared.command.Access.{Access}
 use Rattle.octet_model.specs.declared.command.Command.{Command}
-use Rattle.octet_model.specs.declared.command.Command.TheVariants.{Read, Write, Bump}
 use Rattle.octet_model.specs.declared.script.Script.{Script}
+use Rattle.octet_model.specs.Thread.{access_of}
 use Rattle.octet_model.specs.Orders.{commands_of}
 use Rattle.octet_parallel.specs.declared.apart.Use.{Use}
 
--- the object that a command names, if it is an access
-abbrev pub object_named : Command → Option ℕ
-object_named (Read to object) = Some object
-object_named (Write object from) = Some object
-object_named (Bump object from) = Some object
-object_named _ = None
-
--- the test whether a command is a write or a bump
-abbrev pub is_writer : Command → Bool
-is_writer (Write object from) = true
-is_writer (Bump object from) = true
-is_writer _ = false
-
--- one of the commands names the object
+-- one of the commands accesses the object
 pub record Names (commands : List Command) (object : ℕ) : Type 0 where
   pub place : ℕ
   pub command : Command
+  pub access : Access
   pub stands : slice_get commands place ≡ Some command
-  pub named : object_named command ≡ Some object
+  pub accesses : access_of command ≡ Some access
+  pub named : access.object ≡ object
 
 -- one of the commands writes the object
 pub record Writes (commands : List Command) (object : ℕ) : Type 0 where
   pub names : Names commands object
-  pub writer : IsTrue (is_writer names.command)
+  pub writer : IsTrue names.access.writes
 
 -- the threads are apart: no other thread names what a thread writes
 abbrev pub AreApart : Script → Type 0
@@ -72,10 +62,10 @@ pub record AddsUse (before : Use) (thread : ℕ) (writes : Bool) (after : Use) :
   pub kept : (other : ℕ) (wrote : Bool) → Covers before other wrote → Covers after other wrote
   pub added : Covers after thread writes
 
--- the command of the thread is known: the use kept of its object, if it names one, covers the command
+-- the command of the thread is known: if it is an access, the use kept of its object covers it
 abbrev pub Knows : List Use → ℕ → Command → Type 0
-Knows uses thread command = (object : ℕ) → object_named command ≡ Some object
-    → Covers (use_of uses object) thread (is_writer command)
+Knows uses thread command = (access : Access) → access_of command ≡ Some access
+    → Covers (use_of uses access.object) thread access.writes
 
 -- all commands that were known before are known after
 abbrev pub KeepsKnown : List Use → List Use → Type 0

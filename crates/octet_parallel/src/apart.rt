@@ -1,18 +1,11 @@
 //! Whether no thread of a script writes an object that another one names.
-ghost use Rattle.std.specs.Prelude.{◌≡◌, ◌↔◌, None, ◌<◌, ◌^◌, length, IfOk, IsTrue, MatchOption};
+ghost use Rattle.std.specs.Prelude.{◌↔◌, ◌<◌, ◌^◌, length, IfOk, IsTrue};
 ghost use Rattle.std.specs.List.{All};
 ghost use Rattle.octet_model.specs.Validity.{HasObject, IsValidThread};
-ghost use Rattle.octet_parallel.specs.Apart.{object_named, is_writer, AreApart, IsUnshared, AreSeenIn, AddsUse, TakesCommand, TakesCommands, KnowsThreads};
+ghost use Rattle.octet_parallel.specs.Apart.{AreApart, IsUnshared, AreSeenIn, AddsUse, TakesCommand, TakesCommands, KnowsThreads};
 
 use octet_model::{Command, List, OutOfMemory, Script};
 use std::alloc::Global;
-
-/// What a command does to an object.
-#[derive(Clone, Copy)]
-struct Access {
-    object: u16,
-    writes: bool,
-}
 
 /// How the threads use an object.
 #[derive(Clone, Copy)]
@@ -45,29 +38,12 @@ impl Use {
     }
 }
 
-// The access that the command is, if it is one.
-fn access_of(command: Command) -> Option<Access>
-    ensures { MatchOption result (object_named command ≡ None) (λ access. (object_named command ≡ Some access.object) × (is_writer command ≡ access.writes)) }
-{
-    match command {
-        Command::Read { object, .. } => Some(Access {
-            object,
-            writes: false,
-        }),
-        Command::Write { object, .. } | Command::Bump { object, .. } => Some(Access {
-            object,
-            writes: true,
-        }),
-        _ => None,
-    }
-}
-
 // Notes how a thread's command uses its object, if it is an access.
 fn note(uses: &mut [Use], thread: u8, command: Command)
     requires { HasObject (length uses.old) command }
     ensures { TakesCommand uses.old thread command uses.new }
 {
-    if let Some(access) = access_of(command) {
+    if let Some(access) = command.access() {
         let kept = uses[access.object as usize];
         uses[access.object as usize] = kept.with_access(thread, access.writes);
     }

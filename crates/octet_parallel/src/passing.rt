@@ -31,10 +31,7 @@ pub(crate) fn pass_before_event<R: Threads + Wait + Sync, G: Gate>(
     event: Event,
     accesses: u32,
 ) {
-    match event {
-        Event::Read { .. } | Event::Write { .. } | Event::Update { .. } => {
-            gate.pass(rt, thread, accesses);
-        }
-        Event::Marked { .. } => {}
+    if event.is_access() {
+        gate.pass(rt, thread, accesses);
     }
 }

@@ -10,13 +10,11 @@ use octet_model::Event;
 use octet_parallel::Played;
 
 // How many accesses an event is.
+#[tactic(auto, using(octet_model::proofs::lemmas::Splits::one_event))]
 fn accesses_in(event: Event) -> u32
     ensures { result ≡ access_count (event ∷ []) }
 {
-    match event {
-        Event::Read { .. } | Event::Write { .. } | Event::Update { .. } => 1,
-        Event::Marked { .. } => 0,
-    }
+    if event.is_access() { 1 } else { 0 }
 }
 
 impl Rerun {

@@ -1,14 +1,14 @@
 -- What `trace` says: each event, and before an event the `region` commands that its thread ran since its last access.
 -- An access has the line of the script whose command made it.
-use Rattle.std.specs.Prelude.{ℕ, ◌-◌, List, [], ◌∷◌, ◌++◌, codes, length, get_or}
+use Rattle.std.specs.Prelude.{ℕ, ◌-◌, if◌then◌else◌, List, [], ◌∷◌, ◌++◌, codes, length, get_or}
 use Rattle.std.specs.Fmt.{decimal}
 use Rattle.octet_model.specs.declared.command.Command.{Command}
 use Rattle.octet_model.specs.declared.event.Event.{Event}
-use Rattle.octet_model.specs.declared.event.Event.TheVariants.{Marked}
 use Rattle.octet_model.specs.declared.event.Place.{Place}
 use Rattle.octet_model.specs.declared.script.Script.{Script}
 use Rattle.octet_model.specs.Thread.{Configuration, starting_configuration}
 use Rattle.octet_model.specs.Machine.{Journals, journal_of, no_events, appended}
+use Rattle.octet_model.specs.HappensBefore.{is_access}
 use Rattle.octet_model.specs.Orders.{commands_of}
 use Rattle.octet_script.specs.LineNumbers.{command_lines}
 use Rattle.octet_interp.specs.Regions.{regions_before}
@@ -35,8 +35,7 @@ region_lines lines place last (command ∷ more) = region_line place (last - len
 
 -- the words that name the line of the command that made an access. A mark has none
 abbrev pub made_by : ℕ → Event → List ℕ
-made_by line (Marked mark) = []
-made_by line event = line_words line
+made_by line event = if is_access event then line_words line else []
 
 -- the lines for an event of a thread with these commands, after the events of its journal
 abbrev pub event_lines : List (List ℕ) → Script → List Command → Configuration → List Event → Place × Event → List ℕ

@@ -141,10 +141,10 @@ fn push_line(out: &mut Vec<u8>, line: usize) -> Result<(), OutOfMemory>
 fn push_made_by(out: &mut Vec<u8>, line: usize, event: Event) -> Result<(), OutOfMemory>
     ensures { OnOk result (out.new.items ≡ out.old.items ++ made_by line event) }
 {
-    match event {
-        Event::Read { .. } | Event::Write { .. } | Event::Update { .. } => push_line(out, line),
-        Event::Marked { .. } => Ok(()),
+    if event.is_access() {
+        push_line(out, line)?;
     }
+    Ok(())
 }
 
 fn say_misfit(alloc: Global, told: Vec<u8>, fault: &ReplayFault) -> Result<Reply, OutOfMemory>

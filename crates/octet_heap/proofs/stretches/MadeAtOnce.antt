@@ -2,6 +2,7 @@
 use Rattle.std.proofs.Common.{◌≡◌, ◌∙◌, ℕ, ◌≤◌, List, [], ◌∷◌, ◌++◌, IsTrue, None, sym, refl, ap, arith, subst}
 use Rattle.octet_model.specs.declared.event.Event.{Event}
 use Rattle.octet_model.specs.declared.event.Event.TheVariants as event
+use Rattle.octet_model.specs.HappensBefore.{is_access}
 use Rattle.octet_model.specs.Thread.{added}
 use Rattle.octet_state.specs.declared.act.Act.{Act}
 use Rattle.octet_state.specs.declared.act.Act.TheVariants.{Pass, Held}
@@ -22,7 +23,7 @@ use Rattle.octet_rule.proofs.Known.{load_moves}
 use Rattle.octet_rule.proofs.MadeAtOnce.{made_thread}
 use Rattle.octet_heap.specs.declared.pending_access.PendingAccess.{PendingAccess}
 use Rattle.octet_heap.specs.declared.poll.Poll.TheVariants.{Ready, Pending}
-use Rattle.octet_heap.specs.Logs.{is_access, open_marks}
+use Rattle.octet_heap.specs.Logs.{open_marks}
 use Rattle.octet_heap.specs.OwnersPath.{value_by}
 use Rattle.octet_heap.specs.Polls.{Comes}
 use Rattle.octet_heap.specs.Waiting.{IsToLoad, Leaves}

@@ -38,17 +38,17 @@ demand_named commands d (Some (Read to object)) is = go d.fuel
   where
     go : (fuel : ℕ) → DemandNamed commands (elim fuel [ zero ↦ demand_at (Some (Read to object)) (record d { fuel = 0 }) | suc left ↦ ToRead object ])
     go zero = tt
-    go (suc left) = record { place = d.place; command = Read to object; stands = is; named = refl }
+    go (suc left) = record { place = d.place; command = Read to object; access = record { object = object; writes = false }; stands = is; accesses = refl; named = refl }
 demand_named commands d (Some (Write object from)) is = go d.fuel
   where
     go : (fuel : ℕ) → DemandNamed commands (elim fuel [ zero ↦ demand_at (Some (Write object from)) (record d { fuel = 0 }) | suc left ↦ ToWrite object (slice_index d.registers from) ])
     go zero = tt
-    go (suc left) = record { names = record { place = d.place; command = Write object from; stands = is; named = refl }; writer = refl }
+    go (suc left) = record { names = record { place = d.place; command = Write object from; access = record { object = object; writes = true }; stands = is; accesses = refl; named = refl }; writer = refl }
 demand_named commands d (Some (Bump object from)) is = go d.fuel
   where
     go : (fuel : ℕ) → DemandNamed commands (elim fuel [ zero ↦ demand_at (Some (Bump object from)) (record d { fuel = 0 }) | suc left ↦ ToBump object (slice_index d.registers from) ])
     go zero = tt
-    go (suc left) = record { names = record { place = d.place; command = Bump object from; stands = is; named = refl }; writer = refl }
+    go (suc left) = record { names = record { place = d.place; command = Bump object from; access = record { object = object; writes = true }; stands = is; accesses = refl; named = refl }; writer = refl }
 demand_named commands d (Some other) is = tt
 
 next_named : (commands : List Command) (due : Option Mark) (d : AccessOrEnd) (left marks : Bool) (o : Operation) → DemandNamed commands d → mark_first due (next_access d left marks) ≡ Wants o → OperationNamed commands o

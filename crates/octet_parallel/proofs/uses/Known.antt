@@ -5,10 +5,14 @@ use Rattle.std.proofs.Common.{List, [], length, set, replicate, slice_get, get_o
 use Rattle.std.proofs.lemmas.Bool.{cases_eq, cases_lt}
 use Rattle.std.proofs.lemmas.List.{get_or_default, get_or_past, get_or-set_same, get_or-set_other}
 use Rattle.std.proofs.lemmas.Option.{slice_get_within}
+use Rattle.octet_model.specs.declared.command.Access.{Access}
 use Rattle.octet_model.specs.declared.command.Command.{Command}
+use Rattle.octet_model.specs.declared.command.Command.TheVariants.{Read, Write, Bump}
 use Rattle.octet_model.specs.declared.script.Script.{Script}
+use Rattle.octet_model.specs.Thread.{access_of}
+use Rattle.octet_model.specs.Validity.{HasObject}
 use Rattle.octet_parallel.specs.declared.apart.Use.{Use}
-use Rattle.octet_parallel.specs.Apart.{AreApart, Writes, object_named, is_writer}
+use Rattle.octet_parallel.specs.Apart.{AreApart, Names, Writes}
 use Rattle.octet_parallel.specs.Apart.{AddsUse, AreSeenIn, AreTwoNaming, Covers, IsSeenIn, IsUnshared, use_of}
 use Rattle.octet_parallel.specs.Apart.{Knows, KnowsThreads, TakesCommand, TakesCommands}
 
@@ -21,28 +25,42 @@ at_set P uses object new lt here others other = elim (cases_eq other object) [
   | inr differ ↦ rw get_or-set_other (others other differ)
 ]
 
+-- the object of a valid command's access is there
+pub object_there : (objects : ℕ) (command : Command) (access : Access) → HasObject objects command → access_of command ≡ Some access
+    → access.object < objects
+object_there objects (Read to object) access there is = subst (λ (n : ℕ). n < objects) (let same : object ≡ access.object = cc in same) there
+object_there objects (Write object from) access there is = subst (λ (n : ℕ). n < objects) (let same : object ≡ access.object = cc in same) there
+object_there objects (Bump object from) access there is = subst (λ (n : ℕ). n < objects) (let same : object ≡ access.object = cc in same) there
+object_there objects other access there is = absurd cc
+
 -- an access was noted
-module _ (uses : List Use) (thread : ℕ) (command : Command) (object : ℕ) (writes : Bool) (new : Use)
-    (lt : object < length uses) (named : object_named command ≡ Some object) (writer : is_writer command ≡ writes) where
-  with_use : AddsUse (use_of uses object) thread writes new → TakesCommand uses thread command (set uses object new)
+module _ (uses : List Use) (thread : ℕ) (command : Command) (access : Access) (new : Use)
+    (lt : access.object < length uses) (accesses : access_of command ≡ Some access) where
+  with_use : AddsUse (use_of uses access.object) thread access.writes new → TakesCommand uses thread command (set uses access.object new)
   with_use adds = record {
-    seen = λ threads place stands seen. at_set (IsSeenIn threads) uses object new lt
-        (adds.seen threads object (record { place = place; command = command; stands = stands; named = named })
-        (λ is. record { names = record { place = place; command = command; stands = stands; named = named }; writer = writer ∙ is })
-        (seen object))
+    seen = λ threads place stands seen.
+        let names : Names (get_or threads thread []) access.object =
+        record { place = place; command = command; access = access; stands = stands; accesses = accesses; named = refl } in
+        at_set (IsSeenIn threads) uses access.object new lt
+        (adds.seen threads access.object names (λ writes. record { names = names; writer = writes }) (seen access.object))
         (λ other differ. seen other);
-    kept = λ t c known. at_set (λ o kept. object_named c ≡ Some o → Covers kept t (is_writer c)) uses object new lt
-        (λ is. adds.kept t (is_writer c) (known object is))
-        (λ other differ. known other);
-    added = at_set (λ o kept. object_named command ≡ Some o → Covers kept thread (is_writer command)) uses object new lt
-        (λ is. subst (Covers new thread) (sym writer) adds.added)
-        (λ other differ is. absurd (differ (cc)));
+    kept = λ t c known other is. at_set (λ o kept. other.object ≡ o → Covers kept t other.writes) uses access.object new lt
+        (λ same. adds.kept t other.writes (subst (λ (o : ℕ). Covers (use_of uses o) t other.writes) same (known other is)))
+        (λ o differ same. subst (λ (o : ℕ). Covers (use_of uses o) t other.writes) same (known other is))
+        other.object refl;
+    added = λ same is.
+        let one : access ≡ same = cc in
+        subst (λ (a : Access). Covers (use_of (set uses access.object new) a.object) thread a.writes) one
+        (at_set (λ o kept. o ≡ access.object → Covers kept thread access.writes) uses access.object new lt
+        (λ here. adds.added)
+        (λ other differ here. absurd (differ here))
+        access.object refl);
   }
 
-  pub noted : (d : Use) → AddsUse (get_or uses object d) thread writes new
-      → TakesCommand uses thread command (set uses object new)
+  pub noted : (d : Use) → AddsUse (get_or uses access.object d) thread access.writes new
+      → TakesCommand uses thread command (set uses access.object new)
   noted d adds =
-      with_use (subst (λ (kept : Use). AddsUse kept thread writes new) (sym (get_or_default uses object _ d lt)) adds)
+      with_use (subst (λ (kept : Use). AddsUse kept thread access.writes new) (sym (get_or_default uses access.object _ d lt)) adds)
 
 -- one command more
 pub one_command : (start : List Use) (thread : ℕ) (commands : List Command) (upto : ℕ) (command : Command)
@@ -111,8 +129,10 @@ apart_where_unshared script uses known all thread other object differ writes nam
     let threads = script.threads in
     let is_one = within threads thread writes.names.place writes.names.command writes.names.stands in
     let is_other = within threads other names.place names.command names.stands in
-    let one = known thread writes.names.place writes.names.command is_one writes.names.stands object writes.names.named in
-    let two = known other names.place names.command is_other names.stands object names.named in
+    let one = subst (λ (o : ℕ). Covers (use_of uses o) thread writes.names.access.writes) writes.names.named
+    (known thread writes.names.place writes.names.command is_one writes.names.stands writes.names.access writes.names.accesses) in
+    let two = subst (λ (o : ℕ). Covers (use_of uses o) other names.access.writes) names.named
+    (known other names.place names.command is_other names.stands names.access names.accesses) in
     let kept = use_of uses object in
     shared kept.is_written kept.by_others kept.first thread other (one.written writes.writer) one.named two.named differ
     (unshared uses all object)

@@ -1,4 +1,4 @@
-use Rattle.std.proofs.Common.{◌∙◌}
+use Rattle.std.proofs.Common.{◌∙◌, arith}
 use Rattle.octet_parallel.proofs.uses.Known.{known_with, seen_with}
 use Rattle.octet_parallel.proofs.apart.note_threads.Goals as goal
 
@@ -16,3 +16,7 @@ loop-thread-preserved c =
       seen = seen_with threads before.thread commands item before.uses noted.new.uses c.loop-thread-test.true is
           c.args.uses.now before.invariant.seen noted.ensures;
     }
+
+pub returns-clause-known : goal.returns-clause-known
+returns-clause-known c thread place command within stands =
+    c.loop-thread.invariant.known thread place command (omega arith) stands
