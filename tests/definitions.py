@@ -21,6 +21,7 @@ HEADLINE = (CRATES / "octet_top" / "src" / "program.rt", "serve", "headline")
 PART = r"[\w'][^\s(){}\[\],;.\"]*"
 WORD = re.compile(rf"{PART}(?:\.{PART})*|[^\s\w(){{}}\[\],;.'\"]+")
 USE = re.compile(r"^(?:pub )?(?:ghost )?use ([\w.]+?)(?:\.\{(.*?)\}| as (\w+))?;?$", re.M | re.S)
+PASSES = re.compile(r"^pub use [\w.]+?\.\{(.*?)\}$", re.M | re.S)
 # How an item begins, at the head of a line or, in a `module`, two blanks further in than it.
 HEAD = r"(?:(?:abbrev|opaque|pub) )*(?:(?:data|record) )?(?!(?:module|mod|use|pub|infixl|infixr|infix) |unfolding|unfoldable)([\w'][\w'\-]*)(?=[ :])"
 BEGINS = re.compile(HEAD)
@@ -58,6 +59,8 @@ class Module:
         self.path, self.name = path, name
         text = without_comments(path.read_text())
         self.imports, self.aliases, self.lists = {}, {}, []
+        # The names that it takes from another file and passes on.
+        self.passed = {name.strip() for names in PASSES.findall(text) for name in names.split(",")}
         for source, names, alias in USE.findall(text):
             source = source.removeprefix("Rattle.")
             for each in filter(None, (each.strip() for each in names.split(","))):
@@ -112,11 +115,17 @@ def resolve(module, word, known):
     if head in module.items:
         return module.name, head
     if head in module.imports:
-        source, name = module.imports[head]
-        return source, name
+        return origin(*module.imports[head], known)
     if head in module.aliases and rest:
-        return module.aliases[head], rest[0]
+        return origin(module.aliases[head], rest[0], known)
     return None
+
+
+def origin(source, name, known):
+    """Where what a file has under this name is defined, which may pass it on from another one."""
+    while source in known and name in known[source].passed:
+        source, name = known[source].imports[name]
+    return source, name
 
 
 class Code:
@@ -255,7 +264,8 @@ def read_in_code():
 
 def unread(known):
     """The items and imports that nothing reads."""
-    read = read_in_code()
+    in_code = read_in_code()
+    read = {origin(*found, known) for found in in_code}
     for module in known.values():
         for name, text in module.items.items():
             for word in words_of(text):
@@ -267,6 +277,7 @@ def unread(known):
             if found and found[0] != module.name:
                 read.add(found)
     lines = []
+    taken = in_code.union(*(module.imports.values() for module in known.values()))
     for module in known.values():
         if module.path.stem in ANSWERS or module.name in EXAMPLES:
             continue
@@ -275,6 +286,10 @@ def unread(known):
                 lines.append(f"{module.path.relative_to(CRATES.parent)}: nothing reads {name}")
         words = {part for word in words_of(module.body) for part in (word, word.split(".")[0])}
         for name in [*module.imports, *module.aliases]:
+            if name in module.passed:
+                if (module.name, name) not in taken:
+                    lines.append(f"{module.path.relative_to(CRATES.parent)}: passes {name} on, which nothing takes")
+                continue
             # Of a sign, as `◌≡◌`, its parts are read.
             parts = [part for part in name.split("◌") if part]
             if not all(part in words or not re.match(r"\w", part) and part in module.body for part in parts):

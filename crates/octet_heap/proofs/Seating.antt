@@ -3,7 +3,7 @@ use Rattle.std.proofs.Common.{◌≡◌, ◌∙◌, ℕ, zero, suc, ◌<◌, ◌
 use Rattle.octet_model.specs.Machine.{Journals, journal_of}
 use Rattle.octet_model.specs.Log.{is_log}
 use Rattle.octet_model.specs.Journals.{access_count, log_of}
-use Rattle.octet_model.specs.Orders.{starting_heap, values_read, ends_of, FitsScript, IsFaithful}
+use Rattle.octet_model.specs.Orders.{plan_of, starting_heap, values_read, ends_of, FitsScript, IsFaithful}
 use Rattle.octet_model.specs.Plays.{IsOneHistory}
 use Rattle.octet_model.proofs.lemmas.Growth.{faithful_from_history}
 use Rattle.octet_state.specs.declared.phase.Phase.TheVariants.{Off}
@@ -125,7 +125,7 @@ all_closed heap workers seats closed all still are logs reads closes = record {
       let journals : s.journals ≡ journals_of workers = closes.journals ∙ (ap (map (λ (seat : Seat). (view seat).journal)) are ∙ same_journals workers) in
       let history : IsOneHistory (starting_heap script) s.journals s.cells s.counter = subst (λ (l : List ℕ). IsOneHistory l s.journals s.cells s.counter) (closes.began ∙ sym starts) closes.sound.one_history in
       let many : length script.threads ≡ length s.journals = threads ∙ (sym all ∙ (sym (map_length (λ (w : Worker). (seat_of w).journal) workers) ∙ sym (ap (λ (l : Journals). length l) journals))) in
-      let whole = faithful_from_history script s.journals s.cells s.counter history (off_is_frugal s closes.sound closes.off) many (subst (FitsScript script) (sym journals) fit) in
+      let whole = faithful_from_history (plan_of script) s.journals s.cells s.counter history (off_is_frugal s closes.sound closes.off) many (subst (FitsScript script) (sym journals) fit) in
       subst (λ (l : _). IsFaithful script l (record { ends = ends_of script.fuel script.threads (journals_of workers); reads = closed.reads; heap = closed.heap })) (sym logs)
       (subst (λ (o : _). IsFaithful script (log_of (journals_of workers)) o) (λ i. record { ends = ends_of script.fuel script.threads (journals_of workers); reads = sym reads i; heap = closes.cells i })
       (subst (λ (js : Journals). IsFaithful script (log_of js) (record { ends = ends_of script.fuel script.threads js; reads = map values_read js; heap = s.cells })) journals whole));

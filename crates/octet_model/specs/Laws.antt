@@ -1,5 +1,5 @@
 -- The laws of orders, plays, histories and validity, as the public functions of laws.rt prove them.
-use Rattle.std.specs.Prelude.{◌≡◌, ℕ, ◌+◌, ◌*◌, ◌<◌, ◌≤◌, IsTrue, List, ◌++◌, length}
+use Rattle.std.specs.Prelude.{◌≡◌, ◌↔◌, ℕ, ◌+◌, ◌*◌, ◌<◌, ◌≤◌, IsTrue, List, ◌++◌, length}
 use Rattle.std.specs.Bool.{Decides}
 use Rattle.octet_model.specs.declared.command.Command.{Command}
 use Rattle.octet_model.specs.declared.event.Event.{Event}
@@ -16,7 +16,9 @@ use Rattle.octet_model.specs.Machine.{Journals, PlainState, starting_state, Beha
 use Rattle.octet_model.specs.Journals.{log_of}
 use Rattle.octet_model.specs.HappensBefore.{IsOrdered}
 use Rattle.octet_model.specs.Frugal.{IsFrugal}
-use Rattle.octet_model.specs.Orders.{IsLawfulFront, IsLawfulOrder, execution, journals_after, outcome_of, lowest_order, IsLowestFront, FitsScript, starting_heap, opening_state, by_log, IsFaithful}
+use Rattle.octet_model.specs.Plans.{Plan, FitsPlan}
+use Rattle.octet_model.specs.Plans as plans
+use Rattle.octet_model.specs.Orders.{plan_of, IsLawfulFront, IsLawfulOrder, execution, journals_after, outcome_of, lowest_order, IsLowestFront, FitsScript, starting_heap, opening_state, by_log, IsFaithful}
 use Rattle.octet_model.specs.Totals.{AddsUp}
 use Rattle.octet_model.specs.Plays.{MakesAll, by_journals, operation_of, state_after_play, lowest_play, IsOneHistory}
 
@@ -109,6 +111,19 @@ HistoryIsFaithful = (script : Script) (journals : Journals) (heap : List ℕ) (d
     → IsOneHistory (starting_heap script) journals heap draws → IsFrugal journals
     → length script.threads ≡ length journals → FitsScript script journals
     → IsFaithful script (log_of journals) (outcome_of script (record { heap = heap; journals = journals; draws = draws }))
+
+-- the log of frugal journals of one history is a faithful recording of a plan too, whatever their length,
+-- where the journals fit the plan to its threads' ends
+abbrev pub HistoryIsFaithfulToPlan : Type 0
+HistoryIsFaithfulToPlan = (plan : Plan) (journals : Journals) (heap : List ℕ) (draws : ℕ)
+    → IsOneHistory plan.starts journals heap draws → IsFrugal journals
+    → length plan.threads ≡ length journals → FitsPlan plan journals
+    → plans.IsFaithful plan (log_of journals) (plans.outcome_of plan (record { heap = heap; journals = journals; draws = draws }))
+
+-- the faithful recordings of a script are exactly those of its plan
+abbrev pub ScriptIsItsPlan : Type 0
+ScriptIsItsPlan = (script : Script) (log : List ThreadLog) (outcome : Outcome)
+    → IsFaithful script log outcome ↔ plans.IsFaithful (plan_of script) log outcome
 
 -- the test that a script's type rests on is true exactly for valid scripts
 abbrev pub ScriptTestIsExact : Type 0

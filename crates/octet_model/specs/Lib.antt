@@ -6,6 +6,7 @@ pub mod Machine
 pub mod Journals
 pub mod HappensBefore
 pub mod Frugal
+pub mod Plans
 pub mod Orders
 pub mod Traces
 pub mod Plays

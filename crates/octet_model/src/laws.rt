@@ -1,5 +1,5 @@
 //! The laws over the definitions, each the contract of a function that does nothing.
-ghost use Rattle.octet_model.specs.Laws.{OneExecution, OneSetOfJournals, FrontsContinue, LowestPlayMakesAll, LowestPlayGivesHeap, LowestPlayIsLowestOrder, LowestFrontIsFront, OneLowestFront, LowestOrderIsLowest, LowestPlayIsLowest, LowestOrderIsLawful, HistoryBegins, HistoryGrows, PlayIsFaithful, HistoryIsFaithful, LawfulOrderHasItsLog, LawfulOrderFits, FaithfulLogIsShort, FaithfulAddsUp, ScriptTestIsExact, LogTestIsExact};
+ghost use Rattle.octet_model.specs.Laws.{OneExecution, OneSetOfJournals, FrontsContinue, LowestPlayMakesAll, LowestPlayGivesHeap, LowestPlayIsLowestOrder, LowestFrontIsFront, OneLowestFront, LowestOrderIsLowest, LowestPlayIsLowest, LowestOrderIsLawful, HistoryBegins, HistoryGrows, PlayIsFaithful, HistoryIsFaithful, HistoryIsFaithfulToPlan, ScriptIsItsPlan, LawfulOrderHasItsLog, LawfulOrderFits, FaithfulLogIsShort, FaithfulAddsUp, ScriptTestIsExact, LogTestIsExact};
 ghost use Rattle.octet_model.specs.PastLaws.{PathsStay, PastsStay, PastsGainNothing, PastHasOwn, PastHappensBefore, PastIsClosed, PastGrows, PastHasJoined, PastHasDraws, DrawsDifferInHistory};
 
 /// Where the journals of one lawful order are ordered, all lawful orders have one execution and
@@ -72,6 +72,14 @@ pub fn history_grows()
 pub fn recording_is_faithful()
     ensures play { PlayIsFaithful }
     ensures history { HistoryIsFaithful }
+{}
+
+/// A plan is what the plain machine needs of a script: fuel, starting values and commands, without
+/// names and limits. The journals of one history are a faithful recording of each plan that they
+/// fit, and the faithful recordings of a script are exactly those of its plan.
+pub fn plans_are_faithful()
+    ensures history { HistoryIsFaithfulToPlan }
+    ensures script { ScriptIsItsPlan }
 {}
 
 /// The journals of a lawful order have the very log that the order follows, and fit the script to

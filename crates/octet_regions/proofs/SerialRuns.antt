@@ -13,7 +13,7 @@ use Rattle.octet_model.specs.Thread.{Configuration, FitsFrom, FitsToEnd, configu
 use Rattle.octet_model.specs.Journals.{access_count, gapped_marks, log_of, log_of_journal}
 use Rattle.octet_model.specs.Machine.{Journals, journal_of, PlainState, Operation, starting_state, is_enabled, event_made, heap_after, appended, step, after, IsFront, IsOrder}
 use Rattle.octet_model.specs.HappensBefore.{is_access}
-use Rattle.octet_model.specs.Orders.{by_log, commands_of, end_of, ends_of, execution, journals_after, lowest_order, opening_state, outcome_of, starting_heap, state_after, values_read, FitsScript, IsLawfulOrder}
+use Rattle.octet_model.specs.Orders.{by_log, commands_of, end_of, ends_of, execution, journals_after, lowest_order, opening_state, outcome_of, plan_of, starting_heap, state_after, values_read, FitsScript, IsLawfulOrder}
 use Rattle.octet_model.specs.Plays.{MakesAll, by_journals, next_in, operation_of, state_after_play}
 use Rattle.octet_model.proofs.lemmas.Fronts.{no_journal}
 use Rattle.octet_model.proofs.lemmas.Growth.{order_from_play}
@@ -274,7 +274,7 @@ module _ (script : Script) (log : List ThreadLog) (order : List Region) (lawful 
       (fits_only commands start (journal_of J t) had.0, (had.1.0, ap (demanded commands) (after_only commands start (journal_of J t)) ∙ had.1.1))
 
   made : IsOrder (by_log script (log_of (only_accesses J))) (opening_state script) run × (state_after script (log_of (only_accesses J)) run ≡ state_after_play (starting_heap script) (only_accesses J) run)
-  made = order_from_play script (only_accesses J) run makes (sym as_many_only) fits
+  made = order_from_play (plan_of script) (only_accesses J) run makes (sym as_many_only) fits
 
   log_is : log_of (only_accesses J) ≡ without_marks log
   log_is = log_only J ∙ ap without_marks (lawful_order_has_its_log script log low lawful)

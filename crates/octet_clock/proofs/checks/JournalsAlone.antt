@@ -18,7 +18,7 @@ use Rattle.octet_model.specs.Orders.{thread_log_of}
 use Rattle.octet_model.specs.Plays.{operation_of, next_in, by_journals, lowest_play}
 use Rattle.octet_model.specs.Validity.{IsMark}
 use Rattle.octet_model.proofs.lemmas.Steps.{count, Makes, counts_step}
-use Rattle.octet_model.proofs.lemmas.LawfulOrders.{has_its_log}
+use Rattle.octet_model.proofs.lemmas.LawfulOrders.{lawful_order_has_its_log}
 use Rattle.octet_model.proofs.lemmas.LogsOfJournals.{as_many_after}
 use Rattle.octet_model.proofs.lemmas.LowestFronts.{lowest_play_is_lowest}
 use Rattle.octet_model.proofs.lemmas.Validity.{valid_log}
@@ -59,7 +59,7 @@ module _ (js : Journals) (of : AreOfLawfulOrder js) where
   low_is_whole = lowest_is_whole js of.order some_whole
 
   log_is : log_of js ≡ of.log.threads
-  log_is = ap log_of (sym of.are) ∙ has_its_log of.script of.log.threads of.order of.is_lawful
+  log_is = ap log_of (sym of.are) ∙ lawful_order_has_its_log of.script of.log.threads of.order of.is_lawful
 
 -- a mark of a journal is one of its log
 mark_in_log : (before : ℕ) (j : List Event) (k : ℕ) (mark : Mark) → slice_get j k ≡ Some (Marked mark)

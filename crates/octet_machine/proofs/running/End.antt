@@ -7,7 +7,7 @@ use Rattle.std.proofs.lemmas.List.Folds.{list_all_at}
 use Rattle.octet_model.specs.declared.outcome.End.{End}
 use Rattle.octet_model.specs.Machine.{journal_of}
 use Rattle.octet_model.specs.Journals.{access_count}
-use Rattle.octet_model.specs.Orders.{starting_heap, FitsScript}
+use Rattle.octet_model.specs.Orders.{plan_of, starting_heap, FitsScript}
 use Rattle.octet_model.specs.Plays.{IsOneHistory}
 use Rattle.octet_model.proofs.lemmas.Growth.{faithful_from_history}
 use Rattle.octet_state.specs.declared.phase.Phase.TheVariants.{Off}
@@ -65,5 +65,5 @@ module _ (m : MachineState) (r : IsRunning m) (ended : have_ended m ≡ true) wh
 
 pub end_is_faithful : EndIsFaithful
 end_is_faithful m r ended =
-    faithful_from_history m.script m.protocol.journals m.protocol.cells m.protocol.counter (has_history m r ended) (off_is_frugal m.protocol r.sound (all_off m r ended))
+    faithful_from_history (plan_of m.script) m.protocol.journals m.protocol.cells m.protocol.counter (has_history m r ended) (off_is_frugal m.protocol r.sound (all_off m r ended))
     (let a = r.threads in let b = r.sound.form.journals in omega arith) (fits_script m r ended)

@@ -7,12 +7,12 @@ use Rattle.std.proofs.lemmas.Option.{slice_get_past, slice_get_within, slice_get
 use Rattle.octet_model.specs.declared.event.Event.{Event}
 use Rattle.octet_model.specs.declared.event.Event.TheVariants.{Read}
 use Rattle.octet_model.specs.declared.event.Place.{Place}
-use Rattle.octet_model.specs.declared.script.Script.{Script}
 use Rattle.octet_model.specs.Machine.{Journals, journal_of, PlainState, no_events, starting_state, Operation, Wants, is_enabled, event_made, heap_after, draws_after, appended, may_step, step, after, IsFront, AllFinished, IsOrder}
 use Rattle.octet_model.specs.Journals.{log_of, log_of_journal}
 use Rattle.octet_model.specs.HappensBefore.{event_at, Edge, ProgramOrder, Joined, Drawn, Fenced, IsEvent, IsPath, HappensBefore, is_write, Conflict, IsOrdered}
 use Rattle.octet_model.specs.Frugal.{IsFrugal}
-use Rattle.octet_model.specs.Orders.{by_log, opening_state, starting_heap, lowest_front, state_after, journals_after, outcome_of, IsLawfulOrder, IsFaithful, FitsScript}
+use Rattle.octet_model.specs.Plans.{Plan, by_log, opening_state, state_after, journals_after, outcome_of, IsLawfulOrder, IsFaithful, FitsPlan}
+use Rattle.octet_model.specs.Orders.{lowest_front}
 use Rattle.octet_model.specs.Plays.{operation_of, next_in, by_journals, state_after_play, MakesAll, lowest_play, IsOneHistory}
 use Rattle.octet_model.proofs.lemmas.Steps.{at, count, stays_appended, as_many, new_event, where_new, makes_from, what_it_makes}
 use Rattle.octet_model.proofs.lemmas.Fronts.{front_on, after_on, one_end, no_journal}
@@ -135,70 +135,70 @@ history_grows starts js heap draws t e h lt enabled is ordered =
       ordered = ordered;
     }
 
-module _ (script : Script) (journals : Journals) (fit : FitsScript script journals) where
-  -- a play of the journals is a front of the script and their log
+module _ (plan : Plan) (journals : Journals) (fit : FitsPlan plan journals) where
+  -- a play of the journals is a front of the plan and their log
   play_by_log : (order : List ℕ) (s : PlainState) → (after (by_journals journals) s order).journals ≡ journals → IsFront (by_journals journals) s order
-      → IsFront (by_log script (log_of journals)) s order × (after (by_log script (log_of journals)) s order ≡ after (by_journals journals) s order)
+      → IsFront (by_log plan (log_of journals)) s order × (after (by_log plan (log_of journals)) s order ≡ after (by_journals journals) s order)
   play_by_log [] s is front = (tt, refl)
   play_by_log (t ∷ order) s is front =
-      let V = by_log script (log_of journals) in
-      let same = step_same script journals fit order s t is front.0 in
+      let V = by_log plan (log_of journals) in
+      let same = step_same plan journals fit order s t is front.0 in
       let r = play_by_log order (step (by_journals journals) s t) is front.1 in (
-        (may_same script journals fit (t ∷ order) s is t ∙ front.0, subst (λ (x : PlainState). IsFront V x order) (sym same) r.0),
+        (may_same plan journals fit (t ∷ order) s is t ∙ front.0, subst (λ (x : PlainState). IsFront V x order) (sym same) r.0),
         ap (λ (x : PlainState). after V x order) same ∙ r.1,
       )
 
--- where a play makes all of journals that fit a script to its threads' ends, it is an order of the script and their log
-pub order_from_play : (script : Script) (journals : Journals) (play : List ℕ) → MakesAll (starting_heap script) journals play → length script.threads ≡ length journals → FitsScript script journals
-    → IsOrder (by_log script (log_of journals)) (opening_state script) play × (state_after script (log_of journals) play ≡ state_after_play (starting_heap script) journals play)
-order_from_play script journals play all threads fit =
-    let V = by_log script (log_of journals) in
-    let starts = starting_heap script in
+-- where a play makes all of journals that fit a plan to its threads' ends, it is an order of the plan and their log
+pub order_from_play : (plan : Plan) (journals : Journals) (play : List ℕ) → MakesAll plan.starts journals play → length plan.threads ≡ length journals → FitsPlan plan journals
+    → IsOrder (by_log plan (log_of journals)) (opening_state plan) play × (state_after plan (log_of journals) play ≡ state_after_play plan.starts journals play)
+order_from_play plan journals play all threads fit =
+    let V = by_log plan (log_of journals) in
+    let starts = plan.starts in
     let s1 = state_after_play starts journals play in
-    let r = play_by_log script journals fit play (starting_state starts journals) all.makes all.is_play in
+    let r = play_by_log plan journals fit play (starting_state starts journals) all.makes all.is_play in
     let through : AllFinished V s1 = λ t lt.
     let here = ap (λ (js : Journals). journal_of js t) (sym all.makes) ∙ sym (append-nil (journal_of s1.journals t)) in
     let lt' : t < length journals = omega (arith, ap (λ (js : Journals). length js) all.makes) in
-    subst (λ (x : Option Event). IsNextFor x (by_log script (log_of journals) t (journal_of s1.journals t)))
+    subst (λ (x : Option Event). IsNextFor x (by_log plan (log_of journals) t (journal_of s1.journals t)))
     (ap (λ (j : List Event). slice_get (journal_of journals t) (length j)) (ap (λ (js : Journals). journal_of js t) all.makes) ∙ slice_get_past (journal_of journals t) (length (journal_of journals t)) (omega arith))
-    (next_same script journals fit s1 t [] lt' here) in
+    (next_same plan journals fit s1 t [] lt' here) in
     let Q : PlainState → Type 0 = λ z. IsOrder V z play × (after V z play ≡ s1) in
-    subst Q (ap (λ (n : Journals). record (starting_state starts journals) { journals = n }) (same_start journals script.threads (sym threads)))
+    subst Q (ap (λ (n : Journals). record (starting_state starts journals) { journals = n }) (same_start journals plan.threads (sym threads)))
     ((r.0, subst (λ (x : PlainState). AllFinished V x) (sym r.1) through), r.1)
 
--- where a play makes all of ordered and frugal journals that fit a script to its threads' ends, the journals' log is faithful
-pub faithful_from_play : (script : Script) (journals : Journals) (play : List ℕ) → IsOrdered journals → IsFrugal journals
-    → MakesAll (starting_heap script) journals play → length script.threads ≡ length journals → FitsScript script journals
-    → IsFaithful script (log_of journals) (outcome_of script (state_after_play (starting_heap script) journals play))
-faithful_from_play script journals play ordered frugal all threads fit =
-    let V = by_log script (log_of journals) in
+-- where a play makes all of ordered and frugal journals that fit a plan to its threads' ends, the journals' log is faithful
+pub faithful_from_play : (plan : Plan) (journals : Journals) (play : List ℕ) → IsOrdered journals → IsFrugal journals
+    → MakesAll plan.starts journals play → length plan.threads ≡ length journals → FitsPlan plan journals
+    → IsFaithful plan (log_of journals) (outcome_of plan (state_after_play plan.starts journals play))
+faithful_from_play plan journals play ordered frugal all threads fit =
+    let V = by_log plan (log_of journals) in
     let W = by_journals journals in
-    let starts = starting_heap script in
+    let starts = plan.starts in
     let s1 = state_after_play starts journals play in
-    let q = order_from_play script journals play all threads fit in
-    let as_many : length script.threads ≡ length (log_of journals) = threads ∙ sym (length-map journals log_of_journal) in
-    let journals_are : journals_after script (log_of journals) play ≡ journals = ap (λ (x : PlainState). x.journals) q.1 ∙ all.makes in
-    let one : (order : List ℕ) → IsLawfulOrder script (log_of journals) order → state_after script (log_of journals) order ≡ s1 =
-    λ order lawful. one_end V starts script.threads play order q.0 (subst IsOrdered (sym journals_are) ordered) lawful.1 ∙ q.1 in
-    let by_one : (order : List ℕ) → IsLawfulOrder script (log_of journals) order → journals_after script (log_of journals) order ≡ journals =
+    let q = order_from_play plan journals play all threads fit in
+    let as_many : length plan.threads ≡ length (log_of journals) = threads ∙ sym (length-map journals log_of_journal) in
+    let journals_are : journals_after plan (log_of journals) play ≡ journals = ap (λ (x : PlainState). x.journals) q.1 ∙ all.makes in
+    let one : (order : List ℕ) → IsLawfulOrder plan (log_of journals) order → state_after plan (log_of journals) order ≡ s1 =
+    λ order lawful. one_end V starts plan.threads play order q.0 (subst IsOrdered (sym journals_are) ordered) lawful.1 ∙ q.1 in
+    let by_one : (order : List ℕ) → IsLawfulOrder plan (log_of journals) order → journals_after plan (log_of journals) order ≡ journals =
     λ order lawful. ap (λ (x : PlainState). x.journals) (one order lawful) ∙ all.makes in
     record {
       order = play;
       is_lawful = (as_many, q.0);
-      outcomes = λ order lawful. ap (λ (x : PlainState). outcome_of script x) (one order lawful);
+      outcomes = λ order lawful. ap (λ (x : PlainState). outcome_of plan x) (one order lawful);
       ordered = λ order lawful. subst IsOrdered (sym (by_one order lawful)) ordered;
       frugal = λ order lawful. subst IsFrugal (sym (by_one order lawful)) frugal;
     }
 
 -- so do the journals of one history, with its heap
-pub faithful_from_history : (script : Script) (journals : Journals) (heap : List ℕ) (draws : ℕ)
-    → IsOneHistory (starting_heap script) journals heap draws → IsFrugal journals
-    → length script.threads ≡ length journals → FitsScript script journals
-    → IsFaithful script (log_of journals) (outcome_of script (record { heap = heap; journals = journals; draws = draws }))
-faithful_from_history script journals heap draws h frugal threads fit =
-    let low = lowest_play (starting_heap script) journals in
-    let faithful = faithful_from_play script journals low h.ordered frugal h.makes_all threads fit in
-    subst (λ (x : PlainState). IsFaithful script (log_of journals) (outcome_of script x))
+pub faithful_from_history : (plan : Plan) (journals : Journals) (heap : List ℕ) (draws : ℕ)
+    → IsOneHistory plan.starts journals heap draws → IsFrugal journals
+    → length plan.threads ≡ length journals → FitsPlan plan journals
+    → IsFaithful plan (log_of journals) (outcome_of plan (record { heap = heap; journals = journals; draws = draws }))
+faithful_from_history plan journals heap draws h frugal threads fit =
+    let low = lowest_play plan.starts journals in
+    let faithful = faithful_from_play plan journals low h.ordered frugal h.makes_all threads fit in
+    subst (λ (x : PlainState). IsFaithful plan (log_of journals) (outcome_of plan x))
     (λ i. record { heap = h.gives i; journals = h.makes_all.makes i; draws = h.counts i }) faithful
 
 -- at the start there is one history, of no event

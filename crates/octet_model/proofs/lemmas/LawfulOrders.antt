@@ -1,4 +1,4 @@
--- The journals of a lawful order have the log that the order follows, and fit its script.
+-- The journals of a lawful order have the log that the order follows, and fit its plan.
 use Rattle.std.proofs.Common.{◌≡◌, ℕ, suc, ◌<◌, ◌≤◌, inl, inr, Bool, true, false, nat_lt, ◌==◌, cond, List, [], ◌∷◌, ◌++◌, length, Option, Some, None, IsTrue, slice_get, slice_index, refl, sym, ap, ◌∙◌, subst, arith, append-nil, append_assoc, length-append}
 use Rattle.std.proofs.lemmas.Bool.{cases_lt, ltb-true, lt-ltb, eqb-true}
 use Rattle.std.proofs.lemmas.List.{length-map}
@@ -9,11 +9,11 @@ use Rattle.octet_model.specs.declared.event.Mark.{Mark}
 use Rattle.octet_model.specs.declared.log.Gapped.{Gapped}
 use Rattle.octet_model.specs.declared.log.ThreadLog.{ThreadLog}
 use Rattle.octet_model.specs.declared.outcome.End.{End}
-use Rattle.octet_model.specs.declared.script.Script.{Script}
 use Rattle.octet_model.specs.Thread.{Configuration, AccessOrEnd, ToRead, ToWrite, ToBump, ToEnd, demanded, configuration_after, starting_configuration, FitsFrom, FitsToEnd}
 use Rattle.octet_model.specs.Journals.{access_count, mark_count, gap_after, gapped_marks, log_of_journal, log_of, due_mark, next_access, mark_first, next_by_log}
 use Rattle.octet_model.specs.Machine.{Journals, journal_of, PlainState, Operation, MakeMark, MakeUpdate, Wants, Finished, event_made, may_step, step, after, IsFront}
-use Rattle.octet_model.specs.Orders.{commands_of, thread_log_of, by_log, opening_state, journals_after, IsLawfulOrder, FitsScript}
+use Rattle.octet_model.specs.Plans.{Plan, commands_of, thread_log_of, by_log, opening_state, journals_after, IsLawfulOrder, FitsPlan}
+use Rattle.octet_model.specs.Orders.{plan_of}
 use Rattle.octet_model.specs.Laws.{LawfulOrderHasItsLog, LawfulOrderFits}
 use Rattle.octet_model.proofs.lemmas.Fronts.{no_journal}
 use Rattle.octet_model.proofs.lemmas.Splits.{accesses_split, gapped_marks_split, length-gapped_marks, fits_join}
@@ -144,41 +144,41 @@ logs_alike (j ∷ journals) (l ∷ log) many alike =
     let rest : log_of journals ≡ log = logs_alike journals log (omega arith) (λ t lt. alike (suc t) (omega arith)) in
     cc
 
-module _ (script : Script) (log : List ThreadLog) where
+module _ (plan : Plan) (log : List ThreadLog) where
   abbrev AllBegun : PlainState → Type 0
-  AllBegun s = (t : ℕ) → IsBegun (commands_of script t) (starting_configuration script.fuel) (thread_log_of log t) (journal_of s.journals t)
+  AllBegun s = (t : ℕ) → IsBegun (commands_of plan t) (starting_configuration plan.fuel) (thread_log_of log t) (journal_of s.journals t)
 
-  step_begun : (s : PlainState) (t : ℕ) → IsTrue (may_step (by_log script log) s t) → AllBegun s → AllBegun (step (by_log script log) s t)
+  step_begun : (s : PlainState) (t : ℕ) → IsTrue (may_step (by_log plan log) s t) → AllBegun s → AllBegun (step (by_log plan log) s t)
   step_begun s t may begun =
-      each_journal (by_log script log) s t may (λ u j. IsBegun (commands_of script u) (starting_configuration script.fuel) (thread_log_of log u) j) begun
-      (λ o m. begun_more (commands_of script t) (starting_configuration script.fuel) (thread_log_of log t) (journal_of s.journals t) s.heap o m.wanted (begun t))
+      each_journal (by_log plan log) s t may (λ u j. IsBegun (commands_of plan u) (starting_configuration plan.fuel) (thread_log_of log u) j) begun
+      (λ o m. begun_more (commands_of plan t) (starting_configuration plan.fuel) (thread_log_of log t) (journal_of s.journals t) s.heap o m.wanted (begun t))
 
-  front_begun : (front : List ℕ) (s : PlainState) → IsFront (by_log script log) s front → AllBegun s → AllBegun (after (by_log script log) s front)
+  front_begun : (front : List ℕ) (s : PlainState) → IsFront (by_log plan log) s front → AllBegun s → AllBegun (after (by_log plan log) s front)
   front_begun [] s is begun = begun
-  front_begun (t ∷ front) s is begun = front_begun front (step (by_log script log) s t) is.1 (step_begun s t is.0 begun)
+  front_begun (t ∷ front) s is begun = front_begun front (step (by_log plan log) s t) is.1 (step_begun s t is.0 begun)
 
-  opening_begun : AllBegun (opening_state script)
+  opening_begun : AllBegun (opening_state plan)
   opening_begun t =
-      subst (λ (j : List Event). IsBegun (commands_of script t) (starting_configuration script.fuel) (thread_log_of log t) j) (sym (no_journal script.threads t))
+      subst (λ (j : List Event). IsBegun (commands_of plan t) (starting_configuration plan.fuel) (thread_log_of log t) j) (sym (no_journal plan.threads t))
       (record { accesses = omega arith; rest = (thread_log_of log t).marks; marks = refl; fits = tt })
 
-  module _ (order : List ℕ) (lawful : IsLawfulOrder script log order) where
-    all_begun : AllBegun (after (by_log script log) (opening_state script) order)
-    all_begun = front_begun order (opening_state script) lawful.1.0 opening_begun
+  module _ (order : List ℕ) (lawful : IsLawfulOrder plan log order) where
+    all_begun : AllBegun (after (by_log plan log) (opening_state plan) order)
+    all_begun = front_begun order (opening_state plan) lawful.1.0 opening_begun
 
-    many : length (journals_after script log order) ≡ length log
-    many = as_many_after (by_log script log) order (opening_state script) ∙ length-map script.threads (λ (c : List Command). []) ∙ lawful.0
+    many : length (journals_after plan log order) ≡ length log
+    many = as_many_after (by_log plan log) order (opening_state plan) ∙ length-map plan.threads (λ (c : List Command). []) ∙ lawful.0
 
-    pub has_its_log : log_of (journals_after script log order) ≡ log
+    pub has_its_log : log_of (journals_after plan log order) ≡ log
     has_its_log =
-        logs_alike (journals_after script log order) log many
-        (λ t lt. whole (commands_of script t) (starting_configuration script.fuel) (thread_log_of log t) (journal_of (journals_after script log order) t) [] (lawful.1.1 t lt) (all_begun t))
+        logs_alike (journals_after plan log order) log many
+        (λ t lt. whole (commands_of plan t) (starting_configuration plan.fuel) (thread_log_of log t) (journal_of (journals_after plan log order) t) [] (lawful.1.1 t lt) (all_begun t))
 
-    pub fits_script : FitsScript script (journals_after script log order)
-    fits_script t lt = fits_to_end (commands_of script t) (starting_configuration script.fuel) (thread_log_of log t) (journal_of (journals_after script log order) t) [] (lawful.1.1 t lt) (all_begun t)
+    pub fits_plan : FitsPlan plan (journals_after plan log order)
+    fits_plan t lt = fits_to_end (commands_of plan t) (starting_configuration plan.fuel) (thread_log_of log t) (journal_of (journals_after plan log order) t) [] (lawful.1.1 t lt) (all_begun t)
 
 pub lawful_order_has_its_log : LawfulOrderHasItsLog
-lawful_order_has_its_log script log order lawful = has_its_log script log order lawful
+lawful_order_has_its_log script log order lawful = has_its_log (plan_of script) log order lawful
 
 pub lawful_order_fits : LawfulOrderFits
-lawful_order_fits script log order lawful = fits_script script log order lawful
+lawful_order_fits script log order lawful = fits_plan (plan_of script) log order lawful

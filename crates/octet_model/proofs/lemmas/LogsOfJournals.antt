@@ -14,7 +14,8 @@ use Rattle.octet_model.specs.Thread.{Configuration, AccessOrEnd, ToRead, ToWrite
 use Rattle.octet_model.specs.Journals.{access_count, mark_count, gap_after, gapped_marks, log_of_journal, log_of, due_mark, next_access, mark_first, next_by_log}
 use Rattle.octet_model.specs.Machine.{Journals, journal_of, PlainState, no_events, starting_state, Operation, MakeUpdate, Next, Wants, Finished, Behavior, event_made, appended, performed, next_of, may_proceed, proceeded, may_step, step, after, IsFront, AllFinished}
 use Rattle.octet_model.specs.HappensBefore.{IsOrdered}
-use Rattle.octet_model.specs.Orders.{commands_of, by_log, starting_heap, opening_state, event_total, lowest_order, lowest, go_on, lowest_front, FitsScript}
+use Rattle.octet_model.specs.Plans.{Plan, commands_of, by_log, opening_state, FitsPlan}
+use Rattle.octet_model.specs.Orders.{plan_of, starting_heap, event_total, lowest_order, lowest, go_on, lowest_front, FitsScript}
 use Rattle.octet_model.specs.Plays.{operation_of, next_in, by_journals, MakesAll, lowest_play}
 use Rattle.octet_model.proofs.lemmas.Lists.{slice_get_split}
 use Rattle.octet_model.proofs.lemmas.Splits.{accesses_split, marks_split, length_parts, length-gapped_marks, configuration_split, fits_split}
@@ -137,39 +138,39 @@ same_start [] (y ∷ ys) e = absurd (omega arith)
 same_start (x ∷ xs) [] e = absurd (omega arith)
 same_start (x ∷ xs) (y ∷ ys) e = ap (λ (js : Journals). [] ∷ js) (same_start xs ys (omega arith))
 
-module _ (script : Script) (journals : Journals) (fit : FitsScript script journals) where
+module _ (plan : Plan) (journals : Journals) (fit : FitsPlan plan journals) where
   pub next_same : (s : PlainState) (t : ℕ) (more : List Event) → t < length journals → journal_of journals t ≡ journal_of s.journals t ++ more
-      → IsNextFor (at journals t (count s.journals t)) (next_of (by_log script (log_of journals)) s t)
+      → IsNextFor (at journals t (count s.journals t)) (next_of (by_log plan (log_of journals)) s t)
   next_same s t more lt is =
       let pre = journal_of s.journals t in
-      let commands = commands_of script t in
-      let c = starting_configuration script.fuel in
+      let commands = commands_of plan t in
+      let c = starting_configuration plan.fuel in
       subst₂ IsNextFor (sym (slice_get_split pre more) ∙ ap (λ (j : List Event). slice_get j (length pre)) (sym is))
       (sym (ap (λ (l : ThreadLog). next_by_log commands c l pre) (get_or-map log_of_journal journals t [] (record { accesses = 0; marks = [] }) lt ∙ ap log_of_journal is)))
       (same_next commands c pre more (subst (λ (j : List Event). FitsToEnd commands c j) is (fit t lt)))
 
   next_on_way : (order : List ℕ) (s : PlainState) → (after (by_journals journals) s order).journals ≡ journals → (t : ℕ) → t < length s.journals
-      → IsNextFor (at journals t (count s.journals t)) (next_of (by_log script (log_of journals)) s t)
+      → IsNextFor (at journals t (count s.journals t)) (next_of (by_log plan (log_of journals)) s t)
   next_on_way order s is t lt =
       let g = grown (by_journals journals) order s t in
       next_same s t g.0 (omega (arith, as_many_after (by_journals journals) order s, ap (λ (js : Journals). length js) is)) (ap (λ (js : Journals). journal_of js t) (sym is) ∙ g.1)
 
   pub may_same : (order : List ℕ) (s : PlainState) → (after (by_journals journals) s order).journals ≡ journals → (t : ℕ)
-      → may_step (by_log script (log_of journals)) s t ≡ may_step (by_journals journals) s t
+      → may_step (by_log plan (log_of journals)) s t ≡ may_step (by_journals journals) s t
   may_same order s is t =
       elim (cases_lt t (length s.journals)) [
-        | inl lt ↦ ap (λ (b : Bool). ltb t (length s.journals) && b) (proceeds_alike s (at journals t (count s.journals t)) (next_of (by_log script (log_of journals)) s t) (next_on_way order s is t lt))
+        | inl lt ↦ ap (λ (b : Bool). ltb t (length s.journals) && b) (proceeds_alike s (at journals t (count s.journals t)) (next_of (by_log plan (log_of journals)) s t) (next_on_way order s is t lt))
         | inr past ↦
-            ap (λ (b : Bool). b && may_proceed s (next_of (by_log script (log_of journals)) s t)) (le-ltb t (length s.journals) past)
+            ap (λ (b : Bool). b && may_proceed s (next_of (by_log plan (log_of journals)) s t)) (le-ltb t (length s.journals) past)
             ∙ sym (ap (λ (b : Bool). b && may_proceed s (next_of (by_journals journals) s t)) (le-ltb t (length s.journals) past))
       ]
 
   -- a step on the way to all journals
   pub step_same : (order : List ℕ) (s : PlainState) (t : ℕ) → (after (by_journals journals) s (t ∷ order)).journals ≡ journals → IsTrue (may_step (by_journals journals) s t)
-      → step (by_log script (log_of journals)) s t ≡ step (by_journals journals) s t
+      → step (by_log plan (log_of journals)) s t ≡ step (by_journals journals) s t
   step_same order s t is may =
       let W = by_journals journals in
-      let V = by_log script (log_of journals) in
+      let V = by_log plan (log_of journals) in
       let m = what_it_makes W s t may in
       let event = event_made m.0 s.heap in
       let here : at journals t (count s.journals t) ≡ Some event =
@@ -183,7 +184,7 @@ module _ (script : Script) (journals : Journals) (fit : FitsScript script journa
 
   front_same : (steps : ℕ) (order : List ℕ) (s : PlainState) → (after (by_journals journals) s order).journals ≡ journals → IsDownClosed journals s.journals → IsOrdered journals
       → IsFront (by_journals journals) s order → AllFinished (by_journals journals) (after (by_journals journals) s order)
-      → lowest_front (by_log script (log_of journals)) steps s ≡ lowest_front (by_journals journals) steps s
+      → lowest_front (by_log plan (log_of journals)) steps s ≡ lowest_front (by_journals journals) steps s
   front_same zero order s is closed ordered front through = refl
   front_same (suc steps) order s is closed ordered front through =
       by_lowest (lowest W s) refl (λ t may.
@@ -197,7 +198,7 @@ module _ (script : Script) (journals : Journals) (fit : FitsScript script journa
       W = by_journals journals
 
       V : Behavior
-      V = by_log script (log_of journals)
+      V = by_log plan (log_of journals)
 
       by_lowest : (o : Option ℕ) → lowest W s ≡ o
           → ((t : ℕ) → IsTrue (may_step W s t) → lowest_front V steps (step V s t) ≡ lowest_front W steps (step W s t))
@@ -217,7 +218,7 @@ pub lowest_play_is_lowest_order : (script : Script) (journals : Journals) (play 
 lowest_play_is_lowest_order script journals play ordered all threads fit =
     let heap = starting_heap script in
     let s = starting_state heap journals in
-    let V = by_log script (log_of journals) in
-    ap (λ (n : ℕ). lowest_front V n (opening_state script)) (all_events journals)
+    let V = by_log (plan_of script) (log_of journals) in
+    ap (λ (n : ℕ). lowest_front V n (opening_state (plan_of script))) (all_events journals)
     ∙ ap (λ (js : Journals). lowest_front V (total journals) (record { heap = heap; journals = js; draws = 0 })) (same_start script.threads journals threads)
-    ∙ front_same script journals fit (total journals) play s all.makes (down_closed_at_start journals journals) ordered all.is_play (all_finished heap journals play all)
+    ∙ front_same (plan_of script) journals fit (total journals) play s all.makes (down_closed_at_start journals journals) ordered all.is_play (all_finished heap journals play all)

@@ -43,7 +43,9 @@ returns-clause-faithful c =
     → IsFaithful script closed.logs (record { ends = c.in_ok-workers.ends; reads = closed.reads; heap = closed.heap }) = λ script fuel objects threads.
     subst (λ (e : List End). IsFaithful script closed.logs (record { ends = e; reads = closed.reads; heap = closed.heap })) (sym ends)
     (faithful c.args.self c.args.tracks c.requires.all c.requires.still closed closes script (record { fuel = fuel; objects = objects; threads = threads ∙ programs })) in
-    go _ refl refl refl
+    let valid = subst (λ (l : List (List Command)). IsTrue (is_script c.args.self.opening.fuel c.args.self.opening.objects l)) (sym programs)
+    (valid_script c.args.self c.args.tracks c.requires.all c.requires.still) in
+    go (record { fuel = c.args.self.opening.fuel; objects = c.args.self.opening.objects; threads = c.in_ok-workers.threads; valid = valid }) refl refl refl
 
 pub returns-clause-of : goal.returns-clause-of
 returns-clause-of c =
