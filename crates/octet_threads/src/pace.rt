@@ -1,5 +1,5 @@
 //! When a worker gives its processor away, and when it dozes.
-ghost use Rattle.std.specs.Prelude.{◌≡◌, ◌*◌, ◌≤◌};
+ghost use Rattle.std.specs.Prelude.{◌*◌, ◌≤◌};
 ghost use Rattle.std.specs.Duration.{as_nanos};
 ghost use Rattle.std.specs.Option.{ForSome};
 ghost use Rattle.octet_threads.specs.declared.tuning.TheConstants.{SHORTEST_DOZE, LONGEST_DOZE};
@@ -12,6 +12,7 @@ use std::time::Duration;
 
 /// After how many demands of its thread a worker yields, and how many safe points and pauses the thread
 /// has passed since it last wrote or left a mark, with at how many and for how long its worker dozes.
+/// Between safe points nothing but the demands is counted: how much a thread wrote is seen there.
 ///
 /// A thread that waits for nobody would end before any other one that has to share its processor has
 /// begun. So the worker yields early on, and ever more seldom, since on a busy machine the processor
@@ -25,7 +26,8 @@ use std::time::Duration;
 pub(crate) struct Pace {
     demands_left: u32,
     demands: u32,
-    marks: usize,
+    // How many marks and writes, updates among them, there were at the last safe point.
+    done: usize,
     passed: u32,
     due: u32,
     doze: u32,
@@ -37,7 +39,7 @@ impl Pace {
         Pace {
             demands_left: DEMANDS_BEFORE_YIELD,
             demands: DEMANDS_BEFORE_YIELD,
-            marks: 0,
+            done: 0,
             passed: 0,
             due: SAFE_POINTS_BEFORE_DOZE,
             doze: SHORTEST_DOZE,
@@ -52,29 +54,33 @@ impl Pace {
         yield_now();
     }
 
-    // Whether it is to doze now, after one more, by a thread that has left so many marks so far.
-    fn pass(&mut self, marks: usize) -> bool {
-        if marks != self.marks {
-            self.marks = marks;
+    // Counts one more. Starts anew where the thread has written or left a mark since the last one.
+    fn count(&mut self, worker: &Worker) {
+        // Neither part ever gets less, so the sum changes with each of them.
+        let writes = (worker.accesses() as usize).wrapping_sub(worker.reads().len());
+        let done = writes.wrapping_add(worker.marks().len());
+        if done != self.done {
+            self.done = done;
             self.passed = 0;
-        }
-        if self.passed == 0 {
             self.due = SAFE_POINTS_BEFORE_DOZE;
             self.doze = SHORTEST_DOZE;
         }
         self.passed = self.passed.saturating_add(1);
-        self.passed >= self.due
     }
 
-    // How long it is to doze. The next time is later, and longer.
-    fn next_doze(&mut self) -> Duration
-        ensures short { SHORTEST_DOZE * 1_000 ≤ as_nanos result }
-        ensures long { as_nanos result ≤ LONGEST_DOZE * 1_000 }
+    // How long it is to doze after one more, if it is to. The next time is later, and longer.
+    #[inline(never)]
+    fn pass(&mut self, worker: &Worker) -> Option<Duration>
+        ensures { ForSome result (λ time. as_nanos time ≤ LONGEST_DOZE * 1_000) }
     {
+        self.count(worker);
+        if self.passed < self.due {
+            return None;
+        }
         let doze = self.doze;
         self.due = self.due.saturating_mul(2);
         self.doze = doze.saturating_mul(4).min(LONGEST_DOZE);
-        Duration::from_micros(u64::from(doze))
+        Some(Duration::from_micros(u64::from(doze)))
     }
 
     /// Yields now and then. Tells for how long the worker is to doze, if it is, which has carried out
@@ -88,14 +94,11 @@ impl Pace {
             self.give_way();
         }
         match demand {
-            Demand::Safe | Demand::Pause => {
-                if self.pass(worker.marks().len()) {
-                    return Some(self.next_doze());
-                }
-            }
-            Demand::Write { .. } | Demand::Bump { .. } => self.passed = 0,
-            Demand::Read { .. } | Demand::Ended { .. } => {}
+            Demand::Safe | Demand::Pause => self.pass(worker),
+            Demand::Read { .. }
+            | Demand::Write { .. }
+            | Demand::Bump { .. }
+            | Demand::Ended { .. } => None,
         }
-        None
     }
 }
