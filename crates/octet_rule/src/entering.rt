@@ -2,6 +2,7 @@
 //! thread pass.
 ghost use Rattle.std.specs.Prelude.{◌≡◌, ◌<◌, true};
 ghost use Rattle.octet_state.specs.declared.phase.Due.TheVariants.{Nothing};
+ghost use Rattle.octet_state.specs.declared.phase.Phase.TheVariants.{Idle};
 ghost use Rattle.octet_state.specs.NextStep.{access_of};
 ghost use Rattle.octet_rule.specs.Rule.{Steps};
 ghost use Rattle.octet_rule.specs.Conditions.{MayLoad, MayPass};
@@ -13,6 +14,17 @@ use crate::view::View;
 use crate::words::{Seat, Words};
 use crate::{plays, states};
 use octet_state::{Act, Mode, Phase, decide};
+
+// The thread is about nothing. One that was so already stores nothing: a phase takes six stores.
+#[inline(always)]
+pub(crate) fn rest(phase: &mut Phase)
+    ensures { phase.new ≡ Idle }
+{
+    match *phase {
+        Phase::Idle => {}
+        _ => *phase = Phase::Idle,
+    }
+}
 
 impl Words {
     /// Loads the state of an object for an access, and makes the access where the state lets the
@@ -32,7 +44,7 @@ impl Words {
         let act = decide(&state, seat.thread, mode, seat.count);
         if let Act::Pass = act {
             let told = self.pass_by_mode(&mut seat.inner, object, mode, value);
-            seat.phase = Phase::Idle;
+            rest(&mut seat.phase);
             seat.events += 1;
             return Entered::Made { told };
         }
