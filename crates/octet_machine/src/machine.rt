@@ -181,9 +181,6 @@ impl Machine {
         ensures faithful { IfOk result (λ r. IsFaithful self.script r.log.threads r.outcome) }
         ensures log { IfOk result (λ r. r.log.threads ≡ log_of self.protocol.journals) }
         ensures outcome { IfOk result (λ r. r.outcome ≡ outcome_of self.script (plain_state self.protocol)) }
-        ensures ends { IfOk result (λ r. length r.outcome.ends ≡ length self.script.threads) }
-        ensures reads { IfOk result (λ r. length r.outcome.reads ≡ length self.script.threads) }
-        ensures heap { IfOk result (λ r. length r.outcome.heap ≡ length self.script.objects) }
     {
         recorded(alloc, self.run)
     }

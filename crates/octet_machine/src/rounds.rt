@@ -1,5 +1,5 @@
 //! Runs of the machine by picks, and by rounds until all threads have ended.
-ghost use Rattle.std.specs.Prelude.{◌≡◌, true, length, IfOk};
+ghost use Rattle.std.specs.Prelude.{◌≡◌, true, IfOk};
 ghost use Rattle.octet_model.specs.Orders.{IsFaithful};
 ghost use Rattle.octet_machine.specs.Machine.{have_ended};
 ghost use Rattle.octet_machine.specs.Turns.{after_picks, after_round, EndsByRounds, IsPlayed};
@@ -55,9 +55,6 @@ pub fn play<R: Wait>(
 ) -> Result<Recorded, OutOfMemory>
     ensures played { IfOk result (λ r. IsPlayed script.now picks.now r) }
     ensures faithful { IfOk result (λ r. IsFaithful script.now r.log.threads r.outcome) }
-    ensures ends { IfOk result (λ r. length r.outcome.ends ≡ length script.now.threads) }
-    ensures reads { IfOk result (λ r. length r.outcome.reads ≡ length script.now.threads) }
-    ensures heap { IfOk result (λ r. length r.outcome.heap ≡ length script.now.objects) }
 {
     let mut machine = Machine::new(alloc, script)?;
     take_picks(&mut machine, picks);

@@ -1,16 +1,15 @@
 //! A worker carries out one demand of its thread on the heap.
-ghost use Rattle.std.specs.Prelude.{◌≡◌, ◌<◌, true, false};
+ghost use Rattle.std.specs.Prelude.{◌≡◌, ◌<◌, true};
 ghost use Rattle.std.specs.Option.{is_some, ForSome};
 ghost use Rattle.octet_model.specs.Journals.{access_count};
-ghost use Rattle.octet_interp.specs.Demands.{next_demand};
 ghost use Rattle.octet_rule.specs.Seats.{objects_of};
 ghost use Rattle.octet_heap.specs.declared.poll.Poll.TheVariants.{Ready};
 ghost use Rattle.octet_heap.specs.Calls.{access_to};
 ghost use Rattle.octet_heap.specs.Growth.{AddsAccess};
 ghost use Rattle.octet_heap.specs.Walks.{access_task};
 ghost use Rattle.octet_heap.specs.Workers.{seat_of, IsWorkerOf, IsIdle};
-ghost use Rattle.octet_threads.specs.Tasks.{task_of, Does};
-ghost use Rattle.octet_threads.specs.Carrying.{HasAccessLeft, IsLeftBy, IsSameThread, TellsAgain, KeepsUp};
+ghost use Rattle.octet_threads.specs.Tasks.{Does};
+ghost use Rattle.octet_threads.specs.Carrying.{CanCarry, Carries};
 
 use crate::access_backoff::AccessBackoff;
 use crate::gate::HeapGate;
@@ -82,20 +81,8 @@ pub(crate) fn carry_with_backoff<R: Threads + Wait + Sync, G: HeapGate>(
     gate: &G,
     backoff: &mut AccessBackoff,
 ) -> Demand
-    requires own { IsWorkerOf heap.now worker.old }
-    requires idle { IsIdle worker.old }
-    requires more { HasAccessLeft heap.now worker.old config.old }
-    requires objects { config.old.objects ≡ objects_of heap.now.words }
-    requires waits { config.old.waits ≡ false }
-    ensures own { IsWorkerOf heap.now worker.new }
-    ensures left { IsLeftBy result worker.new }
-    ensures number { (seat_of worker.new).number ≡ (seat_of worker.old).number }
-    ensures demand { result ≡ next_demand config.old }
-    ensures thread { IsSameThread config.old config.new }
-    ensures waits { config.new.waits ≡ false }
-    ensures ends { TellsAgain result config.new }
-    ensures steps { Does (task_of result) (seat_of worker.old) (seat_of worker.new) }
-    ensures journal { KeepsUp worker.old config.old worker.new config.new }
+    requires can { CanCarry heap.now worker.old config.old }
+    ensures { Carries heap.now worker.old config.old result worker.new config.new }
 {
     let demand = config.next();
     match demand {
@@ -141,20 +128,8 @@ pub fn carry<R: Threads + Wait + Sync, G: HeapGate>(
     config: &mut Config,
     gate: &G,
 ) -> Demand
-    requires own { IsWorkerOf heap.now worker.old }
-    requires idle { IsIdle worker.old }
-    requires more { HasAccessLeft heap.now worker.old config.old }
-    requires objects { config.old.objects ≡ objects_of heap.now.words }
-    requires waits { config.old.waits ≡ false }
-    ensures own { IsWorkerOf heap.now worker.new }
-    ensures left { IsLeftBy result worker.new }
-    ensures number { (seat_of worker.new).number ≡ (seat_of worker.old).number }
-    ensures demand { result ≡ next_demand config.old }
-    ensures thread { IsSameThread config.old config.new }
-    ensures waits { config.new.waits ≡ false }
-    ensures ends { TellsAgain result config.new }
-    ensures steps { Does (task_of result) (seat_of worker.old) (seat_of worker.new) }
-    ensures journal { KeepsUp worker.old config.old worker.new config.new }
+    requires can { CanCarry heap.now worker.old config.old }
+    ensures { Carries heap.now worker.old config.old result worker.new config.new }
 {
     carry_with_backoff(rt, heap, worker, config, gate, &mut AccessBackoff::new())
 }

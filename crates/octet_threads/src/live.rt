@@ -162,9 +162,6 @@ pub fn run_live<R: Threads + Wait + Sync, G: HeapGate, D: Desk>(
 ) -> Result<Live, OutOfMemory>
     requires begun { IsSome (D.state desk.old).begun }
     ensures faithful { IfOk result (λ live. IsFaithful script.now live.recorded.log.threads live.recorded.outcome) }
-    ensures ends { IfOk result (λ live. length live.recorded.outcome.ends ≡ length script.now.threads) }
-    ensures reads { IfOk result (λ live. length live.recorded.outcome.reads ≡ length script.now.threads) }
-    ensures heap { IfOk result (λ live. length live.recorded.outcome.heap ≡ length script.now.objects) }
 
     // The file grew by pieces that have the marks of the log: by all where `kept` is none, and else by
     // those before the one that was refused, and maybe by some first bytes of that.

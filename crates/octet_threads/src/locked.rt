@@ -1,5 +1,5 @@
 //! Runs of the script by threads that share one machine behind one lock.
-ghost use Rattle.std.specs.Prelude.{◌≡◌, length, IfOk};
+ghost use Rattle.std.specs.Prelude.{◌≡◌, IfOk};
 ghost use Rattle.octet_model.specs.Orders.{IsFaithful};
 
 use crate::worker::run_workers;
@@ -37,9 +37,6 @@ pub fn run_locked<R: Threads + Wait + Sync, G: Gate>(
     gate: &G,
 ) -> Result<Recorded, OutOfMemory>
     ensures faithful { IfOk result (λ r. IsFaithful script.now r.log.threads r.outcome) }
-    ensures ends { IfOk result (λ r. length r.outcome.ends ≡ length script.now.threads) }
-    ensures reads { IfOk result (λ r. length r.outcome.reads ≡ length script.now.threads) }
-    ensures heap { IfOk result (λ r. length r.outcome.heap ≡ length script.now.objects) }
 {
     let machine = Machine::new(alloc, script)?;
     let threads = machine.threads();

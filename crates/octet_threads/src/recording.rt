@@ -1,5 +1,5 @@
 //! What is recorded of a run whose threads have all ended.
-ghost use Rattle.std.specs.Prelude.{◌≡◌, ◌<◌, All, length, map, IfOk};
+ghost use Rattle.std.specs.Prelude.{◌≡◌, ◌<◌, All, map, IfOk};
 ghost use Rattle.octet_model.specs.Journals.{log_of};
 ghost use Rattle.octet_model.specs.Orders.{IsFaithful};
 ghost use Rattle.octet_heap.specs.Seated.{journals_of};
@@ -57,9 +57,6 @@ pub(crate) fn finish_run(
     requires ended { All (HasEnded heap) runners.items }
     ensures log { IfOk result (λ r. r.log.threads ≡ log_of (journals_of (workers_in runners.items))) }
     ensures faithful { IfOk result (λ r. IsFaithful script.now r.log.threads r.outcome) }
-    ensures ends { IfOk result (λ r. length r.outcome.ends ≡ length script.now.threads) }
-    ensures reads { IfOk result (λ r. length r.outcome.reads ≡ length script.now.threads) }
-    ensures heap { IfOk result (λ r. length r.outcome.heap ≡ length script.now.objects) }
 {
     let ends = ends_of(alloc, runners.as_slice())?;
     let workers = workers_of(alloc, runners)?;

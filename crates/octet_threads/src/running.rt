@@ -73,9 +73,6 @@ pub fn run<R: Threads + Wait + Sync, G: HeapGate>(
     gate: &G,
 ) -> Result<Recorded, OutOfMemory>
     ensures faithful { IfOk result (λ r. IsFaithful script.now r.log.threads r.outcome) }
-    ensures ends { IfOk result (λ r. length r.outcome.ends ≡ length script.now.threads) }
-    ensures reads { IfOk result (λ r. length r.outcome.reads ≡ length script.now.threads) }
-    ensures heap { IfOk result (λ r. length r.outcome.heap ≡ length script.now.objects) }
 {
     let (heap, workers) = Heap::new(alloc, script)?;
     let mut runners = runners(alloc, script, &heap, workers.into_vec())?;

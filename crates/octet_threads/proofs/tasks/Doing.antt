@@ -1,6 +1,7 @@
 -- A worker does a task step by step.
 use Rattle.std.proofs.Common.{◌≡◌, ◌∙◌, ℕ, Bool, true, false, List, [], ◌∷◌, ◌++◌, sym, refl, ap, subst, append_assoc}
 use Rattle.std.specs.Prelude.{◌==◌, not, if◌then◌else◌}
+use Rattle.octet_model.specs.declared.outcome.End.{End}
 use Rattle.octet_interp.specs.declared.demand.Demand.TheVariants as demand
 use Rattle.octet_state.specs.declared.phase.Phase.TheVariants.{Idle, Blocked}
 use Rattle.octet_state.specs.declared.phase.Due.TheVariants.{Nothing, Answer}
@@ -75,6 +76,10 @@ pauses u v w found there due phase blocks unblocks =
     let stands : v.thread.phase ≡ Blocked = ap (λ (x : SeatView). x.thread.phase) blocks.moves in
     gone_and_done task u v w (gone_one task u v (ToBlock false) found blocks (sym (next_in task u Nothing Idle due phase)) refl)
     (done_by task v w ToUnblock there unblocks (sym (next_in task v Nothing Blocked owes stands)) refl)
+
+-- a block for good
+pub blocks_at_end : (end : End) (u v : SeatView) (found : ℕ) → u.thread.due ≡ Nothing → u.thread.phase ≡ Idle → Steps (ToBlock false) u found v → Does (task_of (demand.Ended end)) u v
+blocks_at_end end u v found due phase blocks = let task = task_of (demand.Ended end) in done_by task u v (ToBlock false) found blocks (sym (next_in task u Nothing Idle due phase)) refl
 
 -- a safe point: a glance, and an answer where it found a bit
 pub safes : (u w : SeatView) (answered : Bool) → u.thread.due ≡ Nothing → u.thread.phase ≡ Idle → PassesSafePoint u answered w → Does (task_of demand.Safe) u w

@@ -14,7 +14,7 @@ use Rattle.octet_log.specs.v2.Pieces.{marks_in}
 use Rattle.octet_top.proofs.writing.Lengths.{first_has_few}
 use Rattle.octet_machine.specs.Turns.{IsPlayed}
 use Rattle.octet_replay.specs.Laws.{IsWholeOutcome}
-use Rattle.octet_replay.proofs.lemmas.WholeOutcomes.{whole}
+use Rattle.octet_replay.proofs.lemmas.WholeOutcomes.{faithful_whole}
 use Rattle.octet_top.specs.Request.{Way, AsTheyCome, BehindLock, ByPicks}
 use Rattle.octet_top.specs.Commands.{Records}
 
@@ -27,9 +27,7 @@ pub recorded_short : (way : Way) (script : Script) (log : Log) (outcome : Outcom
 recorded_short way script log outcome recorded = omega (arith, faithful_log_is_short script log.threads outcome (recorded_faithfully way script log outcome recorded) log.valid)
 
 pub recorded_whole : (way : Way) (script : Script) (log : Log) (outcome : Outcome) → Records way script log outcome → IsWholeOutcome script outcome
-recorded_whole way script log outcome recorded =
-    let faithful = recorded_faithfully way script log outcome recorded in
-    subst (IsWholeOutcome script) (faithful.outcomes faithful.order faithful.is_lawful) (whole script log.threads faithful.order)
+recorded_whole way script log outcome recorded = faithful_whole script log.threads outcome (recorded_faithfully way script log outcome recorded)
 
 -- what plays picks records by them
 pub recorded_by_picks : (way : Way) (digits picks : List ℕ) (script : Script) (result : Result Recorded OutOfMemory) → way ≡ ByPicks digits → picks ≡ digits

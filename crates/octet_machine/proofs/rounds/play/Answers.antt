@@ -1,4 +1,4 @@
-use Rattle.std.proofs.Common.{◌≡◌, length, IfOk, subst}
+use Rattle.std.proofs.Common.{◌≡◌, IfOk, subst}
 use Rattle.octet_model.specs.declared.script.Script.{Script}
 use Rattle.octet_model.specs.Orders.{IsFaithful}
 use Rattle.octet_machine.proofs.running.ManyTurns.{same_script, is_played}
@@ -13,18 +13,3 @@ pub returns-clause-faithful : goal.returns-clause-faithful
 returns-clause-faithful g c =
     subst (λ (s : Script). IfOk c.finish.result (λ r. IsFaithful s r.log.threads r.outcome))
     (same_script c.args.script.now c.args.picks.now c.in_ok-machine.machine c.take_picks.new.machine c.take_rounds.new.machine c.in_ok-machine.ensures.state c.take_picks.ensures c.take_rounds.ensures.script) c.finish.ensures.faithful
-
-pub returns-clause-ends : goal.returns-clause-ends
-returns-clause-ends g c =
-    subst (λ (s : Script). IfOk c.finish.result (λ r. length r.outcome.ends ≡ length s.threads))
-    (same_script c.args.script.now c.args.picks.now c.in_ok-machine.machine c.take_picks.new.machine c.take_rounds.new.machine c.in_ok-machine.ensures.state c.take_picks.ensures c.take_rounds.ensures.script) c.finish.ensures.ends
-
-pub returns-clause-reads : goal.returns-clause-reads
-returns-clause-reads g c =
-    subst (λ (s : Script). IfOk c.finish.result (λ r. length r.outcome.reads ≡ length s.threads))
-    (same_script c.args.script.now c.args.picks.now c.in_ok-machine.machine c.take_picks.new.machine c.take_rounds.new.machine c.in_ok-machine.ensures.state c.take_picks.ensures c.take_rounds.ensures.script) c.finish.ensures.reads
-
-pub returns-clause-heap : goal.returns-clause-heap
-returns-clause-heap g c =
-    subst (λ (s : Script). IfOk c.finish.result (λ r. length r.outcome.heap ≡ length s.objects))
-    (same_script c.args.script.now c.args.picks.now c.in_ok-machine.machine c.take_picks.new.machine c.take_rounds.new.machine c.in_ok-machine.ensures.state c.take_picks.ensures c.take_rounds.ensures.script) c.finish.ensures.heap

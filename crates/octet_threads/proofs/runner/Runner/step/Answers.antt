@@ -14,12 +14,17 @@ use Rattle.octet_threads.proofs.tasks.Growing.{task_grows, task_seen, feed_still
 use Rattle.octet_threads.proofs.runners.Props.{journal_prop}
 use Rattle.octet_threads.proofs.runner.Runner.step.Goals as goal
 
-pub carry_with_backoff-demand-requires-clause-more : goal.carry_with_backoff-demand-requires-clause-more
-carry_with_backoff-demand-requires-clause-more g c κs within = λ wants.
+pub carry_with_backoff-demand-requires-clause-can : goal.carry_with_backoff-demand-requires-clause-can
+carry_with_backoff-demand-requires-clause-can g c κs within =
     let self = c.args.self.now in
-    let kept : IsJournalOf (start_of self.worker) (seat_of self.worker).journal self.config = ∥∥₁_elim self.fits (journal_prop (start_of self.worker) (seat_of self.worker).journal self.config) (λ k. k) in
-    subst (λ (fuel : ℕ). access_count (seat_of self.worker).journal < fuel) c.requires.work.own.same_fuel
-    (access_left (start_of self.worker) (seat_of self.worker).journal self.config kept wants)
+    let kept : IsJournalOf (start_of self.worker) (seat_of self.worker).journal self.config = ∥∥₁_elim self.fits (journal_prop (start_of self.worker) (seat_of self.worker).journal self.config) (λ k. k) in record {
+      own = c.requires.work.own;
+      idle = c.requires.work.idle;
+      more = λ wants. subst (λ (fuel : ℕ). access_count (seat_of self.worker).journal < fuel) c.requires.work.own.same_fuel
+          (access_left (start_of self.worker) (seat_of self.worker).journal self.config kept wants);
+      objects = c.requires.work.objects;
+      waits = self.idle;
+    }
 
 pub invariant_of-self-clause-fits : goal.invariant_of-self-clause-fits
 invariant_of-self-clause-fits g c =
