@@ -1,4 +1,3 @@
 pub mod tasks
-pub mod turns
 pub mod live_log
 pub mod runners

@@ -1,5 +1,3 @@
-pub mod Step
-pub mod Turns
 pub mod Tasks
 pub mod Carrying
 pub mod Rests

