@@ -2,7 +2,7 @@
 use Rattle.std.specs.Prelude.{◌≡◌, ℕ, [], All, length, None}
 use Rattle.octet_model.specs.declared.script.Script.{Script}
 use Rattle.octet_ring.specs.Views.{received_of}
-use Rattle.octet_threads.specs.declared.live.Opened.{Opened}
+use Rattle.octet_threads.specs.declared.heap.live.Opened.{Opened}
 use Rattle.octet_threads.specs.Runners.{AreOf, IsAtRest, IsHeapOf}
 use Rattle.octet_threads.specs.Work.{SendEach}
 

@@ -17,7 +17,7 @@ use Rattle.octet_heap.specs.Workers.{seat_of, IsWorkerOf, IsIdle}
 use Rattle.octet_threads.specs.Carrying.{IsLeftBy, TellsAgain}
 use Rattle.octet_threads.specs.Feeds.{end_of}
 use Rattle.octet_threads.specs.Tasks.{task_of, Does}
-use Rattle.octet_threads.specs.declared.runner.Runner.{Runner}
+use Rattle.octet_threads.specs.declared.heap.runner.Runner.{Runner}
 
 -- the runner is at rest: its worker is one of this heap's, and is off or blocked.
 -- Its thread has as many objects as the heap

@@ -8,7 +8,7 @@ use Rattle.octet_model.specs.Journals.{gapped_marks}
 use Rattle.octet_heap.specs.declared.worker.Worker.{Worker}
 use Rattle.octet_heap.specs.Workers.{seat_of}
 use Rattle.octet_ring.specs.Views.{RingName}
-use Rattle.octet_threads.specs.declared.runner.Runner.{Runner}
+use Rattle.octet_threads.specs.declared.heap.runner.Runner.{Runner}
 use Rattle.octet_threads.specs.Feeds.{SendsBy, HasFront}
 use Rattle.octet_threads.specs.Live.{AddsPieces}
 

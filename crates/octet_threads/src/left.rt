@@ -10,7 +10,7 @@ ghost use Rattle.octet_threads.specs.Work.{IsSameWork, SendEach, marks_made};
 
 use crate::drainer::{Drainer, PIECE, add_piece};
 use crate::feed::Feed;
-use crate::runner::Runner;
+use crate::heap::runner::Runner;
 use octet_base::{Desk, DeskFault};
 use octet_model::Gapped;
 use std::alloc::Global;

@@ -5,25 +5,13 @@
 #![tactic(auto)]
 
 mod access_backoff;
-mod carrying;
 mod crew;
 mod drainer;
 mod feed;
-mod gate;
+mod heap;
 mod left;
-mod live;
-mod locked;
-mod pace;
-mod recording;
-mod runner;
-mod running;
-mod runs;
-mod step;
+mod lock;
 mod tuning;
-mod worker;
 
-pub use carrying::carry;
-pub use gate::HeapGate;
-pub use live::{Live, run_live};
-pub use locked::run_locked;
-pub use running::run;
+pub use heap::{HeapGate, Live, carry, run, run_live};
+pub use lock::run_locked;

@@ -10,7 +10,7 @@ use Rattle.octet_model.specs.Machine.{Journals, journal_of}
 use Rattle.octet_model.specs.Journals.{access_count, log_of}
 use Rattle.octet_heap.specs.declared.heap.Heap.{Heap}
 use Rattle.octet_heap.specs.Seated.{journals_of}
-use Rattle.octet_threads.specs.declared.runner.Runner.{Runner}
+use Rattle.octet_threads.specs.declared.heap.runner.Runner.{Runner}
 use Rattle.octet_threads.specs.Live.{IsWritten, IsPartlyWritten}
 use Rattle.octet_threads.specs.Runners.{AreOf, HasEnded, IsHeapOf}
 use Rattle.octet_threads.specs.Work.{Writes, marks_made, workers_in}

@@ -29,7 +29,7 @@ use Rattle.octet_heap.specs.declared.worker.Worker.{Worker}
 use Rattle.octet_heap.specs.Workers.{seat_of}
 use Rattle.octet_heap.specs.Seated.{seats_in, journals_of, RestsAs, EachRests}
 use Rattle.octet_heap.specs.Closings.{IsClosed}
-use Rattle.octet_threads.specs.declared.runner.Runner.{Runner}
+use Rattle.octet_threads.specs.declared.heap.runner.Runner.{Runner}
 use Rattle.octet_threads.specs.Runners.{HasEnded, IsEnd, IsOf, AreOf, IsHeapOf, end_told}
 use Rattle.octet_threads.specs.Carrying.{start_of}
 use Rattle.octet_threads.specs.Work.{workers_in}

@@ -6,7 +6,7 @@ use Rattle.octet_model.specs.declared.script.Script.{Script}
 use Rattle.octet_heap.specs.declared.heap.Heap.{Heap}
 use Rattle.octet_heap.specs.declared.worker.Worker.{Worker}
 use Rattle.octet_heap.specs.Seated.{IsNew}
-use Rattle.octet_threads.specs.declared.runner.Runner.{Runner}
+use Rattle.octet_threads.specs.declared.heap.runner.Runner.{Runner}
 use Rattle.octet_threads.specs.Runners.{AreOf, IsOf}
 use Rattle.octet_threads.specs.Work.{IsOfThread}
 

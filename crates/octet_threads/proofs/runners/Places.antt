@@ -11,7 +11,7 @@ use Rattle.octet_ring.specs.Views.{RingName}
 use Rattle.octet_heap.specs.declared.heap.Heap.{Heap}
 use Rattle.octet_heap.specs.declared.worker.Worker.{Worker}
 use Rattle.octet_heap.specs.Workers.{seat_of, IsWorkerOf}
-use Rattle.octet_threads.specs.declared.runner.Runner.{Runner}
+use Rattle.octet_threads.specs.declared.heap.runner.Runner.{Runner}
 use Rattle.octet_threads.specs.Runners.{HasEnded, IsAtRest, IsEnd, IsSame, IsSeen}
 use Rattle.octet_threads.specs.Work.{IsOfThread, IsSameWork, SendEach, marks_made}
 

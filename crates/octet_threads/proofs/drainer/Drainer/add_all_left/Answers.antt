@@ -4,7 +4,7 @@ use Rattle.octet_model.specs.declared.log.Gapped.{Gapped}
 use Rattle.octet_model.specs.Journals.{gapped_marks}
 use Rattle.octet_heap.specs.Workers.{seat_of}
 use Rattle.octet_ring.specs.Views.{RingName}
-use Rattle.octet_threads.specs.declared.runner.Runner.{Runner}
+use Rattle.octet_threads.specs.declared.heap.runner.Runner.{Runner}
 use Rattle.octet_threads.specs.Feeds.{AddsLeft, SendsBy}
 use Rattle.octet_threads.specs.Work.{IsSameWork, marks_made}
 use Rattle.octet_threads.proofs.live_log.Draining.{left_of_none, left_of_next}

@@ -1,6 +1,6 @@
 use Rattle.std.proofs.Common.{◌≡◌, ◌≤◌, ℕ, length, slice_index_or}
 use Rattle.std.specs.List.{AllZip}
-use Rattle.octet_threads.specs.declared.runner.Runner.{Runner}
+use Rattle.octet_threads.specs.declared.heap.runner.Runner.{Runner}
 use Rattle.octet_threads.specs.Work.{IsSameWork, marks_made}
 use Rattle.octet_threads.proofs.live_log.Draining.{LeftBelow}
 use Rattle.octet_threads.proofs.drainer.Drainer.add_all_left.Given as goal

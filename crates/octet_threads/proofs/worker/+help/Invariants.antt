@@ -1,4 +1,0 @@
-use Rattle.octet_threads.proofs.worker.+help.Given as goal
-
-abbrev pub decreases-help : goal.decreases-help
-decreases-help l = l.most
