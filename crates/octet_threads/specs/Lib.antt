@@ -2,7 +2,5 @@ pub mod Tasks
 pub mod Carrying
 pub mod Rests
 pub mod Runners
-pub mod Live
-pub mod Feeds
 pub mod Work
 pub mod Opened

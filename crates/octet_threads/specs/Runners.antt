@@ -1,5 +1,6 @@
 -- Runners: workers with the threads that they run.
-use Rattle.std.specs.Prelude.{◌≡◌, ℕ, ◌<◌, List, length, slice_index_or}
+use Rattle.std.specs.Prelude.{◌≡◌, ℕ, ◌<◌, List, length, slice_index_or, Option}
+use Rattle.std.specs.Option.{option_map}
 use Rattle.octet_model.specs.declared.outcome.End.{End}
 use Rattle.octet_model.specs.declared.outcome.End.TheVariants.{Spent}
 use Rattle.octet_model.specs.declared.script.Script.{Script}
@@ -14,8 +15,10 @@ use Rattle.octet_state.specs.State.{ProtocolState}
 use Rattle.octet_heap.specs.declared.heap.Heap.{Heap}
 use Rattle.octet_heap.specs.declared.worker.Worker.{Worker}
 use Rattle.octet_heap.specs.Workers.{seat_of, IsWorkerOf, IsIdle}
+use Rattle.octet_live.specs.declared.feed.Feed.{Feed}
+use Rattle.octet_live.specs.Feeds.{end_of}
+use Rattle.octet_ring.specs.Views.{RingName}
 use Rattle.octet_threads.specs.Carrying.{IsLeftBy, TellsAgain}
-use Rattle.octet_threads.specs.Feeds.{end_of}
 use Rattle.octet_threads.specs.Tasks.{task_of, Does}
 use Rattle.octet_threads.specs.declared.heap.runner.Runner.{Runner}
 
@@ -55,11 +58,15 @@ pub record HasEnded (heap : Heap) (runner : Runner) : Type 0 where
   pub ends : IsEnd (next_demand runner.config)
   pub seen : IsSeen runner.worker
 
+-- the thread of a feed and the name of its ring, if there is a feed
+abbrev pub end_by : Option Feed → Option (ℕ × RingName)
+end_by feed = option_map end_of feed
+
 -- the runner is of the same thread, and sends by the same ring, if it sends
 pub record IsSame (before after : Runner) : Type 0 where
   pub number : (seat_of after.worker).number ≡ (seat_of before.worker).number
   pub commands : after.config.commands ≡ before.config.commands
-  pub end : end_of after.feed ≡ end_of before.feed
+  pub end : end_by after.feed ≡ end_by before.feed
 
 -- the worker has rested, by the steps of a pause, and its thread stayed where it was
 pub record HasRested (before after : Runner) : Type 0 where

@@ -1,12 +1,13 @@
 //! What the workers of a run share beside their heap.
 use crate::tuning::{LONGEST_START, YIELDS_AT_START};
+use octet_live::{Bell, Bells};
 use std::sync::Wait;
 use std::sync::atomic::{AtomicU64, Ordering};
 use std::thread::yield_now;
 use std::time::Duration;
 
-/// How many workers have begun, are at work and have ended, and a bell on which those sleep that rest,
-/// with how often it was rung. Workers begin together: a thread of a few commands would else be at its
+/// How many workers are at work, the bells that they ring as they begin and end, and one on which those
+/// sleep that rest. Workers begin together: a thread of a few commands would else be at its
 /// end before the next one is made. Threads that want one object all the time hand it over at each access
 /// as long as all of them run, and a handover takes as long as a hundred accesses, or some
 /// milliseconds where a thread has no processor. So a worker that has waited a lot stays away for a
@@ -16,16 +17,10 @@ use std::time::Duration;
 #[derive(Drop)]
 pub(crate) struct Crew {
     workers: usize,
-    begun: AtomicU64,
+    bells: Bells,
     started: AtomicU64,
     working: AtomicU64,
-    ended: AtomicU64,
-    rung: AtomicU64,
-}
-
-// The low half, by which a word tells those that sleep on it whether it has changed.
-fn low_half(word: &AtomicU64) -> u32 {
-    (word.load(Ordering::SeqCst) % (1 << 32)) as u32
+    rests: Bell,
 }
 
 impl Crew {
@@ -33,11 +28,10 @@ impl Crew {
     pub(crate) fn new(workers: usize) -> Crew {
         Crew {
             workers,
-            begun: AtomicU64::new(0),
+            bells: Bells::new(),
             started: AtomicU64::new(0),
             working: AtomicU64::new(0),
-            ended: AtomicU64::new(0),
-            rung: AtomicU64::new(0),
+            rests: Bell::new(),
         }
     }
 
@@ -46,8 +40,8 @@ impl Crew {
     /// any more.
     pub(crate) fn begin<R: Wait>(&self, rt: &R) {
         self.working.fetch_add(1, Ordering::SeqCst);
-        self.begun.fetch_add(1, Ordering::SeqCst);
-        if self.begun.load(Ordering::SeqCst) < self.workers as u64 {
+        self.bells.begun.ring();
+        if (self.bells.begun.count() as usize) < self.workers {
             self.wait_for_start(rt);
         }
         self.start();
@@ -76,8 +70,7 @@ impl Crew {
     /// Counts a worker that ends, and wakes who waits for it. The last one at work wakes one of those
     /// that rest.
     pub(crate) fn end(&self) {
-        self.ended.fetch_add(1, Ordering::SeqCst);
-        self.ended.wake_one();
+        self.bells.ended.ring();
         self.leave();
     }
 
@@ -86,16 +79,15 @@ impl Crew {
     fn leave(&self) -> bool {
         let is_last = self.working.fetch_sub(1, Ordering::SeqCst) <= 1;
         if is_last {
-            self.rung.fetch_add(1, Ordering::SeqCst);
-            self.rung.wake_one();
+            self.rests.ring();
         }
         is_last
     }
 
-    /// Lets a worker stop work for a while, unless no other is at work. Tells how often the bell was
-    /// rung before.
+    /// Lets a worker stop work for a while, unless no other is at work. Tells how often the bell of those
+    /// that rest was rung before.
     pub(crate) fn stop(&self) -> Option<u32> {
-        let rung = low_half(&self.rung);
+        let rung = self.rests.count();
         if self.working.fetch_sub(1, Ordering::SeqCst) > 1 {
             return Some(rung);
         }
@@ -106,12 +98,12 @@ impl Crew {
     /// Lets a worker stop work for a while that waits for what others are to do, unless all others have
     /// ended. Tells how often the bell was rung before others may ring it for this one.
     pub(crate) fn stand_by(&self) -> Option<u32> {
-        if self.ended.load(Ordering::SeqCst).saturating_add(1) >= self.workers as u64 {
+        if (self.bells.ended.count() as usize).saturating_add(1) >= self.workers {
             return None;
         }
-        let rung = low_half(&self.rung);
+        let rung = self.rests.count();
         Some(if self.leave() {
-            low_half(&self.rung)
+            self.rests.count()
         } else {
             rung
         })
@@ -119,22 +111,12 @@ impl Crew {
 
     /// Rests for so long at most, where the bell was rung so often before, and goes back to work.
     pub(crate) fn rest<R: Wait>(&self, rt: &R, rung: u32, time: Duration) {
-        self.rung.park_timeout(rt, rung, time);
+        self.rests.wait(rt, rung, time);
         self.working.fetch_add(1, Ordering::SeqCst);
     }
 
-    /// Whether any worker has begun.
-    pub(crate) fn has_begun(&self) -> bool {
-        self.begun.load(Ordering::SeqCst) > 0
-    }
-
-    /// How many workers have ended.
-    pub(crate) fn ended(&self) -> u32 {
-        low_half(&self.ended)
-    }
-
-    /// Lets so much time pass, or until another worker ends than so many.
-    pub(crate) fn wait_for_end<R: Wait>(&self, rt: &R, ended: u32, time: Duration) {
-        self.ended.park_timeout(rt, ended, time);
+    /// The bells that a drainer of their log needs.
+    pub(crate) fn bells(&self) -> &Bells {
+        &self.bells
     }
 }

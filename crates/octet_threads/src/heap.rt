@@ -4,7 +4,7 @@ mod gate;
 mod live;
 mod pace;
 mod recording;
-pub(crate) mod runner;
+mod runner;
 mod running;
 mod runs;
 

@@ -6,10 +6,7 @@
 
 mod access_backoff;
 mod crew;
-mod drainer;
-mod feed;
 mod heap;
-mod left;
 mod lock;
 mod tuning;
 

@@ -67,13 +67,3 @@ pub(crate) const LONGEST_DOZE: u32 = 4_000;
 /// Turns of its own thread that a worker takes at most before it lets go of the machine: enough that
 /// the lock costs little beside them, and few, since others wait for it meanwhile.
 pub(crate) const TURNS: u32 = 16;
-
-/// How long a drainer rests that took what there was, in microseconds, unless a worker ends: long
-/// enough that it wakes seldom. What a ring has no room for meanwhile waits with its worker.
-pub(crate) const DRAINER_REST: u32 = 2_000;
-
-/// Rests of a drainer before any worker has begun that tell that no thread could be made: a second.
-pub(crate) const RESTS_BEFORE_START: u32 = 500;
-
-/// Pieces of one thread that are added in a row: as many as its ring has room for.
-pub(crate) const PIECES_IN_A_ROW: u32 = 16;

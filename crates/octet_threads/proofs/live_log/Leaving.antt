@@ -11,12 +11,13 @@ use Rattle.octet_model.specs.Journals.{access_count, log_of}
 use Rattle.octet_heap.specs.declared.heap.Heap.{Heap}
 use Rattle.octet_heap.specs.Seated.{journals_of}
 use Rattle.octet_threads.specs.declared.heap.runner.Runner.{Runner}
-use Rattle.octet_threads.specs.Live.{IsWritten, IsPartlyWritten}
+use Rattle.octet_live.specs.Written.{IsWritten, IsPartlyWritten, Writes}
+use Rattle.octet_live.specs.Laws.{marks_at}
+use Rattle.octet_live.proofs.lemmas.Written.{written, nothing_written}
 use Rattle.octet_threads.specs.Runners.{AreOf, HasEnded, IsHeapOf}
-use Rattle.octet_threads.specs.Work.{Writes, marks_made, workers_in}
+use Rattle.octet_threads.specs.Work.{marks_made, workers_in}
 use Rattle.octet_threads.proofs.runners.Ending.{fuelled, good, many_ended}
 use Rattle.octet_threads.proofs.live_log.ThreadLogs.{IsGoodJournal, journals_valid, journals_few, length_logs}
-use Rattle.octet_threads.proofs.live_log.Written.{marks_at, written, nothing_written}
 
 made_in_log : (runners : List Runner) (u : ℕ) → u < length runners → marks_at (log_of (journals_of (workers_in runners))) u ≡ marks_made runners u
 made_in_log [] u less = absurd (omega (arith, less))

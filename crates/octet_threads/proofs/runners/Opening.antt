@@ -7,8 +7,7 @@ use Rattle.octet_heap.specs.declared.heap.Heap.{Heap}
 use Rattle.octet_heap.specs.declared.worker.Worker.{Worker}
 use Rattle.octet_heap.specs.Seated.{IsNew}
 use Rattle.octet_threads.specs.declared.heap.runner.Runner.{Runner}
-use Rattle.octet_threads.specs.Runners.{AreOf, IsOf}
-use Rattle.octet_threads.specs.Work.{IsOfThread}
+use Rattle.octet_threads.specs.Runners.{AreOf, IsOf, IsSame}
 
 -- the new workers of the threads from this one on, in order
 abbrev pub AreNew : Heap → ℕ → List Worker → Type 0
@@ -36,12 +35,12 @@ abbrev pub EachOf : Script → List Runner → Type 0
 EachOf script runners = (thread : ℕ) (none : Runner) → thread < length runners → IsOf script thread (slice_index_or runners thread none)
 
 -- runners of the same threads are those of the script
-pub still_of : (script : Script) (xs ys : List Runner) → AreOf script xs → AllZip IsOfThread xs ys → AreOf script ys
+pub still_of : (script : Script) (xs ys : List Runner) → AreOf script xs → AllZip IsSame xs ys → AreOf script ys
 still_of script xs ys of same = record {
-  as_many = sym (length_all_zip IsOfThread xs ys same) ∙ of.as_many;
+  as_many = sym (length_all_zip IsSame xs ys same) ∙ of.as_many;
   each = λ t none there.
-      let here : t < length xs = omega (arith, there, length_all_zip IsOfThread xs ys same) in
-      let s = AllZip-get_or IsOfThread xs ys t none none same here in
+      let here : t < length xs = omega (arith, there, length_all_zip IsSame xs ys same) in
+      let s = AllZip-get_or IsSame xs ys t none none same here in
       let o = of.each t none here in
       record { number = s.number ∙ o.number; commands = s.commands ∙ o.commands };
 }

@@ -1,20 +1,19 @@
 -- A worker's journal grows at its end, and was seen.
-use Rattle.std.proofs.Common.{◌≡◌, ◌∙◌, ℕ, List, [], ◌∷◌, ◌++◌, length, length-append, take, Option, None, Some, refl, sym, ap, subst, append_assoc, append-nil, arith}
+use Rattle.std.proofs.Common.{◌≡◌, ◌∙◌, List, [], ◌∷◌, ◌++◌, Option, None, Some, refl, sym, ap, subst, append_assoc, append-nil}
 use Rattle.std.specs.Option.{ForSome}
-use Rattle.std.proofs.lemmas.List.{take-append-le}
 use Rattle.octet_model.specs.declared.event.Event.{Event}
 use Rattle.octet_model.specs.declared.log.Gapped.{Gapped}
 use Rattle.octet_model.specs.Journals.{gap_after, gapped_marks}
 use Rattle.octet_model.proofs.lemmas.Splits.{gapped_marks_split}
 use Rattle.octet_state.specs.State.{ProtocolState}
 use Rattle.octet_state.specs.Steps.{made, ended_by, step}
-use Rattle.octet_ring.specs.Views.{SenderView}
 use Rattle.octet_rule.specs.Rule.{IsSeenBy}
 use Rattle.octet_rule.specs.Views.{SeatView, Taken, stepped_by}
 use Rattle.octet_heap.specs.Walks.{Task, after_steps}
 use Rattle.octet_heap.proofs.lemmas.Walks.{after_more}
-use Rattle.octet_threads.specs.declared.feed.Feed.{Feed}
-use Rattle.octet_threads.specs.Feeds.{HasSent}
+use Rattle.octet_live.specs.declared.feed.Feed.{Feed}
+use Rattle.octet_live.specs.Feeds.{HasSent}
+use Rattle.octet_live.proofs.lemmas.Feeds.{still_sent}
 use Rattle.octet_threads.specs.Tasks.{Does}
 
 -- a list that begins with another
@@ -46,15 +45,7 @@ module _ (task : Task) (v w : SeatView) (does : Does task v w) where
       )
 
 -- the marks that were sent stay the first
-still_sent : (sender : SenderView) (sent : ℕ) (journal more : List Event) → HasSent sender sent (gapped_marks 0 journal) → HasSent sender sent (gapped_marks 0 (journal ++ more))
-still_sent sender sent journal more has =
-    let old = gapped_marks 0 journal in
-    let new = gapped_marks (gap_after 0 journal) more in
-    let split : gapped_marks 0 (journal ++ more) ≡ old ++ new = gapped_marks_split 0 journal more in (
-      has.0 ∙ (sym (take-append-le sent old new has.1) ∙ ap (λ (l : List Gapped). take sent l) (sym split)),
-      omega (arith, has.1, length-append old new, ap (λ (l : List Gapped). length l) split),
-    )
-
-pub feed_still_sent : (feed : Option Feed) (journal after : List Event) → Grows journal after → ForSome feed (λ feed. HasSent feed.sender feed.sent (gapped_marks 0 journal)) → ForSome feed (λ feed. HasSent feed.sender feed.sent (gapped_marks 0 after))
+pub feed_still_sent : (feed : Option Feed) (journal after : List Event) → Grows journal after → ForSome feed (λ feed. HasSent feed (gapped_marks 0 journal)) → ForSome feed (λ feed. HasSent feed (gapped_marks 0 after))
 feed_still_sent feed journal after grown has own is =
-    subst (λ (l : List Event). HasSent own.sender own.sent (gapped_marks 0 l)) (sym grown.1) (still_sent own.sender own.sent journal grown.0 (has own is))
+    let split = ap (λ (l : List Event). gapped_marks 0 l) grown.1 ∙ gapped_marks_split 0 journal grown.0 in
+    subst (λ (marks : List Gapped). HasSent own marks) (sym split) (still_sent own (gapped_marks 0 journal) (gapped_marks (gap_after 0 journal) grown.0) (has own is))

@@ -1,22 +1,21 @@
 //! Runs of the script by threads that share one heap, whose log is written while they run.
-ghost use Rattle.std.specs.Prelude.{◌≡◌, ◌≢◌, ℕ, ◌<◌, ◌≤◌, [], All, length, IfOk, OnErr, IsSome, Some, None};
+ghost use Rattle.std.specs.Prelude.{◌≡◌, ◌≢◌, ◌<◌, ◌≤◌, All, length, IfOk, OnErr, IsSome, Some};
 ghost use Rattle.std.specs.List.{AllZip};
 ghost use Rattle.std.specs.Thread.{IsSync};
 ghost use Rattle.octet_base.specs.Desk.{Rose};
 ghost use Rattle.octet_base.specs.declared.fault.DeskFault.TheVariants.{Failed, TooLong, Absent};
 ghost use Rattle.octet_model.specs.declared.limits.TheConstants.{MAX_THREADS};
+ghost use Rattle.octet_model.specs.Journals.{gapped_marks};
 ghost use Rattle.octet_model.specs.Orders.{IsFaithful};
-ghost use Rattle.octet_ring.specs.declared.limits.TheConstants.{MAX_ROOM};
-ghost use Rattle.octet_ring.specs.Views.{received_of, AreFresh};
-ghost use Rattle.octet_threads.specs.Runners.{AreOf, HasEnded, IsAtRest, IsHeapOf, IsSame};
-ghost use Rattle.octet_threads.specs.Feeds.{Drains, end_of};
-ghost use Rattle.octet_threads.specs.Work.{IsSameWork, SendEach, marks_made, IsOfThread, Writes};
+ghost use Rattle.octet_heap.specs.Workers.{seat_of};
+ghost use Rattle.octet_live.specs.Feeds.{HasSentNothing};
+ghost use Rattle.octet_live.specs.Drained.{threads_of, AreFeeds, IsFresh, Drains, AddsLeft, AddsAllLeft};
+ghost use Rattle.octet_live.specs.Written.{IsWritten, IsPartlyWritten, Writes};
+ghost use Rattle.octet_threads.specs.Runners.{end_by, HasEnded, IsAtRest, IsSame};
+ghost use Rattle.octet_threads.specs.Work.{workers_in, threads_in, marks_made, SendsTo, SendEach};
 ghost use Rattle.octet_threads.specs.Opened.{IsOpened};
-ghost use Rattle.octet_threads.specs.Live.{IsWritten, IsPartlyWritten};
 
 use crate::crew::Crew;
-use crate::drainer::{Drainer, PIECE};
-use crate::feed::Feed;
 use crate::heap::gate::HeapGate;
 use crate::heap::recording::finish_run;
 use crate::heap::runner::Runner;
@@ -24,8 +23,8 @@ use crate::heap::running::runners;
 use crate::heap::runs::run_all;
 use octet_base::{Desk, DeskFault};
 use octet_heap::Heap;
+use octet_live::{Drainer, Feed, feeds};
 use octet_model::{OutOfMemory, Recorded, Script};
-use octet_ring::{Drain, MAX_ROOM, Sender, rings};
 use std::alloc::Global;
 use std::sync::Wait;
 use std::thread::{Threads, join_mut};
@@ -37,8 +36,7 @@ pub struct Live {
     pub kept: Option<DeskFault>,
 }
 
-/// All that a run needs: the heap, a runner for each thread, each with the end of a ring, and a drainer
-/// with the other ends.
+/// All that a run needs: the heap, a runner for each thread, each with a feed, and the drainer of these.
 #[derive(Drop)]
 pub(crate) struct Opened {
     pub(crate) heap: Heap,
@@ -46,25 +44,27 @@ pub(crate) struct Opened {
     pub(crate) drainer: Drainer,
 }
 
-// Lets a runner send by a ring.
-fn connect(runner: &mut Runner, sender: Sender)
-    requires { sender.sent ≡ [] }
-    ensures same { IsSameWork runner.old runner.new }
-    ensures sends { end_of runner.new.feed ≡ Some (sender.thread, sender.ring) }
+// Lets a runner send by a feed.
+fn connect(runner: &mut Runner, feed: Feed)
+    requires { HasSentNothing feed }
+    ensures worker { runner.new.worker ≡ runner.old.worker }
+    ensures config { runner.new.config ≡ runner.old.config }
+    ensures feed { runner.new.feed ≡ Some feed }
 {
-    runner.feed = Some(Feed { sender, sent: 0 });
+    runner.feed = Some(feed);
 }
 
-// Lets each send by the ring of its thread.
-fn connect_all(drain: &Drain, runners: &mut [Runner], senders: Vec<Sender>)
-    requires as_many { length senders.items ≡ length runners.old }
-    requires fresh { AreFresh MAX_ROOM drain.now senders.items }
-    ensures same { AllZip IsSameWork runners.old runners.new }
-    ensures send { SendEach drain.now.rings runners.new }
+// Lets each send by the feed of its thread.
+fn connect_all(drainer: &Drainer, runners: &mut [Runner], feeds: Vec<Feed>)
+    requires as_many { length feeds.items ≡ length runners.old }
+    requires feeds { AreFeeds drainer.now feeds.items }
+    ensures workers { workers_in runners.new ≡ workers_in runners.old }
+    ensures threads { threads_in runners.new ≡ threads_in runners.old }
+    ensures send { SendEach drainer.now runners.new }
 {
     let mut thread = 0;
-    for sender in senders {
-        connect(&mut runners[thread], sender);
+    for feed in feeds {
+        connect(&mut runners[thread], feed);
         thread += 1;
     }
 }
@@ -74,14 +74,8 @@ fn open(alloc: Global, script: &Script) -> Result<Opened, OutOfMemory>
 {
     let (heap, workers) = Heap::new(alloc, script)?;
     let mut runners = runners(alloc, script, &heap, workers.into_vec())?;
-    let (senders, drain) = rings(alloc, script.thread_count(), MAX_ROOM)?;
-    connect_all(&drain, runners.as_mut_slice(), senders.into_vec());
-    let drainer = Drainer {
-        alloc,
-        drain,
-        marks: Vec::with_capacity(alloc, PIECE)?,
-        kept: None,
-    };
+    let (feeds, drainer) = feeds(alloc, script.thread_count())?;
+    connect_all(&drainer, runners.as_mut_slice(), feeds.into_vec());
     Ok(Opened {
         heap,
         runners,
@@ -101,11 +95,11 @@ fn run_beside<R: Threads + Wait + Sync, G: HeapGate, D: Desk>(
     runners: &mut [Runner],
 )
     requires begun { IsSome (D.state desk.old).begun }
-    requires threads { (length runners.old ≡ length drainer.old.drain.received) × (length runners.old ≤ MAX_THREADS) }
+    requires threads { (length runners.old ≡ threads_of drainer.old) × (length runners.old ≤ MAX_THREADS) }
     requires rest { All (IsAtRest heap.now) runners.old }
     ensures ended { All (HasEnded heap.now) runners.new }
     ensures same { AllZip IsSame runners.old runners.new }
-    ensures drains { Drains (length runners.old) drainer.old.kept drainer.old.drain (D.state desk.old) drainer.new.kept drainer.new.drain (D.state desk.new) }
+    ensures drains { Drains (length runners.old) drainer.old (D.state desk.old) drainer.new (D.state desk.new) }
     ensures begun { (D.state desk.new).begun ≡ (D.state desk.old).begun }
 {
     let crew = Crew::new(runners.len());
@@ -118,10 +112,44 @@ fn run_beside<R: Threads + Wait + Sync, G: HeapGate, D: Desk>(
             ensures { All (HasEnded heap.entry.now) runners.exit.now × AllZip IsSame runners.entry.now runners.exit.now }
         { run_all(rt, heap, gate, shared, runners) },
         &mut || -> ()
-            requires { IsSome (D.state desk.now).begun × (threads ≡ length drainer.now.drain.received) × (threads ≤ MAX_THREADS) }
-            ensures { Drains threads drainer.entry.now.kept drainer.entry.now.drain (D.state desk.entry.now) drainer.exit.now.kept drainer.exit.now.drain (D.state desk.exit.now) × ((D.state desk.exit.now).begun ≡ (D.state desk.entry.now).begun) }
-        { drainer.drain_all(rt, desk, threads, shared) },
+            requires { IsSome (D.state desk.now).begun × (threads ≡ threads_of drainer.now) × (threads ≤ MAX_THREADS) }
+            ensures { Drains threads drainer.entry.now (D.state desk.entry.now) drainer.exit.now (D.state desk.exit.now) × ((D.state desk.exit.now).begun ≡ (D.state desk.entry.now).begun) }
+        { drainer.drain_all(rt, desk, threads, shared.bells()) },
     );
+}
+
+// Adds what is left of a worker.
+fn add_left_of<D: Desk>(desk: &mut D, drainer: &mut Drainer, thread: u8, runner: &mut Runner)
+    requires begun { IsSome (D.state desk.old).begun }
+    requires thread { (thread < threads_of drainer.old) × (threads_of drainer.old ≤ MAX_THREADS) }
+    requires sends { SendsTo drainer.old thread runner.old.feed }
+    ensures worker { runner.new.worker ≡ runner.old.worker }
+    ensures config { runner.new.config ≡ runner.old.config }
+    ensures end { end_by runner.new.feed ≡ end_by runner.old.feed }
+    ensures left { AddsLeft thread (gapped_marks 0 (seat_of runner.old.worker).journal) drainer.old (D.state desk.old) drainer.new (D.state desk.new) }
+    ensures begun { (D.state desk.new).begun ≡ (D.state desk.old).begun }
+{
+    let Some(feed) = &mut runner.feed else {
+        unreachable!()
+    };
+    let own = runner.worker.marks();
+    drainer.add_left(desk, thread, feed, own);
+}
+
+// Adds what is left of each worker in turn.
+fn add_all_left<D: Desk>(desk: &mut D, drainer: &mut Drainer, runners: &mut [Runner])
+    requires begun { IsSome (D.state desk.old).begun }
+    requires threads { (length runners.old ≡ threads_of drainer.old) × (length runners.old ≤ MAX_THREADS) }
+    requires send { SendEach drainer.old runners.old }
+    ensures same { AllZip IsSame runners.old runners.new }
+    ensures workers { workers_in runners.new ≡ workers_in runners.old }
+    ensures threads { threads_in runners.new ≡ threads_in runners.old }
+    ensures left { AddsAllLeft (length runners.old) (marks_made runners.old) drainer.old (D.state desk.old) drainer.new (D.state desk.new) }
+    ensures begun { (D.state desk.new).begun ≡ (D.state desk.old).begun }
+{
+    for thread in 0..runners.len() {
+        add_left_of(desk, drainer, thread as u8, &mut runners[thread]);
+    }
 }
 
 // Runs them all, and adds all their marks.
@@ -134,18 +162,17 @@ fn run_written<R: Threads + Wait + Sync, G: HeapGate, D: Desk>(
     runners: &mut [Runner],
 )
     requires begun { IsSome (D.state desk.old).begun }
-    requires threads { (length runners.old ≡ length drainer.old.drain.received) × (length runners.old ≤ MAX_THREADS) }
-    requires none { (thread : ℕ) → received_of drainer.old.drain thread ≡ [] }
-    requires kept { drainer.old.kept ≡ None }
-    requires send { SendEach drainer.old.drain.rings runners.old }
+    requires threads { length runners.old ≤ MAX_THREADS }
+    requires fresh { IsFresh (length runners.old) drainer.old }
+    requires send { SendEach drainer.old runners.old }
     requires rest { All (IsAtRest heap.now) runners.old }
     ensures ended { All (HasEnded heap.now) runners.new }
-    ensures same { AllZip IsOfThread runners.old runners.new }
+    ensures same { AllZip IsSame runners.old runners.new }
     ensures writes { Writes (length runners.old) (marks_made runners.new) (D.state desk.old) drainer.new.kept (D.state desk.new) }
     ensures begun { (D.state desk.new).begun ≡ (D.state desk.old).begun }
 {
     run_beside(rt, heap, gate, desk, drainer, runners);
-    drainer.add_all_left(desk, runners);
+    add_all_left(desk, drainer, runners);
 }
 
 /// Runs the script as `run` does, and adds its log's marks to the file that is begun while the threads
@@ -182,7 +209,7 @@ pub fn run_live<R: Threads + Wait + Sync, G: HeapGate, D: Desk>(
         mut drainer,
     } = opened;
     run_written(rt, &heap, gate, desk, &mut drainer, runners.as_mut_slice());
-    let kept = drainer.kept;
+    let kept = drainer.kept();
     match finish_run(alloc, script, heap, runners) {
         Ok(recorded) => Ok(Live { recorded, kept }),
         Err(_) => Err(OutOfMemory),

@@ -6,11 +6,11 @@ ghost use Rattle.octet_interp.specs.Demands.{next_demand, starting_thread};
 ghost use Rattle.octet_interp.specs.Laws.{IsJournalOf};
 ghost use Rattle.octet_heap.specs.Workers.{seat_of};
 ghost use Rattle.octet_threads.specs.Carrying.{start_of};
-ghost use Rattle.octet_threads.specs.Feeds.{HasSent};
+ghost use Rattle.octet_live.specs.Feeds.{HasSent};
 
-use crate::feed::Feed;
 use octet_heap::Worker;
 use octet_interp::Config;
+use octet_live::Feed;
 
 /// How many words lie between what two threads write: two cache lines, since processors fetch them in
 /// pairs. Without them four threads with an object each took twice as long.
@@ -27,5 +27,5 @@ pub(crate) struct Runner {
     pub(crate) padding: [u64; CACHE_PADDING],
     ghost fits: { ∥ IsJournalOf (start_of worker) (seat_of worker).journal config ∥₁ },
     ghost idle: { config.waits ≡ false },
-    ghost fed: { ForSome feed (λ feed. HasSent feed.sender feed.sent (gapped_marks 0 (seat_of worker).journal)) },
+    ghost fed: { ForSome feed (λ feed. HasSent feed (gapped_marks 0 (seat_of worker).journal)) },
 }

@@ -1,22 +1,36 @@
 //! Runners at work: each runs its thread to its end, all beside each other.
 ghost use Rattle.std.specs.Prelude.{◌≡◌, ◌⊎◌, All};
 ghost use Rattle.std.specs.List.{AllZip};
+ghost use Rattle.std.specs.Option.{ForSome};
 ghost use Rattle.std.specs.Thread.{IsSync};
-ghost use Rattle.octet_threads.specs.Runners.{IsAtRest, IsAtWork, HasCarried, HasEnded, HasRested, IsSame, IsSeen};
+ghost use Rattle.octet_live.specs.Feeds.{HasSent};
+ghost use Rattle.octet_threads.specs.Runners.{end_by, IsAtRest, IsAtWork, HasCarried, HasEnded, HasRested, IsSame, IsSeen};
 
 use crate::access_backoff::AccessBackoff;
 use crate::crew::Crew;
-use crate::feed::send_new;
 use crate::heap::carrying::carry_with_backoff;
 use crate::heap::gate::HeapGate;
 use crate::heap::pace::Pace;
 use crate::heap::runner::Runner;
 use octet_heap::Heap;
 use octet_interp::Demand;
+use octet_live::Feed;
+use octet_model::Gapped;
 use std::sync::Wait;
 use std::thread;
 use std::thread::Threads;
 use std::time::Duration;
+
+// Sends the marks that were not sent yet, as far as the ring has room, where there is a ring.
+fn send_new(feed: &mut Option<Feed>, marks: &[Gapped])
+    requires { ForSome feed.old (λ feed. HasSent feed marks.now) }
+    ensures sent { ForSome feed.new (λ feed. HasSent feed marks.now) }
+    ensures same { end_by feed.new ≡ end_by feed.old }
+{
+    if let Some(feed) = feed {
+        feed.send(marks);
+    }
+}
 
 impl Runner {
     // Carries out one demand of the thread, and sends the marks that were made, if they are to be sent.

@@ -18,7 +18,7 @@ use Rattle.octet_model.specs.Orders.{IsFaithful}
 use Rattle.octet_model.specs.Texts.{outcome_text}
 use Rattle.octet_log.specs.declared.limits.TheConstants.{MAX_MARKS}
 use Rattle.octet_log.specs.v2.Pieces.{Piece, ArePieces, HaveMarks, head_bytes, piece_bytes, tail_bytes, pieced_bytes, marks_in, SpellsPieces}
-use Rattle.octet_threads.specs.Live.{AddsPieces, IsWritten, IsPartlyWritten}
+use Rattle.octet_live.specs.Written.{AddsPieces, IsWritten, IsPartlyWritten}
 use Rattle.octet_top.specs.declared.inputs.Source.{Source}
 use Rattle.octet_top.specs.Delivery.{Act, Begin, Add, Finish, Say, Does, IsRefused}
 use Rattle.octet_top.specs.Live.{MakesThen, MakesSome, MakesPieces, RefusesPiece, MakesUnless, opening_acts, WritesLog, IsToldLive, IsCutLive, IsWrittenLive}

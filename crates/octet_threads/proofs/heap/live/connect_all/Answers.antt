@@ -1,39 +1,36 @@
-use Rattle.std.proofs.Common.{rules, ◌≡◌, ◌∙◌, ◌+◌, ◌<◌, ℕ, List, ◌∷◌, length, slice_index_or, sym, ap, subst, arith}
-use Rattle.std.proofs.lemmas.List.{length-set}
-use Rattle.std.proofs.lemmas.List.Elements.{AllZip-get_or}
-use Rattle.octet_ring.specs.declared.limits.TheConstants.{MAX_ROOM}
-use Rattle.octet_ring.specs.Views.{SenderView, IsFresh, IsOf}
-use Rattle.octet_threads.specs.Work.{IsSameWork}
-use Rattle.octet_threads.proofs.live_log.Connecting.{AreFreshFrom, are_fresh, one_sends}
-use Rattle.octet_threads.proofs.runners.Places.{all_same, same_set}
+use Rattle.std.proofs.Common.{rules, ◌≡◌, ◌∙◌, ◌+◌, ◌<◌, ℕ, List, ◌∷◌, length, slice_index_or, refl, sym, ap, subst, arith}
+use Rattle.octet_live.specs.declared.feed.Feed.{Feed}
+use Rattle.octet_live.specs.Feeds.{HasSentNothing}
+use Rattle.octet_live.specs.Drained.{IsFeedOf}
+use Rattle.octet_threads.specs.declared.heap.runner.Runner.{Runner}
+use Rattle.octet_threads.proofs.live_log.Connecting.{AreFeedsFrom, are_feeds, one_sends}
+use Rattle.octet_threads.proofs.runners.Places.{as_many, map_set}
 use Rattle.octet_threads.proofs.heap.live.connect_all.Goals as goal
 
-pub loop-sender-init : goal.loop-sender-init
-loop-sender-init c =
-    let all : c.into_iter-sender-iterator.result.rest.items ≡ c.args.senders.items = search rules in record {
-      fresh = subst (AreFreshFrom c.args.drain.now 0) (sym all) (are_fresh MAX_ROOM 0 c.args.drain.now c.args.senders.items (λ t other there. let same : t ≡ 0 + t = omega arith in
-          subst (λ (n : ℕ). IsFresh MAX_ROOM n (slice_index_or c.args.senders.items t other) × IsOf c.args.drain.now (slice_index_or c.args.senders.items t other)) same (c.requires.fresh t other there)));
-      left = omega (arith, ap (λ (l : List SenderView). length l) all, c.requires.as_many);
-      many = search rules;
-      same = all_same c.args.runners.now;
+pub loop-feed-init : goal.loop-feed-init
+loop-feed-init c =
+    let all : c.into_iter-feed-iterator.result.rest.items ≡ c.args.feeds.items = search rules in record {
+      feeds = subst (AreFeedsFrom c.args.drainer.now 0) (sym all) (are_feeds 0 c.args.drainer.now c.args.feeds.items (λ t other there. let same : t ≡ 0 + t = omega arith in
+          subst (λ (n : ℕ). IsFeedOf c.args.drainer.now n (slice_index_or c.args.feeds.items t other) × HasSentNothing (slice_index_or c.args.feeds.items t other)) same (c.requires.feeds t other there)));
+      left = omega (arith, ap (λ (l : List Feed). length l) all, c.requires.as_many);
+      workers = refl;
+      threads = refl;
       sends = λ thread none less. absurd (omega (arith, less));
     }
 
-pub loop-sender-preserved : goal.loop-sender-preserved
-loop-sender-preserved c =
-    let i = c.loop-sender.invariant in
-    let runners = c.loop-sender.runners in
+pub loop-feed-preserved : goal.loop-feed-preserved
+loop-feed-preserved c =
+    let i = c.loop-feed.invariant in
+    let runners = c.loop-feed.runners in
     let none = c.index-runners-thread.result in
-    let next : c.loop-sender.sender-iterator.rest.items ≡ c.in-Some.sender ∷ c.next.new.self.rest.items = search rules in
-    let fresh = subst (AreFreshFrom c.args.drain.now c.loop-sender.thread) next i.fresh in
-    let first : c.loop-sender.thread < length c.args.runners.now = omega (arith, i.left, ap (λ (l : List SenderView). length l) next) in
-    let there : c.loop-sender.thread < length runners = omega (arith, first, i.many) in
-    let was = AllZip-get_or IsSameWork c.args.runners.now runners c.loop-sender.thread none none i.same first in
-    let work : IsSameWork (slice_index_or c.args.runners.now c.loop-sender.thread none) c.connect.new.runner =
-    record { worker = c.connect.ensures.same.worker ∙ was.worker; config = c.connect.ensures.same.config ∙ was.config } in record {
-      fresh = fresh.1;
-      left = omega (arith, i.left, ap (λ (l : List SenderView). length l) next);
-      many = length-set runners c.loop-sender.thread c.connect.new.runner ∙ i.many;
-      same = same_set c.args.runners.now runners c.loop-sender.thread none c.connect.new.runner first work i.same;
-      sends = one_sends c.args.drain.now runners c.loop-sender.thread c.in-Some.sender c.connect.new.runner there fresh.0.0 fresh.0.2 c.connect.ensures.sends i.sends;
+    let next : c.loop-feed.feed-iterator.rest.items ≡ c.in-Some.feed ∷ c.next.new.self.rest.items = search rules in
+    let feeds = subst (AreFeedsFrom c.args.drainer.now c.loop-feed.thread) next i.feeds in
+    let many = as_many c.args.runners.now runners i.workers i.threads in
+    let first : c.loop-feed.thread < length c.args.runners.now = omega (arith, i.left, ap (λ (l : List Feed). length l) next) in
+    let there : c.loop-feed.thread < length runners = omega (arith, first, many) in record {
+      feeds = feeds.1;
+      left = omega (arith, i.left, ap (λ (l : List Feed). length l) next);
+      workers = map_set (λ (r : Runner). r.worker) runners c.loop-feed.thread none c.connect.new.runner c.connect.ensures.worker ∙ i.workers;
+      threads = map_set (λ (r : Runner). r.config) runners c.loop-feed.thread none c.connect.new.runner c.connect.ensures.config ∙ i.threads;
+      sends = one_sends c.args.drainer.now runners c.loop-feed.thread c.in-Some.feed c.connect.new.runner there feeds.0.0 c.connect.ensures.feed i.sends;
     }

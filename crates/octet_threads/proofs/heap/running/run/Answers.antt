@@ -6,7 +6,6 @@ use Rattle.std.specs.List.{AllZip}
 use Rattle.octet_threads.specs.declared.heap.runner.Runner.{Runner}
 use Rattle.octet_threads.specs.Runners.{AreOf, HasEnded, IsSame}
 use Rattle.octet_threads.proofs.runners.Opening.{still_of}
-use Rattle.octet_threads.proofs.runners.Places.{same_threads}
 use Rattle.octet_threads.proofs.heap.running.run.Goals as goal
 
 pub finish_run-requires-clause-runners : goal.finish_run-requires-clause-runners
@@ -17,7 +16,7 @@ finish_run-requires-clause-runners g c =
     let long : length made ≡ c.in_ok-runners.runners.len = search rules in
     let many : length ran ≡ c.in_ok-runners.runners.len = sym (length_all_zip IsSame made ran zip) ∙ long in
     subst (λ (l : List Runner). AreOf c.args.script.now l) (sym (take_at ran (drop (length ran) made) c.in_ok-runners.runners.len many))
-    (still_of c.args.script.now made ran c.in_ok-runners.ensures.of (same_threads made ran zip))
+    (still_of c.args.script.now made ran c.in_ok-runners.ensures.of zip)
 
 pub finish_run-requires-clause-ended : goal.finish_run-requires-clause-ended
 finish_run-requires-clause-ended g c =

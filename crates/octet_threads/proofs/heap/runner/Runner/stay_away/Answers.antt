@@ -7,7 +7,7 @@ use Rattle.octet_model.specs.Thread.{starting_configuration}
 use Rattle.octet_interp.specs.Laws.{IsJournalOf}
 use Rattle.octet_heap.specs.Workers.{seat_of}
 use Rattle.octet_threads.specs.Carrying.{start_of}
-use Rattle.octet_threads.specs.Feeds.{HasSent}
+use Rattle.octet_live.specs.Feeds.{HasSent}
 use Rattle.octet_threads.proofs.tasks.Doing.{pauses}
 use Rattle.octet_threads.proofs.heap.runner.Runner.stay_away.Goals as goal
 
@@ -21,7 +21,7 @@ invariant_of-self g c =
           ∣ subst (λ (n : ℕ). IsJournalOf (starting_configuration n) (seat_of rested).journal self.config) (sym fuel)
           (subst (λ (journal : List Event). IsJournalOf (start_of self.worker) journal self.config) (sym same) kept) ∣₁);
       idle = self.idle;
-      fed = subst (λ (journal : List Event). ForSome self.feed (λ feed. HasSent feed.sender feed.sent (gapped_marks 0 journal))) (sym same) self.fed;
+      fed = subst (λ (journal : List Event). ForSome self.feed (λ feed. HasSent feed (gapped_marks 0 journal))) (sym same) self.fed;
     }
 
 pub returns-clause-rested : goal.returns-clause-rested

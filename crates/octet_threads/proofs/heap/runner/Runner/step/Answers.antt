@@ -8,7 +8,7 @@ use Rattle.octet_interp.specs.Laws.{IsJournalOf}
 use Rattle.octet_heap.specs.Workers.{seat_of}
 use Rattle.octet_threads.specs.Carrying.{start_of}
 use Rattle.octet_threads.proofs.tasks.Fuel.{access_left}
-use Rattle.octet_threads.specs.Feeds.{HasSent}
+use Rattle.octet_live.specs.Feeds.{HasSent}
 use Rattle.octet_threads.specs.Tasks.{task_of}
 use Rattle.octet_threads.proofs.tasks.Growing.{task_grows, task_seen, feed_still_sent}
 use Rattle.octet_threads.proofs.runners.Props.{journal_prop}
@@ -36,11 +36,11 @@ invariant_of-self-clause-fits g c =
 pub send_new-requires : goal.send_new-requires
 send_new-requires g c =
     let self = c.args.self.now in
-    subst (λ (marks : List Gapped). ForSome self.feed (λ feed. HasSent feed.sender feed.sent marks)) (sym c.marks.ensures)
+    subst (λ (marks : List Gapped). ForSome self.feed (λ feed. HasSent feed marks)) (sym c.marks.ensures)
     (feed_still_sent self.feed (seat_of self.worker).journal (seat_of c.carry_with_backoff-demand.new.worker).journal (task_grows (task_of c.carry_with_backoff-demand.result) _ _ c.carry_with_backoff-demand.ensures.steps) self.fed)
 
 pub invariant_of-self-clause-fed : goal.invariant_of-self-clause-fed
-invariant_of-self-clause-fed g c = subst (λ (marks : List Gapped). ForSome c.send_new.new.feed (λ feed. HasSent feed.sender feed.sent marks)) c.marks.ensures c.send_new.ensures.sent
+invariant_of-self-clause-fed g c = subst (λ (marks : List Gapped). ForSome c.send_new.new.feed (λ feed. HasSent feed marks)) c.marks.ensures c.send_new.ensures.sent
 
 pub returns-clause-seen : goal.returns-clause-seen
 returns-clause-seen g c = let seen = task_seen (task_of c.carry_with_backoff-demand.result) _ _ c.carry_with_backoff-demand.ensures.steps in record { state = seen.0; seen = seen.1 }
