@@ -1,5 +1,5 @@
 -- The markers of a heap, by their seats.
-use Rattle.std.proofs.Common.{◌≡◌, ◌∙◌, ℕ, zero, suc, ◌<◌, List, [], ◌∷◌, ◌++◌, length, Option, None, sym, refl, ap, arith, subst, slice_index_or}
+use Rattle.std.proofs.Common.{◌≡◌, ◌∙◌, inl, ℕ, zero, suc, ◌<◌, List, [], ◌∷◌, ◌++◌, length, Option, None, sym, refl, ap, arith, subst, slice_index_or}
 use Rattle.octet_state.specs.declared.phase.Phase.TheVariants.{Off}
 use Rattle.octet_state.specs.State.{Thread}
 use Rattle.octet_rule.specs.declared.words.Seat.{Seat}
@@ -10,7 +10,8 @@ use Rattle.octet_heap.specs.declared.pending_access.PendingAccess.{PendingAccess
 use Rattle.octet_heap.specs.declared.pending_update.PendingUpdate.{PendingUpdate}
 use Rattle.octet_heap.specs.declared.marker.Marker.{Marker}
 use Rattle.octet_heap.specs.Standing.{begun_of, IsOne, IsAbout, IsAtRest, IsWithin}
-use Rattle.octet_heap.specs.Markers.{marker_seat, marker_seats, begun_by, HasRoomIf, IsMarkerOf, IsPlain, ArePlain, EachNew, EachRests}
+use Rattle.octet_heap.specs.Markers.{marker_seat, marker_seats, begun_by, HasRoomIf, IsMarkerOf, IsPlain, ArePlain, IsNew, EachNew, Starts, EachStarts, EachRests}
+use Rattle.octet_heap.proofs.Modelled.{same_model, same_standing}
 use Rattle.octet_heap.proofs.Seating.{map_more, map_length}
 
 plain_more : (marks : ℕ) (markers : List Marker) (marker : Marker) → ArePlain marks markers → IsPlain marks marker → ArePlain marks (markers ++ marker ∷ [])
@@ -76,3 +77,14 @@ resting_seats heap seats markers are all still = let many = ap (λ (l : List Sea
     rests_at thread none there = let found = item markers thread none there in
         let h = subst (λ (w : Marker). IsMarkerOf heap w × ((marker_seat w).number ≡ thread) × rule.RestsAs thread w.recorder.seat) (found.2 found.0) (let s = still thread found.0 there in (s.0, s.1, (s.1, s.2))) in
         subst (λ (s : Seat). rule.IsSeatOf heap.words s × rule.RestsAs thread s) (sym (ap (λ (l : List Seat). slice_index_or l thread none) are ∙ found.1)) (h.0.own, h.2)
+
+-- a new marker starts
+starts : (heap : Heap) (marks thread : ℕ) (marker : Marker) → IsNew heap marks thread marker → Starts heap thread marker
+starts heap marks thread marker new = record {
+  own = new.0;
+  rests = inl (ap (λ (x : Thread). x.phase) new.2);
+  is = same_model _ _ _ _ _ _ new.1 (same_standing marker.pending None marker.changing None _ Off new.5.0 new.5.1 (ap (λ (x : Thread). x.phase) new.2)) new.3;
+}
+
+pub each_starts : (heap : Heap) (marks : ℕ) (markers : List Marker) → EachNew heap marks markers → EachStarts heap markers
+each_starts heap marks markers new thread none there = starts heap marks thread (slice_index_or markers thread none) (new thread none there)

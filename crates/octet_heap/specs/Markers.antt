@@ -1,5 +1,6 @@
 -- What a clause says of markers.
-use Rattle.std.specs.Prelude.{◌≡◌, ◌⊎◌, ℕ, ◌<◌, List, [], ◌∷◌, map, length, Option, Some, None, slice_index_or, vec_capacity}
+use Rattle.std.specs.Prelude.{◌≡◌, ◌⊎◌, ℕ, ◌<◌, true, List, [], ◌∷◌, map, length, Option, Some, None, slice_index_or, vec_capacity}
+use Rattle.std.specs.Option.{is_some}
 use Rattle.octet_state.specs.declared.phase.Due.TheVariants.{Nothing}
 use Rattle.octet_state.specs.declared.phase.Phase.TheVariants as phase
 use Rattle.octet_state.specs.State.{unstarted}
@@ -14,7 +15,9 @@ use Rattle.octet_heap.specs.declared.pending_access.PendingAccess.{PendingAccess
 use Rattle.octet_heap.specs.declared.poll.Poll.{Poll}
 use Rattle.octet_heap.specs.declared.poll.Poll.TheVariants.{Ready, Pending}
 use Rattle.octet_heap.specs.declared.recorder.Recorder.{Recorder}
+use Rattle.octet_heap.specs.Builders.{new_thread}
 use Rattle.octet_heap.specs.Logs as logs
+use Rattle.octet_heap.specs.Models.{marker_model}
 use Rattle.octet_heap.specs.OwnersPath.{steps_since}
 use Rattle.octet_heap.specs.Recorders.{CanRecord}
 use Rattle.octet_heap.specs.SlowPath.{is_fast, slow_after}
@@ -55,6 +58,19 @@ pub record IsMarkerOf (heap : Heap) (marker : Marker) : Type 0 where
 abbrev pub IsIdle : Marker → Type 0
 IsIdle marker = ((marker_seat marker).thread.phase ≡ phase.Idle) × (marker.pending ≡ None) × (marker.changing ≡ None)
 
+-- the marker is off or blocked
+abbrev pub Rests : Marker → Type 0
+Rests marker = IsResting (view marker.recorder.seat).thread.phase
+
+-- the marker has begun an access, or an update by a change
+abbrev pub IsUnderWay : Marker → Type 0
+IsUnderWay marker = (is_some marker.pending ≡ true) ⊎ (is_some marker.changing ≡ true)
+
+-- the marker is idle once its access is made. Until then the access stays begun
+abbrev pub StandsAfter : Poll → Marker → Type 0
+StandsAfter (Ready value) marker = IsIdle marker
+StandsAfter (Pending why) marker = IsUnderWay marker
+
 -- the marker is idle once its access is made
 abbrev pub IsIdleIfMade : Poll → Marker → Type 0
 IsIdleIfMade (Ready value) marker = IsIdle marker
@@ -94,9 +110,19 @@ ArePlain marks (marker ∷ markers) = IsPlain marks marker × ArePlain marks mar
 abbrev pub IsNew : Heap → ℕ → ℕ → Marker → Type 0
 IsNew heap marks thread marker = IsMarkerOf heap marker × ((marker_seat marker).number ≡ thread) × ((marker_seat marker).thread ≡ unstarted) × ((marker_seat marker).journal ≡ []) × ((marker_seat marker).trail ≡ []) × IsPlain marks marker
 
+-- the marker of this thread, before its first call
+pub record Starts (heap : Heap) (thread : ℕ) (marker : Marker) : Type 0 where
+  pub own : IsMarkerOf heap marker
+  pub rests : Rests marker
+  pub is : marker_model marker ≡ new_thread thread
+
+-- each of these markers starts, as that of the thread of its place
+abbrev pub EachStarts : Heap → List Marker → Type 0
+EachStarts heap markers = (thread : ℕ) (none : Marker) → thread < length markers → Starts heap thread (slice_index_or markers thread none)
+
 -- the marker of this thread, which is off or blocked
 abbrev pub RestsAs : Heap → ℕ → Marker → Type 0
-RestsAs heap thread marker = IsMarkerOf heap marker × ((marker_seat marker).number ≡ thread) × IsResting (marker_seat marker).thread.phase
+RestsAs heap thread marker = IsMarkerOf heap marker × ((marker_model marker).number ≡ thread) × Rests marker
 
 -- each of these markers is new, of the thread of its place
 abbrev pub EachNew : Heap → ℕ → List Marker → Type 0

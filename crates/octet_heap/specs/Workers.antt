@@ -1,7 +1,9 @@
 -- What a clause says of a heap and its workers.
-use Rattle.std.specs.Prelude.{◌≡◌, ◌+◌, ◌≤◌, List, ◌∷◌, ◌++◌, length, Option, Some, None}
+use Rattle.std.specs.Prelude.{◌≡◌, ◌⊎◌, true, ◌+◌, ◌≤◌, List, ◌∷◌, ◌++◌, length, Option, Some, None}
+use Rattle.std.specs.Option.{is_some}
 use Rattle.octet_state.specs.declared.phase.Phase.TheVariants.{Idle}
 use Rattle.octet_state.specs.declared.phase.Due.TheVariants.{Nothing}
+use Rattle.octet_rule.specs.Conditions.{IsResting}
 use Rattle.octet_rule.specs.Views.{SeatView, Taken, stepped_by}
 use Rattle.octet_rule.specs.Seats.{view, IsSeatOf, objects_of}
 use Rattle.octet_heap.specs.declared.pending_access.PendingAccess.{PendingAccess}
@@ -34,6 +36,19 @@ pub record IsWorkerOf (heap : Heap) (worker : Worker) : Type 0 where
 -- the worker runs, and has begun no access
 abbrev pub IsIdle : Worker → Type 0
 IsIdle worker = ((seat_of worker).thread.phase ≡ Idle) × (worker.pending ≡ None) × (worker.changing ≡ None)
+
+-- the worker is off or blocked
+abbrev pub Rests : Worker → Type 0
+Rests worker = IsResting (view worker.recorder.seat).thread.phase
+
+-- the worker has begun an access, or an update by a change
+abbrev pub IsUnderWay : Worker → Type 0
+IsUnderWay worker = (is_some worker.pending ≡ true) ⊎ (is_some worker.changing ≡ true)
+
+-- the worker is idle once its access is made. Until then the access stays begun
+abbrev pub StandsAfter : Poll → Worker → Type 0
+StandsAfter (Ready value) worker = IsIdle worker
+StandsAfter (Pending why) worker = IsUnderWay worker
 
 -- the worker has begun no access once its access is made
 abbrev pub IsIdleIfMade : Poll → Worker → Type 0

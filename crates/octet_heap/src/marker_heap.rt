@@ -2,7 +2,9 @@
 ghost use Rattle.std.specs.Prelude.{◌≡◌, ◌<◌, ◌≤◌, [], length, map, IfOk};
 ghost use Rattle.octet_model.specs.declared.limits.TheConstants.{MAX_OBJECTS, MAX_THREADS};
 ghost use Rattle.octet_rule.specs.Seats.{view, threads_of, starts_of, EachFresh, Closes};
-ghost use Rattle.octet_heap.specs.Markers.{marker_seats, IsPlain, ArePlain, EachNew, EachRests};
+ghost use Rattle.octet_heap.specs.Builders.{IsExplained};
+ghost use Rattle.octet_heap.specs.Models.{heap_model, journals_of};
+ghost use Rattle.octet_heap.specs.Markers.{marker_seats, IsPlain, ArePlain, EachNew, EachStarts, EachRests};
 
 use crate::heap::Heap;
 use crate::marker::Marker;
@@ -22,6 +24,9 @@ impl Heap {
     ) -> Result<(Heap, List<Marker>), OutOfMemory>
         requires threads { (0 < threads) × (threads ≤ MAX_THREADS) }
         requires objects { length starts.now ≤ MAX_OBJECTS }
+        ensures model { IfOk result (λ new. heap_model new.0 ≡ record { threads = threads; objects = length starts.now; starts = starts.now; fuel = 0 }) }
+        ensures threads { IfOk result (λ new. (length new.1 ≡ threads) × EachStarts new.0 new.1) }
+        // In the words of seats:
         ensures heap { IfOk result (λ new. (threads_of new.0.words ≡ threads) × (starts_of new.0.words ≡ starts.now)) }
         ensures markers { IfOk result (λ new. (length new.1 ≡ threads) × EachNew new.0 marks new.1) }
     {
@@ -42,9 +47,11 @@ impl Heap {
         alloc: Global,
         markers: List<Marker>,
     ) -> Result<List<u64>, OutOfMemory>
-        requires all { length markers ≡ threads_of self.words }
+        requires all { length markers ≡ (heap_model self).threads }
         requires still { EachRests self markers }
-        ensures { IfOk result (λ values. Closes (starts_of self.words) (marker_seats markers) values) }
+        ensures values { IfOk result (λ values. IsExplained (heap_model self).starts (journals_of markers) values) }
+        // In the words of seats:
+        ensures cells { IfOk result (λ values. Closes (starts_of self.words) (marker_seats markers) values) }
     {
         let Heap { words, .. } = self;
         let seats = all_seats(alloc, markers.into_vec())?;

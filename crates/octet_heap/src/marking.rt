@@ -4,7 +4,6 @@ ghost use Rattle.std.specs.Option.{is_some, ForSome};
 ghost use Rattle.octet_model.specs.Journals.{access_count};
 ghost use Rattle.octet_state.specs.Steps.{ToBlock, ToUnblock};
 ghost use Rattle.octet_rule.specs.Rule.{Steps};
-ghost use Rattle.octet_rule.specs.Conditions.{IsResting};
 ghost use Rattle.octet_rule.specs.Seats.{objects_of};
 ghost use Rattle.octet_safe.specs.Replies.{PassesSafePoint};
 ghost use Rattle.octet_heap.specs.Calls.{access_to, Polls};
@@ -12,7 +11,9 @@ ghost use Rattle.octet_heap.specs.Standing.{update_of};
 ghost use Rattle.octet_heap.specs.Updates.{answer_after, update_to, PollsToChange, PollsUpdate};
 ghost use Rattle.octet_heap.specs.Waiting.{accesses_after};
 ghost use Rattle.octet_heap.specs.Workers.{pending_after};
-ghost use Rattle.octet_heap.specs.Markers.{marker_seat, IsMarkerOf, IsIdle, IsIdleIfMade, HasRoom, MayUpdate, IsSameBuffer, CountsSlow};
+ghost use Rattle.octet_heap.specs.Builders.{Idle, Accessing, Blocked, now_standing, AnswersAccess, AnswersUpdate, AnswersPoll};
+ghost use Rattle.octet_heap.specs.Models.{heap_model, marker_model};
+ghost use Rattle.octet_heap.specs.Markers.{marker_seat, IsMarkerOf, Rests, IsIdle, IsUnderWay, StandsAfter, IsIdleIfMade, HasRoom, MayUpdate, IsSameBuffer, CountsSlow};
 
 use crate::calls::slow_by;
 use crate::heap::Heap;
@@ -30,9 +31,12 @@ impl Marker {
     pub fn begin(&mut self, heap: &Heap, object: u16, mode: Mode, value: u64)
         requires own { IsMarkerOf heap.now self.old }
         requires idle { IsIdle self.old }
-        requires object { object < objects_of heap.now.words }
+        requires object { object < (heap_model heap.now).objects }
         requires room { HasRoom self.old }
         ensures own { IsMarkerOf heap.now self.new }
+        ensures begun { IsUnderWay self.new }
+        ensures thread { marker_model self.new ≡ now_standing (Accessing (access_to object mode value)) (marker_model self.old) }
+        // Step by step:
         ensures pending { self.new.pending ≡ Some (access_to object mode value) }
         ensures changing { self.new.changing ≡ None }
         ensures seat { marker_seat self.new ≡ marker_seat self.old }
@@ -49,8 +53,11 @@ impl Marker {
     /// Goes on with the access or the update that was begun, as `Heap::poll` does.
     pub fn poll(&mut self, heap: &Heap) -> Poll
         requires own { IsMarkerOf heap.now self.old }
-        requires begun { (is_some self.old.pending ≡ true) ⊎ (is_some self.old.changing ≡ true) }
+        requires begun { IsUnderWay self.old }
         ensures own { IsMarkerOf heap.now self.new }
+        ensures stands { StandsAfter result self.new }
+        ensures thread { AnswersPoll (marker_model self.old).standing result (marker_model self.old) (marker_model self.new) }
+        // Step by step:
         ensures pending { self.new.pending ≡ pending_after result self.old.pending }
         ensures changing { self.new.changing ≡ pending_after result self.old.changing }
         ensures idle { IsIdleIfMade result self.new }
@@ -98,9 +105,12 @@ impl Marker {
     pub fn access_or_begin(&mut self, heap: &Heap, object: u16, mode: Mode, value: u64) -> Poll
         requires own { IsMarkerOf heap.now self.old }
         requires idle { IsIdle self.old }
-        requires object { object < objects_of heap.now.words }
+        requires object { object < (heap_model heap.now).objects }
         requires room { HasRoom self.old }
         ensures own { IsMarkerOf heap.now self.new }
+        ensures stands { StandsAfter result self.new }
+        ensures thread { AnswersAccess (access_to object mode value) result (marker_model self.old) (marker_model self.new) }
+        // Step by step:
         ensures pending { self.new.pending ≡ pending_after result (Some (access_to object mode value)) }
         ensures changing { self.new.changing ≡ None }
         ensures idle { IsIdleIfMade result self.new }
@@ -128,8 +138,11 @@ impl Marker {
     pub fn update(&mut self, heap: &Heap, object: u16, change: Change) -> Updated
         requires own { IsMarkerOf heap.now self.old }
         requires may { MayUpdate object change self.old }
-        requires object { object < objects_of heap.now.words }
+        requires object { object < (heap_model heap.now).objects }
         ensures own { IsMarkerOf heap.now self.new }
+        ensures stands { StandsAfter (answer_after change result) self.new }
+        ensures thread { AnswersUpdate (update_to object change) result (marker_model self.old) (marker_model self.new) }
+        // Step by step:
         ensures pending { self.new.pending ≡ None }
         ensures changing { self.new.changing ≡ pending_after (answer_after change result) (Some (update_to object change)) }
         ensures idle { IsIdleIfMade (answer_after change result) self.new }
@@ -221,6 +234,8 @@ impl Marker {
         requires idle { IsIdle self.old }
         ensures own { IsMarkerOf heap.now self.new }
         ensures idle { IsIdle self.new }
+        ensures thread { marker_model self.new ≡ marker_model self.old }
+        // Step by step:
         ensures journal { (marker_seat self.new).journal ≡ (marker_seat self.old).journal }
         ensures number { (marker_seat self.new).number ≡ (marker_seat self.old).number }
         ensures slow { self.new.slow ≡ self.old.slow }
@@ -235,9 +250,11 @@ impl Marker {
         requires own { IsMarkerOf heap.now self.old }
         requires idle { IsIdle self.old }
         ensures own { IsMarkerOf heap.now self.new }
+        ensures rests { Rests self.new }
+        ensures thread { marker_model self.new ≡ now_standing Blocked (marker_model self.old) }
+        // Step by step:
         ensures pending { self.new.pending ≡ None }
         ensures changing { self.new.changing ≡ None }
-        ensures rests { IsResting (marker_seat self.new).thread.phase }
         ensures journal { (marker_seat self.new).journal ≡ (marker_seat self.old).journal }
         ensures number { (marker_seat self.new).number ≡ (marker_seat self.old).number }
         ensures slow { self.new.slow ≡ self.old.slow }
@@ -250,9 +267,11 @@ impl Marker {
     /// Marks the thread as running. The first one starts it.
     pub fn unblock(&mut self, heap: &Heap)
         requires own { IsMarkerOf heap.now self.old }
-        requires rests { IsResting (marker_seat self.old).thread.phase }
+        requires rests { Rests self.old }
         ensures own { IsMarkerOf heap.now self.new }
         ensures idle { IsIdle self.new }
+        ensures thread { marker_model self.new ≡ now_standing Idle (marker_model self.old) }
+        // Step by step:
         ensures journal { (marker_seat self.new).journal ≡ (marker_seat self.old).journal }
         ensures number { (marker_seat self.new).number ≡ (marker_seat self.old).number }
         ensures slow { self.new.slow ≡ self.old.slow }

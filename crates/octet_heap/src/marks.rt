@@ -3,6 +3,8 @@ ghost use Rattle.std.specs.Prelude.{◌≡◌, ◌↔◌, ◌<◌, ◌≤◌, tr
 ghost use Rattle.octet_model.specs.Journals.{access_count, gap_after, gapped_marks};
 ghost use Rattle.octet_model.specs.declared.limits.TheConstants.{MAX_MARKS_BEFORE_ACCESS};
 ghost use Rattle.octet_state.specs.declared.limits.TheConstants.{MAX_ACCESSES_OF_THREAD};
+ghost use Rattle.octet_heap.specs.Builders.{accesses_of};
+ghost use Rattle.octet_heap.specs.Models.{marker_model};
 ghost use Rattle.octet_heap.specs.Markers.{marker_seat, IsMarkerOf, HasRoom, HasWholeRoom, IsEmptied};
 
 use crate::heap::Heap;
@@ -12,14 +14,14 @@ use octet_model::Gapped;
 impl Marker {
     /// The number of its thread.
     pub fn thread(&self) -> u8
-        ensures { result ≡ (marker_seat self.now).number }
+        ensures { result ≡ (marker_model self.now).number }
     {
         self.recorder.seat.thread()
     }
 
     /// How many accesses it has made.
     pub fn accesses(&self) -> u64
-        ensures { result ≡ access_count (marker_seat self.now).journal }
+        ensures { result ≡ accesses_of (marker_model self.now) }
     {
         self.recorder.log.accesses
     }
@@ -69,6 +71,7 @@ impl Marker {
     pub fn clear(&mut self, heap: &Heap)
         requires own { IsMarkerOf heap.now self.old }
         ensures own { IsMarkerOf heap.now self.new }
+        ensures thread { marker_model self.new ≡ marker_model self.old }
         ensures seat { marker_seat self.new ≡ marker_seat self.old }
         ensures pending { self.new.pending ≡ self.old.pending }
         ensures changing { self.new.changing ≡ self.old.changing }
