@@ -7,7 +7,9 @@ the numbers and lists of the standard library. Of a type that is declared in Rus
 their types, what its ghost fields promise, and as what contracts see it; of the desk its ghost member. `tests/definitions.py unread` lists the definitions, lemmas and
 imports that nothing reads, `tests/definitions.py literals` the lines of definitions and code in which the
 number of a limit stands, where neither the limit's comment nor the table below names the file, and the
-files that such a comment names in vain; these two end with 1 where there are any. Needs Python 3 alone.
+files that such a comment names in vain; these two end with 1 where there are any.
+`tests/definitions.py reach octet_heap Heap::for_markers Marker::poll` lists what a builder reads who calls these: the
+definitions under the signatures and the builders' clauses. Needs Python 3 alone.
 """
 
 import pathlib
@@ -16,6 +18,13 @@ import sys
 
 CRATES = pathlib.Path(__file__).resolve().parent.parent / "crates"
 HEADLINE = (CRATES / "octet_top" / "src" / "program.rt", "serve", "headline")
+# What a builder calls on the heap, by markers and by workers, and how many definitions are read for it at most. `Heap::new`
+# is not among them: it takes a script, of which FORMATS tells.
+BUILDERS_CALLS = [
+    "Heap::for_markers Marker::unblock Marker::access_or_begin Marker::poll Marker::safe_point Marker::block Heap::close_markers",
+    "Heap::unblock Heap::access_or_begin Heap::poll Heap::safe_point Heap::block Heap::close",
+]
+MOST_FOR_BUILDERS = 60
 # A word of the language of definitions, which may have signs in it (`prop→path_p`), or a name with its path, or
 # a sign that stands by itself.
 PART = r"[\w'][^\s(){}\[\],;.\"]*"
@@ -107,6 +116,16 @@ def modules():
 
 def words_of(text):
     return set(WORD.findall(text))
+
+
+def words_read(text):
+    """The words of a definition that are none of the variables of its equations. A variable hides an import of its name."""
+    read = set()
+    for line in text.splitlines():
+        left, equals, right = line.partition(" = ")
+        variables = {word for word in words_of(left.strip().partition(' ')[2]) if re.fullmatch(r"[a-z]\w*", word)} if equals and ":" not in left else set()
+        read |= words_of(line) - variables
+    return read
 
 
 def resolve(module, word, known):
@@ -217,10 +236,10 @@ def read_by_clause(path, function, clause):
         yield code.declaration(re.search(r"\bD: (\w+)", head)[1])
 
 
-def headline(known):
-    """The definitions under the headline, by file."""
-    path, function, clause = HEADLINE
-    files, waiting, seen = {path: {function}}, list(read_by_clause(*HEADLINE)), set()
+def reached_from(known, waiting, is_closed=lambda path, name, text: False):
+    """The definitions that these read, and those read, by file. Of a definition that is closed its first line alone
+    is read, and of a type nothing."""
+    files, waiting, seen = {}, list(waiting), set()
     while waiting:
         source, name = waiting.pop()
         if (source, name) in seen or not isinstance(source, pathlib.Path) and not source.startswith("octet_"):
@@ -228,17 +247,92 @@ def headline(known):
         seen.add((source, name))
         if isinstance(source, pathlib.Path):
             files.setdefault(source, set()).add(name)
-            waiting += code_in(source).read_by(name) if name in code_in(source).items else []
+            if name in code_in(source).items and not is_closed(source, name, code_in(source).items[name]):
+                waiting += code_in(source).read_by(name)
         elif (found := declared(source, name)) is not None:
             waiting.append(found)
         elif (module := known.get(source)) is not None and name in module.items:
             files.setdefault(module.path, set()).add(name)
-            waiting += filter(None, (resolve(module, word, known) for word in words_of(module.items[name])))
+            text = module.items[name]
+            read = text.splitlines()[0] if is_closed(module.path, name, text) else text
+            waiting += filter(None, (resolve(module, word, known) for word in words_read(read)))
     return files
 
 
+def headline(known):
+    """The definitions under the headline, by file."""
+    path, function, _ = HEADLINE
+    files = reached_from(known, read_by_clause(*HEADLINE))
+    files.setdefault(path, set()).add(function)
+    return files
+
+
+class Builders:
+    """What the contracts of a crate's calls say to builders: the clauses before the first comment among them. They name
+    no field that is the crate's own. The fields' meaning is told by definitions that read them, as a marker's model
+    or what makes it one of a heap's. A builder reads the sentence above such a definition and not what it reads."""
+
+    def __init__(self, crate):
+        self.paths = sorted((CRATES / crate / "src").glob("**/*.rt"))
+        self.own = {name: self.own_fields(text) for path in self.paths for name, text in code_in(path).items.items()}
+
+    @staticmethod
+    def own_fields(text):
+        """The fields of a struct that are its crate's own."""
+        return set(re.findall(r"^    (?:pub\(crate\) )?(\w+): ", text, re.M)) if re.match(r"pub(?:\([\w:]+\))? struct", text) else set()
+
+    def is_closed(self, path, name, text):
+        """Whether a definition or a type stands on fields that are the crate's own."""
+        if path.suffix == ".rt":
+            return bool(self.own.get(name)) and path in self.paths
+        fields = set().union(*(fields for name, fields in self.own.items() if name in words_of(text)))
+        return bool(fields) and re.search(rf"\w\.(?:{'|'.join(fields)})\b", text) is not None
+
+    def contract(self, call):
+        """The code in which a call stands, what its signature says, and its clauses for builders."""
+        struct, _, function = call.partition("::")
+        for path in self.paths:
+            for block in re.findall(rf"^impl {struct} {{\n(.*?)^}}", path.read_text(), re.M | re.S):
+                if found := re.search(rf"^    pub fn {function}\b(.*?)^    {{", block, re.M | re.S):
+                    signature, clauses = re.split(r"^(?=        (?:requires|ensures) )", found[1], maxsplit=1, flags=re.M)
+                    return code_in(path), signature, clauses.split("\n        //")[0]
+        sys.exit(f"{call}: no such call")
+
+    def read_by(self, call):
+        """What the signature and the builders' clauses of a call read."""
+        code, signature, clauses = self.contract(call)
+        words = {word for clause in clauses.splitlines() for word in words_of(clause.partition("{")[2])}
+        yield from (code.ghosts[word] for word in words if word in code.ghosts)
+        yield from filter(None, map(code.declaration, re.findall(r"\w+", signature)))
+
+    def fields_named(self, call):
+        """The fields of its own that the builders' clauses of a call name all the same."""
+        _, signature, clauses = self.contract(call)
+        kinds = {"self": call.partition("::")[0], **dict(re.findall(r"(\w+): &?(?:mut )?(\w+)", signature))}
+        for value, field in re.findall(r"(\w+)(?:\.(?:now|old|new|0|1))*\.(\w+)", clauses):
+            if field in self.own.get(kinds.get(value), set().union(*self.own.values()) if value == "new" else ()):
+                yield field
+
+
+def reach(known, crate, calls):
+    """The definitions under the builders' clauses of calls, by file, and what of these clauses no builder can read."""
+    builders = Builders(crate)
+    named = [f"{call} names {', '.join(sorted(fields))}" for call in calls if (fields := set(builders.fields_named(call)))]
+    return reached_from(known, [read for call in calls for read in builders.read_by(call)], builders.is_closed), named
+
+
+def print_reach(known, crate, calls):
+    files, named = reach(known, crate, calls)
+    print_files(files)
+    if named:
+        sys.exit("; ".join(named))
+
+
 def print_headline(known):
-    files = headline(known)
+    print_files(headline(known))
+
+
+def print_files(files):
     for path in sorted(files):
         print(f"{path.relative_to(CRATES.parent)}: {', '.join(sorted(files[path]))}")
     print(f"\n{sum(map(len, files.values()))} definitions in {len(files)} files")
@@ -341,6 +435,18 @@ def literals():
     return lines + [f"{name}: in the table, and has no number of a limit" for name in sorted(set(OTHERS) - found)]
 
 
+def reach_problem():
+    """Whether a builder has to read more than a little before the heap's calls, or fields that no builder sees."""
+    known = modules()
+    for calls in BUILDERS_CALLS:
+        files, named = reach(known, "octet_heap", calls.split())
+        if named:
+            return "; ".join(named)
+        if (count := sum(map(len, files.values()))) > MOST_FOR_BUILDERS:
+            return f"{calls} read {count} definitions, more than {MOST_FOR_BUILDERS}"
+    return None
+
+
 def literals_problem():
     return "; ".join(literals()) or None
 
@@ -353,6 +459,9 @@ def main():
     known = modules()
     if sys.argv[1:] == ["headline"]:
         print_headline(known)
+        return
+    if sys.argv[1:2] == ["reach"] and len(sys.argv) > 3:
+        print_reach(known, sys.argv[2], sys.argv[3:])
         return
     if sys.argv[1:] in (["unread"], ["literals"]):
         lines = unread(known) if sys.argv[1] == "unread" else literals()

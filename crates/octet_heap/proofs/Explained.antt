@@ -12,8 +12,9 @@ use Rattle.octet_heap.specs.declared.marker.Marker.{Marker}
 use Rattle.octet_heap.specs.declared.worker.Worker.{Worker}
 use Rattle.octet_heap.specs.Builders.{TakesValue, values_after, LeadsTo, IsExplained}
 use Rattle.octet_heap.specs.Markers.{marker_seats}
-use Rattle.octet_heap.specs.Models.{journals_of}
+use Rattle.octet_heap.specs.Models.{marker_journals, worker_journals}
 use Rattle.octet_heap.specs.Seated as seated
+use Rattle.octet_heap.proofs.Seating.{same_journals}
 
 -- what a play wants of a thread is its next event
 next_event : (o : Option Event) (w : Operation) → next_in o ≡ Wants w → (e : Event) × (o ≡ Some e) × (operation_of e ≡ w)
@@ -67,15 +68,15 @@ closes_explained starts seats values closes = let s = closes.last in
     (subst₂ (λ (js : Journals) (last : List ℕ). IsExplained s.starts js last) closes.journals closes.cells
     (explained s.starts s.journals s.cells s.counter closes.sound.one_history))
 
-pub marker_journals : (markers : List Marker) → map (λ (seat : Seat). (view seat).journal) (marker_seats markers) ≡ journals_of markers
-marker_journals [] = refl
-marker_journals (m ∷ markers) = ap (λ (js : Journals). (view m.recorder.seat).journal ∷ js) (marker_journals markers)
-
-pub worker_journals : (workers : List Worker) → map (λ (seat : Seat). (view seat).journal) (seated.seats_in workers) ≡ seated.journals_of workers
-worker_journals [] = refl
-worker_journals (w ∷ workers) = ap (λ (js : Journals). (view w.recorder.seat).journal ∷ js) (worker_journals workers)
+same_marker_journals : (markers : List Marker) → map (λ (seat : Seat). (view seat).journal) (marker_seats markers) ≡ marker_journals markers
+same_marker_journals [] = refl
+same_marker_journals (m ∷ markers) = ap (λ (js : Journals). (view m.recorder.seat).journal ∷ js) (same_marker_journals markers)
 
 pub markers_explained : {E : Type 0} (starts : List ℕ) (markers : List Marker) (closed : Result (List ℕ) E) → IfOk closed (λ values. Closes starts (marker_seats markers) values)
-    → IfOk closed (λ values. IsExplained starts (journals_of markers) values)
-markers_explained starts markers (Ok values) closes = subst (λ (js : Journals). IsExplained starts js values) (marker_journals markers) (closes_explained starts (marker_seats markers) values closes)
+    → IfOk closed (λ values. IsExplained starts (marker_journals markers) values)
+markers_explained starts markers (Ok values) closes = subst (λ (js : Journals). IsExplained starts js values) (same_marker_journals markers) (closes_explained starts (marker_seats markers) values closes)
 markers_explained starts markers (Err e) closes = tt
+
+pub workers_explained : (starts : List ℕ) (workers : List Worker) (seats : List Seat) (values : List ℕ) → seats ≡ seated.seats_in workers → Closes starts seats values → IsExplained starts (worker_journals workers) values
+workers_explained starts workers seats values are closes =
+    subst (λ (js : Journals). IsExplained starts js values) (ap (map (λ (seat : Seat). (view seat).journal)) are ∙ same_journals workers) (closes_explained starts seats values closes)

@@ -11,7 +11,7 @@ use Rattle.octet_heap.specs.declared.pending_update.PendingUpdate.{PendingUpdate
 use Rattle.octet_heap.specs.declared.marker.Marker.{Marker}
 use Rattle.octet_heap.specs.Standing.{begun_of, IsOne, IsAbout, IsAtRest, IsWithin}
 use Rattle.octet_heap.specs.Markers.{marker_seat, marker_seats, begun_by, HasRoomIf, IsMarkerOf, IsPlain, ArePlain, IsNew, EachNew, Starts, EachStarts, EachRests}
-use Rattle.octet_heap.proofs.Modelled.{same_model, same_standing}
+use Rattle.octet_heap.proofs.Modelled.{same_standing}
 use Rattle.octet_heap.proofs.Seating.{map_more, map_length}
 
 plain_more : (marks : ℕ) (markers : List Marker) (marker : Marker) → ArePlain marks markers → IsPlain marks marker → ArePlain marks (markers ++ marker ∷ [])
@@ -83,7 +83,9 @@ starts : (heap : Heap) (marks thread : ℕ) (marker : Marker) → IsNew heap mar
 starts heap marks thread marker new = record {
   own = new.0;
   rests = inl (ap (λ (x : Thread). x.phase) new.2);
-  is = same_model _ _ _ _ _ _ new.1 (same_standing marker.pending None marker.changing None _ Off new.5.0 new.5.1 (ap (λ (x : Thread). x.phase) new.2)) new.3;
+  number = new.1;
+  standing = same_standing marker.pending None marker.changing None _ Off new.5.0 new.5.1 (ap (λ (x : Thread). x.phase) new.2);
+  journal = new.3;
 }
 
 pub each_starts : (heap : Heap) (marks : ℕ) (markers : List Marker) → EachNew heap marks markers → EachStarts heap markers

@@ -1,5 +1,5 @@
 -- The workers of a heap, by their seats.
-use Rattle.std.proofs.Common.{◌≡◌, ◌∙◌, ℕ, zero, suc, ◌<◌, ◌≤◌, IsTrue, List, [], ◌∷◌, ◌++◌, map, length, Option, None, sym, refl, ap, arith, subst, slice_index_or}
+use Rattle.std.proofs.Common.{◌≡◌, ◌∙◌, inl, ℕ, zero, suc, ◌<◌, ◌≤◌, IsTrue, List, [], ◌∷◌, ◌++◌, map, length, Option, None, sym, refl, ap, arith, subst, slice_index_or}
 use Rattle.octet_model.specs.Machine.{Journals, journal_of}
 use Rattle.octet_model.specs.Log.{is_log}
 use Rattle.octet_model.specs.Journals.{access_count, log_of}
@@ -19,8 +19,9 @@ use Rattle.octet_heap.specs.declared.pending_access.PendingAccess.{PendingAccess
 use Rattle.octet_heap.specs.declared.worker.Worker.{Worker}
 use Rattle.octet_heap.specs.Standing.{begun_of, IsOne, IsAbout, IsAtRest, HasFuel, IsWithin}
 use Rattle.octet_heap.specs.Workers.{seat_of, begun_in, IsWorkerOf}
-use Rattle.octet_heap.specs.Seated.{seats_in, journals_of, ArePlain, EachNew, EachRests}
+use Rattle.octet_heap.specs.Seated.{seats_in, journals_of, ArePlain, IsNew, EachNew, Starts, EachStarts, EachRests}
 use Rattle.octet_heap.specs.Closings.{IsClosed}
+use Rattle.octet_heap.proofs.Modelled.{same_standing, nothing_begun}
 
 plain_more : (fuel : ℕ) (workers : List Worker) (worker : Worker) → ArePlain fuel workers → worker.fuel ≡ fuel → worker.pending ≡ None → worker.changing ≡ None → worker.slow ≡ 0 → ArePlain fuel (workers ++ worker ∷ [])
 plain_more fuel [] worker plain is none no_change none_slow = ((is, none, no_change, none_slow), tt)
@@ -98,7 +99,7 @@ resting_seats heap seats workers are all still = let many = ap (λ (l : List Sea
         subst (λ (s : Seat). rule.IsSeatOf heap.words s × rule.RestsAs thread s) (sym (ap (λ (l : List Seat). slice_index_or l thread none) are ∙ found.1)) (h.0.own, h.2)
 
 -- the journals of the seats are those of the workers
-same_journals : (workers : List Worker) → map (λ (seat : Seat). (view seat).journal) (seats_in workers) ≡ journals_of workers
+pub same_journals : (workers : List Worker) → map (λ (seat : Seat). (view seat).journal) (seats_in workers) ≡ journals_of workers
 same_journals [] = refl
 same_journals (w ∷ workers) = ap (λ (l : Journals). (seat_of w).journal ∷ l) (same_journals workers)
 
@@ -130,3 +131,19 @@ all_closed heap workers seats closed all still are logs reads closes = record {
       (subst (λ (o : _). IsFaithful script (log_of (journals_of workers)) o) (λ i. record { ends = ends_of script.fuel script.threads (journals_of workers); reads = sym reads i; heap = closes.cells i })
       (subst (λ (js : Journals). IsFaithful script (log_of js) (record { ends = ends_of script.fuel script.threads js; reads = map values_read js; heap = s.cells })) journals whole));
 }
+
+-- a new worker starts
+starts : (heap : Heap) (thread : ℕ) (worker : Worker) → IsNew heap thread worker → Starts heap thread worker
+starts heap thread worker new = record {
+  own = new.0;
+  rests = inl (ap (λ (x : Thread). x.phase) new.2);
+  number = new.1;
+  standing = same_standing worker.pending None worker.changing None _ Off new.5 (none_changing heap worker new.0 new.5 (ap (λ (x : Thread). x.phase) new.2)) (ap (λ (x : Thread). x.phase) new.2);
+  journal = new.3;
+}
+  where
+    none_changing : (h : Heap) (w : Worker) → IsWorkerOf h w → w.pending ≡ None → (seat_of w).thread.phase ≡ Off → w.changing ≡ None
+    none_changing h w own none off = (nothing_begun (seat_of w).threads w.pending w.changing (seat_of w).thread.phase own.about (inl off)).1
+
+pub each_starts : (heap : Heap) (workers : List Worker) → EachNew heap workers → EachStarts heap workers
+each_starts heap workers new thread none there = starts heap thread (slice_index_or workers thread none) (new thread none there)

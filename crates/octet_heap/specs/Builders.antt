@@ -3,12 +3,15 @@ use Rattle.std.specs.Prelude.{◌≡◌, ℕ, suc, List, [], ◌∷◌, ◌++◌
 use Rattle.octet_model.specs.declared.event.Mark.{Mark}
 use Rattle.octet_model.specs.declared.event.Event.{Event}
 use Rattle.octet_model.specs.declared.event.Event.TheVariants as event
-use Rattle.octet_model.specs.Journals.{access_count}
+use Rattle.octet_model.specs.declared.script.Script.{Script}
+use Rattle.octet_model.specs.Journals.{access_count, log_of}
 use Rattle.octet_model.specs.Machine.{Journals, journal_of, no_events, appended}
+use Rattle.octet_model.specs.Orders.{starting_heap, values_read}
 use Rattle.octet_model.specs.Thread.{added}
 use Rattle.octet_state.specs.declared.act.Mode.{Mode}
 use Rattle.octet_state.specs.declared.act.Mode.TheVariants.{Read, Write, Update}
 use Rattle.octet_rule.specs.Changes.{changed_by}
+use Rattle.octet_heap.specs.declared.closed.Closed.{Closed}
 use Rattle.octet_heap.specs.declared.pending_access.PendingAccess.{PendingAccess}
 use Rattle.octet_heap.specs.declared.pending_update.PendingUpdate.{PendingUpdate}
 use Rattle.octet_heap.specs.declared.poll.Poll.{Poll}
@@ -25,8 +28,12 @@ pub record HeapModel : Type 0 where
   pub starts : List ℕ
   pub fuel : ℕ
 
--- where a thread stands between two calls: it has not started, it runs and has begun nothing,
--- it has begun an access or an update by a change, or it is marked blocked
+-- the model of a heap that a script opens
+abbrev pub opened_by : Script → HeapModel
+opened_by script = record { threads = length script.threads; objects = length script.objects; starts = starting_heap script; fuel = script.fuel }
+
+-- where a thread stands between two calls. It has not started, or it runs and has begun nothing,
+-- or it has begun an access or an update by a change, or it is marked blocked
 pub data Standing : Type 0 where
   Off : Standing
   Idle : Standing
@@ -55,10 +62,6 @@ pub record ThreadModel : Type 0 where
 -- the number of accesses that a thread has made
 abbrev pub accesses_of : ThreadModel → ℕ
 accesses_of thread = access_count thread.journal
-
--- the thread of this number before its first call
-abbrev pub new_thread : ℕ → ThreadModel
-new_thread number = record { number = number; standing = Off; journal = [] }
 
 -- the same thread with the same journal, which now stands so
 abbrev pub now_standing : Standing → ThreadModel → ThreadModel
@@ -104,7 +107,7 @@ AnswersPoll (Accessing access) answer before after = AnswersAccess access answer
 AnswersPoll (Updating update) answer before after = (made : Updated) × (answer ≡ answer_after update.change made) × AnswersUpdate update made before after
 AnswersPoll _ answer before after = ⊥
 
--- the event takes what is there: a read the value of its object, and an update the value before
+-- the event takes what is there: a read the value of its object, and so does an update as its value before
 abbrev pub TakesValue : Event → List ℕ → Type 0
 TakesValue (event.Read object value) values = slice_index values object ≡ value
 TakesValue (event.Update object before after) values = slice_index values object ≡ before
@@ -116,15 +119,22 @@ values_after (event.Write object value) values = slice_set values object value
 values_after (event.Update object before after) values = slice_set values object after
 values_after _ values = values
 
--- the threads of this order make their events one after another: each time the next one of the thread's journal,
--- which takes what is there. So much is made, and the values are these; at the end all is made, and these are the last
+-- from what is made and these values on, the threads of this order make all events of the journals, and leave the
+-- last values. Each time a thread makes the next event of its journal. A read or an update takes the value that is there
 abbrev pub LeadsTo : Journals → List ℕ → List ℕ → Journals → List ℕ → Type 0
 LeadsTo journals last [] made values = (made ≡ journals) × (values ≡ last)
 LeadsTo journals last (thread ∷ order) made values = (next : Event) × (slice_get (journal_of journals thread) (length (journal_of made thread)) ≡ Some next)
     × TakesValue next values × LeadsTo journals last order (appended made thread next) (values_after next values)
 
--- the events of all journals can be put into one order that keeps that of each thread. In it each read and update
--- takes the value that is there, from the starting values on, and these are the last values
+-- the journals explain the last values: their events fit into one order, which keeps that of each thread.
+-- From the starting values on, each read and update takes the value that is there, and these are the last
 pub record IsExplained (starts : List ℕ) (journals : Journals) (last : List ℕ) : Type 0 where
   pub order : List ℕ
   pub leads : LeadsTo journals last order (no_events journals) starts
+
+-- what a closed heap leaves: the log of the journals, the values that the threads read, and the last values,
+-- which the journals explain
+pub record Leaves (starts : List ℕ) (journals : Journals) (closed : Closed) : Type 0 where
+  pub logs : closed.logs ≡ log_of journals
+  pub reads : closed.reads ≡ map values_read journals
+  pub values : IsExplained starts journals closed.heap

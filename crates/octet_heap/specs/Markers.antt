@@ -15,7 +15,7 @@ use Rattle.octet_heap.specs.declared.pending_access.PendingAccess.{PendingAccess
 use Rattle.octet_heap.specs.declared.poll.Poll.{Poll}
 use Rattle.octet_heap.specs.declared.poll.Poll.TheVariants.{Ready, Pending}
 use Rattle.octet_heap.specs.declared.recorder.Recorder.{Recorder}
-use Rattle.octet_heap.specs.Builders.{new_thread}
+use Rattle.octet_heap.specs.Builders.{Off}
 use Rattle.octet_heap.specs.Logs as logs
 use Rattle.octet_heap.specs.Models.{marker_model}
 use Rattle.octet_heap.specs.OwnersPath.{steps_since}
@@ -31,6 +31,18 @@ marker_seat marker = view marker.recorder.seat
 -- the access that a marker has begun, if any
 abbrev pub begun_by : Marker → Option PendingAccess
 begun_by marker = begun_of marker.pending marker.changing
+
+-- the number of events of its thread that came before the marks which a marker has
+abbrev pub base_of : Marker → ℕ
+base_of marker = marker.recorder.base
+
+-- the number of marks for which the buffer of a marker has room in all
+abbrev pub room_of : Marker → ℕ
+room_of marker = vec_capacity marker.recorder.log.marks
+
+-- the number of accesses of a marker that took the slow path
+abbrev pub slow_of : Marker → ℕ
+slow_of marker = marker.slow
 
 -- the marker has room for one more access and its marks
 abbrev pub HasRoom : Marker → Type 0
@@ -114,7 +126,9 @@ IsNew heap marks thread marker = IsMarkerOf heap marker × ((marker_seat marker)
 pub record Starts (heap : Heap) (thread : ℕ) (marker : Marker) : Type 0 where
   pub own : IsMarkerOf heap marker
   pub rests : Rests marker
-  pub is : marker_model marker ≡ new_thread thread
+  pub number : (marker_model marker).number ≡ thread
+  pub standing : (marker_model marker).standing ≡ Off
+  pub journal : (marker_model marker).journal ≡ []
 
 -- each of these markers starts, as that of the thread of its place
 abbrev pub EachStarts : Heap → List Marker → Type 0

@@ -32,5 +32,9 @@ abbrev pub worker_model : Worker → ThreadModel
 worker_model worker = record { number = (view worker.recorder.seat).number; standing = standing_of worker.pending worker.changing (view worker.recorder.seat).thread.phase; journal = (view worker.recorder.seat).journal }
 
 -- the journals of markers
-abbrev pub journals_of : List Marker → Journals
-journals_of markers = map (λ marker. (marker_model marker).journal) markers
+abbrev pub marker_journals : List Marker → Journals
+marker_journals markers = map (λ marker. (marker_model marker).journal) markers
+
+-- the journals of workers
+abbrev pub worker_journals : List Worker → Journals
+worker_journals workers = map (λ worker. (worker_model worker).journal) workers

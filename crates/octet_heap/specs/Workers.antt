@@ -1,5 +1,5 @@
 -- What a clause says of a heap and its workers.
-use Rattle.std.specs.Prelude.{◌≡◌, ◌⊎◌, true, ◌+◌, ◌≤◌, List, ◌∷◌, ◌++◌, length, Option, Some, None}
+use Rattle.std.specs.Prelude.{◌≡◌, ◌⊎◌, true, ℕ, ◌+◌, ◌≤◌, List, ◌∷◌, ◌++◌, length, Option, Some, None}
 use Rattle.std.specs.Option.{is_some}
 use Rattle.octet_state.specs.declared.phase.Phase.TheVariants.{Idle}
 use Rattle.octet_state.specs.declared.phase.Due.TheVariants.{Nothing}
@@ -36,6 +36,10 @@ pub record IsWorkerOf (heap : Heap) (worker : Worker) : Type 0 where
 -- the worker runs, and has begun no access
 abbrev pub IsIdle : Worker → Type 0
 IsIdle worker = ((seat_of worker).thread.phase ≡ Idle) × (worker.pending ≡ None) × (worker.changing ≡ None)
+
+-- the number of accesses of a worker that took the slow path
+abbrev pub slow_of : Worker → ℕ
+slow_of worker = worker.slow
 
 -- the worker is off or blocked
 abbrev pub Rests : Worker → Type 0

@@ -2,7 +2,8 @@
 ghost use Rattle.std.specs.Prelude.{◌≡◌, length, map, IfOk};
 ghost use Rattle.octet_model.specs.Journals.{log_of, log_of_journal};
 ghost use Rattle.octet_model.specs.Orders.{values_read};
-ghost use Rattle.octet_rule.specs.Seats.{threads_of};
+ghost use Rattle.octet_heap.specs.Builders.{Leaves};
+ghost use Rattle.octet_heap.specs.Models.{heap_model, worker_journals};
 ghost use Rattle.octet_heap.specs.Workers.{seat_of};
 ghost use Rattle.octet_heap.specs.Seated.{seats_in, journals_of, EachRests};
 ghost use Rattle.octet_heap.specs.Closings.{IsClosed};
@@ -59,9 +60,11 @@ impl Heap {
     /// final values. Every worker of the heap is handed in, in order, off or blocked. Refused only
     /// where memory is.
     pub fn close(self, alloc: Global, workers: List<Worker>) -> Result<Closed, OutOfMemory>
-        requires all { length workers ≡ threads_of self.words }
+        requires all { length workers ≡ (heap_model self).threads }
         requires still { EachRests self workers }
-        ensures { IfOk result (λ closed. IsClosed self workers closed) }
+        ensures leaves { IfOk result (λ closed. Leaves (heap_model self).starts (worker_journals workers) closed) }
+        // In the words of seats, and as a recording of a script:
+        ensures closed { IfOk result (λ closed. IsClosed self workers closed) }
     {
         let Heap { words, .. } = self;
         let (seats, logs, reads) = all_parts(alloc, workers.into_vec())?;

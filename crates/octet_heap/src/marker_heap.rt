@@ -3,7 +3,7 @@ ghost use Rattle.std.specs.Prelude.{◌≡◌, ◌<◌, ◌≤◌, [], length, m
 ghost use Rattle.octet_model.specs.declared.limits.TheConstants.{MAX_OBJECTS, MAX_THREADS};
 ghost use Rattle.octet_rule.specs.Seats.{view, threads_of, starts_of, EachFresh, Closes};
 ghost use Rattle.octet_heap.specs.Builders.{IsExplained};
-ghost use Rattle.octet_heap.specs.Models.{heap_model, journals_of};
+ghost use Rattle.octet_heap.specs.Models.{heap_model, marker_journals};
 ghost use Rattle.octet_heap.specs.Markers.{marker_seats, IsPlain, ArePlain, EachNew, EachStarts, EachRests};
 
 use crate::heap::Heap;
@@ -49,7 +49,7 @@ impl Heap {
     ) -> Result<List<u64>, OutOfMemory>
         requires all { length markers ≡ (heap_model self).threads }
         requires still { EachRests self markers }
-        ensures values { IfOk result (λ values. IsExplained (heap_model self).starts (journals_of markers) values) }
+        ensures values { IfOk result (λ values. IsExplained (heap_model self).starts (marker_journals markers) values) }
         // In the words of seats:
         ensures cells { IfOk result (λ values. Closes (starts_of self.words) (marker_seats markers) values) }
     {

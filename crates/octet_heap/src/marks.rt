@@ -1,11 +1,11 @@
 //! What a marker tells, and the emptying of its buffer. None of it is a step.
-ghost use Rattle.std.specs.Prelude.{◌≡◌, ◌↔◌, ◌<◌, ◌≤◌, true, drop, vec_capacity};
-ghost use Rattle.octet_model.specs.Journals.{access_count, gap_after, gapped_marks};
+ghost use Rattle.std.specs.Prelude.{◌≡◌, ◌↔◌, ◌<◌, ◌≤◌, true, drop};
+ghost use Rattle.octet_model.specs.Journals.{gap_after, gapped_marks};
 ghost use Rattle.octet_model.specs.declared.limits.TheConstants.{MAX_MARKS_BEFORE_ACCESS};
 ghost use Rattle.octet_state.specs.declared.limits.TheConstants.{MAX_ACCESSES_OF_THREAD};
 ghost use Rattle.octet_heap.specs.Builders.{accesses_of};
 ghost use Rattle.octet_heap.specs.Models.{marker_model};
-ghost use Rattle.octet_heap.specs.Markers.{marker_seat, IsMarkerOf, HasRoom, HasWholeRoom, IsEmptied};
+ghost use Rattle.octet_heap.specs.Markers.{marker_seat, base_of, room_of, slow_of, IsMarkerOf, HasRoom, HasWholeRoom, IsEmptied};
 
 use crate::heap::Heap;
 use crate::marker::Marker;
@@ -28,15 +28,15 @@ impl Marker {
 
     /// How many of them took the slow path, as `Worker::slow_accesses` counts them.
     pub fn slow_accesses(&self) -> u64
-        ensures count { result ≡ self.now.slow }
-        ensures most { result ≤ access_count (marker_seat self.now).journal }
+        ensures count { result ≡ slow_of self.now }
+        ensures most { result ≤ accesses_of (marker_model self.now) }
     {
         self.slow
     }
 
     /// How many of its thread's events came before the marks that it has.
     pub fn base(&self) -> u64
-        ensures { result ≡ self.now.recorder.base }
+        ensures { result ≡ base_of self.now }
     {
         self.recorder.base
     }
@@ -44,14 +44,14 @@ impl Marker {
     /// Its marks since they were last cleared, each with the accesses since the mark before it, or since
     /// then.
     pub fn marks(&self) -> &[Gapped]
-        ensures { result.now ≡ gapped_marks 0 (drop self.now.recorder.base (marker_seat self.now).journal) }
+        ensures { result.now ≡ gapped_marks 0 (drop (base_of self.now) (marker_model self.now).journal) }
     {
         self.recorder.log.marks.as_slice()
     }
 
     /// The accesses after the last of these marks, or since they were cleared.
     pub fn gap(&self) -> u32
-        ensures { result ≡ gap_after 0 (drop self.now.recorder.base (marker_seat self.now).journal) }
+        ensures { result ≡ gap_after 0 (drop (base_of self.now) (marker_model self.now).journal) }
     {
         self.recorder.log.gap()
     }
@@ -72,12 +72,13 @@ impl Marker {
         requires own { IsMarkerOf heap.now self.old }
         ensures own { IsMarkerOf heap.now self.new }
         ensures thread { marker_model self.new ≡ marker_model self.old }
+        ensures room { MAX_MARKS_BEFORE_ACCESS ≤ room_of self.old → accesses_of (marker_model self.old) < MAX_ACCESSES_OF_THREAD → HasWholeRoom self.new × HasRoom self.new }
+        // In the words of seats:
         ensures seat { marker_seat self.new ≡ marker_seat self.old }
         ensures pending { self.new.pending ≡ self.old.pending }
         ensures changing { self.new.changing ≡ self.old.changing }
         ensures slow { self.new.slow ≡ self.old.slow }
         ensures emptied { IsEmptied self.old self.new }
-        ensures room { MAX_MARKS_BEFORE_ACCESS ≤ vec_capacity self.old.recorder.log.marks → access_count (marker_seat self.old).journal < MAX_ACCESSES_OF_THREAD → HasWholeRoom self.new × HasRoom self.new }
     {
         self.recorder.clear();
     }

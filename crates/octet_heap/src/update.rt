@@ -7,7 +7,9 @@ ghost use Rattle.octet_heap.specs.Calls.{CountsSlow};
 ghost use Rattle.octet_heap.specs.Standing.{update_of};
 ghost use Rattle.octet_heap.specs.Updates.{answer_after, update_to, MayUpdate, PollsToChange, PollsUpdate};
 ghost use Rattle.octet_heap.specs.Waiting.{accesses_after};
-ghost use Rattle.octet_heap.specs.Workers.{seat_of, pending_after, IsWorkerOf, IsIdle, IsIdleIfMade};
+ghost use Rattle.octet_heap.specs.Builders.{accesses_of, AnswersUpdate};
+ghost use Rattle.octet_heap.specs.Models.{heap_model, worker_model};
+ghost use Rattle.octet_heap.specs.Workers.{seat_of, pending_after, IsWorkerOf, IsIdle, StandsAfter, IsIdleIfMade};
 
 use crate::calls::slow_by;
 use crate::heap::Heap;
@@ -38,9 +40,12 @@ impl Heap {
     pub fn update(&self, worker: &mut Worker, object: u16, change: Change) -> Updated
         requires own { IsWorkerOf self.now worker.old }
         requires may { MayUpdate object change worker.old }
-        requires object { object < objects_of self.now.words }
-        requires more { access_count (seat_of worker.old).journal < self.now.fuel }
+        requires object { object < (heap_model self.now).objects }
+        requires more { accesses_of (worker_model worker.old) < (heap_model self.now).fuel }
         ensures own { IsWorkerOf self.now worker.new }
+        ensures stands { StandsAfter (answer_after change result) worker.new }
+        ensures thread { AnswersUpdate (update_to object change) result (worker_model worker.old) (worker_model worker.new) }
+        // Step by step:
         ensures pending { worker.new.pending ≡ None }
         ensures changing { worker.new.changing ≡ pending_after (answer_after change result) (Some (update_to object change)) }
         ensures idle { IsIdleIfMade (answer_after change result) worker.new }

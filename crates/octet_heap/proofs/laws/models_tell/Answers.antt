@@ -1,4 +1,4 @@
-use Rattle.octet_heap.specs.Markers.{marker_seat, begun_by}
+use Rattle.octet_heap.specs.Markers.{marker_seat}
 use Rattle.octet_heap.specs.Workers.{seat_of}
 use Rattle.octet_heap.proofs.Telling.{tells}
 use Rattle.octet_heap.proofs.laws.models_tell.Goals as goal

@@ -1,12 +1,18 @@
-use Rattle.std.proofs.Common.{◌≡◌, ℕ, ◌<◌, List, ◌++◌, ◌∙◌, sym, ap, subst, arith}
+use Rattle.std.proofs.Common.{◌≡◌, ℕ, ◌<◌, List, ◌++◌, ◌∙◌, None, sym, ap, subst, arith}
+use Rattle.octet_state.specs.declared.phase.Phase.TheVariants as phase
 use Rattle.octet_rule.specs.Seats.{view}
 use Rattle.octet_heap.specs.declared.poll.Poll.{Poll}
+use Rattle.octet_heap.specs.declared.poll.Poll.TheVariants.{Ready}
+use Rattle.octet_heap.specs.Builders.{Accessing}
 use Rattle.octet_heap.specs.Calls.{access_to, Polls}
 use Rattle.octet_heap.specs.Growth.{read_by}
+use Rattle.octet_heap.specs.Models.{worker_model}
 use Rattle.octet_heap.specs.OwnersPath.{steps_since}
 use Rattle.octet_heap.specs.Recorders.{KeepsSeatAfter}
 use Rattle.octet_heap.specs.SlowPath.{is_fast, slow_after}
+use Rattle.octet_heap.specs.Waiting.{EndsPoll}
 use Rattle.octet_heap.specs.Workers.{seat_of}
+use Rattle.octet_heap.proofs.Modelled.{same_standing, standing_after, accesses_by}
 use Rattle.octet_heap.proofs.polls.Reading.{can_record, room_to_read, reads_made, reads_pending, slow_most, still_whole, still_room}
 use Rattle.octet_heap.proofs.heap.Heap.access_or_begin.Goals as goal
 
@@ -55,3 +61,17 @@ pub returns-in-Ready-clause-slow : goal.returns-in-Ready-clause-slow
 returns-in-Ready-clause-slow c = let access = access_to c.args.object c.args.mode c.args.value in
     let v = seat_of c.args.worker.now in let fast = is_fast access v (steps_since v (view c.start-poll.new.recorder.seat)) in let slow = c.args.worker.now.slow in
     c.slow_by-worker.ensures ∙ subst (λ (a : Poll). slow_after a c.start-poll.result.1 slow ≡ slow_after a fast slow) c.in-Ready.is (c.start-poll.ensures.path slow)
+
+pub returns-in-Ready-clause-thread : goal.returns-in-Ready-clause-thread
+returns-in-Ready-clause-thread c = let m = c.args.worker.now in let w = view c.start-poll.new.recorder.seat in
+    let access = access_to c.args.object c.args.mode c.args.value in
+    let ends = subst (λ (a : Poll). EndsPoll access a w) c.in-Ready.is c.start-poll.ensures.ends in
+    let stands = same_standing m.pending None m.changing None w.thread.phase phase.Idle c.requires.idle.1 c.requires.idle.2 ends.1 in
+    let polls = subst (λ (a : Poll). Polls access (seat_of m) a w) c.in-Ready.is c.start-poll.ensures.polls in
+    accesses_by access (Ready c.in-Ready.value) (seat_of m) w (worker_model m).standing _ c.start-poll.ensures.number polls.journal stands
+
+pub returns-in-Pending-clause-thread : goal.returns-in-Pending-clause-thread
+returns-in-Pending-clause-thread c = let m = c.args.worker.now in let w = view c.start-poll.new.recorder.seat in
+    let access = access_to c.args.object c.args.mode c.args.value in
+    accesses_by access c.start-poll.result.0 (seat_of m) w (worker_model m).standing _ c.start-poll.ensures.number c.start-poll.ensures.polls.journal
+    (sym (ap (standing_after (Accessing access)) c.in-Pending.is))

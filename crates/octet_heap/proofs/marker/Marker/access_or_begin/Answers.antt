@@ -1,4 +1,4 @@
-use Rattle.std.proofs.Common.{◌≡◌, ◌∙◌, Option, Some, None, sym, ap, subst, arith}
+use Rattle.std.proofs.Common.{◌∙◌, Option, Some, None, sym, ap, subst, arith}
 use Rattle.octet_state.specs.declared.phase.Phase.TheVariants as phase
 use Rattle.octet_rule.specs.Seats.{view}
 use Rattle.octet_heap.specs.declared.pending_update.PendingUpdate.{PendingUpdate}

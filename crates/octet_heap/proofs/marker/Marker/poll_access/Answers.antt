@@ -1,4 +1,4 @@
-use Rattle.std.proofs.Common.{◌≡◌, ◌∙◌, Option, sym, ap, subst, arith}
+use Rattle.std.proofs.Common.{◌∙◌, Option, sym, ap, subst, arith}
 use Rattle.octet_rule.specs.Seats.{view, objects_of}
 use Rattle.octet_heap.specs.declared.pending_access.PendingAccess.{PendingAccess}
 use Rattle.octet_heap.specs.declared.poll.Poll.{Poll}

@@ -28,7 +28,7 @@ pub invariant_of-log : goal.invariant_of-log
 invariant_of-log c =
     let closed = c.in_ok-logs.field-0 in
     let workers : c.in_ok-workers.workers ≡ workers_in c.args.tracks = search rules in
-    let closes = subst (λ (l : List Worker). IsClosed c.args.self.heap l closed) workers c.in_ok-logs.ensures in record {
+    let closes = subst (λ (l : List Worker). IsClosed c.args.self.heap l closed) workers c.in_ok-logs.ensures.closed in record {
       valid = valid_log c.args.self c.args.tracks c.requires.all c.requires.still closed closes;
     }
 
@@ -38,7 +38,7 @@ returns-clause-faithful c =
     let workers : c.in_ok-workers.workers ≡ workers_in c.args.tracks = search rules in
     let programs : c.in_ok-workers.threads ≡ programs_in c.args.tracks = search rules in
     let ends : c.in_ok-workers.ends ≡ ends_in c.args.tracks = search rules in
-    let closes = subst (λ (l : List Worker). IsClosed c.args.self.heap l closed) workers c.in_ok-logs.ensures in
+    let closes = subst (λ (l : List Worker). IsClosed c.args.self.heap l closed) workers c.in_ok-logs.ensures.closed in
     let go : (script : Script) → script.fuel ≡ c.args.self.opening.fuel → script.objects ≡ c.args.self.opening.objects → script.threads ≡ c.in_ok-workers.threads
     → IsFaithful script closed.logs (record { ends = c.in_ok-workers.ends; reads = closed.reads; heap = closed.heap }) = λ script fuel objects threads.
     subst (λ (e : List End). IsFaithful script closed.logs (record { ends = e; reads = closed.reads; heap = closed.heap })) (sym ends)
@@ -50,7 +50,7 @@ returns-clause-faithful c =
 pub returns-clause-of : goal.returns-clause-of
 returns-clause-of c =
     let workers : c.in_ok-workers.workers ≡ workers_in c.args.tracks = search rules in
-    let closes = subst (λ (l : List Worker). IsClosed c.args.self.heap l c.in_ok-logs.field-0) workers c.in_ok-logs.ensures in record {
+    let closes = subst (λ (l : List Worker). IsClosed c.args.self.heap l c.in_ok-logs.field-0) workers c.in_ok-logs.ensures.closed in record {
       script = record { fuel = refl; objects = refl; threads = search rules };
       log = closes.logs ∙ ap log_of (same_journals c.args.tracks);
       reads = closes.reads ∙ ap (λ (l : Journals). map values_read l) (same_journals c.args.tracks);

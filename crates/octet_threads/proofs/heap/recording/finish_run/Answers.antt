@@ -15,14 +15,14 @@ close-requires-clause-still c =
 pub invariant_of-log : goal.invariant_of-log
 invariant_of-log c =
     let closed = c.in_ok-logs.field-0 in
-    let closes = subst (λ (l : List Worker). IsClosed c.args.heap l closed) c.in_ok-workers.ensures c.in_ok-logs.ensures in record {
+    let closes = subst (λ (l : List Worker). IsClosed c.args.heap l closed) c.in_ok-workers.ensures c.in_ok-logs.ensures.closed in record {
       valid = valid c.args.script.now c.args.heap c.args.runners.items c.requires.heap c.requires.runners c.requires.ended closed closes;
     }
 
 pub returns-clause-faithful : goal.returns-clause-faithful
 returns-clause-faithful c =
     let closed = c.in_ok-logs.field-0 in
-    let closes = subst (λ (l : List Worker). IsClosed c.args.heap l closed) c.in_ok-workers.ensures c.in_ok-logs.ensures in
+    let closes = subst (λ (l : List Worker). IsClosed c.args.heap l closed) c.in_ok-workers.ensures c.in_ok-logs.ensures.closed in
     let told : c.in_ok-ends.ends ≡ ends_in c.args.runners.items = c.in_ok-ends.ensures ∙ ap (λ (l : List Runner). ends_in l) c.as_slice.ensures.value in
     subst (λ (ends : List End). IsFaithful c.args.script.now closed.logs (record { ends = ends; reads = closed.reads; heap = closed.heap })) (sym told)
     (faithful c.args.script.now c.args.heap c.args.runners.items c.requires.heap c.requires.runners c.requires.ended closed closes)
