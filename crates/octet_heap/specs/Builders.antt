@@ -132,9 +132,9 @@ pub record IsExplained (starts : List ℕ) (journals : Journals) (last : List �
   pub order : List ℕ
   pub leads : LeadsTo journals last order (no_events journals) starts
 
--- what a closed heap leaves: the log of the journals, the values that the threads read, and the last values,
+-- the record of a run with these journals: their log, the values that the threads read, and the last values,
 -- which the journals explain
-pub record Leaves (starts : List ℕ) (journals : Journals) (closed : Closed) : Type 0 where
+pub record IsRecordOf (starts : List ℕ) (journals : Journals) (closed : Closed) : Type 0 where
   pub logs : closed.logs ≡ log_of journals
   pub reads : closed.reads ≡ map values_read journals
   pub values : IsExplained starts journals closed.heap

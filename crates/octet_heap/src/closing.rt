@@ -2,7 +2,7 @@
 ghost use Rattle.std.specs.Prelude.{◌≡◌, length, map, IfOk};
 ghost use Rattle.octet_model.specs.Journals.{log_of, log_of_journal};
 ghost use Rattle.octet_model.specs.Orders.{values_read};
-ghost use Rattle.octet_heap.specs.Builders.{Leaves};
+ghost use Rattle.octet_heap.specs.Builders.{IsRecordOf};
 ghost use Rattle.octet_heap.specs.Models.{heap_model, worker_journals};
 ghost use Rattle.octet_heap.specs.Workers.{seat_of};
 ghost use Rattle.octet_heap.specs.Seated.{seats_in, journals_of, EachRests};
@@ -62,7 +62,7 @@ impl Heap {
     pub fn close(self, alloc: Global, workers: List<Worker>) -> Result<Closed, OutOfMemory>
         requires all { length workers ≡ (heap_model self).threads }
         requires still { EachRests self workers }
-        ensures leaves { IfOk result (λ closed. Leaves (heap_model self).starts (worker_journals workers) closed) }
+        ensures record_of { IfOk result (λ closed. IsRecordOf (heap_model self).starts (worker_journals workers) closed) }
         // In the words of seats, and as a recording of a script:
         ensures closed { IfOk result (λ closed. IsClosed self workers closed) }
     {

@@ -9,6 +9,7 @@ ghost use Rattle.octet_safe.specs.Replies.{PassesSafePoint};
 ghost use Rattle.octet_heap.specs.Calls.{access_to, Polls};
 ghost use Rattle.octet_heap.specs.Standing.{update_of};
 ghost use Rattle.octet_heap.specs.Updates.{answer_after, update_to, PollsToChange, PollsUpdate};
+ghost use Rattle.octet_heap.specs.UpdateCalls.{UpdatesMarker};
 ghost use Rattle.octet_heap.specs.Waiting.{accesses_after};
 ghost use Rattle.octet_heap.specs.Workers.{pending_after};
 ghost use Rattle.octet_heap.specs.Builders.{Idle, Accessing, Blocked, now_standing, AnswersAccess, AnswersUpdate, AnswersPoll};
@@ -165,15 +166,7 @@ impl Marker {
         requires idle { IsIdle self.old }
         requires object { object < objects_of heap.now.words }
         requires room { HasRoom self.old }
-        ensures own { IsMarkerOf heap.now self.new }
-        ensures pending { self.new.pending ≡ None }
-        ensures changing { self.new.changing ≡ pending_after (answer_after change result) (Some (update_to object change)) }
-        ensures idle { IsIdleIfMade (answer_after change result) self.new }
-        ensures polls { PollsToChange object change (marker_seat self.old) result (marker_seat self.new) }
-        ensures number { (marker_seat self.new).number ≡ (marker_seat self.old).number }
-        ensures counts { access_count (marker_seat self.new).journal ≡ accesses_after (answer_after change result) (access_count (marker_seat self.old).journal) }
-        ensures slow { CountsSlow (update_of object) self.old (answer_after change result) self.new }
-        ensures same { IsSameBuffer self.old self.new }
+        ensures { UpdatesMarker heap.now object change self.old result self.new }
     {
         let (updated, fast) = heap.start_change(&mut self.recorder, object, change);
         match updated {
@@ -188,15 +181,7 @@ impl Marker {
     fn go_on_with_update(&mut self, heap: &Heap, object: u16, change: Change) -> Updated
         requires own { IsMarkerOf heap.now self.old }
         requires begun { self.old.changing ≡ Some (update_to object change) }
-        ensures own { IsMarkerOf heap.now self.new }
-        ensures pending { self.new.pending ≡ None }
-        ensures changing { self.new.changing ≡ pending_after (answer_after change result) (Some (update_to object change)) }
-        ensures idle { IsIdleIfMade (answer_after change result) self.new }
-        ensures polls { PollsToChange object change (marker_seat self.old) result (marker_seat self.new) }
-        ensures number { (marker_seat self.new).number ≡ (marker_seat self.old).number }
-        ensures counts { access_count (marker_seat self.new).journal ≡ accesses_after (answer_after change result) (access_count (marker_seat self.old).journal) }
-        ensures slow { CountsSlow (update_of object) self.old (answer_after change result) self.new }
-        ensures same { IsSameBuffer self.old self.new }
+        ensures { UpdatesMarker heap.now object change self.old result self.new }
     {
         let (updated, fast) = heap.resume_change(&mut self.recorder, object, change);
         match updated {

@@ -6,6 +6,7 @@ ghost use Rattle.octet_model.specs.Journals.{access_count};
 ghost use Rattle.octet_heap.specs.Calls.{CountsSlow};
 ghost use Rattle.octet_heap.specs.Standing.{update_of};
 ghost use Rattle.octet_heap.specs.Updates.{answer_after, update_to, MayUpdate, PollsToChange, PollsUpdate};
+ghost use Rattle.octet_heap.specs.UpdateCalls.{UpdatesWorker};
 ghost use Rattle.octet_heap.specs.Waiting.{accesses_after};
 ghost use Rattle.octet_heap.specs.Builders.{accesses_of, AnswersUpdate};
 ghost use Rattle.octet_heap.specs.Models.{heap_model, worker_model};
@@ -67,14 +68,7 @@ impl Heap {
         requires idle { IsIdle worker.old }
         requires object { object < objects_of self.now.words }
         requires more { access_count (seat_of worker.old).journal < self.now.fuel }
-        ensures own { IsWorkerOf self.now worker.new }
-        ensures pending { worker.new.pending ≡ None }
-        ensures changing { worker.new.changing ≡ pending_after (answer_after change result) (Some (update_to object change)) }
-        ensures idle { IsIdleIfMade (answer_after change result) worker.new }
-        ensures polls { PollsToChange object change (seat_of worker.old) result (seat_of worker.new) }
-        ensures number { (seat_of worker.new).number ≡ (seat_of worker.old).number }
-        ensures counts { access_count (seat_of worker.new).journal ≡ accesses_after (answer_after change result) (access_count (seat_of worker.old).journal) }
-        ensures slow { CountsSlow (update_of object) worker.old (answer_after change result) worker.new }
+        ensures { UpdatesWorker self.now object change worker.old result worker.new }
     {
         let (updated, fast) = self.start_change(&mut worker.recorder, object, change);
         match updated {
@@ -89,14 +83,7 @@ impl Heap {
     fn go_on_with_update(&self, worker: &mut Worker, object: u16, change: Change) -> Updated
         requires own { IsWorkerOf self.now worker.old }
         requires begun { worker.old.changing ≡ Some (update_to object change) }
-        ensures own { IsWorkerOf self.now worker.new }
-        ensures pending { worker.new.pending ≡ None }
-        ensures changing { worker.new.changing ≡ pending_after (answer_after change result) (Some (update_to object change)) }
-        ensures idle { IsIdleIfMade (answer_after change result) worker.new }
-        ensures polls { PollsToChange object change (seat_of worker.old) result (seat_of worker.new) }
-        ensures number { (seat_of worker.new).number ≡ (seat_of worker.old).number }
-        ensures counts { access_count (seat_of worker.new).journal ≡ accesses_after (answer_after change result) (access_count (seat_of worker.old).journal) }
-        ensures slow { CountsSlow (update_of object) worker.old (answer_after change result) worker.new }
+        ensures { UpdatesWorker self.now object change worker.old result worker.new }
     {
         let (updated, fast) = self.resume_change(&mut worker.recorder, object, change);
         match updated {

@@ -1,4 +1,4 @@
-use Rattle.std.proofs.Common.{◌<◌, ◌∙◌, sym, ap, subst, arith, append-nil}
+use Rattle.std.proofs.Common.{rules, ◌<◌, ◌∙◌, sym, ap, subst, arith, append-nil}
 use Rattle.octet_model.specs.Orders.{values_read}
 use Rattle.octet_state.specs.declared.act.Mode.TheVariants.{Update}
 use Rattle.octet_rule.specs.Changes.{changed_by, amount_by}
@@ -47,6 +47,27 @@ invariant_of-worker-in-Pending c =
       least = let a = keeps.counts in let b = w.least in omega arith;
     }
 
-pub returns-in-Made-clause-slow : goal.returns-in-Made-clause-slow
-returns-in-Made-clause-slow c = let slow = c.args.worker.now.slow in
-    c.slow_by-worker.ensures ∙ (ap (λ (a : Updated). slow_after (answer_after c.args.change a) c.start_change-updated.result.1 slow) (sym c.in-Made.is) ∙ c.start_change-updated.ensures.path slow)
+pub returns-in-Made : goal.returns-in-Made
+returns-in-Made c = record {
+  own = search rules;
+  pending = search rules;
+  changing = search rules;
+  idle = search rules;
+  polls = search rules;
+  number = search rules;
+  counts = search rules;
+  slow = (let slow = c.args.worker.now.slow in
+      c.slow_by-worker.ensures ∙ (ap (λ (a : Updated). slow_after (answer_after c.args.change a) c.start_change-updated.result.1 slow) (sym c.in-Made.is) ∙ c.start_change-updated.ensures.path slow));
+}
+
+pub returns-in-Pending : goal.returns-in-Pending
+returns-in-Pending c = record {
+  own = search rules;
+  pending = search rules;
+  changing = search rules;
+  idle = search rules;
+  polls = search rules;
+  number = search rules;
+  counts = search rules;
+  slow = search rules;
+}

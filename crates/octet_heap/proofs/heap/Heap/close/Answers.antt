@@ -10,8 +10,8 @@ use Rattle.octet_heap.proofs.heap.Heap.close.Goals as goal
 pub close-requires : goal.close-requires
 close-requires c = let are : c.from_vec.result ≡ seats_in c.args.workers = search rules in resting_seats c.args.self c.from_vec.result c.args.workers are c.requires.all c.requires.still
 
-pub returns-clause-leaves : goal.returns-clause-leaves
-returns-clause-leaves c = let are : c.from_vec.result ≡ seats_in c.args.workers = search rules in record {
+pub returns-clause-record_of : goal.returns-clause-record_of
+returns-clause-record_of c = let are : c.from_vec.result ≡ seats_in c.args.workers = search rules in record {
   logs = search rules;
   reads = search rules;
   values = workers_explained (starts_of c.args.self.words) c.args.workers c.from_vec.result c.in_ok-heap.heap are c.in_ok-heap.ensures;

@@ -1,4 +1,4 @@
-use Rattle.std.proofs.Common.{◌≡◌, ◌<◌, ◌∙◌, Option, None, sym, ap, subst, arith, append-nil}
+use Rattle.std.proofs.Common.{rules, ◌≡◌, ◌<◌, ◌∙◌, Option, None, sym, ap, subst, arith, append-nil}
 use Rattle.octet_model.specs.Orders.{values_read}
 use Rattle.octet_state.specs.declared.act.Mode.TheVariants.{Update}
 use Rattle.octet_rule.specs.Changes.{changed_by, amount_by}
@@ -56,21 +56,39 @@ invariant_of-worker-in-Pending c =
       least = let a = keeps.counts in let b = w.least in omega arith;
     }
 
-pub returns-in-Made-clause-own : goal.returns-in-Made-clause-own
-returns-in-Made-clause-own c = let worker = c.args.worker.now in let recorder = c.resume_change-updated.new.recorder in let w = view recorder.seat in
-    let change = c.args.change in
-    let keeps = subst (λ (a : Updated). KeepsSeatAfter c.args.self.now.words (answer_after change a) worker.recorder recorder) c.in-Made.is c.resume_change-updated.ensures.keeps in
-    let ends = subst (λ (a : Updated). EndsPoll (update_of c.args.object) (answer_after change a) w) c.in-Made.is c.resume_change-updated.ensures.ends in
-    let none : worker.pending ≡ None = (is_update worker.pending worker.changing (update_to c.args.object change) c.requires.own.one c.requires.begun).0 in record {
-      own = keeps.own;
-      same_fuel = c.requires.own.same_fuel;
-      owes_nothing = ends.0;
-      one = subst (λ (o : Option PendingAccess). IsOne o None) (sym none) tt;
-      about = subst (λ (o : Option PendingAccess). IsAbout w.threads (begun_of o None) w.thread.phase) (sym none) (subst IsAtRest (sym ends.1) tt);
-      fuelled = subst (λ (o : Option PendingAccess). HasFuel (begun_of o None) recorder.log.accesses worker.fuel) (sym none) tt;
-      within = subst (λ (o : Option PendingAccess). IsWithin (objects_of c.args.self.now.words) (begun_of o None)) (sym none) tt;
-    }
+pub returns-in-Made : goal.returns-in-Made
+returns-in-Made c = record {
+  own = (let worker = c.args.worker.now in let recorder = c.resume_change-updated.new.recorder in let w = view recorder.seat in
+      let change = c.args.change in
+      let keeps = subst (λ (a : Updated). KeepsSeatAfter c.args.self.now.words (answer_after change a) worker.recorder recorder) c.in-Made.is c.resume_change-updated.ensures.keeps in
+      let ends = subst (λ (a : Updated). EndsPoll (update_of c.args.object) (answer_after change a) w) c.in-Made.is c.resume_change-updated.ensures.ends in
+      let none : worker.pending ≡ None = (is_update worker.pending worker.changing (update_to c.args.object change) c.requires.own.one c.requires.begun).0 in record {
+        own = keeps.own;
+        same_fuel = c.requires.own.same_fuel;
+        owes_nothing = ends.0;
+        one = subst (λ (o : Option PendingAccess). IsOne o None) (sym none) tt;
+        about = subst (λ (o : Option PendingAccess). IsAbout w.threads (begun_of o None) w.thread.phase) (sym none) (subst IsAtRest (sym ends.1) tt);
+        fuelled = subst (λ (o : Option PendingAccess). HasFuel (begun_of o None) recorder.log.accesses worker.fuel) (sym none) tt;
+        within = subst (λ (o : Option PendingAccess). IsWithin (objects_of c.args.self.now.words) (begun_of o None)) (sym none) tt;
+      });
+  pending = search rules;
+  changing = search rules;
+  idle = search rules;
+  polls = search rules;
+  number = search rules;
+  counts = search rules;
+  slow = (let slow = c.args.worker.now.slow in
+      c.slow_by-worker.ensures ∙ (ap (λ (a : Updated). slow_after (answer_after c.args.change a) c.resume_change-updated.result.1 slow) (sym c.in-Made.is) ∙ c.resume_change-updated.ensures.path slow));
+}
 
-pub returns-in-Made-clause-slow : goal.returns-in-Made-clause-slow
-returns-in-Made-clause-slow c = let slow = c.args.worker.now.slow in
-    c.slow_by-worker.ensures ∙ (ap (λ (a : Updated). slow_after (answer_after c.args.change a) c.resume_change-updated.result.1 slow) (sym c.in-Made.is) ∙ c.resume_change-updated.ensures.path slow)
+pub returns-in-Pending : goal.returns-in-Pending
+returns-in-Pending c = record {
+  own = search rules;
+  pending = search rules;
+  changing = search rules;
+  idle = search rules;
+  polls = search rules;
+  number = search rules;
+  counts = search rules;
+  slow = search rules;
+}
