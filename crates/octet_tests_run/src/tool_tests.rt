@@ -1,11 +1,10 @@
 //! The tool of `docs/HEAP.md`, to the letter.
 ghost use Rattle.std.specs.Prelude.{◌≡◌, ◌<◌, ◌+◌, [], length, IfOk};
 ghost use Rattle.std.specs.Thread.{IsSync};
-ghost use Rattle.octet_model.specs.Journals.{access_count};
-ghost use Rattle.octet_rule.specs.Conditions.{IsResting};
-ghost use Rattle.octet_rule.specs.Seats.{objects_of, threads_of};
-ghost use Rattle.octet_heap.specs.Seated.{IsNew, RestsAs};
-ghost use Rattle.octet_heap.specs.Workers.{seat_of, IsIdle, IsWorkerOf};
+ghost use Rattle.octet_heap.specs.Builders.{accesses_of};
+ghost use Rattle.octet_heap.specs.Models.{heap_model, worker_model};
+ghost use Rattle.octet_heap.specs.Seated.{RestsAs, Starts};
+ghost use Rattle.octet_heap.specs.Workers.{IsIdle, IsWorkerOf, Rests};
 
 use crossbeam_utils::Backoff;
 use octet_heap::{Closed, Heap, Poll, Worker};
@@ -43,12 +42,12 @@ fn two_threads(alloc: Global) -> Result<Script, OutOfMemory>
 fn access<R: Wait>(rt: &R, heap: &Heap, worker: &mut Worker, mode: Mode, value: u64) -> u64
     requires own { IsWorkerOf heap.now worker.old }
     requires idle { IsIdle worker.old }
-    requires object { 0 < objects_of heap.now.words }
-    requires more { access_count (seat_of worker.old).journal < heap.now.fuel }
+    requires object { 0 < (heap_model heap.now).objects }
+    requires more { accesses_of (worker_model worker.old) < (heap_model heap.now).fuel }
     ensures own { IsWorkerOf heap.now worker.new }
     ensures idle { IsIdle worker.new }
-    ensures number { (seat_of worker.new).number ≡ (seat_of worker.old).number }
-    ensures count { access_count (seat_of worker.new).journal ≡ access_count (seat_of worker.old).journal + 1 }
+    ensures number { (worker_model worker.new).number ≡ (worker_model worker.old).number }
+    ensures count { accesses_of (worker_model worker.new) ≡ accesses_of (worker_model worker.old) + 1 }
 {
     heap.begin(worker, 0, mode, value);
     let backoff = Backoff::new();
@@ -63,13 +62,13 @@ fn access<R: Wait>(rt: &R, heap: &Heap, worker: &mut Worker, mode: Mode, value: 
 
 /// What a thread does, from its start to its end.
 fn work<R: Wait>(rt: &R, heap: &Heap, worker: &mut Worker)
-    requires heap { (objects_of heap.now.words ≡ 1) × (heap.now.fuel ≡ DEFAULT_FUEL) }
+    requires heap { ((heap_model heap.now).objects ≡ 1) × ((heap_model heap.now).fuel ≡ DEFAULT_FUEL) }
     requires own { IsWorkerOf heap.now worker.old }
-    requires rests { IsResting (seat_of worker.old).thread.phase }
-    requires fresh { (seat_of worker.old).journal ≡ [] }
+    requires rests { Rests worker.old }
+    requires fresh { (worker_model worker.old).journal ≡ [] }
     ensures own { IsWorkerOf heap.now worker.new }
-    ensures rests { IsResting (seat_of worker.new).thread.phase }
-    ensures number { (seat_of worker.new).number ≡ (seat_of worker.old).number }
+    ensures rests { Rests worker.new }
+    ensures number { (worker_model worker.new).number ≡ (worker_model worker.old).number }
 {
     heap.unblock(worker);
     for _ in 0..ROUNDS {
@@ -81,20 +80,20 @@ fn work<R: Wait>(rt: &R, heap: &Heap, worker: &mut Worker)
 
 /// Both threads, beside each other.
 fn run<R: Threads + Wait + Sync>(rt: &R, heap: &Heap, first: &mut Worker, second: &mut Worker)
-    requires heap { (objects_of heap.now.words ≡ 1) × (heap.now.fuel ≡ DEFAULT_FUEL) }
-    requires first { IsNew heap.now 0 first.old }
-    requires second { IsNew heap.now 1 second.old }
+    requires heap { ((heap_model heap.now).objects ≡ 1) × ((heap_model heap.now).fuel ≡ DEFAULT_FUEL) }
+    requires first { Starts heap.now 0 first.old }
+    requires second { Starts heap.now 1 second.old }
     ensures first { RestsAs heap.now 0 first.new }
     ensures second { RestsAs heap.now 1 second.new }
 {
     join_mut(
         rt,
         &mut || -> ()
-            requires { IsSync R.row × (objects_of heap.now.words ≡ 1) × (heap.now.fuel ≡ DEFAULT_FUEL) × IsNew heap.now 0 first.now }
+            requires { IsSync R.row × ((heap_model heap.now).objects ≡ 1) × ((heap_model heap.now).fuel ≡ DEFAULT_FUEL) × Starts heap.now 0 first.now }
             ensures { RestsAs heap.entry.now 0 first.exit.now }
         { work(rt, heap, first) },
         &mut || -> ()
-            requires { IsSync R.row × (objects_of heap.now.words ≡ 1) × (heap.now.fuel ≡ DEFAULT_FUEL) × IsNew heap.now 1 second.now }
+            requires { IsSync R.row × ((heap_model heap.now).objects ≡ 1) × ((heap_model heap.now).fuel ≡ DEFAULT_FUEL) × Starts heap.now 1 second.now }
             ensures { RestsAs heap.entry.now 1 second.exit.now }
         { work(rt, heap, second) },
     );
@@ -102,7 +101,7 @@ fn run<R: Threads + Wait + Sync>(rt: &R, heap: &Heap, first: &mut Worker, second
 
 /// Ends the run: the workers are handed back, in order.
 fn closed(heap: Heap, alloc: Global, first: Worker, second: Worker) -> Result<Closed, OutOfMemory>
-    requires heap { threads_of heap.words ≡ 2 }
+    requires heap { (heap_model heap).threads ≡ 2 }
     requires first { RestsAs heap 0 first }
     requires second { RestsAs heap 1 second }
 {

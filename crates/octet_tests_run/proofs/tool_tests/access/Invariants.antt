@@ -1,13 +1,13 @@
-use Rattle.std.proofs.Common.{◌≡◌, true}
-use Rattle.std.specs.Option.{is_some}
-use Rattle.octet_model.specs.Journals.{access_count}
-use Rattle.octet_heap.specs.Workers.{seat_of, IsWorkerOf}
+use Rattle.std.proofs.Common.{◌≡◌}
+use Rattle.octet_heap.specs.Builders.{accesses_of}
+use Rattle.octet_heap.specs.Models.{worker_model}
+use Rattle.octet_heap.specs.Workers.{IsUnderWay, IsWorkerOf}
 use Rattle.octet_tests_run.proofs.tool_tests.access.Given as goal
 
 abbrev pub invariant-loop : goal.invariant-loop
 invariant-loop g l = record {
   own : IsWorkerOf l.heap l.worker;
-  begun : is_some l.worker.pending ≡ true;
-  number : (seat_of l.worker).number ≡ (seat_of l.initial.worker).number;
-  count : access_count (seat_of l.worker).journal ≡ access_count (seat_of l.initial.worker).journal;
+  begun : IsUnderWay l.worker;
+  number : (worker_model l.worker).number ≡ (worker_model l.initial.worker).number;
+  count : accesses_of (worker_model l.worker) ≡ accesses_of (worker_model l.initial.worker);
 }
