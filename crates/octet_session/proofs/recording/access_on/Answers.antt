@@ -1,0 +1,29 @@
+use Rattle.std.proofs.Common.{rules, ◌≡◌, ℕ, Result, sym, subst}
+use Rattle.octet_recorder.specs.declared.access.Access.{Access}
+use Rattle.octet_recorder.specs.declared.access.Access.TheVariants.{Read, Write, Update}
+use Rattle.octet_session.specs.declared.not_made.NotMade.{NotMade}
+use Rattle.octet_session.specs.Asking.{Asks}
+use Rattle.octet_session.specs.Recording.{track_standing}
+use Rattle.octet_session.proofs.Asked.{asked_read, asked_write, asked_update}
+use Rattle.octet_session.proofs.recording.access_on.Goals as goal
+
+pub returns-in-Read-clause-asks : goal.returns-in-Read-clause-asks
+returns-in-Read-clause-asks c =
+    let v = track_standing c.args.recorder.now c.args.track.now in let w = track_standing c.args.recorder.now c.read_on.new.track in
+    let asked = asked_read c.args.recorder.now c.args.track.now c.read_on.new.track c.requires.more c.read_on.ensures.number c.in-Read.object c.read_on.result c.read_on.ensures.begun c.read_on.ensures.notes in
+    subst (λ (a : Access). Asks a v c.poll_answer.result w) (sym c.in-Read.is) (subst (λ (r : Result ℕ NotMade). Asks (Read c.in-Read.object) v r w) (sym c.poll_answer.ensures) asked)
+
+pub returns-in-Write-clause-asks : goal.returns-in-Write-clause-asks
+returns-in-Write-clause-asks c =
+    let v = track_standing c.args.recorder.now c.args.track.now in let w = track_standing c.args.recorder.now c.write_on.new.track in
+    let asked =
+    asked_write c.args.recorder.now c.args.track.now c.write_on.new.track c.requires.more c.write_on.ensures.number c.in-Write.object c.in-Write.value c.write_on.result c.write_on.ensures.begun c.write_on.ensures.notes in
+    subst (λ (a : Access). Asks a v c.poll_answer-in-Write.result w) (sym c.in-Write.is)
+    (subst (λ (r : Result ℕ NotMade). Asks (Write c.in-Write.object c.in-Write.value) v r w) (sym c.poll_answer-in-Write.ensures) asked)
+
+pub returns-in-Update-clause-asks : goal.returns-in-Update-clause-asks
+returns-in-Update-clause-asks c =
+    let v = track_standing c.args.recorder.now c.args.track.now in let w = track_standing c.args.recorder.now c.update.new.track in
+    let asked = asked_update c.args.recorder.now c.args.track.now c.update.new.track c.requires.more c.update.ensures.number c.in-Update.object c.in-Update.change c.update.result c.update.ensures.begun c.update.ensures.notes in
+    subst (λ (a : Access). Asks a v c.update_answer.result w) (sym c.in-Update.is)
+    (subst (λ (r : Result ℕ NotMade). Asks (Update c.in-Update.object c.in-Update.change) v r w) (sym c.update_answer.ensures) asked)

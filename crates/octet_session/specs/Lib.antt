@@ -1,0 +1,4 @@
+pub mod Standing
+pub mod Asking
+pub mod Recording
+pub mod Again

@@ -1,0 +1,43 @@
+-- A recorder and its tracks as a session.
+use Rattle.std.specs.Prelude.{◌≡◌, ℕ, ◌-◌, None, Result, Ok, Err}
+use Rattle.octet_state.specs.declared.phase.Phase.TheVariants.{Idle}
+use Rattle.octet_heap.specs.declared.poll.Poll.{Poll}
+use Rattle.octet_heap.specs.declared.poll.Poll.TheVariants as poll
+use Rattle.octet_heap.specs.declared.updated.Updated.{Updated}
+use Rattle.octet_heap.specs.declared.updated.Updated.TheVariants as updated
+use Rattle.octet_heap.specs.Workers.{seat_of}
+use Rattle.octet_rule.specs.Conditions.{IsResting}
+use Rattle.octet_recorder.specs.declared.recorder.Recorder.{Recorder}
+use Rattle.octet_recorder.specs.declared.track.Track.{Track}
+use Rattle.octet_recorder.specs.Tracks.{lines_in, lines_noted, number_of}
+use Rattle.octet_session.specs.declared.not_made.NotMade.{NotMade}
+use Rattle.octet_session.specs.declared.not_made.NotMade.TheVariants.{Waits}
+use Rattle.octet_session.specs.Standing.{Standing}
+
+-- a poll as the answer of a session
+abbrev pub poll_answer : Poll → Result ℕ NotMade
+poll_answer (poll.Ready value) = Ok value
+poll_answer (poll.Pending why) = Err Waits
+
+-- an update as the answer of a session: the value that it found
+abbrev pub update_answer : Updated → Result ℕ NotMade
+update_answer (updated.Made before) = Ok before
+update_answer (updated.Pending why) = Err Waits
+
+-- how a track stands
+abbrev pub track_standing : Recorder → Track → Standing
+track_standing recorder track = record {
+  number = number_of track;
+  journal = (seat_of track.worker).journal;
+  begun = track.begun;
+  region = track.region;
+  left = lines_in recorder - lines_noted track;
+}
+
+-- a track that has begun nothing runs
+abbrev pub TrackRuns : Track → Type 0
+TrackRuns track = track.begun ≡ None → (seat_of track.worker).thread.phase ≡ Idle
+
+-- a track is off or blocked
+abbrev pub TrackRests : Track → Type 0
+TrackRests track = IsResting (seat_of track.worker).thread.phase
