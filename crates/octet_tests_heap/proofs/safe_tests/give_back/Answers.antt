@@ -1,7 +1,7 @@
 use Rattle.std.proofs.Common.{rules, ◌≡◌, ◌∷◌, [], sym, subst}
 use Rattle.octet_rule.specs.Seats.{EachRests}
-use Rattle.octet_tests_run.proofs.Pairs.{both_rest}
-use Rattle.octet_tests_run.proofs.safe_tests.give_back.Goals as goal
+use Rattle.octet_tests_heap.proofs.Pairs.{both_rest}
+use Rattle.octet_tests_heap.proofs.safe_tests.give_back.Goals as goal
 
 pub close-requires : goal.close-requires
 close-requires c = let e : c.push-2.new.self ≡ c.args.first ∷ c.args.second ∷ [] = search rules in

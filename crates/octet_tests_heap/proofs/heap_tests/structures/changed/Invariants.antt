@@ -2,7 +2,7 @@ use Rattle.std.proofs.Common.{◌≡◌, ◌<◌, true}
 use Rattle.octet_model.specs.Journals.{access_count}
 use Rattle.octet_heap.specs.Updates.{MayUpdate}
 use Rattle.octet_heap.specs.Workers.{seat_of, IsWorkerOf}
-use Rattle.octet_tests_run.proofs.heap_tests.structures.changed.Given as goal
+use Rattle.octet_tests_heap.proofs.heap_tests.structures.changed.Given as goal
 
 abbrev pub invariant-loop : goal.invariant-loop
 invariant-loop g l = record {

@@ -2,7 +2,7 @@ use Rattle.std.proofs.Common.{rules, ◌≡◌, zero, suc, ◌∷◌, [], arith,
 use Rattle.octet_rule.specs.declared.words.Seat.{Seat}
 use Rattle.octet_rule.specs.declared.words.Words.{Words}
 use Rattle.octet_rule.specs.Seats.{IsSeatOf, RestsAs, EachRests}
-use Rattle.octet_tests_run.proofs.rule_tests.taken_over.Goals as goal
+use Rattle.octet_tests_heap.proofs.rule_tests.taken_over.Goals as goal
 
 module _ (w : Words) (first second third : Seat) where
   all_rest : IsSeatOf w first → RestsAs 0 first → IsSeatOf w second → RestsAs 1 second → IsSeatOf w third → RestsAs 2 third → EachRests w (first ∷ second ∷ third ∷ [])

@@ -1,6 +1,6 @@
 use Rattle.std.proofs.Common.{◌≡◌}
 use Rattle.octet_heap.specs.Workers.{seat_of, IsWorkerOf, IsIdle}
-use Rattle.octet_tests_run.proofs.heap_tests.structures.push_and_pop.Given as goal
+use Rattle.octet_tests_heap.proofs.heap_tests.structures.push_and_pop.Given as goal
 
 abbrev pub invariant-loop-node : goal.invariant-loop-node
 invariant-loop-node g l = record {
