@@ -47,7 +47,6 @@ pub(crate) fn answer_log(
 }
 
 /// The outcome of the log's lowest order is said.
-#[tactic(auto, using(octet_replay::proofs::lemmas::WholeOutcomes::whole))]
 pub(crate) fn replay(alloc: Global, pair: &Pair) -> Result<Reply, OutOfMemory>
     ensures { IfOk result (λ reply. PairReplays Replay pair.now (answer_of reply)) }
 {

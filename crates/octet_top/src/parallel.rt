@@ -38,7 +38,7 @@ pub(crate) fn replay_on_threads<R: Threads + Wait + Sync, D: Desk, G: Gate>(
 }
 
 /// Where the threads give no outcome, one thread finds out why.
-#[tactic(auto, using(crate::proofs::answering::Checking::ordered_verified, octet_replay::proofs::lemmas::WholeOutcomes::whole))]
+#[tactic(auto, using(crate::proofs::answering::Checking::ordered_verified))]
 fn play_pair<R: Threads + Wait + Sync, G: Gate>(
     rt: &R,
     alloc: Global,

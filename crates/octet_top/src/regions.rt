@@ -26,7 +26,6 @@ pub(crate) fn regions(alloc: Global, pair: &Pair) -> Result<Reply, OutOfMemory>
     }
 }
 
-#[tactic(auto, using(octet_replay::proofs::lemmas::WholeOutcomes::whole))]
 fn say_regions(alloc: Global, pair: &Pair) -> Result<Reply, OutOfMemory>
     ensures { IfOk result (λ reply. Fitting does_not_fit (SerialSays pair.now) pair.now.source.script pair.now.loaded.log.threads (answer_of reply)) }
 {

@@ -1,20 +1,21 @@
 -- What each way to run a script records is faithful, and a whole outcome of it.
-use Rattle.std.proofs.Common.{◌≡◌, ◌≤◌, ℕ, List, length, Result, Ok, Err, IfOk, arith, sym, subst}
+use Rattle.std.proofs.Common.{◌≡◌, ◌≤◌, ℕ, List, length, Option, Some, IfSome, Result, Ok, Err, IfOk, arith, sym, subst}
 use Rattle.octet_model.specs.declared.list.OutOfMemory.{OutOfMemory}
 use Rattle.octet_model.specs.declared.script.Script.{Script}
 use Rattle.octet_model.specs.declared.log.Log.{Log}
+use Rattle.octet_model.specs.declared.log.ThreadLog.{ThreadLog}
 use Rattle.octet_model.specs.declared.outcome.Outcome.{Outcome}
 use Rattle.octet_model.specs.declared.outcome.Recorded.{Recorded}
 use Rattle.octet_model.specs.declared.limits.TheConstants.{MAX_LOG_FILE}
 use Rattle.octet_model.specs.Texts.{log_bytes}
-use Rattle.octet_model.specs.Orders.{IsFaithful}
+use Rattle.octet_model.specs.Orders.{execution, IsFaithful}
 use Rattle.octet_model.proofs.lemmas.LogLength.{faithful_log_is_short}
 use Rattle.octet_log.specs.declared.limits.TheConstants.{MAX_MARKS}
 use Rattle.octet_log.specs.v2.Pieces.{marks_in}
 use Rattle.octet_top.proofs.writing.Lengths.{first_has_few}
 use Rattle.octet_machine.specs.Turns.{IsPlayed}
 use Rattle.octet_replay.specs.Laws.{IsWholeOutcome}
-use Rattle.octet_replay.proofs.lemmas.WholeOutcomes.{faithful_whole}
+use Rattle.octet_replay.proofs.lemmas.WholeOutcomes.{whole, faithful_whole}
 use Rattle.octet_top.specs.Request.{Way, AsTheyCome, BehindLock, ByPicks}
 use Rattle.octet_top.specs.Commands.{Records}
 
@@ -39,3 +40,11 @@ recorded_by_picks way digits picks script (Err none) is same played faithful = t
 -- and has few marks
 pub faithful_few : (script : Script) (log : Log) (outcome : Outcome) → IsFaithful script log.threads outcome → marks_in log.threads ≤ MAX_MARKS
 faithful_few script log outcome faithful = first_has_few log.threads (omega (arith, faithful_log_is_short script log.threads outcome faithful log.valid))
+
+-- what a log's order comes to is a whole outcome of its script
+pub executed_whole : (script : Script) (log : List ThreadLog) (order : List ℕ) (outcome : Outcome) → outcome ≡ execution script log order → IsWholeOutcome script outcome
+executed_whole script log order outcome is = subst (IsWholeOutcome script) (sym is) (whole script log order)
+
+pub executed_if : (script : Script) (log : List ThreadLog) (order : List ℕ) (found : Option Outcome) (outcome : Outcome) → found ≡ Some outcome
+    → IfSome found (λ o. o ≡ execution script log order) → IsWholeOutcome script outcome
+executed_if script log order found outcome is executed = executed_whole script log order outcome (subst (λ (o : Option Outcome). IfSome o (λ o. o ≡ execution script log order)) is executed)
