@@ -235,7 +235,7 @@ def unprinted(page, heading, name):
 def code_of_the_documents():
     """What is printed stands in the crates, to the letter, so that it is proved and, where it is a test, run."""
     sources = [path.read_text() for path in (TOP / "crates").glob("*/src/**/*.rt")]
-    proofs = [path.read_text() for path in (TOP / "crates").glob("*/proofs/**/*.antt")]
+    stated = [path.read_text() for folder in ["specs", "proofs"] for path in (TOP / "crates").glob(f"*/{folder}/**/*.antt")]
     printed = 0
     for path in sorted((TOP / "docs").glob("*.md")):
         code = blocks(path.name, "rust")
@@ -245,8 +245,8 @@ def code_of_the_documents():
                 if not any(part.rstrip("\n") in source for source in sources):
                     return f"{path.name}: {part!r} stands in no crate"
         for block in blocks(path.name, "antt"):
-            if not any(block in proof for proof in proofs):
-                return f"{path.name}: {block!r} stands in no proof"
+            if not any(block in each for each in stated):
+                return f"{path.name}: {block!r} stands in no definition and no proof"
     return first(*(unprinted(*page) for page in PRINTED), differs("how many pieces of code", printed >= 14, True))
 
 
