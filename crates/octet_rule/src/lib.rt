@@ -3,18 +3,10 @@
 #![tactic(auto)]
 
 mod change;
-mod changing;
-mod closing;
 mod entered;
-mod entering;
 pub mod laws;
-mod objects;
-mod opening;
 mod plays;
-mod seat;
-mod sharing;
 mod states;
-mod statuses;
 mod tried;
 mod view;
 mod words;

@@ -33,12 +33,12 @@ invariant_of-seat c = let took = c.load_by_mode-word.ensures.step.1 in let acces
       bare = c.pass_by_mode-told.ensures.own.2 ∙ (c.load_by_mode-word.ensures.step.0 ∙ seat.bare);
       live = live ∙ seat.live;
       numbered = number ∙ seat.numbered;
-      phased = ap (λ (x : Thread). x.phase) is ∙ sym c.rest.ensures;
+      phased = ap (λ (x : Thread). x.phase) is ∙ sym c.become_idle.ensures;
       owes = ap (λ (x : Thread). x.due) is ∙ (sym c.requires.can.owes_nothing ∙ seat.owes);
       knows = ap (λ (x : Thread). x.count) is ∙ seat.knows;
       has_made = more ∙ ap (λ (n : ℕ). n + 1) seat.has_made;
       few = (let has = seat.has_made in omega arith, let t = seat.few.1 in omega arith, let t = seat.few.2 in omega arith);
-      fits = let none : drawn_of c.rest.new.phase ≡ 0 = ap drawn_of c.rest.ensures in omega arith;
+      fits = let none : drawn_of c.become_idle.new.phase ≡ 0 = ap drawn_of c.become_idle.ensures in omega arith;
     }
 
 pub returns-in-Pass-clause-steps : goal.returns-in-Pass-clause-steps

@@ -17,7 +17,7 @@ use octet_state::{Act, Mode, Phase, decide};
 
 // The thread is about nothing. One that was so already stores nothing: a phase takes six stores.
 #[inline(always)]
-pub(crate) fn rest(phase: &mut Phase)
+pub(crate) fn become_idle(phase: &mut Phase)
     ensures { phase.new ≡ Idle }
 {
     match *phase {
@@ -44,7 +44,7 @@ impl Words {
         let act = decide(&state, seat.thread, mode, seat.count);
         if let Act::Pass = act {
             let told = self.pass_by_mode(&mut seat.inner, object, mode, value);
-            rest(&mut seat.phase);
+            become_idle(&mut seat.phase);
             seat.events += 1;
             return Entered::Made { told };
         }

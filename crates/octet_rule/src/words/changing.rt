@@ -10,8 +10,8 @@ ghost use Rattle.octet_rule.specs.Seats.{view, IsSeatOf, CanStep, TakesStep, obj
 
 use crate::change::Change;
 use crate::entered::Entered;
-use crate::entering::rest;
 use crate::view::View;
+use crate::words::entering::become_idle;
 use crate::words::{Seat, Words};
 use crate::{plays, states};
 use octet_state::{Act, Mode, Phase, decide};
@@ -50,7 +50,7 @@ impl Words {
         let act = decide(&state, seat.thread, &mode, seat.count);
         if let Act::Pass = act {
             let told = self.change_cell(&mut seat.inner, object, change);
-            rest(&mut seat.phase);
+            become_idle(&mut seat.phase);
             seat.events += 1;
             return Entered::Made { told };
         }
