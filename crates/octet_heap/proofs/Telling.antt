@@ -10,7 +10,7 @@ use Rattle.octet_heap.specs.Builders.{StandsStill, IsBusy}
 use Rattle.octet_heap.specs.Builders as stands
 use Rattle.octet_heap.specs.Models.{standing_of}
 use Rattle.octet_heap.specs.Standing.{begun_of, IsAbout}
-use Rattle.octet_heap.specs.Words.{Tells}
+use Rattle.octet_heap.specs.Laws.{Tells}
 use Rattle.octet_heap.proofs.Modelled.{same_standing, nothing_begun}
 
 module _ (threads : ℕ) where

@@ -5,18 +5,28 @@ ghost use Rattle.octet_state.specs.declared.phase.Phase.TheVariants.{Idle};
 ghost use Rattle.octet_rule.specs.Seats.{view};
 ghost use Rattle.octet_heap.specs.Calls.{Polls};
 ghost use Rattle.octet_heap.specs.Recorders.{CanAccess, KeepsSeatAfter};
-ghost use Rattle.octet_heap.specs.SlowPath.{TellsPath};
+ghost use Rattle.octet_heap.specs.SlowPath.{TellsPath, is_idle};
 ghost use Rattle.octet_heap.specs.Standing.{update_of};
 ghost use Rattle.octet_heap.specs.Updates.{answer_after, PollsToChange};
 ghost use Rattle.octet_heap.specs.Waiting.{StandsIn, HasBegun, EndsPoll};
 
-use crate::calls::is_idle;
 use crate::heap::Heap;
 use crate::pending_access::PendingAccess;
 use crate::poll::Poll;
 use crate::recorder::Recorder;
 use crate::updated::Updated;
 use octet_rule::Change;
+use octet_state::Phase;
+
+// Whether the thread has not loaded a state yet.
+fn is_idle(phase: Phase) -> bool
+    ensures { result ≡ is_idle phase }
+{
+    match phase {
+        Phase::Idle => true,
+        _ => false,
+    }
+}
 
 impl Heap {
     // Of a thread that has begun nothing. Tells too whether an access that is made took the fast path.

@@ -1,5 +1,5 @@
 //! What a marker does on the heap. None of it takes memory or waits.
-ghost use Rattle.std.specs.Prelude.{◌≡◌, ◌<◌, ◌⊎◌, ℕ, true, false, Some, None};
+ghost use Rattle.std.specs.Prelude.{◌≡◌, ◌<◌, ℕ, true, false, Some, None};
 ghost use Rattle.std.specs.Option.{is_some, ForSome};
 ghost use Rattle.octet_model.specs.Journals.{access_count};
 ghost use Rattle.octet_state.specs.Steps.{ToBlock, ToUnblock};
@@ -16,13 +16,12 @@ ghost use Rattle.octet_heap.specs.Builders.{Idle, Accessing, Blocked, now_standi
 ghost use Rattle.octet_heap.specs.Models.{heap_model, marker_model};
 ghost use Rattle.octet_heap.specs.Markers.{marker_seat, IsMarkerOf, Rests, IsIdle, IsUnderWay, StandsAfter, IsIdleIfMade, HasRoom, MayUpdate, IsSameBuffer, CountsSlow};
 
-use crate::calls::slow_by;
 use crate::heap::Heap;
+use crate::heap::calls::{answer_after, slow_by};
 use crate::marker::Marker;
 use crate::pending_access::PendingAccess;
 use crate::pending_update::PendingUpdate;
 use crate::poll::Poll;
-use crate::update::answer_after;
 use crate::updated::Updated;
 use octet_rule::Change;
 use octet_state::Mode;

@@ -1,99 +1,55 @@
-//! An update by a change of the value that it finds, up to its answer.
-ghost use Rattle.std.specs.Prelude.{◌≡◌, ◌+◌, ◌<◌, false};
+//! A poll of an update by a change of the value that it finds, up to its answer, as `access` has that of an
+//! access.
+ghost use Rattle.std.specs.Prelude.{◌≡◌, false};
 ghost use Rattle.octet_state.specs.declared.act.Mode.TheVariants.{Update as ForUpdate};
 ghost use Rattle.octet_state.specs.declared.phase.Due.TheVariants.{Nothing};
 ghost use Rattle.octet_state.specs.declared.phase.Phase.TheVariants.{Pass};
-ghost use Rattle.octet_state.specs.Steps.{ToBump};
-ghost use Rattle.octet_rule.specs.Changes.{amount_by, IsLed, EntersToChange, IsLedIfMade};
-ghost use Rattle.octet_rule.specs.Conditions.{MayLoad, MayPass};
-ghost use Rattle.octet_rule.specs.Rule.{Steps};
-ghost use Rattle.octet_rule.specs.Seats.{view, CanStep, objects_of};
+ghost use Rattle.octet_rule.specs.Seats.{view};
+ghost use Rattle.octet_rule.specs.Views.{SeatView};
 ghost use Rattle.octet_heap.specs.OwnersPath.{steps_since};
-ghost use Rattle.octet_heap.specs.Recorders.{CanAccess, CanRecord, KeepsSeat, KeepsSeatAfter};
+ghost use Rattle.octet_heap.specs.Recorders.{CanAccess, KeepsSeatAfter};
 ghost use Rattle.octet_heap.specs.SlowPath.{passes_by};
 ghost use Rattle.octet_heap.specs.Standing.{update_of};
 ghost use Rattle.octet_heap.specs.Updates.{answer_after, ComesBy, FinishesBy, EndsWith};
-ghost use Rattle.octet_heap.specs.Waiting.{StandsIn, HasBegun, IsToLoad, Leaves, accesses_after_load};
+ghost use Rattle.octet_heap.specs.Waiting.{StandsIn, HasBegun, IsToLoad, Leaves};
 ghost use Rattle.octet_heap.specs.Ways.{HasLoaded, StandsAt};
-ghost use Rattle.octet_rule.specs.Views.{SeatView};
 
-use crate::attempt::claim_in;
 use crate::heap::Heap;
+use crate::heap::access::claim_in;
 use crate::pending_access::PendingAccess;
 use crate::recorder::Recorder;
 use crate::updated::Updated;
 use crate::way::Way;
-use octet_rule::{Change, Entered, Words};
+use octet_rule::{Change, Entered};
 use octet_state::{Act, Mode, StateWord, Why};
 
-impl Recorder {
-    /// Loads the state of the object, and updates it where that lets the thread pass.
-    #[inline(always)]
-    pub(crate) fn enter_to_change(&mut self, words: &Words, object: u16, change: Change) -> Entered
-        requires can { CanStep words.now self.old.seat }
-        requires object { object < objects_of words.now }
-        requires phase { MayLoad object ForUpdate (view self.old.seat).journal (view self.old.seat).thread.phase }
-        requires more { CanRecord self.old }
-        ensures keeps { KeepsSeat words.now (accesses_after_load result self.old.log.accesses) self.old self.new }
-        ensures steps { EntersToChange object change (view self.old.seat) result (view self.new.seat) }
-        ensures led { IsLedIfMade change result }
-    {
-        let entered = words.enter_to_change(&mut self.seat, object, change);
-        if let Entered::Made { .. } = entered {
-            self.log.add_access();
-        }
-        entered
-    }
-
-    /// Answers the value before.
-    pub(crate) fn update(&mut self, words: &Words, object: u16, change: Change) -> u64
-        requires can { CanStep words.now self.old.seat }
-        requires object { object < objects_of words.now }
-        requires phase { MayPass object ForUpdate (view self.old.seat).thread.phase }
-        requires more { CanRecord self.old }
-        ensures keeps { KeepsSeat words.now (self.old.log.accesses + 1) self.old self.new }
-        ensures step { Steps (ToBump (amount_by change result)) (view self.old.seat) result (view self.new.seat) }
-        ensures led { IsLed change result }
-    {
-        let before = words.update(&mut self.seat, object, change);
-        self.log.add_access();
-        before
-    }
-}
-
 impl Heap {
-    // Makes the update, which the state allows. Answers the value before.
-    #[inline(always)]
-    fn change(&self, recorder: &mut Recorder, object: u16, change: Change) -> Updated
-        requires can { CanAccess self.now (update_of object) recorder.old }
-        requires stands { StandsIn (Pass object ForUpdate) (view recorder.old.seat) }
-        ensures keeps { KeepsSeatAfter self.now.words (answer_after change result) recorder.old recorder.new }
-        ensures comes { ComesBy change object (view recorder.old.seat) result 1 (view recorder.new.seat) }
-        ensures ends { EndsWith object change result (view recorder.new.seat) }
-        ensures leaves { Leaves (update_of object) (answer_after change result) (view recorder.new.seat) }
-    {
-        let before = recorder.update(&self.words, object, change);
-        Updated::Made { before }
-    }
-
-    // From where a thread has come to: the update, or why it waits.
-    fn finish_change(
+    // From where the thread stands, as `go_on`.
+    pub(crate) fn go_on_to_change(
         &self,
         recorder: &mut Recorder,
         object: u16,
         change: Change,
-        way: Way,
     ) -> Updated
         requires can { CanAccess self.now (update_of object) recorder.old }
-        requires stands { StandsAt (update_of object) way (view recorder.old.seat) }
+        requires due { (view recorder.old.seat).thread.due ≡ Nothing }
+        requires begun { HasBegun (view recorder.old.seat).threads (update_of object) (view recorder.old.seat).thread.phase }
         ensures keeps { KeepsSeatAfter self.now.words (answer_after change result) recorder.old recorder.new }
-        ensures finishes { FinishesBy change object way (view recorder.old.seat) result (view recorder.new.seat) }
+        ensures comes { ComesBy change object (view recorder.old.seat) result 19 (view recorder.new.seat) }
         ensures ends { EndsWith object change result (view recorder.new.seat) }
         ensures leaves { Leaves (update_of object) (answer_after change result) (view recorder.new.seat) }
     {
-        match way {
-            Way::Passes => self.change(recorder, object, change),
-            Way::Waits { why } => Updated::Pending { why },
+        let access = PendingAccess {
+            object,
+            mode: Mode::Update,
+            value: 0,
+        };
+        match claim_in(recorder.seat.phase()) {
+            Some((prior, done)) => {
+                let way = self.look_on(recorder, access, prior, done);
+                self.finish_change(recorder, object, change, way)
+            }
+            None => self.load_to_change(recorder, object, change).0,
         }
     }
 
@@ -165,32 +121,38 @@ impl Heap {
         }
     }
 
-    // From where the thread stands, as `go_on`.
-    pub(crate) fn go_on_to_change(
+    // From where a thread has come to: the update, or why it waits.
+    fn finish_change(
         &self,
         recorder: &mut Recorder,
         object: u16,
         change: Change,
+        way: Way,
     ) -> Updated
         requires can { CanAccess self.now (update_of object) recorder.old }
-        requires due { (view recorder.old.seat).thread.due ≡ Nothing }
-        requires begun { HasBegun (view recorder.old.seat).threads (update_of object) (view recorder.old.seat).thread.phase }
+        requires stands { StandsAt (update_of object) way (view recorder.old.seat) }
         ensures keeps { KeepsSeatAfter self.now.words (answer_after change result) recorder.old recorder.new }
-        ensures comes { ComesBy change object (view recorder.old.seat) result 19 (view recorder.new.seat) }
+        ensures finishes { FinishesBy change object way (view recorder.old.seat) result (view recorder.new.seat) }
         ensures ends { EndsWith object change result (view recorder.new.seat) }
         ensures leaves { Leaves (update_of object) (answer_after change result) (view recorder.new.seat) }
     {
-        let access = PendingAccess {
-            object,
-            mode: Mode::Update,
-            value: 0,
-        };
-        match claim_in(recorder.seat.phase()) {
-            Some((prior, done)) => {
-                let way = self.look_on(recorder, access, prior, done);
-                self.finish_change(recorder, object, change, way)
-            }
-            None => self.load_to_change(recorder, object, change).0,
+        match way {
+            Way::Passes => self.change(recorder, object, change),
+            Way::Waits { why } => Updated::Pending { why },
         }
+    }
+
+    // Makes the update, which the state allows. Answers the value before.
+    #[inline(always)]
+    fn change(&self, recorder: &mut Recorder, object: u16, change: Change) -> Updated
+        requires can { CanAccess self.now (update_of object) recorder.old }
+        requires stands { StandsIn (Pass object ForUpdate) (view recorder.old.seat) }
+        ensures keeps { KeepsSeatAfter self.now.words (answer_after change result) recorder.old recorder.new }
+        ensures comes { ComesBy change object (view recorder.old.seat) result 1 (view recorder.new.seat) }
+        ensures ends { EndsWith object change result (view recorder.new.seat) }
+        ensures leaves { Leaves (update_of object) (answer_after change result) (view recorder.new.seat) }
+    {
+        let before = recorder.update(&self.words, object, change);
+        Updated::Made { before }
     }
 }

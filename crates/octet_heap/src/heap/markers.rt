@@ -1,14 +1,13 @@
 //! The heap and its markers at first, and what a run of markers leaves.
-ghost use Rattle.std.specs.Prelude.{◌≡◌, ◌<◌, ◌≤◌, [], length, map, IfOk};
+ghost use Rattle.std.specs.Prelude.{◌≡◌, ◌<◌, ◌≤◌, length, IfOk};
 ghost use Rattle.octet_model.specs.declared.limits.TheConstants.{MAX_OBJECTS, MAX_THREADS};
-ghost use Rattle.octet_rule.specs.Seats.{view, threads_of, starts_of, EachFresh, Closes};
+ghost use Rattle.octet_rule.specs.Seats.{threads_of, starts_of, EachFresh, Closes};
 ghost use Rattle.octet_heap.specs.Builders.{IsExplained};
 ghost use Rattle.octet_heap.specs.Models.{heap_model, marker_journals};
-ghost use Rattle.octet_heap.specs.Markers.{marker_seats, IsPlain, ArePlain, EachNew, EachStarts, EachRests};
+ghost use Rattle.octet_heap.specs.Markers.{marker_seats, ArePlain, EachNew, EachStarts, EachRests};
 
 use crate::heap::Heap;
 use crate::marker::Marker;
-use crate::recorder::Recorder;
 use octet_model::{List, OutOfMemory};
 use octet_rule::{Seat, Words};
 use std::alloc::Global;
@@ -74,20 +73,6 @@ impl Heap {
             markers.push(Marker::new(alloc, seat, marks)?)?;
         }
         Ok(markers)
-    }
-}
-
-impl Marker {
-    fn new(alloc: Global, seat: Seat, marks: usize) -> Result<Marker, OutOfMemory>
-        requires fresh { (view seat).journal ≡ [] }
-        ensures { IfOk result (λ marker. (marker.recorder.seat ≡ seat) × IsPlain marks marker) }
-    {
-        Ok(Marker {
-            recorder: Recorder::new(alloc, seat, marks)?,
-            pending: None,
-            changing: None,
-            slow: 0,
-        })
     }
 }
 
