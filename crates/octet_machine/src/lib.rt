@@ -7,13 +7,11 @@ mod journal;
 pub mod laws;
 mod machine;
 mod memory;
-mod opening;
 mod results;
 mod rooms;
 mod rounds;
 mod run;
 mod same;
-mod steps;
 mod turned;
 
 pub use goes::go;

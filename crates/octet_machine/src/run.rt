@@ -1,14 +1,16 @@
 //! The threads of a script on the memory that they share, and whose step is next.
-ghost use Rattle.std.specs.Prelude.{◌≡◌, ◌<◌, length, Some, None};
+ghost use Rattle.std.specs.Prelude.{◌≡◌, ◌<◌, length, Some, None, IfOk};
 ghost use Rattle.octet_state.specs.declared.phase.Phase.TheVariants.{Idle, Want, Pass, Claimed};
-ghost use Rattle.octet_machine.specs.Machine.{after_rest, is_access, is_at_rest, next_waits, wanted};
+ghost use Rattle.octet_machine.specs.Machine.{after_rest, is_access, is_at_rest, next_waits, opening_machine, starting_runners, wanted};
 ghost use Rattle.octet_machine.specs.Memory.{shape, thread_in};
 ghost use Rattle.octet_machine.specs.Run.{machine_in, IsHeld, IsNext, StandsIn, Steps};
 
 use crate::memory::{Memory, ProtocolThread};
+use crate::rooms::Rooms;
 use octet_interp::{Config, Demand};
-use octet_model::{End, Script};
+use octet_model::{End, MAX_MARKS_BEFORE_ACCESS, OutOfMemory, Script};
 use octet_state::{Act, Due, Mode, Phase, StateWord, Why, decide};
+use std::alloc::Global;
 
 /// A thread as its script runs.
 #[derive(Debug, Drop)]
@@ -47,7 +49,38 @@ fn is_at_rest(thread: ProtocolThread) -> bool
     }
 }
 
+fn starting_runners(alloc: Global, script: &Script) -> Result<Vec<Runner>, OutOfMemory>
+    ensures { IfOk result (λ runners. runners.items ≡ starting_runners script.now (length script.now.threads)) }
+{
+    let mut runners = Vec::new(alloc);
+    for thread in 0..script.thread_count() {
+        let config = Config::new(alloc, script, thread)?;
+        let value = 0;
+        let end = None;
+        runners.push(Runner { config, value, end })?;
+    }
+    Ok(runners)
+}
+
 impl Run {
+    /// Before the first step. Room is reserved for sixteen events for each command that a thread
+    /// may run: an access, and up to fifteen marks before it. It is taken from these rooms, as far as
+    /// they have it.
+    pub(crate) fn new(alloc: Global, script: &Script, rooms: &mut Rooms) -> Result<Run, OutOfMemory>
+        ensures is_held { IfOk result (λ run. IsHeld run) }
+        ensures machine { IfOk result (λ run. machine_in run ≡ opening_machine script.now) }
+    {
+        let room = script.fuel as usize * (MAX_MARKS_BEFORE_ACCESS + 1);
+        let heap = script.starting_heap(alloc)?;
+        let memory = Memory::new(alloc, script.thread_count(), room, heap, rooms)?;
+        let runners = starting_runners(alloc, script)?;
+        Ok(Run {
+            script: script.try_clone(alloc)?,
+            memory,
+            runners,
+        })
+    }
+
     /// How many accesses a thread has made that is idle, owes nothing, and is to make an access
     /// next.
     pub(crate) fn wants(&self, me: u8) -> Option<u32>

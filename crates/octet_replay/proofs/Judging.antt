@@ -19,7 +19,7 @@ use Rattle.octet_model.proofs.lemmas.Validity.{valid_log}
 use Rattle.octet_replay.specs.declared.fault.ReplayFault.{ReplayFault}
 use Rattle.octet_replay.specs.declared.fault.ReplayFault.TheVariants.{ThreadsDiffer, Stuck, Misfit, OutOfMemory}
 use Rattle.octet_replay.specs.declared.thread.ThreadReplay.{ThreadReplay}
-use Rattle.octet_replay.specs.declared.state.Replay.{Replay}
+use Rattle.octet_replay.specs.declared.replayer.replay.Replay.{Replay}
 use Rattle.octet_replay.specs.NextDemand.{demand_of}
 use Rattle.octet_replay.specs.Judged.{IsLawful, last_state, last_journal, last_demand, Finds, FindsOf, IsMisfitThread, IsStuck, HasCause}
 use Rattle.octet_replay.specs.ReplayState.{plain_state, HasHalted}

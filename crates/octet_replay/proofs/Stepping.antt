@@ -32,7 +32,7 @@ use Rattle.octet_replay.specs.declared.next_step.NextStep.TheVariants.{Mark as T
 use Rattle.octet_replay.specs.declared.thread.NextDemand.{NextDemand}
 use Rattle.octet_replay.specs.declared.thread.NextDemand.TheVariants.{Read as DemandsRead, Write as DemandsWrite, Bump as DemandsBump, Ended}
 use Rattle.octet_replay.specs.declared.thread.ThreadReplay.{ThreadReplay}
-use Rattle.octet_replay.specs.declared.state.Replay.{Replay}
+use Rattle.octet_replay.specs.declared.replayer.replay.Replay.{Replay}
 use Rattle.octet_replay.specs.NextDemand.{demand_of, NamesObject}
 use Rattle.octet_replay.specs.Needs.{NeedsAndCounts, after_step, no_counts, is_ready, IsLowestReady, NamesThread}
 use Rattle.octet_replay.specs.NextSteps.{as_next, AccessesWithin}

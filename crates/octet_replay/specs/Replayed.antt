@@ -14,7 +14,7 @@ use Rattle.octet_replay.specs.declared.fault.ReplayFault.{ReplayFault}
 use Rattle.octet_replay.specs.declared.fault.ReplayFault.TheVariants.{Misfit}
 use Rattle.octet_replay.specs.declared.need.Need.{Need}
 use Rattle.octet_replay.specs.declared.thread.ThreadReplay.{ThreadReplay}
-use Rattle.octet_replay.specs.declared.state.Replay.{Replay}
+use Rattle.octet_replay.specs.declared.replayer.replay.Replay.{Replay}
 use Rattle.octet_replay.specs.NextDemand.{demand_of}
 use Rattle.octet_replay.specs.declared.next_step.NextStep.{NextStep}
 use Rattle.octet_replay.specs.Needs.{NeedsAndCounts, after_step, is_ready, NamesThread}

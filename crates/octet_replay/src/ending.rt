@@ -8,7 +8,7 @@ ghost use Rattle.octet_replay.specs.Threads.{end_told, values_of};
 
 use crate::ReplayFault;
 use crate::judge::{are_finished, lowest_misfit, positions_of};
-use crate::state::Replay;
+use crate::replayer::replay::Replay;
 use crate::thread::ThreadReplay;
 use octet_model::{End, List, Log, OutOfMemory, Outcome};
 use std::alloc::Global;

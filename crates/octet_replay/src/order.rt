@@ -6,7 +6,7 @@ ghost use Rattle.octet_replay.specs.Places.{FitInPlaces};
 ghost use Rattle.octet_replay.specs.ReplayState.{HasHalted, plain_state};
 
 use crate::ending::end;
-use crate::state::Replay;
+use crate::replayer::replay::Replay;
 use crate::{ReplayFault, Replayer, Stepped};
 use octet_model::{Event, List, Log, OutOfMemory, Outcome, Script};
 use std::alloc::Global;

@@ -8,8 +8,10 @@ ghost use Rattle.octet_replay.specs.NextSteps.{as_next};
 ghost use Rattle.octet_replay.specs.Threads.{next_event};
 ghost use Rattle.octet_replay.specs.declared.stepped.Stepped.TheVariants.{Made};
 
+pub(crate) mod replay;
+
 use crate::ending::end;
-use crate::state::Replay;
+use crate::replayer::replay::Replay;
 use crate::{LowestStep, ReplayFault, Stepped};
 use octet_model::{Event, Log, Outcome, Script};
 use std::alloc::Global;

@@ -4,7 +4,7 @@ use Rattle.octet_model.specs.declared.log.Log.{Log}
 use Rattle.octet_model.specs.declared.log.ThreadLog.{ThreadLog}
 use Rattle.octet_model.specs.Orders.{thread_log_of}
 use Rattle.octet_replay.specs.declared.thread.ThreadReplay.{ThreadReplay}
-use Rattle.octet_replay.specs.declared.state.Replay.{Replay}
+use Rattle.octet_replay.specs.declared.replayer.replay.Replay.{Replay}
 use Rattle.octet_replay.specs.ReplayState.{HasHalted}
 use Rattle.octet_replay.specs.Replayed.{state_of, FindsNothing, IsAt, IsFinishedHere, TellsMisfit}
 use Rattle.octet_replay.proofs.lemmas.Valid.{few_accesses}
