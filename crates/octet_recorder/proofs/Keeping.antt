@@ -29,14 +29,14 @@ use Rattle.octet_recorder.specs.declared.recorder.Recorder.{Recorder}
 use Rattle.octet_recorder.specs.declared.track.Track.{Track}
 use Rattle.octet_recorder.specs.declared.track.TheConstants.{LINES_OF_ACCESS}
 use Rattle.octet_recorder.specs.Tracks.{access_lines, lines_made, objects_in, lines_in, lines_noted, lines_begun, pending_of, changing_of, HasWord, IsTrackOf, IsIdle, MayUpdate, Notes}
-use Rattle.octet_recorder.proofs.Programs.{programs_join}
+use Rattle.octet_recorder.proofs.lemmas.Programs.{programs_join}
 
 past_marks : (objects : ℕ) (program : List Command) (marks : List Mark) (later : List Event) → IsProgramOf objects program later → IsProgramOf objects program (map (λ mark. event.Marked mark) marks ++ later)
 past_marks objects program [] later p = p
 past_marks objects program (mark ∷ marks) later p = past_marks objects program marks later p
 
 of_event : (objects : ℕ) (region : Bool) (mode : Mode) (object value told : ℕ) → object < objects → value < 2 ^ 64 → IsProgramOf objects (region_lines region ++ access_lines mode object value) (access_event mode object value told ∷ [])
-of_event objects region Read object value told there word = ([], there, record { region = region; is = refl }, refl)
+of_event objects region Read object value told there word = ([], (there, lit< tt), record { region = region; is = refl }, refl)
 of_event objects region Write object value told there word = ([], (there, word), record { region = region; is = refl }, refl)
 of_event objects region Update object value told there word = ([], value, (there, word), refl, record { region = region; is = refl }, refl)
 

@@ -1,4 +1,4 @@
-pub mod Programs
+pub mod lemmas
 pub mod Keeping
 pub mod Beginning
 pub mod Stillness

@@ -30,7 +30,7 @@ use Rattle.octet_recorder.specs.Programs.{FitsAll}
 use Rattle.octet_recorder.specs.Recordings.{workers_in, programs_in, ends_in, IsScriptOf}
 use Rattle.octet_recorder.specs.Recordings as recorded
 use Rattle.octet_recorder.specs.Tracks.{objects_in, threads_in, EachRests}
-use Rattle.octet_recorder.proofs.Programs.{program_fits, program_long, program_valid}
+use Rattle.octet_recorder.proofs.lemmas.Programs.{program_fits, program_long, program_valid}
 
 -- what holds of each element by its place
 abbrev Each : {X : Type 0} → (ℕ → X → Type 0) → List X → Type 0

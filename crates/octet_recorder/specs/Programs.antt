@@ -35,16 +35,21 @@ pub record Begins (program lines rest : List Command) : Type 0 where
 abbrev pub IsWithin : ℕ → ℕ → ℕ → Type 0
 IsWithin objects object value = (object < objects) × (value < 2 ^ 64)
 
--- the program has the lines of each access of the journal, in order, and no other
+-- the program has the lines of each access of the journal, in order, and no other. Of each access this holds,
+-- of its object and of the value that it writes or the amount that it adds
+abbrev pub IsProgramWith : (ℕ → ℕ → Type 0) → List Command → List Event → Type 0
+IsProgramWith Holds program [] = program ≡ []
+IsProgramWith Holds program (Read object value ∷ journal) =
+    (rest : List Command) × Holds object 0 × Begins program (read_lines object) rest × IsProgramWith Holds rest journal
+IsProgramWith Holds program (Write object value ∷ journal) =
+    (rest : List Command) × Holds object value × Begins program (write_lines object value) rest × IsProgramWith Holds rest journal
+IsProgramWith Holds program (Update object before after ∷ journal) =
+    (rest : List Command) × (amount : ℕ) × Holds object amount × (after ≡ added amount before) × Begins program (bump_lines object amount) rest × IsProgramWith Holds rest journal
+IsProgramWith Holds program (Marked mark ∷ journal) = IsProgramWith Holds program journal
+
+-- the straight-line program of a journal, in a script with so many objects
 abbrev pub IsProgramOf : ℕ → List Command → List Event → Type 0
-IsProgramOf objects program [] = program ≡ []
-IsProgramOf objects program (Read object value ∷ journal) =
-    (rest : List Command) × (object < objects) × Begins program (read_lines object) rest × IsProgramOf objects rest journal
-IsProgramOf objects program (Write object value ∷ journal) =
-    (rest : List Command) × IsWithin objects object value × Begins program (write_lines object value) rest × IsProgramOf objects rest journal
-IsProgramOf objects program (Update object before after ∷ journal) =
-    (rest : List Command) × (amount : ℕ) × IsWithin objects object amount × (after ≡ added amount before) × Begins program (bump_lines object amount) rest × IsProgramOf objects rest journal
-IsProgramOf objects program (Marked mark ∷ journal) = IsProgramOf objects program journal
+IsProgramOf objects program journal = IsProgramWith (IsWithin objects) program journal
 
 -- the journal fits the commands from this configuration on, and no command is left after it
 abbrev pub FitsAll : List Command → Configuration → List Event → Type 0

@@ -1,4 +1,4 @@
-use Rattle.octet_recorder.proofs.Programs.{program_fits, program_long, program_valid, programs_join}
+use Rattle.octet_recorder.proofs.lemmas.Programs.{program_fits, program_long, program_valid, programs_join}
 use Rattle.octet_recorder.proofs.laws.programs_fit.Goals as goal
 
 pub returns-clause-fits : goal.returns-clause-fits

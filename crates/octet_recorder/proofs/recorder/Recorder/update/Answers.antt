@@ -1,7 +1,7 @@
 use Rattle.std.proofs.Common.{rules, arith}
 use Rattle.octet_heap.specs.Workers.{seat_of}
 use Rattle.octet_recorder.specs.Tracks.{objects_in}
-use Rattle.octet_recorder.proofs.Programs.{program_long}
+use Rattle.octet_recorder.proofs.lemmas.Programs.{program_long}
 use Rattle.octet_recorder.proofs.Keeping.{may_update, updated_own}
 use Rattle.octet_recorder.proofs.recorder.Recorder.update.Goals as goal
 

@@ -10,7 +10,7 @@ use Rattle.octet_model.specs.declared.event.Event.TheVariants.{Read, Write, Upda
 use Rattle.octet_model.specs.declared.outcome.End.TheVariants.{Done, Spent}
 use Rattle.octet_model.specs.Thread.{Configuration, AccessOrEnd, ToRead, ToWrite, ToBump, ToEnd, starting_configuration, with_register, moved_to, stepped, is_access, run_to, settled, demand_at, demanded, past_access, past_demanded}
 use Rattle.octet_model.specs.Script.{is_command, is_nested, is_thread}
-use Rattle.octet_recorder.specs.Programs.{region_lines, read_lines, write_lines, bump_lines, Begins, IsWithin, IsProgramOf, FitsAll, ProgramFits, ProgramIsLong, ProgramIsValid, ProgramsJoin}
+use Rattle.octet_recorder.specs.Programs.{region_lines, read_lines, write_lines, bump_lines, Begins, IsWithin, IsProgramWith, FitsAll, ProgramFits, ProgramIsLong, ProgramIsValid, ProgramsJoin}
 
 -- from a place on the commands are these
 record From (commands : List Command) (place : ℕ) (rest : List Command) : Type 0 where
@@ -151,26 +151,31 @@ module _ (commands : List Command) where
       go zero is = told (ap (λ (f : ℕ). run_to is_access commands f c) is)
       go (suc fuel) is = told (settles c fuel None is none)
 
-  fits : (objects : ℕ) (c : Configuration) (program : List Command) (journal : List Event) → Stands c program → IsProgramOf objects program journal → FitsAll commands c journal
-  fits objects c program [] s p = (tt, ends c (subst (λ (l : List Command). Stands c l) p s))
-  fits objects c program (Read object value ∷ journal) s p =
+  fits : (Holds : ℕ → ℕ → Type 0) (c : Configuration) (program : List Command) (journal : List Event) → Stands c program → IsProgramWith Holds program journal → FitsAll commands c journal
+  fits Holds c program [] s p = (tt, ends c (subst (λ (l : List Command). Stands c l) p s))
+  fits Holds c program (Read object value ∷ journal) s p =
       let d = begins c program (read_lines object) p.0 (ToRead object) s p.2 (λ d t. read_at d object p.0 t) in
-      let more = fits objects (past_demanded commands c value) p.0 journal (d.stands value) p.3 in
+      let more = fits Holds (past_demanded commands c value) p.0 journal (d.stands value) p.3 in
       ((d.demands, more.0), more.1)
-  fits objects c program (Write object value ∷ journal) s p =
+  fits Holds c program (Write object value ∷ journal) s p =
       let d = begins c program (write_lines object value) p.0 (ToWrite object value) s p.2 (λ d t. write_at d object value p.0 t) in
-      let more = fits objects (past_demanded commands c value) p.0 journal (d.stands value) p.3 in
+      let more = fits Holds (past_demanded commands c value) p.0 journal (d.stands value) p.3 in
       ((d.demands, more.0), more.1)
-  fits objects c program (Update object before after ∷ journal) s p =
+  fits Holds c program (Update object before after ∷ journal) s p =
       let d = begins c program (bump_lines object p.1) p.0 (ToBump object p.1) s p.4 (λ d t. bump_at d object p.1 p.0 t) in
-      let more = fits objects (past_demanded commands c after) p.0 journal (d.stands after) p.5 in
+      let more = fits Holds (past_demanded commands c after) p.0 journal (d.stands after) p.5 in
       (((p.1, d.demands, p.3), more.0), more.1)
-  fits objects c program (Marked mark ∷ journal) s p = fits objects c program journal s p
+  fits Holds c program (Marked mark ∷ journal) s p = fits Holds c program journal s p
+
+-- whatever holds of its accesses
+pub program_fits_with : (Holds : ℕ → ℕ → Type 0) (fuel : ℕ) (program : List Command) (journal : List Event)
+    → IsProgramWith Holds program journal → length program ≤ fuel → FitsAll program (starting_configuration fuel) journal
+program_fits_with Holds fuel program journal p fuelled =
+    fits program Holds (starting_configuration fuel) program journal
+    (record { from = record { each = λ k. ap (λ (n : ℕ). slice_get program n) (omega arith) }; registers = lit< tt; fuelled = fuelled }) p
 
 pub program_fits : ProgramFits
-program_fits objects fuel program journal p fuelled =
-    fits program objects (starting_configuration fuel) program journal
-    (record { from = record { each = λ k. ap (λ (n : ℕ). slice_get program n) (omega arith) }; registers = lit< tt; fuelled = fuelled }) p
+program_fits objects fuel program journal p fuelled = program_fits_with (IsWithin objects) fuel program journal p fuelled
 
 -- the lines of an access make the program longer by one at least
 longer : (program lines rest : List Command) → Begins program lines rest → 0 < length lines → suc (length rest) ≤ length program
@@ -219,7 +224,7 @@ plain_bump objects object value within = record {
 
 pub program_valid : ProgramIsValid
 program_valid objects program [] p = subst (λ (l : List Command). is_thread objects l ≡ true) (sym p) refl
-program_valid objects program (Read object value ∷ journal) p = plain_begins objects program (read_lines object) p.0 p.2 (plain_read objects object p.1) (program_valid objects p.0 journal p.3)
+program_valid objects program (Read object value ∷ journal) p = plain_begins objects program (read_lines object) p.0 p.2 (plain_read objects object p.1.0) (program_valid objects p.0 journal p.3)
 program_valid objects program (Write object value ∷ journal) p = plain_begins objects program (write_lines object value) p.0 p.2 (plain_write objects object value p.1) (program_valid objects p.0 journal p.3)
 program_valid objects program (Update object before after ∷ journal) p = plain_begins objects program (bump_lines object p.1) p.0 p.4 (plain_bump objects object p.1 p.2) (program_valid objects p.0 journal p.5)
 program_valid objects program (Marked mark ∷ journal) p = program_valid objects program journal p
@@ -230,12 +235,16 @@ begins_more program lines rest more b = record {
   is = ap (λ (l : List Command). l ++ more) b.is ∙ (append_assoc (region_lines b.region) (lines ++ rest) more ∙ ap (λ (l : List Command). region_lines b.region ++ l) (append_assoc lines rest more));
 }
 
+pub programs_join_with : (Holds : ℕ → ℕ → Type 0) (program more : List Command) (journal later : List Event)
+    → IsProgramWith Holds program journal → IsProgramWith Holds more later → IsProgramWith Holds (program ++ more) (journal ++ later)
+programs_join_with Holds program more [] later p q = subst (λ (l : List Command). IsProgramWith Holds (l ++ more) later) (sym p) q
+programs_join_with Holds program more (Read object value ∷ journal) later p q =
+    (p.0 ++ more, p.1, begins_more program (read_lines object) p.0 more p.2, programs_join_with Holds p.0 more journal later p.3 q)
+programs_join_with Holds program more (Write object value ∷ journal) later p q =
+    (p.0 ++ more, p.1, begins_more program (write_lines object value) p.0 more p.2, programs_join_with Holds p.0 more journal later p.3 q)
+programs_join_with Holds program more (Update object before after ∷ journal) later p q =
+    (p.0 ++ more, p.1, p.2, p.3, begins_more program (bump_lines object p.1) p.0 more p.4, programs_join_with Holds p.0 more journal later p.5 q)
+programs_join_with Holds program more (Marked mark ∷ journal) later p q = programs_join_with Holds program more journal later p q
+
 pub programs_join : ProgramsJoin
-programs_join objects program more [] later p q = subst (λ (l : List Command). IsProgramOf objects (l ++ more) later) (sym p) q
-programs_join objects program more (Read object value ∷ journal) later p q =
-    (p.0 ++ more, p.1, begins_more program (read_lines object) p.0 more p.2, programs_join objects p.0 more journal later p.3 q)
-programs_join objects program more (Write object value ∷ journal) later p q =
-    (p.0 ++ more, p.1, begins_more program (write_lines object value) p.0 more p.2, programs_join objects p.0 more journal later p.3 q)
-programs_join objects program more (Update object before after ∷ journal) later p q =
-    (p.0 ++ more, p.1, p.2, p.3, begins_more program (bump_lines object p.1) p.0 more p.4, programs_join objects p.0 more journal later p.5 q)
-programs_join objects program more (Marked mark ∷ journal) later p q = programs_join objects program more journal later p q
+programs_join objects program more journal later p q = programs_join_with (IsWithin objects) program more journal later p q
