@@ -6,7 +6,7 @@ ghost use Rattle.octet_state.specs.declared.why.Why.TheVariants.{Held as IsHeld,
 ghost use Rattle.octet_rule.specs.Conditions.{IsResting};
 ghost use Rattle.octet_rule.specs.Seats.{objects_of};
 ghost use Rattle.octet_heap.specs.declared.poll.Poll.TheVariants.{Pending};
-ghost use Rattle.octet_heap.specs.Workers.{seat_of, IsWorkerOf, IsIdle};
+ghost use Rattle.octet_heap.specs.Workers.{seat_of, IsWorkerOf, IsIdle, IsUnderWay, StandsAfter};
 ghost use Rattle.octet_heap.specs.Seated.{RestsAs, IsNew};
 
 use super::opened::{close_all, ends_with, join, three_workers};
@@ -32,6 +32,17 @@ fn pending_held(by: u8, word: u64) -> Poll
     }
 }
 
+/// A poll of the access that a worker has begun.
+fn polled(heap: &Heap, worker: &mut Worker) -> Poll
+    requires own { IsWorkerOf heap.now worker.old }
+    requires begun { IsUnderWay worker.old }
+    ensures own { IsWorkerOf heap.now worker.new }
+    ensures number { (seat_of worker.new).number ≡ (seat_of worker.old).number }
+    ensures stands { StandsAfter result worker.new }
+{
+    heap.poll(worker)
+}
+
 /// Each of two workers asks the other one to give the object up.
 fn take_turns<R: Abort>(rt: &R, heap: &Heap, first: &mut Worker, second: &mut Worker)
     requires heap { (objects_of heap.now.words ≡ 2) × (heap.now.fuel ≡ DEFAULT_FUEL) }
@@ -43,17 +54,17 @@ fn take_turns<R: Abort>(rt: &R, heap: &Heap, first: &mut Worker, second: &mut Wo
     heap.unblock(first);
     heap.unblock(second);
     heap.begin(second, 0, Mode::Write, 4);
-    let asks = heap.poll(second);
+    let asks = polled(heap, second);
     assert!(rt; asks == pending_unanswered(0, 2));
     heap.begin(first, 0, Mode::Write, 6);
-    let shut_out = heap.poll(first);
+    let shut_out = polled(heap, first);
     assert!(rt; shut_out == pending_held(1, 0x6100_0000_0000_0000));
-    let made = heap.poll(second);
+    let made = polled(heap, second);
     assert!(rt; made == Poll::Ready { value: 4 });
-    let asks_too = heap.poll(first);
+    let asks_too = polled(heap, first);
     assert!(rt; asks_too == pending_unanswered(1, 1));
     heap.block(second);
-    let made_too = heap.poll(first);
+    let made_too = polled(heap, first);
     assert!(rt; made_too == Poll::Ready { value: 6 });
     heap.block(first);
 }
