@@ -37,16 +37,12 @@ use Rattle.octet_gen.specs.Generated.{IsGenerated}
 use Rattle.octet_top.specs.declared.reply.Status.TheVariants.{Done, Misfit}
 use Rattle.octet_top.specs.declared.inputs.Source.{Source}
 use Rattle.octet_top.specs.declared.inputs.Pair.{Pair}
-use Rattle.octet_top.specs.declared.request.ScriptTask.{ScriptTask}
-use Rattle.octet_top.specs.declared.request.ScriptTask.TheVariants.{Tidy}
-use Rattle.octet_top.specs.declared.request.LogTask.{LogTask}
-use Rattle.octet_top.specs.declared.request.LogTask.TheVariants.{Show}
 use Rattle.octet_top.specs.declared.request.PairTask.{PairTask}
-use Rattle.octet_top.specs.declared.request.PairTask.TheVariants.{Replay, Parallel, Verify, Regions, Slice, Stop, Trace, Profile}
+use Rattle.octet_top.specs.declared.request.PairTask.TheVariants.{Replay, Verify, Regions, Slice, Stop, Trace, Profile}
 use Rattle.octet_top.specs.Answer.{Answer, says, writes_file, writes_both, not_a_command, wrong_script, does_not_fit, verdict_said, serial_said, cycle_text, try_text, no_other_end, no_cycle, summary}
 use Rattle.octet_machine.specs.Turns.{IsPlayed}
 use Rattle.octet_top.specs.Headline.{digest_kept}
-use Rattle.octet_top.specs.Request.{Way, AsTheyCome, BehindLock, ByPicks, Quarry, OtherEnd, AnyCycle, named_by, Request, OfScript, OfLog, OfPair, Convert, Run, Gen, Hunt, request_in}
+use Rattle.octet_top.specs.Request.{Way, AsTheyCome, BehindLock, ByPicks, Quarry, OtherEnd, AnyCycle, named_by, Request, Tidy, Show, OfPair, Parallel, Convert, Run, Gen, Hunt, request_in}
 use Rattle.octet_top.specs.TraceTexts.{trace_text}
 use Rattle.octet_top.specs.Profile.{profile_text}
 use Rattle.octet_top.specs.Slices.{SliceSays, StopSays}
@@ -82,13 +78,13 @@ Matching Next pair answer =
     ((fault : FitFault) × IsOfAnother pair.source.text pair.loaded.digest fault × (answer ≡ wrong_script fault))
     ⊎ (IsOfScript pair.source.text pair.loaded.digest × Next answer)
 
--- the answer of each task on a script
-abbrev pub ScriptAnswers : ScriptTask → Source → Answer → Type 0
-ScriptAnswers Tidy source answer = answer ≡ says Done (canonical_text source.script)
+-- the answer of `tidy`: the script's canonical text is said
+abbrev pub TidyAnswers : Source → Answer → Type 0
+TidyAnswers source answer = answer ≡ says Done (canonical_text source.script)
 
--- the answer of each task on a log
-abbrev pub LogAnswers : LogTask → Loaded → Answer → Type 0
-LogAnswers Show loaded answer = answer ≡ says Done (log_text loaded.log.threads)
+-- the answer of `show`: the log's text is said
+abbrev pub ShowAnswers : Loaded → Answer → Type 0
+ShowAnswers loaded answer = answer ≡ says Done (log_text loaded.log.threads)
 
 -- the answer says the verdict where the log does not order all conflicts. Otherwise the command goes on
 abbrev pub WhereOrdered : (Answer → Type 0) → Pair → Answer → Type 0
@@ -117,7 +113,6 @@ SerialSays pair answer =
 -- the outcome, the verdict, the regions, a past, a first event, the events or their counts
 abbrev pub PairSays : PairTask → Pair → Answer → Type 0
 PairSays Replay pair answer = OutcomeSays pair answer
-PairSays Parallel pair answer = WhereOrdered (OutcomeSays pair) pair answer
 PairSays Verify pair answer = (verdict : Verdict) × IsVerified pair.source.script pair.loaded.log.threads verdict × (answer ≡ verdict_said verdict)
 PairSays Regions pair answer = WhereOrdered (SerialSays pair) pair answer
 PairSays (Slice thread event) pair answer = WhereOrdered (SliceSays pair.source.script pair.loaded.log.threads thread event) pair answer
@@ -142,6 +137,15 @@ PairReplays task pair answer = Fitting (misfit_said task pair) (PairSays task pa
 -- the answer of a task on a script and a log, by the log's digest first
 abbrev pub PairAnswers : PairTask → Pair → Answer → Type 0
 PairAnswers task pair answer = Matching (PairReplays task pair) pair answer
+
+-- the answer of `parallel` says the outcome of a log that fits the script and orders all conflicts,
+-- or why the log does not
+abbrev pub ParallelReplays : Pair → Answer → Type 0
+ParallelReplays pair answer = Fitting does_not_fit (WhereOrdered (OutcomeSays pair) pair) pair.source.script pair.loaded.log.threads answer
+
+-- the answer of `parallel`, by the log's digest first
+abbrev pub ParallelAnswers : Pair → Answer → Type 0
+ParallelAnswers pair answer = Matching (ParallelReplays pair) pair answer
 
 -- the bytes of a log in version 2, with the digest of a script's text and one piece for each thread that has marks
 abbrev pub second_bytes : List ℕ → List ThreadLog → List ℕ
@@ -205,9 +209,10 @@ Answering Reading Answers answer = Reading (Err answer) ⊎ ((input : _) × Read
 
 -- the answers to a request, by what the desk tells of its files
 abbrev pub RequestAnswers : Request → Option Contents → Answer → Type 0
-RequestAnswers (OfScript task script) contents answer = Answering (IsScriptRead script contents) (ScriptAnswers task) answer
-RequestAnswers (OfLog task log) contents answer = Answering (IsLogRead log contents) (LogAnswers task) answer
+RequestAnswers (Tidy script) contents answer = Answering (IsScriptRead script contents) TidyAnswers answer
+RequestAnswers (Show log) contents answer = Answering (IsLogRead log contents) ShowAnswers answer
 RequestAnswers (OfPair task script log object) contents answer = Answering (IsPairRead script log object contents) (PairAnswers task) answer
+RequestAnswers (Parallel script log) contents answer = Answering (IsPairRead script log None contents) ParallelAnswers answer
 RequestAnswers (Convert script log out) contents answer = Answering (IsPairRead script log None contents) (ConvertAnswers out) answer
 RequestAnswers (Run way script log) contents answer = Answering (IsScriptRead script contents) (RunAnswers way log) answer
 RequestAnswers (Gen number script log) contents answer = IsGeneration number script log answer

@@ -17,7 +17,7 @@ use Rattle.octet_top.specs.declared.reply.Status.TheVariants.{Done, Read, Write,
 use Rattle.octet_top.specs.declared.request.PairTask.{PairTask}
 use Rattle.octet_top.specs.declared.request.PairTask.TheVariants.{Regions, Slice}
 use Rattle.octet_top.specs.Answer.{Answer, code_of, read_failed}
-use Rattle.octet_top.specs.Request.{Request, OfScript, OfLog, OfPair, Convert, Run, AsTheyCome, Gen, Hunt, named_by, request_in, outputs_in}
+use Rattle.octet_top.specs.Request.{Request, Tidy, Show, OfPair, Parallel, Convert, Run, AsTheyCome, Gen, Hunt, named_by, request_in, outputs_in}
 use Rattle.octet_top.specs.Inputs.{IsScriptRead, IsLogRead, IsScriptChosen, IsPairRead}
 use Rattle.octet_top.specs.Commands.{IsAnswer}
 use Rattle.octet_top.specs.Outputs.{IsWhole, IsCutShort, IsPartlyWritten}
@@ -127,9 +127,10 @@ HasPair script log object contents =
 
 -- all that a request takes is there as it should be
 abbrev pub HasFiles : Request → Contents → Type 0
-HasFiles (OfScript task script) contents = (source : Source) × IsScriptRead script (Some contents) (Ok source)
-HasFiles (OfLog task log) contents = (read : Loaded) × IsLogRead log (Some contents) (Ok read)
+HasFiles (Tidy script) contents = (source : Source) × IsScriptRead script (Some contents) (Ok source)
+HasFiles (Show log) contents = (read : Loaded) × IsLogRead log (Some contents) (Ok read)
 HasFiles (OfPair task script log object) contents = HasPair script log object contents
+HasFiles (Parallel script log) contents = HasPair script log None contents
 HasFiles (Convert script log out) contents = HasPair script log None contents
 HasFiles (Run task script log) contents = (source : Source) × IsScriptRead script (Some contents) (Ok source)
 HasFiles (Gen number script log) contents = Unit {0}

@@ -30,12 +30,12 @@ use Rattle.octet_hunt.specs.Hunts.{Meets}
 use Rattle.octet_gen.specs.Generated.{IsGenerated}
 use Rattle.octet_machine.specs.Turns.{IsPlayed}
 use Rattle.octet_top.specs.Headline.{IsFaithfulRun}
-use Rattle.octet_top.specs.Request.{Way, ByPicks, Run, request_in, OfPair, Convert, Gen, Quarry, Hunt, named_by}
+use Rattle.octet_top.specs.Request.{Way, ByPicks, Run, request_in, OfPair, Parallel, Convert, Gen, Quarry, Hunt, named_by}
 use Rattle.octet_top.specs.declared.reply.Status.TheVariants.{Done, Misfit, Cycle}
 use Rattle.std.specs.List.{sum_by}
 use Rattle.octet_top.specs.declared.inputs.Source.{Source}
 use Rattle.octet_top.specs.declared.inputs.Pair.{Pair}
-use Rattle.octet_top.specs.declared.request.PairTask.TheVariants.{Replay, Parallel, Verify, Regions, Slice, Stop, Trace}
+use Rattle.octet_top.specs.declared.request.PairTask.TheVariants.{Replay, Verify, Regions, Slice, Stop, Trace}
 use Rattle.octet_top.specs.Answer.{summary, code_of, try_text}
 use Rattle.octet_top.specs.Inputs.{IsScriptChosen, IsPairRead}
 use Rattle.octet_slice.specs.declared.finding.Found.{Found}
@@ -86,7 +86,7 @@ pub record IsReplayedOnThreads (script_name log_name : List ℕ) (before after :
 -- `parallel` with all done has replayed its pair, where the desk tells its contents
 abbrev pub ReplaysOnThreads : List (List ℕ) → DeskState → DeskState → ℕ → Type 0
 ReplaysOnThreads words before after code =
-    (script_name log_name : List ℕ) (contents contents' : Contents) → request_in words ≡ Some (OfPair Parallel script_name log_name None) → code ≡ code_of Done → before.contents ≡ Some contents → after.contents ≡ Some contents'
+    (script_name log_name : List ℕ) (contents contents' : Contents) → request_in words ≡ Some (Parallel script_name log_name) → code ≡ code_of Done → before.contents ≡ Some contents → after.contents ≡ Some contents'
     → IsReplayedOnThreads script_name log_name contents contents'
 
 -- a script and an ordered log of it were taken. Their regions have this serial order or this cycle, which was said

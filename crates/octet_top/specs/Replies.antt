@@ -6,7 +6,7 @@ use Rattle.octet_model.specs.declared.list.OutOfMemory.{OutOfMemory}
 use Rattle.octet_top.specs.declared.reply.Reply.{Reply}
 use Rattle.octet_top.specs.declared.reply.Status.TheVariants.{Done}
 use Rattle.octet_top.specs.Answer.{Answer, answer_of, read_failed}
-use Rattle.octet_top.specs.Request.{Request, OfScript, OfLog, OfPair, Convert, Run, Gen, Hunt}
+use Rattle.octet_top.specs.Request.{Request, Tidy, Show, OfPair, Parallel, Convert, Run, Gen, Hunt}
 use Rattle.octet_top.specs.Inputs.{TakesOne, TakesBoth}
 use Rattle.octet_top.specs.Commands.{Answers}
 
@@ -25,9 +25,10 @@ IsNoSuccess (Err none) = Unit {0}
 -- The second is asked for only after a first that was taken and passes
 abbrev pub TakesFiles : Option Request → Type 0 → DeskState → DeskState → Type 0
 TakesFiles None Short before after = after ≡ before
-TakesFiles (Some (OfScript task script)) Short before after = TakesOne script MAX_SCRIPT_FILE Short before after
-TakesFiles (Some (OfLog task log)) Short before after = TakesOne log MAX_LOG_FILE Short before after
+TakesFiles (Some (Tidy script)) Short before after = TakesOne script MAX_SCRIPT_FILE Short before after
+TakesFiles (Some (Show log)) Short before after = TakesOne log MAX_LOG_FILE Short before after
 TakesFiles (Some (OfPair task script log object)) Short before after = TakesBoth script log object Short before after
+TakesFiles (Some (Parallel script log)) Short before after = TakesBoth script log None Short before after
 TakesFiles (Some (Convert script log out)) Short before after = TakesBoth script log None Short before after
 TakesFiles (Some (Run task script log)) Short before after = TakesOne script MAX_SCRIPT_FILE Short before after
 TakesFiles (Some (Gen number script log)) Short before after = after ≡ before

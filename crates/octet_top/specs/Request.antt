@@ -8,12 +8,8 @@ use Rattle.std.specs.Global.{Global}
 use Rattle.octet_script.specs.Spelling.{number_of}
 use Rattle.octet_hunt.specs.declared.limits.TheConstants.{MAX_TRIES}
 use Rattle.octet_top.specs.Picks.{are_picks}
-use Rattle.octet_top.specs.declared.request.ScriptTask.{ScriptTask}
-use Rattle.octet_top.specs.declared.request.ScriptTask.TheVariants.{Tidy}
-use Rattle.octet_top.specs.declared.request.LogTask.{LogTask}
-use Rattle.octet_top.specs.declared.request.LogTask.TheVariants.{Show}
 use Rattle.octet_top.specs.declared.request.PairTask.{PairTask}
-use Rattle.octet_top.specs.declared.request.PairTask.TheVariants.{Replay, Parallel, Verify, Regions, Slice, Stop, Trace, Profile}
+use Rattle.octet_top.specs.declared.request.PairTask.TheVariants.{Replay, Verify, Regions, Slice, Stop, Trace, Profile}
 use Rattle.octet_top.specs.declared.request.RunTask.{RunTask}
 use Rattle.octet_top.specs.declared.request.RunTask.TheVariants as run
 use Rattle.octet_top.specs.declared.request.Quarry.{Quarry as DeclaredQuarry}
@@ -44,9 +40,10 @@ named_by AnyCycle = None
 
 -- a task, with the names of its files
 pub data Request : Type 0 where
-  OfScript : (task : ScriptTask) (script : List ℕ) → Request
-  OfLog : (task : LogTask) (log : List ℕ) → Request
+  Tidy : (script : List ℕ) → Request
+  Show : (log : List ℕ) → Request
   OfPair : (task : PairTask) (script log : List ℕ) (object : Option (List ℕ)) → Request
+  Parallel : (script log : List ℕ) → Request
   Convert : (script log out : List ℕ) → Request
   Run : (way : Way) (script log : List ℕ) → Request
   Gen : (number : ℕ) (script log : List ℕ) → Request
@@ -59,8 +56,8 @@ tries_of word = elim (number_of word) [ None ↦ None | Some n ↦ if nat_le 1 n
 -- what two words ask for that starts no thread
 abbrev pub reading_of_two : List ℕ → List ℕ → Option Request
 reading_of_two word file =
-    if bytes_eq word (codes "tidy") then Some (OfScript Tidy file)
-    else (if bytes_eq word (codes "show") then Some (OfLog Show file) else None)
+    if bytes_eq word (codes "tidy") then Some (Tidy file)
+    else (if bytes_eq word (codes "show") then Some (Show file) else None)
 
 -- what three words ask for that starts no thread
 abbrev pub reading_of_three : List ℕ → List ℕ → List ℕ → Option Request
@@ -103,7 +100,7 @@ abbrev pub running_of_three : List ℕ → List ℕ → List ℕ → Option Requ
 running_of_three word script log =
     if bytes_eq word (codes "run") then Some (Run AsTheyCome script log)
     else (if bytes_eq word (codes "locked") then Some (Run BehindLock script log)
-    else (if bytes_eq word (codes "parallel") then Some (OfPair Parallel script log None) else None))
+    else (if bytes_eq word (codes "parallel") then Some (Parallel script log) else None))
 
 -- what four words ask for that runs a script
 abbrev pub running_of_four : List ℕ → List ℕ → List ℕ → List ℕ → Option Request
@@ -155,15 +152,15 @@ shown_quarry quarry.AnyCycle = AnyCycle
 
 -- the request, as the program has it
 abbrev pub shown : declared.Request → Request
-shown (request.OfScript task script) = OfScript task script.now
-shown (request.OfLog task log) = OfLog task log.now
+shown (request.Tidy script) = Tidy script.now
+shown (request.Show log) = Show log.now
 shown (request.OfPair task script log object) = OfPair task script.now log.now (name_in object)
 shown (request.Convert script log out) = Convert script.now log.now out.now
 shown (request.Live script log) = Run AsTheyCome script.now log.now
 shown (request.Run task script log) = Run (shown_task task) script.now log.now
 shown (request.Gen number script log) = Gen number script.now log.now
 shown (request.Hunt wanted script log tries) = Hunt (shown_quarry wanted) script.now log.now tries
-shown (request.Parallel script log) = OfPair Parallel script.now log.now None
+shown (request.Parallel script log) = Parallel script.now log.now
 
 -- the test whether a request starts threads or runs a script
 abbrev pub needs_runtime : declared.Request → Bool

@@ -2,47 +2,34 @@
 //! `replay SCRIPT LOG` and `verify SCRIPT LOG`; and the check that other commands begin with.
 ghost use Rattle.std.specs.Prelude.{◌≡◌, IfOk};
 ghost use Rattle.octet_clock.specs.declared.verdict.Verdict.TheVariants as verdict;
-ghost use Rattle.octet_top.specs.declared.request.PairTask.TheVariants.{Replay, Parallel, Verify};
+ghost use Rattle.octet_top.specs.declared.request.PairTask.TheVariants.{Replay, Verify};
 ghost use Rattle.octet_top.specs.Answer.{answer_of, verdict_said};
-ghost use Rattle.octet_top.specs.Commands.{ScriptAnswers, LogAnswers, PairReplays};
+ghost use Rattle.octet_top.specs.Commands.{TidyAnswers, ShowAnswers, PairReplays, ParallelReplays};
 ghost use Rattle.octet_top.specs.Checked.{IsChecked};
 
 use crate::inputs::{Pair, Refusal, Source};
 use crate::refusal::does_not_fit;
 use crate::reply::{Reply, Status};
-use crate::request::{LogTask, ScriptTask};
 use octet_clock::Verdict;
-use octet_log::{Loaded, show};
+use octet_log::Loaded;
 use octet_model::{OutOfMemory, Place, outcome_text};
 use octet_replay::ReplayFault;
 use octet_script::print;
 use std::alloc::Global;
 
 /// Of a script its canonical text is said.
-pub(crate) fn answer_script(
-    alloc: Global,
-    task: ScriptTask,
-    source: &Source,
-) -> Result<Reply, OutOfMemory>
-    ensures { IfOk result (λ reply. ScriptAnswers task source.now (answer_of reply)) }
+pub(crate) fn tidy(alloc: Global, source: &Source) -> Result<Reply, OutOfMemory>
+    ensures { IfOk result (λ reply. TidyAnswers source.now (answer_of reply)) }
 {
-    let text = match task {
-        ScriptTask::Tidy => print(alloc, &source.script)?,
-    };
+    let text = print(alloc, &source.script)?;
     Ok(Reply::saying(alloc, Status::Done, text))
 }
 
 /// Of a log its text is said.
-pub(crate) fn answer_log(
-    alloc: Global,
-    task: LogTask,
-    loaded: &Loaded,
-) -> Result<Reply, OutOfMemory>
-    ensures { IfOk result (λ reply. LogAnswers task loaded.now (answer_of reply)) }
+pub(crate) fn show(alloc: Global, loaded: &Loaded) -> Result<Reply, OutOfMemory>
+    ensures { IfOk result (λ reply. ShowAnswers loaded.now (answer_of reply)) }
 {
-    let text = match task {
-        LogTask::Show => show(alloc, &loaded.log)?,
-    };
+    let text = octet_log::show(alloc, &loaded.log)?;
     Ok(Reply::saying(alloc, Status::Done, text))
 }
 
@@ -88,7 +75,7 @@ pub(crate) fn check_order(alloc: Global, pair: &Pair) -> Result<(), Refusal>
 /// The outcome of the log's lowest order is said, where the log orders all conflicts.
 #[tactic(auto, using(crate::proofs::answering::Checking::check_refused, crate::proofs::answering::Checking::check_passed))]
 pub(crate) fn replay_ordered(alloc: Global, pair: &Pair) -> Result<Reply, OutOfMemory>
-    ensures { IfOk result (λ reply. PairReplays Parallel pair.now (answer_of reply)) }
+    ensures { IfOk result (λ reply. ParallelReplays pair.now (answer_of reply)) }
 {
     match check_order(alloc, pair) {
         Ok(()) => replay(alloc, pair),

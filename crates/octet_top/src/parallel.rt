@@ -2,10 +2,9 @@
 ghost use Rattle.std.specs.Prelude.{◌≡◌, IfOk, IfSome, None, Some};
 ghost use Rattle.octet_model.specs.Orders.{execution, lowest_order};
 ghost use Rattle.octet_clock.specs.Fronts.{OrdersConflicts};
-ghost use Rattle.octet_top.specs.declared.request.PairTask.TheVariants.{Parallel};
 ghost use Rattle.octet_top.specs.Answer.{answer_of};
-ghost use Rattle.octet_top.specs.Request.{OfPair};
-ghost use Rattle.octet_top.specs.Commands.{PairReplays};
+ghost use Rattle.octet_top.specs.Request.{Parallel};
+ghost use Rattle.octet_top.specs.Commands.{ParallelReplays};
 ghost use Rattle.octet_top.specs.Replies.{Replies};
 
 use crate::commands::replay_ordered;
@@ -29,7 +28,7 @@ pub(crate) fn replay_on_threads<R: Threads + Wait + Sync, D: Desk, G: Gate>(
     script: &str,
     log: &str,
 ) -> Result<Reply, OutOfMemory>
-    ensures { Replies (Some (OfPair Parallel script.now log.now None)) (D.state desk.old) result (D.state desk.new) }
+    ensures { Replies (Some (Parallel script.now log.now)) (D.state desk.old) result (D.state desk.new) }
 {
     match read_fitting(alloc, desk, script, log, None) {
         Ok(pair) => play_pair(rt, alloc, gate, &pair),
@@ -45,7 +44,7 @@ fn play_pair<R: Threads + Wait + Sync, G: Gate>(
     gate: &G,
     pair: &Pair,
 ) -> Result<Reply, OutOfMemory>
-    ensures { IfOk result (λ reply. PairReplays Parallel pair.now (answer_of reply)) }
+    ensures { IfOk result (λ reply. ParallelReplays pair.now (answer_of reply)) }
 {
     match outcome_on_threads(rt, alloc, gate, pair)? {
         Some(outcome) => {

@@ -7,24 +7,10 @@ use crate::picks::are_picks;
 use octet_hunt::MAX_TRIES;
 use octet_script::number_of;
 
-/// Tasks on a script.
-#[derive(Clone, Copy)]
-pub(crate) enum ScriptTask {
-    Tidy,
-}
-
-/// Tasks on a log.
-#[derive(Clone, Copy)]
-pub(crate) enum LogTask {
-    Show,
-}
-
 /// Tasks on a script and a log.
 #[derive(Clone, Copy)]
 pub(crate) enum PairTask {
     Replay,
-    /// The same, where the log orders all conflicts; on threads, where there are some.
-    Parallel,
     Verify,
     Regions,
     /// One event, and how many lie in its past.
@@ -70,12 +56,12 @@ impl<'a> Quarry<'a> {
 /// What words ask for, with the names of its files.
 #[derive(Clone, Copy)]
 pub(crate) enum Request<'a> {
-    OfScript {
-        task: ScriptTask,
+    /// The script's canonical text.
+    Tidy {
         script: &'a str,
     },
-    OfLog {
-        task: LogTask,
+    /// The log's text.
+    Show {
         log: &'a str,
     },
     /// Of a script and a log, and of one object where it is named.
@@ -115,7 +101,7 @@ pub(crate) enum Request<'a> {
         log: &'a str,
         tries: u32,
     },
-    /// A replay on threads.
+    /// A replay on threads, where the log orders all conflicts.
     Parallel {
         script: &'a str,
         log: &'a str,
@@ -142,14 +128,8 @@ fn of_two<'a>(word: &str, file: &'a str) -> Option<Request<'a>>
     ensures alone { alone_in result ≡ reading_of_two word.now file.now }
 {
     match word {
-        "tidy" => Some(Request::OfScript {
-            task: ScriptTask::Tidy,
-            script: file,
-        }),
-        "show" => Some(Request::OfLog {
-            task: LogTask::Show,
-            log: file,
-        }),
+        "tidy" => Some(Request::Tidy { script: file }),
+        "show" => Some(Request::Show { log: file }),
         _ => None,
     }
 }

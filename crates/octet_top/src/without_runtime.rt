@@ -1,11 +1,11 @@
 //! Requests that need no runtime: from the files to a reply, before any of it is written or said.
 ghost use Rattle.std.specs.Prelude.{◌≡◌, IfOk, Some};
 ghost use Rattle.octet_top.specs.Answer.{answer_of};
-ghost use Rattle.octet_top.specs.Request.{shown_alone, shown_quarry, alone_in, name_in, OfScript, OfLog, OfPair, Convert, Hunt};
+ghost use Rattle.octet_top.specs.Request.{shown_alone, shown_quarry, alone_in, name_in, Tidy, Show, OfPair, Convert, Hunt};
 ghost use Rattle.octet_top.specs.Commands.{PairReplays};
 ghost use Rattle.octet_top.specs.Replies.{Replies};
 
-use crate::commands::{answer_log, answer_script, replay, replay_ordered, verify};
+use crate::commands::{replay, show, tidy, verify};
 use crate::convert::convert;
 use crate::hunt::hunt;
 use crate::inputs::{Pair, read_chosen, read_fitting, read_log, read_script};
@@ -13,7 +13,7 @@ use crate::profile::profile;
 use crate::refusal::not_a_command;
 use crate::regions::regions;
 use crate::reply::Reply;
-use crate::request::{LogTask, PairTask, Quarry, Request, ScriptTask};
+use crate::request::{PairTask, Quarry, Request};
 use crate::slice::slice;
 use crate::stop::stop;
 use crate::trace::trace;
@@ -26,7 +26,6 @@ fn replay_pair(alloc: Global, task: PairTask, pair: &Pair) -> Result<Reply, OutO
 {
     match task {
         PairTask::Replay => replay(alloc, pair),
-        PairTask::Parallel => replay_ordered(alloc, pair),
         PairTask::Verify => verify(alloc, pair),
         PairTask::Regions => regions(alloc, pair),
         PairTask::Slice { thread, event } => slice(alloc, pair, thread, event),
@@ -37,31 +36,21 @@ fn replay_pair(alloc: Global, task: PairTask, pair: &Pair) -> Result<Reply, OutO
 }
 
 #[tactic(auto, using(crate::proofs::answering::Found::script_stops))]
-fn of_script<D: Desk>(
-    alloc: Global,
-    desk: &mut D,
-    task: ScriptTask,
-    script: &str,
-) -> Result<Reply, OutOfMemory>
-    ensures { Replies (Some (OfScript task script.now)) (D.state desk.old) result (D.state desk.new) }
+fn of_script<D: Desk>(alloc: Global, desk: &mut D, script: &str) -> Result<Reply, OutOfMemory>
+    ensures { Replies (Some (Tidy script.now)) (D.state desk.old) result (D.state desk.new) }
 {
     match read_script(alloc, desk, script) {
-        Ok(source) => answer_script(alloc, task, &source),
+        Ok(source) => tidy(alloc, &source),
         Err(refusal) => refusal,
     }
 }
 
 #[tactic(auto, using(crate::proofs::answering::Found::log_stops))]
-fn of_log<D: Desk>(
-    alloc: Global,
-    desk: &mut D,
-    task: LogTask,
-    log: &str,
-) -> Result<Reply, OutOfMemory>
-    ensures { Replies (Some (OfLog task log.now)) (D.state desk.old) result (D.state desk.new) }
+fn of_log<D: Desk>(alloc: Global, desk: &mut D, log: &str) -> Result<Reply, OutOfMemory>
+    ensures { Replies (Some (Show log.now)) (D.state desk.old) result (D.state desk.new) }
 {
     match read_log(alloc, desk, log) {
-        Ok(loaded) => answer_log(alloc, task, &loaded),
+        Ok(loaded) => show(alloc, &loaded),
         Err(refusal) => refusal,
     }
 }
@@ -123,8 +112,8 @@ fn reply_to<D: Desk>(
     ensures { Replies (shown_alone request.entry) (D.state desk.old) result (D.state desk.new) }
 {
     match request {
-        Request::OfScript { task, script } => of_script(alloc, desk, task, script),
-        Request::OfLog { task, log } => of_log(alloc, desk, task, log),
+        Request::Tidy { script } => of_script(alloc, desk, script),
+        Request::Show { log } => of_log(alloc, desk, log),
         Request::OfPair {
             task,
             script,

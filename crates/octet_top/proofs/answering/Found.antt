@@ -12,12 +12,10 @@ use Rattle.octet_replay.specs.declared.fitting.FitFault.{FitFault}
 use Rattle.octet_replay.specs.Fit.{IsOfScript, IsOfAnother}
 use Rattle.octet_model.specs.declared.limits.TheConstants.{MAX_LOG_FILE, MAX_SCRIPT_FILE}
 use Rattle.octet_top.specs.declared.inputs.Source.{Source}
-use Rattle.octet_top.specs.declared.request.ScriptTask.{ScriptTask}
-use Rattle.octet_top.specs.declared.request.LogTask.{LogTask}
-use Rattle.octet_top.specs.Request.{Way, Request, OfScript, OfLog, OfPair, Convert, Run, Gen, Hunt, Quarry, named_by}
+use Rattle.octet_top.specs.Request.{Way, Request, Tidy, Show, OfPair, Parallel, Convert, Run, Gen, Hunt, Quarry, named_by}
 use Rattle.octet_top.specs.Inputs.{IsScriptRead, IsLogRead, IsScriptChosen, IsPairRead, Refusal, Ends, WasRefused, TakesOne, TakesBoth}
 use Rattle.octet_top.specs.Checked.{IsPairTaken, IsFittingTaken}
-use Rattle.octet_top.specs.Commands.{Answering, Answers, ScriptAnswers, LogAnswers, RunAnswers, RequestAnswers, Matching, PairReplays, Converts, IsGeneration, HuntAnswers}
+use Rattle.octet_top.specs.Commands.{Answering, Answers, TidyAnswers, ShowAnswers, RunAnswers, RequestAnswers, Matching, PairReplays, ParallelReplays, Converts, IsGeneration, HuntAnswers}
 use Rattle.octet_top.specs.Replies.{Finds, Replies, IsNoSuccess, TakesFiles}
 use Rattle.octet_top.proofs.answering.Steps.{as_short, both_as_short, one_keeps, both_keep}
 use Rattle.octet_top.proofs.answering.Rows.{Refuses, not_done, script_refused, chosen_refused, log_refused, pair_refused}
@@ -66,22 +64,22 @@ module _ (request : Request) (name : List ℕ) (limit : ℕ) (T : Type 0) (Readi
     write_faults = (one_keeps name limit (Unit {0}) before after calls).1;
   }
 
--- tasks on a script, tasks on a log, and runs of a script
-module _ (task : ScriptTask) (script : List ℕ) where
+-- a script alone, a log alone, and runs of a script
+module _ (script : List ℕ) where
   pub script_read : (before after : DeskState) (input : Source) (result : Result Reply NoMemory) → Ends (IsScriptRead script before.contents) before.take_faults (Ok input) after.take_faults → TakesOne script MAX_SCRIPT_FILE (WasRefused {T = Source} {E = Refusal} (Ok input)) before after
-      → IfOk result (λ reply. ScriptAnswers task input (answer_of reply)) → Replies (Some (OfScript task script)) before result after
-  script_read = one_read (OfScript task script) script MAX_SCRIPT_FILE Source (IsScriptRead script) (ScriptAnswers task) (λ short before after calls. calls) (λ contents answer answers. answers) (script_refused script)
+      → IfOk result (λ reply. TidyAnswers input (answer_of reply)) → Replies (Some (Tidy script)) before result after
+  script_read = one_read (Tidy script) script MAX_SCRIPT_FILE Source (IsScriptRead script) TidyAnswers (λ short before after calls. calls) (λ contents answer answers. answers) (script_refused script)
 
-  pub script_stops : (before after : DeskState) (stop : Refusal) → Ends (IsScriptRead script before.contents) before.take_faults (Err stop) after.take_faults → TakesOne script MAX_SCRIPT_FILE (WasRefused {T = Source} (Err stop)) before after → Replies (Some (OfScript task script)) before stop after
-  script_stops = one_stops (OfScript task script) script MAX_SCRIPT_FILE Source (IsScriptRead script) (ScriptAnswers task) (λ short before after calls. calls) (λ contents answer answers. answers) (script_refused script)
+  pub script_stops : (before after : DeskState) (stop : Refusal) → Ends (IsScriptRead script before.contents) before.take_faults (Err stop) after.take_faults → TakesOne script MAX_SCRIPT_FILE (WasRefused {T = Source} (Err stop)) before after → Replies (Some (Tidy script)) before stop after
+  script_stops = one_stops (Tidy script) script MAX_SCRIPT_FILE Source (IsScriptRead script) TidyAnswers (λ short before after calls. calls) (λ contents answer answers. answers) (script_refused script)
 
-module _ (task : LogTask) (log : List ℕ) where
+module _ (log : List ℕ) where
   pub log_read : (before after : DeskState) (input : Loaded) (result : Result Reply NoMemory) → Ends (IsLogRead log before.contents) before.take_faults (Ok input) after.take_faults → TakesOne log MAX_LOG_FILE (WasRefused {T = Loaded} {E = Refusal} (Ok input)) before after
-      → IfOk result (λ reply. LogAnswers task input (answer_of reply)) → Replies (Some (OfLog task log)) before result after
-  log_read = one_read (OfLog task log) log MAX_LOG_FILE Loaded (IsLogRead log) (LogAnswers task) (λ short before after calls. calls) (λ contents answer answers. answers) (log_refused log)
+      → IfOk result (λ reply. ShowAnswers input (answer_of reply)) → Replies (Some (Show log)) before result after
+  log_read = one_read (Show log) log MAX_LOG_FILE Loaded (IsLogRead log) ShowAnswers (λ short before after calls. calls) (λ contents answer answers. answers) (log_refused log)
 
-  pub log_stops : (before after : DeskState) (stop : Refusal) → Ends (IsLogRead log before.contents) before.take_faults (Err stop) after.take_faults → TakesOne log MAX_LOG_FILE (WasRefused {T = Loaded} (Err stop)) before after → Replies (Some (OfLog task log)) before stop after
-  log_stops = one_stops (OfLog task log) log MAX_LOG_FILE Loaded (IsLogRead log) (LogAnswers task) (λ short before after calls. calls) (λ contents answer answers. answers) (log_refused log)
+  pub log_stops : (before after : DeskState) (stop : Refusal) → Ends (IsLogRead log before.contents) before.take_faults (Err stop) after.take_faults → TakesOne log MAX_LOG_FILE (WasRefused {T = Loaded} (Err stop)) before after → Replies (Some (Show log)) before stop after
+  log_stops = one_stops (Show log) log MAX_LOG_FILE Loaded (IsLogRead log) ShowAnswers (λ short before after calls. calls) (λ contents answer answers. answers) (log_refused log)
 
 module _ (way : Way) (script log : List ℕ) where
   pub run_read : (before after : DeskState) (input : Source) (result : Result Reply NoMemory) → Ends (IsScriptRead script before.contents) before.take_faults (Ok input) after.take_faults → TakesOne script MAX_SCRIPT_FILE (WasRefused {T = Source} {E = Refusal} (Ok input)) before after
@@ -151,6 +149,13 @@ module _ (task : PairTask) (script log : List ℕ) (object : Option (List ℕ)) 
 
   pub both_stop : (before after : DeskState) (stop : Refusal) → IsFittingTaken script log object before (Err stop) after → Replies (Some (OfPair task script log object)) before stop after
   both_stop = two_stop (OfPair task script log object) script log object (PairReplays task) (λ short before after calls. calls) (λ contents answer answers. answers)
+
+module _ (script log : List ℕ) where
+  pub parallel_read : (before after : DeskState) (pair : Pair) (result : Result Reply NoMemory) → IsFittingTaken script log None before (Ok pair) after → IfOk result (λ reply. ParallelReplays pair (answer_of reply)) → Replies (Some (Parallel script log)) before result after
+  parallel_read = two_read (Parallel script log) script log None ParallelReplays (λ short before after calls. calls) (λ contents answer answers. answers)
+
+  pub parallel_stop : (before after : DeskState) (stop : Refusal) → IsFittingTaken script log None before (Err stop) after → Replies (Some (Parallel script log)) before stop after
+  parallel_stop = two_stop (Parallel script log) script log None ParallelReplays (λ short before after calls. calls) (λ contents answer answers. answers)
 
 module _ (script log out : List ℕ) where
   pub conversion_read : (before after : DeskState) (pair : Pair) (result : Result Reply NoMemory) → IsFittingTaken script log None before (Ok pair) after → IfOk result (λ reply. Converts out pair (answer_of reply)) → Replies (Some (Convert script log out)) before result after

@@ -18,19 +18,15 @@ use Rattle.octet_slice.specs.declared.slicing.SliceFault.TheVariants.{NoThread, 
 use Rattle.octet_slice.specs.Slice.{HasEvent, HasSliceCause}
 use Rattle.octet_top.specs.declared.inputs.Source.{Source}
 use Rattle.octet_top.specs.declared.inputs.Pair.{Pair}
-use Rattle.octet_top.specs.declared.request.ScriptTask.{ScriptTask}
-use Rattle.octet_top.specs.declared.request.ScriptTask.TheVariants.{Tidy}
-use Rattle.octet_top.specs.declared.request.LogTask.{LogTask}
-use Rattle.octet_top.specs.declared.request.LogTask.TheVariants.{Show}
 use Rattle.octet_top.specs.declared.request.PairTask.{PairTask}
-use Rattle.octet_top.specs.declared.request.PairTask.TheVariants.{Replay, Parallel, Verify, Regions, Slice, Stop, Trace, Profile}
+use Rattle.octet_top.specs.declared.request.PairTask.TheVariants.{Replay, Verify, Regions, Slice, Stop, Trace, Profile}
 use Rattle.octet_top.specs.declared.reply.Status.{Status}
 use Rattle.octet_top.specs.declared.reply.Status.TheVariants as exit
 use Rattle.octet_log.specs.declared.loader.Loaded.{Loaded}
 use Rattle.octet_top.specs.Answer.{Answer, verdict_said}
-use Rattle.octet_top.specs.Request.{Way, Request, OfScript, OfLog, OfPair, Convert, Run, Gen, Hunt, Quarry, OtherEnd, AnyCycle, named_by, outputs_of, outputs_in}
+use Rattle.octet_top.specs.Request.{Way, Request, Tidy, Show, OfPair, Parallel, Convert, Run, Gen, Hunt, Quarry, OtherEnd, AnyCycle, named_by, outputs_of, outputs_in}
 use Rattle.octet_top.specs.Inputs.{IsTaken, IsScriptRead, IsLogRead, IsScriptChosen, IsPairRead}
-use Rattle.octet_top.specs.Commands.{Answers, RequestAnswers, ScriptAnswers, LogAnswers, PairSays, RunAnswers, none_found}
+use Rattle.octet_top.specs.Commands.{Answers, RequestAnswers, TidyAnswers, ShowAnswers, OutcomeSays, WhereOrdered, PairSays, RunAnswers, none_found}
 
 -- a status that comes with a refusal
 abbrev pub is_refusal : Status → Bool
@@ -133,11 +129,11 @@ pub pair_refused : (script log : List ℕ) (object : Option (List ℕ)) (content
 pair_refused script log object contents answer read = unread_refuses answer (pair_unread script log object contents answer read)
 
 -- the rows
-pub script_row : (task : ScriptTask) (source : Source) (answer : Answer) → ScriptAnswers task source answer → IsDone [] answer
-script_row Tidy source answer is = done [] answer _ is refl refl
+pub tidy_row : (source : Source) (answer : Answer) → TidyAnswers source answer → IsDone [] answer
+tidy_row source answer is = done [] answer _ is refl refl
 
-pub log_row : (task : LogTask) (loaded : Loaded) (answer : Answer) → LogAnswers task loaded answer → IsDone [] answer
-log_row Show loaded answer is = done [] answer _ is refl refl
+pub show_row : (loaded : Loaded) (answer : Answer) → ShowAnswers loaded answer → IsDone [] answer
+show_row loaded answer is = done [] answer _ is refl refl
 
 pub run_row : (way : Way) (log : List ℕ) (source : Source) (answer : Answer) → RunAnswers way log source answer → IsDone (log ∷ []) answer
 run_row way log source answer (recorded, outcome, bytes, records, file, is) = done (log ∷ []) answer _ is refl refl
@@ -152,7 +148,6 @@ HasSerialOrder pair = let accesses = accesses_of pair.source.script pair.loaded.
 
 -- the tasks that judge whether journals are ordered, and whether regions are serial
 abbrev pub JudgesOrder : PairTask → Type 0
-JudgesOrder Parallel = Unit {0}
 JudgesOrder Verify = Unit {0}
 JudgesOrder Regions = Unit {0}
 JudgesOrder (Slice thread event) = Unit {0}
@@ -178,7 +173,6 @@ pub data PairRow (task : PairTask) (pair : Pair) (answer : Answer) : Type 0 wher
 pub has_event : (task : PairTask) (pair : Pair) → JudgesRegions task → HasItsEvent task pair
 has_event Regions pair judges = tt
 has_event Replay pair judges = absurd judges
-has_event Parallel pair judges = absurd judges
 has_event Verify pair judges = absurd judges
 has_event (Slice thread event) pair judges = absurd judges
 has_event (Stop value) pair judges = absurd judges
@@ -204,8 +198,6 @@ pair_row Trace pair answer is = AllDone (done [] answer _ is refl refl) (λ neve
 pair_row (Stop value) pair answer (found, is_found, is) = AllDone (done [] answer _ is refl refl) (λ never. absurd never) (λ never. absurd never) tt
 pair_row Verify pair answer (verdict.Ordered, verified, is) = AllDone (done [] answer _ is refl refl) (λ judges. verified.told.ordered.0 refl) (λ never. absurd never) tt
 pair_row Verify pair answer (verdict.Unordered first second, verified, is) = not_ordered Verify pair answer first second verified is tt
-pair_row Parallel pair answer (verdict.Ordered, verified, is) = AllDone (done [] answer _ is refl refl) (λ judges. verified.told.ordered.0 refl) (λ never. absurd never) tt
-pair_row Parallel pair answer (verdict.Unordered first second, verified, is) = not_ordered Parallel pair answer first second verified is tt
 pair_row Regions pair answer (verdict.Unordered first second, verified, is) = not_ordered Regions pair answer first second verified is tt
 pair_row Regions pair answer (verdict.Ordered, verified, (serial.Order regions, found, shown, is)) =
     AllDone (done [] answer _ is refl refl) (λ judges. verified.told.ordered.0 refl) (λ judges. (regions, found.0, found.1)) tt
@@ -224,6 +216,20 @@ row_done task pair answer (NotOrdered row is judges apart) = inr row
 row_done task pair answer (NotSerial row is judges ordered apart) = inr row
 row_done task pair answer (NotThere row is ordered none) = inr row
 
+-- `parallel` has done all where the journals are ordered, and refuses where they are not
+pub data ParallelRow (pair : Pair) (answer : Answer) : Type 0 where
+  Replayed : IsDone [] answer → HasOrderedJournals pair → ParallelRow pair answer
+  Apart : Refuses answer → answer.status ≡ exit.Unordered → ¬ HasOrderedJournals pair → ParallelRow pair answer
+
+pub parallel_row : (pair : Pair) (answer : Answer) → WhereOrdered (OutcomeSays pair) pair answer → ParallelRow pair answer
+parallel_row pair answer (verdict.Ordered, verified, is) = Replayed (done [] answer _ is refl refl) (verified.told.ordered.0 refl)
+parallel_row pair answer (verdict.Unordered first second, verified, is) =
+    Apart (refuses answer _ is refl refl) (ap (λ (a : Answer). a.status) is) (λ ordered. (let never = verified.told.ordered.1 ordered in cc))
+
+parallel_done : (pair : Pair) (answer : Answer) → ParallelRow pair answer → IsDone [] answer ⊎ Refuses answer
+parallel_done pair answer (Replayed row ordered) = inl row
+parallel_done pair answer (Apart row is apart) = inr row
+
 -- a hunt that finds nothing says so, and writes nothing
 pub none_status : (quarry : Quarry) (tries : ℕ) → (none_found quarry tries).status ≡ exit.NotFound
 none_status (OtherEnd name number) tries = refl
@@ -235,14 +241,18 @@ none_files AnyCycle tries = refl
 
 -- what a request is answered with: all is done, and its files are written, or it is refused
 pub request_row : (request : Request) (contents : Option Contents) (answer : Answer) → RequestAnswers request contents answer → IsDone (outputs_of request) answer ⊎ Refuses answer
-request_row (OfScript task script) contents answer (inl read) = inr (script_refused script contents answer read)
-request_row (OfScript task script) contents answer (inr (source, read, is)) = inl (script_row task source answer is)
-request_row (OfLog task log) contents answer (inl read) = inr (log_refused log contents answer read)
-request_row (OfLog task log) contents answer (inr (read, is-read, is)) = inl (log_row task read answer is)
+request_row (Tidy script) contents answer (inl read) = inr (script_refused script contents answer read)
+request_row (Tidy script) contents answer (inr (source, read, is)) = inl (tidy_row source answer is)
+request_row (Show log) contents answer (inl read) = inr (log_refused log contents answer read)
+request_row (Show log) contents answer (inr (read, is-read, is)) = inl (show_row read answer is)
 request_row (OfPair task script log object) contents answer (inl read) = inr (pair_refused script log object contents answer read)
 request_row (OfPair task script log object) contents answer (inr (pair, read, inl (fault, other, is))) = inr (refuses answer _ is refl refl)
 request_row (OfPair task script log object) contents answer (inr (pair, read, inr (own, inl (fault, memory, cause, is)))) = inr (refuses answer _ is refl refl)
 request_row (OfPair task script log object) contents answer (inr (pair, read, inr (own, inr (lawful, says)))) = row_done task pair answer (pair_row task pair answer says)
+request_row (Parallel script log) contents answer (inl read) = inr (pair_refused script log None contents answer read)
+request_row (Parallel script log) contents answer (inr (pair, read, inl (fault, other, is))) = inr (refuses answer _ is refl refl)
+request_row (Parallel script log) contents answer (inr (pair, read, inr (own, inl (fault, memory, cause, is)))) = inr (refuses answer _ is refl refl)
+request_row (Parallel script log) contents answer (inr (pair, read, inr (own, inr (lawful, says)))) = parallel_done pair answer (parallel_row pair answer says)
 request_row (Convert script log out) contents answer (inl read) = inr (pair_refused script log None contents answer read)
 request_row (Convert script log out) contents answer (inr (pair, read, inl (fault, other, is))) = inr (refuses answer _ is refl refl)
 request_row (Convert script log out) contents answer (inr (pair, read, inr (own, inl (of_script, of_log, differ, is)))) = inr (refuses answer _ is refl refl)

@@ -12,7 +12,7 @@ use Rattle.octet_top.specs.declared.reply.Reply.{Reply}
 use Rattle.octet_top.specs.declared.reply.Status.{Status}
 use Rattle.octet_top.specs.declared.reply.Status.TheVariants as exit
 use Rattle.octet_top.specs.Answer.{Answer, answer_of, code_of, read_failed, writes_file}
-use Rattle.octet_top.specs.Request.{Request, OfScript, OfLog, OfPair, Convert, Run, AsTheyCome, BehindLock, ByPicks, Gen, Hunt, request_in}
+use Rattle.octet_top.specs.Request.{Request, Tidy, Show, OfPair, Parallel, Convert, Run, AsTheyCome, BehindLock, ByPicks, Gen, Hunt, request_in}
 use Rattle.octet_top.specs.Commands.{Answers, IsAnswer}
 use Rattle.octet_top.specs.Replies.{Replies}
 use Rattle.octet_top.specs.Delivery.{Act, Begin, Add, Finish, Say, Does, Makes, IsRefused, acts_of, code_given, IsGiven}
@@ -211,9 +211,10 @@ module _ (words : List (List ℕ)) (before after : DeskState) (code : ℕ) where
   ends_by (Some (Run AsTheyCome script log)) asked (inr live) = live_ends script log asked live
   ends_by (Some (Run BehindLock script log)) asked served = replied_ends (subst (λ (r : Option Request). IsReplied r before after code) (sym asked) served)
   ends_by (Some (Run (ByPicks picks) script log)) asked served = replied_ends (subst (λ (r : Option Request). IsReplied r before after code) (sym asked) served)
-  ends_by (Some (OfScript task script)) asked served = replied_ends (subst (λ (r : Option Request). IsReplied r before after code) (sym asked) served)
-  ends_by (Some (OfLog task log)) asked served = replied_ends (subst (λ (r : Option Request). IsReplied r before after code) (sym asked) served)
+  ends_by (Some (Tidy script)) asked served = replied_ends (subst (λ (r : Option Request). IsReplied r before after code) (sym asked) served)
+  ends_by (Some (Show log)) asked served = replied_ends (subst (λ (r : Option Request). IsReplied r before after code) (sym asked) served)
   ends_by (Some (OfPair task script log object)) asked served = replied_ends (subst (λ (r : Option Request). IsReplied r before after code) (sym asked) served)
+  ends_by (Some (Parallel script log)) asked served = replied_ends (subst (λ (r : Option Request). IsReplied r before after code) (sym asked) served)
   ends_by (Some (Convert script log out)) asked served = replied_ends (subst (λ (r : Option Request). IsReplied r before after code) (sym asked) served)
   ends_by (Some (Gen number script log)) asked served = replied_ends (subst (λ (r : Option Request). IsReplied r before after code) (sym asked) served)
   ends_by (Some (Hunt quarry script log tries)) asked served = replied_ends (subst (λ (r : Option Request). IsReplied r before after code) (sym asked) served)

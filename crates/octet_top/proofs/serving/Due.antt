@@ -23,13 +23,13 @@ use Rattle.octet_top.specs.declared.request.PairTask.{PairTask}
 use Rattle.octet_top.specs.declared.reply.Status.{Status}
 use Rattle.octet_top.specs.declared.reply.Status.TheVariants as exit
 use Rattle.octet_top.specs.Answer.{Answer, code_of, not_a_command, read_failed, too_long, script_refused, log_refused}
-use Rattle.octet_top.specs.Request.{Request, OfScript, OfLog, OfPair, Convert, Run, Gen, Hunt, Quarry, named_by, request_in}
+use Rattle.octet_top.specs.Request.{Request, Tidy, Show, OfPair, Parallel, Convert, Run, Gen, Hunt, Quarry, named_by, request_in}
 use Rattle.octet_top.specs.Inputs.{◌>>=◌, IsTaken, IsParsed, IsDecoded, IsChosen, IsScriptRead, IsLogRead, IsScriptChosen, IsPairRead}
 use Rattle.octet_top.specs.Serving.{IsServed}
 use Rattle.octet_top.specs.Causes.{IsDue, FindsOrNot, NoneFailed}
 use Rattle.octet_top.proofs.serving.Causes.{Ending, Whole, CutShort, Lacking, ended}
-use Rattle.octet_top.proofs.answering.Rows.{PairRow, AllDone, NotOrdered, NotSerial, NotThere, has_event, script_row, log_row, pair_row, run_row, none_status}
-use Rattle.octet_top.specs.Commands.{Answering, Answers, RequestAnswers, IsAnswer, ScriptAnswers, LogAnswers, Matching, PairReplays, PairAnswers, Converts, ConvertAnswers, RunAnswers, HuntAnswers}
+use Rattle.octet_top.proofs.answering.Rows.{PairRow, AllDone, NotOrdered, NotSerial, NotThere, ParallelRow, Replayed, Apart, has_event, tidy_row, show_row, pair_row, parallel_row, run_row, none_status}
+use Rattle.octet_top.specs.Commands.{Answering, Answers, RequestAnswers, IsAnswer, TidyAnswers, ShowAnswers, Matching, PairReplays, PairAnswers, ParallelReplays, ParallelAnswers, Converts, ConvertAnswers, RunAnswers, HuntAnswers}
 
 -- a step ends in one way
 pub record Single {A : Type 0} (Step : Result A Answer → Type 0) : Type 0 where
@@ -167,6 +167,19 @@ replays_status task pair a b (inl p) (inr (lawful, says)) = absurd (not_refused 
 replays_status task pair a b (inr (lawful, says)) (inl q) = absurd (not_refused pair.source.script pair.loaded.log.threads q.0 lawful q.1 q.2)
 replays_status task pair a b (inr (lawful, says)) (inr (lawful', says')) = pair_same task pair a b (pair_row task pair a says) (pair_row task pair b says')
 
+-- and so have two of `parallel`
+parallel_same : (pair : Pair) (a b : Answer) → ParallelRow pair a → ParallelRow pair b → a.status ≡ b.status
+parallel_same pair a b (Replayed row ordered) (Replayed row' ordered') = row.status ∙ sym row'.status
+parallel_same pair a b (Replayed row ordered) (Apart row' is' apart) = absurd (apart ordered)
+parallel_same pair a b (Apart row is apart) (Replayed row' ordered) = absurd (apart ordered)
+parallel_same pair a b (Apart row is apart) (Apart row' is' apart') = is ∙ sym is'
+
+parallel_status : (pair : Pair) (a b : Answer) → ParallelReplays pair a → ParallelReplays pair b → a.status ≡ b.status
+parallel_status pair a b (inl p) (inl q) = as_said a b _ _ p.3 q.3 refl
+parallel_status pair a b (inl p) (inr (lawful, says)) = absurd (not_refused pair.source.script pair.loaded.log.threads p.0 lawful p.1 p.2)
+parallel_status pair a b (inr (lawful, says)) (inl q) = absurd (not_refused pair.source.script pair.loaded.log.threads q.0 lawful q.1 q.2)
+parallel_status pair a b (inr (lawful, says)) (inr (lawful', says')) = parallel_same pair a b (parallel_row pair a says) (parallel_row pair b says')
+
 -- a conversion has one status
 converts_status : (out : List ℕ) (pair : Pair) (a b : Answer) → Converts out pair a → Converts out pair b → a.status ≡ b.status
 converts_status out pair a b (inl p) (inl q) = as_said a b _ _ p.3 q.3 refl
@@ -208,12 +221,14 @@ hunt_status t quarry script log tries a b (inr (x, is, p)) (inr (y, is', q)) = b
 -- two answers to words have one status, or the words ask for a hunt
 answers_status : (words : List (List ℕ)) (t : Contents) (request : Option Request) (a b : Answer) → request_in words ≡ request → Answers request (Some t) a → Answers request (Some t) b → (a.status ≡ b.status) ⊎ FindsOrNot words a.status b.status
 answers_status words t None a b asked is is' = inl (as_said a b not_a_command not_a_command is is' refl)
-answers_status words t (Some (OfScript task script)) a b asked p q =
-    inl (one_status (IsScriptRead script (Some t)) (ScriptAnswers task) (script_single t script) (λ source x y p q. (script_row task source x p).status ∙ sym (script_row task source y q).status) a b p q)
-answers_status words t (Some (OfLog task log)) a b asked p q =
-    inl (one_status (IsLogRead log (Some t)) (LogAnswers task) (log_single t log) (λ read x y p q. (log_row task read x p).status ∙ sym (log_row task read y q).status) a b p q)
+answers_status words t (Some (Tidy script)) a b asked p q =
+    inl (one_status (IsScriptRead script (Some t)) TidyAnswers (script_single t script) (λ source x y p q. (tidy_row source x p).status ∙ sym (tidy_row source y q).status) a b p q)
+answers_status words t (Some (Show log)) a b asked p q =
+    inl (one_status (IsLogRead log (Some t)) ShowAnswers (log_single t log) (λ read x y p q. (show_row read x p).status ∙ sym (show_row read y q).status) a b p q)
 answers_status words t (Some (OfPair task script log object)) a b asked p q =
     inl (one_status (IsPairRead script log object (Some t)) (PairAnswers task) (pair_single t script log object) (λ pair. matching_status pair (PairReplays task pair) (replays_status task pair)) a b p q)
+answers_status words t (Some (Parallel script log)) a b asked p q =
+    inl (one_status (IsPairRead script log None (Some t)) ParallelAnswers (pair_single t script log None) (λ pair. matching_status pair (ParallelReplays pair) (parallel_status pair)) a b p q)
 answers_status words t (Some (Convert script log out)) a b asked p q =
     inl (one_status (IsPairRead script log None (Some t)) (ConvertAnswers out) (pair_single t script log None) (λ pair. matching_status pair (Converts out pair) (converts_status out pair)) a b p q)
 answers_status words t (Some (Run task script log)) a b asked p q =

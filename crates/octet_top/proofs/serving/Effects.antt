@@ -6,18 +6,18 @@ use Rattle.octet_model.specs.Orders.{lowest_order}
 use Rattle.octet_replay.proofs.lemmas.OneAnswer.{faithful, not_refused}
 use Rattle.octet_top.specs.declared.inputs.Pair.{Pair}
 use Rattle.octet_top.specs.declared.request.PairTask.{PairTask}
-use Rattle.octet_top.specs.declared.request.PairTask.TheVariants.{Replay, Parallel, Verify, Regions, Slice, Stop, Trace, Profile}
+use Rattle.octet_top.specs.declared.request.PairTask.TheVariants.{Replay, Verify, Regions, Slice, Stop, Trace, Profile}
 use Rattle.octet_top.specs.declared.reply.Status.{Status}
 use Rattle.octet_top.specs.declared.reply.Status.TheVariants as exit
 use Rattle.octet_top.specs.Answer.{Answer, code_of}
-use Rattle.octet_top.specs.Request.{Request, OfScript, OfLog, OfPair, Convert, Run, Gen, Hunt, named_by, request_in, outputs_in}
-use Rattle.octet_top.specs.Commands.{Answers, RequestAnswers, PairAnswers, ConvertAnswers, IsAnswer}
+use Rattle.octet_top.specs.Request.{Request, Tidy, Show, OfPair, Parallel, Convert, Run, Gen, Hunt, named_by, request_in, outputs_in}
+use Rattle.octet_top.specs.Commands.{Answers, RequestAnswers, PairAnswers, ParallelAnswers, ConvertAnswers, IsAnswer}
 use Rattle.octet_top.specs.Serving.{IsServed}
 use Rattle.octet_top.specs.Outputs.{written, ArePartlyWritten}
 use Rattle.octet_top.specs.Causes.{NoneFailed}
 use Rattle.octet_top.specs.Effects.{IsStatus, CountsFailures, IsUntouched, IsCut, IsDelivered, IsGivenAnswer, Leaves, LeavesLog, IsOneOf, KeepsOthers, KeepsFiles, HasFiles, MayLack, MayEndWith, IsCompleted, IsWellMet}
 use Rattle.octet_top.proofs.serving.Causes.{Ending, Whole, CutShort, Lacking, IsFound, IsShort, ended}
-use Rattle.octet_top.proofs.answering.Rows.{AllDone, NotOrdered, NotSerial, NotThere, HasItsEvent, JudgesRegions, IsDone, Refuses, is_refusal, answers_row, request_row, script_row, log_row, pair_row, run_row, none_status}
+use Rattle.octet_top.proofs.answering.Rows.{AllDone, NotOrdered, NotSerial, NotThere, Replayed, Apart, HasItsEvent, JudgesRegions, IsDone, Refuses, is_refusal, answers_row, request_row, tidy_row, show_row, pair_row, parallel_row, run_row, none_status}
 use Rattle.octet_top.proofs.serving.Due.{script_single, log_single, script_chosen_single, pair_single, not_of_another, comes}
 use Rattle.octet_top.proofs.writing.Left.{get-other}
 
@@ -108,7 +108,6 @@ module _ (words : List (List ℕ)) (before after : DeskState) (code : ℕ) (serv
 may_cycle : (task : PairTask) → JudgesRegions task → MayLack task exit.Cycle
 may_cycle Regions judges = tt
 may_cycle Replay judges = absurd judges
-may_cycle Parallel judges = absurd judges
 may_cycle Verify judges = absurd judges
 may_cycle (Slice thread event) judges = absurd judges
 may_cycle (Stop value) judges = absurd judges
@@ -119,7 +118,6 @@ may_cycle Profile judges = absurd judges
 may_lack_event : (task : PairTask) (pair : Pair) → ¬ HasItsEvent task pair → MayLack task exit.NoEvent
 may_lack_event (Slice thread event) pair none = tt
 may_lack_event Replay pair none = absurd (none tt)
-may_lack_event Parallel pair none = absurd (none tt)
 may_lack_event Verify pair none = absurd (none tt)
 may_lack_event Regions pair none = absurd (none tt)
 may_lack_event (Stop value) pair none = absurd (none tt)
@@ -132,10 +130,10 @@ IsMet request answer = (answer.status ≡ exit.Done) ⊎ ((status : Status) × M
 
 -- so is each answer where all files are as they should be
 met_done : (request : Request) (contents : Contents) (answer : Answer) → HasFiles request contents → RequestAnswers request (Some contents) answer → IsMet request answer
-met_done (OfScript task script) contents answer (source, read) (inl refused) = absurd ((script_single contents script).never source answer read refused)
-met_done (OfScript task script) contents answer (source, read) (inr (other, is, answers)) = inl (script_row task other answer answers).status
-met_done (OfLog task log) contents answer (read, there) (inl refused) = absurd ((log_single contents log).never read answer there refused)
-met_done (OfLog task log) contents answer (read, there) (inr (other, is, answers)) = inl (log_row task other answer answers).status
+met_done (Tidy script) contents answer (source, read) (inl refused) = absurd ((script_single contents script).never source answer read refused)
+met_done (Tidy script) contents answer (source, read) (inr (other, is, answers)) = inl (tidy_row other answer answers).status
+met_done (Show log) contents answer (read, there) (inl refused) = absurd ((log_single contents log).never read answer there refused)
+met_done (Show log) contents answer (read, there) (inr (other, is, answers)) = inl (show_row other answer answers).status
 met_done (OfPair task script log object) contents answer (pair, outcome, read, own, recording) (inl refused) = absurd ((pair_single contents script log object).never pair answer read refused)
 met_done (OfPair task script log object) contents answer (pair, outcome, read, own, recording) (inr (other, is, answers)) =
     fits (subst (λ (p : Pair). PairAnswers task p answer) ((pair_single contents script log object).one other pair is read) answers)
@@ -148,6 +146,17 @@ met_done (OfPair task script log object) contents answer (pair, outcome, read, o
       | NotOrdered row is judges apart ↦ absurd (apart (recording.ordered (lowest_order pair.source.script pair.loaded.log.threads) (faithful pair.source.script pair.loaded.log.threads outcome recording).0))
       | NotSerial row is judges ordered apart ↦ inr (exit.Cycle, may_cycle task judges, is)
       | NotThere row is ordered none ↦ inr (exit.NoEvent, may_lack_event task pair none, is)
+    ]
+met_done (Parallel script log) contents answer (pair, outcome, read, own, recording) (inl refused) = absurd ((pair_single contents script log None).never pair answer read refused)
+met_done (Parallel script log) contents answer (pair, outcome, read, own, recording) (inr (other, is, answers)) =
+    fits (subst (λ (p : Pair). ParallelAnswers p answer) ((pair_single contents script log None).one other pair is read) answers)
+  where
+    fits : ParallelAnswers pair answer → IsMet (Parallel script log) answer
+    fits (inl (fault, another, is)) = absurd (not_of_another pair.source.text pair.loaded.digest fault own another)
+    fits (inr (mine, inl (fault, memory, cause, is))) = absurd (not_refused pair.source.script pair.loaded.log.threads fault (faithful pair.source.script pair.loaded.log.threads outcome recording).0 memory cause)
+    fits (inr (mine, inr (lawful, says))) = elim (parallel_row pair answer says) [
+      | Replayed row ordered ↦ inl row.status
+      | Apart row is apart ↦ absurd (apart (recording.ordered (lowest_order pair.source.script pair.loaded.log.threads) (faithful pair.source.script pair.loaded.log.threads outcome recording).0))
     ]
 met_done (Convert script log out) contents answer (pair, outcome, read, own, recording) (inl refused) = absurd ((pair_single contents script log None).never pair answer read refused)
 met_done (Convert script log out) contents answer (pair, outcome, read, own, recording) (inr (other, is, answers)) =

@@ -4,7 +4,9 @@ use Rattle.octet_base.specs.Desk.{Contents, DeskState}
 use Rattle.octet_model.specs.declared.outcome.Outcome.{Outcome}
 use Rattle.octet_model.specs.Orders.{execution, lowest_order}
 use Rattle.octet_model.specs.Texts.{outcome_text}
+use Rattle.octet_replay.specs.declared.fault.ReplayFault.{ReplayFault}
 use Rattle.octet_replay.specs.Fit.{IsOfScript, IsOfAnother}
+use Rattle.octet_replay.specs.Line.{fit_line}
 use Rattle.octet_replay.specs.Judged.{IsLawful}
 use Rattle.octet_replay.proofs.lemmas.OneAnswer.{faithful}
 use Rattle.octet_clock.specs.declared.verdict.Verdict.{Verdict}
@@ -12,14 +14,14 @@ use Rattle.octet_clock.specs.declared.verdict.Verdict.TheVariants as verdict
 use Rattle.octet_clock.specs.Verified.{IsVerified}
 use Rattle.octet_top.specs.declared.inputs.Pair.{Pair}
 use Rattle.octet_top.specs.declared.request.PairTask.{PairTask}
-use Rattle.octet_top.specs.declared.request.PairTask.TheVariants.{Replay, Parallel, Verify, Regions, Slice, Stop, Trace}
+use Rattle.octet_top.specs.declared.request.PairTask.TheVariants.{Replay, Verify, Regions, Slice, Stop, Trace}
 use Rattle.octet_top.specs.declared.reply.Status.{Status}
 use Rattle.octet_top.specs.declared.reply.Status.TheVariants.{Done, Misfit, Unordered, Cycle, NoEvent}
 use Rattle.octet_top.specs.Answer.{Answer, code_of, says, verdict_said}
 use Rattle.octet_top.specs.Slices.{slice_line}
-use Rattle.octet_top.specs.Request.{Request, request_in, OfPair}
+use Rattle.octet_top.specs.Request.{Request, request_in, OfPair, Parallel}
 use Rattle.octet_top.specs.Inputs.{IsPairRead}
-use Rattle.octet_top.specs.Commands.{Answers, RequestAnswers, PairSays}
+use Rattle.octet_top.specs.Commands.{Answers, RequestAnswers, OutcomeSays, WhereOrdered, Answering, Matching, Fitting, PairSays, told_before}
 use Rattle.octet_top.specs.Serving.{IsServed}
 use Rattle.octet_top.specs.Outputs.{IsWhole}
 use Rattle.octet_top.specs.Promises.{IsOrderedPair, VerifiesOrdered, IsReplayedOnThreads, ReplaysOnThreads, IsFoundRegions, FindsRegions, RepeatsRecordings, IsSlicedPair, SlicesPasts, StopsAtFirst, TracesOrders, IsTracedMisfit, TracesMisfits}
@@ -29,28 +31,33 @@ use Rattle.octet_top.proofs.serving.Effects.{leaves}
 use Rattle.octet_top.proofs.serving.Promises.{Gives, at_status, at_success}
 use Rattle.octet_top.proofs.answering.Rows.{is_of_reading, not_of_reading, pair_unread}
 
--- script and log were taken, and are of each other, and this is what the task says of them
-record IsTold (task : PairTask) (script log : List ℕ) (object : Option (List ℕ)) (contents : Option Contents) (answer : Answer) : Type 0 where
+-- script and log were taken, and are of each other, and this is said of them
+record IsTold (Says : Pair → Answer → Type 0) (script log : List ℕ) (object : Option (List ℕ)) (contents : Option Contents) (answer : Answer) : Type 0 where
   pub pair : Pair
   pub read : IsPairRead script log object contents (Ok pair)
   pub of_script : IsOfScript pair.source.text pair.loaded.digest
   pub lawful : IsLawful pair.source.script pair.loaded.log.threads
-  pub says : PairSays task pair answer
+  pub says : Says pair answer
 
 -- an answer with another status than what is told has
 other : (answer said : Answer) (status : Status) → answer ≡ said → answer.status ≡ status → said.status ≡ status
 other answer said status is has = sym (ap (λ (a : Answer). a.status) is) ∙ has
 
--- a status that is neither that of a reading nor that of a misfit comes of what a task says
-told : (task : PairTask) (script log : List ℕ) (object : Option (List ℕ)) (contents : Option Contents) (answer : Answer) (status : Status) → is_of_reading status ≡ false → Misfit ≢ status
-    → RequestAnswers (OfPair task script log object) contents answer → answer.status ≡ status → IsTold task script log object contents answer
-told task script log object contents answer status read fits (inl refused) is = absurd (not_of_reading answer status read (pair_unread script log object contents answer refused) is)
-told task script log object contents answer status read fits (inr (pair, taken, inl (fault, another, said))) is = absurd (fits (other answer _ status said is))
-told task script log object contents answer status read fits (inr (pair, taken, inr (own, inl (fault, memory, cause, said)))) is = absurd (fits (other answer _ status said is))
-told task script log object contents answer status read fits (inr (pair, taken, inr (own, inr (lawful, says)))) is = record { pair = pair; read = taken; of_script = own; lawful = lawful; says = says }
+-- the answers by a script and a log: this is said where the log fits, and this text where it does not
+abbrev BothAnswer : (Says : Pair → Answer → Type 0) (misfit : Pair → ReplayFault → List ℕ) (script log : List ℕ) (object : Option (List ℕ)) → Option Contents → Answer → Type 0
+BothAnswer Says misfit script log object contents answer =
+    Answering (IsPairRead script log object contents) (λ pair. Matching (λ a. Fitting (λ fault. says Misfit (misfit pair fault)) (Says pair) pair.source.script pair.loaded.log.threads a) pair) answer
+
+-- a status that is neither that of a reading nor that of a misfit comes of what is said where the log fits
+told : (Says : Pair → Answer → Type 0) (misfit : Pair → ReplayFault → List ℕ) (script log : List ℕ) (object : Option (List ℕ)) (contents : Option Contents) (answer : Answer) (status : Status) → is_of_reading status ≡ false → Misfit ≢ status
+    → BothAnswer Says misfit script log object contents answer → answer.status ≡ status → IsTold Says script log object contents answer
+told Says misfit script log object contents answer status read fits (inl refused) is = absurd (not_of_reading answer status read (pair_unread script log object contents answer refused) is)
+told Says misfit script log object contents answer status read fits (inr (pair, taken, inl (fault, another, said))) is = absurd (fits (other answer _ status said is))
+told Says misfit script log object contents answer status read fits (inr (pair, taken, inr (own, inl (fault, memory, cause, said)))) is = absurd (fits (other answer _ status said is))
+told Says misfit script log object contents answer status read fits (inr (pair, taken, inr (own, inr (lawful, of_pair)))) is = record { pair = pair; read = taken; of_script = own; lawful = lawful; says = of_pair }
 
 -- what is told, of an ordered log
-abbrev ordered_pair : {task : PairTask} {script log : List ℕ} {contents : Option Contents} {answer : Answer} → (t : IsTold task script log None contents answer) → IsVerified t.pair.source.script t.pair.loaded.log.threads verdict.Ordered
+abbrev ordered_pair : {Says : Pair → Answer → Type 0} {script log : List ℕ} {contents : Option Contents} {answer : Answer} → (t : IsTold Says script log None contents answer) → IsVerified t.pair.source.script t.pair.loaded.log.threads verdict.Ordered
     → IsOrderedPair script log contents
 ordered_pair t checked = record { pair = t.pair; read = t.read; of_script = t.of_script; lawful = t.lawful; ordered = checked.told.ordered.0 refl; one_outcome = checked.one_outcome refl }
 
@@ -60,51 +67,61 @@ said contents contents' answer told given is = given.said ∙ ap (λ (a : Answer
 
 module _ (words : List (List ℕ)) (before after : DeskState) (code : ℕ) (served : IsServed (request_in words) before after code) where
   -- what was told with a status, and was given whole
-  record Told (task : PairTask) (script log : List ℕ) (object : Option (List ℕ)) (status : Status) (contents contents' : Contents) : Type 0 where
+  record Told (Says : Pair → Answer → Type 0) (script log : List ℕ) (object : Option (List ℕ)) (status : Status) (contents contents' : Contents) : Type 0 where
     pub answer : Answer
     pub done : answer.status ≡ status
     pub given : IsWhole answer contents contents'
-    pub is_told : IsTold task script log object (Some contents) answer
+    pub is_told : IsTold Says script log object (Some contents) answer
 
-  told_with : (task : PairTask) (script log : List ℕ) (object : Option (List ℕ)) (status : Status) (contents contents' : Contents) → is_of_reading status ≡ false → Misfit ≢ status
-      → request_in words ≡ Some (OfPair task script log object) → Gives status words contents contents' → Told task script log object status contents contents'
-  told_with task script log object status contents contents' read fits asked gives =
-      let answers = subst (λ (request : Option Request). Answers request (Some contents) gives.answer) asked gives.answers in
-      record { answer = gives.answer; done = gives.done; given = gives.given; is_told = told task script log object (Some contents) gives.answer status read fits answers gives.done }
+  told_with : (Says : Pair → Answer → Type 0) (misfit : Pair → ReplayFault → List ℕ) (script log : List ℕ) (object : Option (List ℕ)) (status : Status) (contents contents' : Contents) → is_of_reading status ≡ false → Misfit ≢ status
+      → (gives : Gives status words contents contents') → BothAnswer Says misfit script log object (Some contents) gives.answer → Told Says script log object status contents contents'
+  told_with Says misfit script log object status contents contents' read fits gives answers =
+      record { answer = gives.answer; done = gives.done; given = gives.given; is_told = told Says misfit script log object (Some contents) gives.answer status read fits answers gives.done }
+
+  -- and of a task on a script and a log
+  told_of : (task : PairTask) (script log : List ℕ) (object : Option (List ℕ)) (status : Status) (contents contents' : Contents) → is_of_reading status ≡ false → Misfit ≢ status
+      → request_in words ≡ Some (OfPair task script log object) → Gives status words contents contents' → Told (PairSays task) script log object status contents contents'
+  told_of task script log object status contents contents' read fits asked gives =
+      told_with (PairSays task) (λ pair fault. told_before task pair fault ++ fit_line fault) script log object status contents contents' read fits gives
+      (subst (λ (request : Option Request). Answers request (Some contents) gives.answer) asked gives.answers)
 
   told_done : (task : PairTask) (script log : List ℕ) (object : Option (List ℕ)) (contents contents' : Contents) → request_in words ≡ Some (OfPair task script log object) → code ≡ code_of Done → before.contents ≡ Some contents → after.contents ≡ Some contents'
-      → Told task script log object Done contents contents'
+      → Told (PairSays task) script log object Done contents contents'
   told_done task script log object contents contents' asked zero tells tells' =
-      told_with task script log object Done contents contents' refl (λ e. cc) asked (at_success words before after code contents contents' (leaves words before after code served) zero tells tells')
+      told_of task script log object Done contents contents' refl (λ e. cc) asked (at_success words before after code contents contents' (leaves words before after code served) zero tells tells')
 
   pub ordered : VerifiesOrdered words before code
   ordered script log asked zero =
       let (answer, answers, done) = has_cause words before after code served Done zero in
-      by answer (told Verify script log None before.contents answer Done refl (λ e. cc) (subst (λ request. Answers request before.contents answer) asked answers) done) done
+      by answer (told (PairSays Verify) (λ pair fault. told_before Verify pair fault ++ fit_line fault) script log None before.contents answer Done refl (λ e. cc) (subst (λ request. Answers request before.contents answer) asked answers) done) done
     where
-      of_verdict : (answer : Answer) (t : IsTold Verify script log None before.contents answer) (v : Verdict) → IsVerified t.pair.source.script t.pair.loaded.log.threads v → answer ≡ verdict_said v → answer.status ≡ Done → IsOrderedPair script log before.contents
+      of_verdict : (answer : Answer) (t : IsTold (PairSays Verify) script log None before.contents answer) (v : Verdict) → IsVerified t.pair.source.script t.pair.loaded.log.threads v → answer ≡ verdict_said v → answer.status ≡ Done → IsOrderedPair script log before.contents
       of_verdict answer t verdict.Ordered checked is done = ordered_pair t checked
       of_verdict answer t (verdict.Unordered first second) checked is done = absurd (let never : Unordered ≡ Done = other answer (verdict_said (verdict.Unordered first second)) Done is done in cc)
 
-      by : (answer : Answer) → IsTold Verify script log None before.contents answer → answer.status ≡ Done → IsOrderedPair script log before.contents
+      by : (answer : Answer) → IsTold (PairSays Verify) script log None before.contents answer → answer.status ≡ Done → IsOrderedPair script log before.contents
       by answer t done = of_verdict answer t t.says.0 t.says.1 t.says.2 done
 
   pub replays_on_threads : ReplaysOnThreads words before after code
-  replays_on_threads script log contents contents' asked zero tells tells' = let t = told_done Parallel script log None contents contents' asked zero tells tells' in by t t.is_told.says
+  replays_on_threads script log contents contents' asked zero tells tells' =
+      let gives = at_success words before after code contents contents' (leaves words before after code served) zero tells tells' in
+      let t = told_with (λ pair. WhereOrdered (OutcomeSays pair) pair) (λ pair fault. fit_line fault) script log None Done contents contents' refl (λ e. cc) gives
+      (subst (λ (request : Option Request). Answers request (Some contents) gives.answer) asked gives.answers) in
+      by t t.is_told.says
     where
-      by : (t : Told Parallel script log None Done contents contents') → PairSays Parallel t.is_told.pair t.answer → IsReplayedOnThreads script log contents contents'
+      by : (t : Told (λ pair. WhereOrdered (OutcomeSays pair) pair) script log None Done contents contents') → WhereOrdered (OutcomeSays t.is_told.pair) t.is_told.pair t.answer → IsReplayedOnThreads script log contents contents'
       by t (verdict.Ordered, checked, is) = record { of = ordered_pair t.is_told checked; contents = said contents contents' t.answer _ t.given is }
       by t (verdict.Unordered first second, checked, is) = absurd (let never : Unordered ≡ Done = other t.answer (verdict_said (verdict.Unordered first second)) Done is t.done in cc)
 
   -- an order or a cycle
-  found : (status : Status) (script log : List ℕ) (contents contents' : Contents) → (status ≡ Done) ⊎ (status ≡ Cycle) → Told Regions script log None status contents contents' → IsFoundRegions script log contents contents' (code_of status)
+  found : (status : Status) (script log : List ℕ) (contents contents' : Contents) → (status ≡ Done) ⊎ (status ≡ Cycle) → Told (PairSays Regions) script log None status contents contents' → IsFoundRegions script log contents contents' (code_of status)
   found status script log contents contents' sort t = by t t.is_told.says
     where
       neither : Unordered ≡ status → (status ≡ Done) ⊎ (status ≡ Cycle) → ⊥
       neither is (inl done) = let never : Unordered ≡ Done = is ∙ done in cc
       neither is (inr cycle) = let never : Unordered ≡ Cycle = is ∙ cycle in cc
 
-      by : (t : Told Regions script log None status contents contents') → PairSays Regions t.is_told.pair t.answer → IsFoundRegions script log contents contents' (code_of status)
+      by : (t : Told (PairSays Regions) script log None status contents contents') → PairSays Regions t.is_told.pair t.answer → IsFoundRegions script log contents contents' (code_of status)
       by t (verdict.Ordered, checked, (serial, is_serial, shows, is)) = record {
         of = ordered_pair t.is_told checked;
         serial = serial;
@@ -120,7 +137,7 @@ module _ (words : List (List ℕ)) (before after : DeskState) (code : ℕ) (serv
       subst (IsFoundRegions script log contents contents') (sym zero) (found Done script log contents contents' (inl refl) (told_done Regions script log None contents contents' asked zero tells tells'))
   finds_regions script log contents contents' asked (inr ten) tells tells' =
       subst (IsFoundRegions script log contents contents') (sym ten) (found Cycle script log contents contents' (inr refl)
-      (told_with Regions script log None Cycle contents contents' refl (λ e. cc) asked (at_status Cycle words before after code contents contents' (λ e. omega (arith, e)) (λ e. omega (arith, e)) (λ e. omega (arith, e)) (leaves words before after code served) ten tells tells')))
+      (told_of Regions script log None Cycle contents contents' refl (λ e. cc) asked (at_status Cycle words before after code contents contents' (λ e. omega (arith, e)) (λ e. omega (arith, e)) (λ e. omega (arith, e)) (leaves words before after code served) ten tells tells')))
 
   pub repeats : RepeatsRecordings words before after code
   repeats script log contents contents' pair outcome asked zero tells tells' there recording =
@@ -133,7 +150,7 @@ module _ (words : List (List ℕ)) (before after : DeskState) (code : ℕ) (serv
   pub slices : SlicesPasts words before after code
   slices script log thread event contents contents' asked zero tells tells' = let t = told_done (Slice thread event) script log None contents contents' asked zero tells tells' in by t t.is_told.says
     where
-      by : (t : Told (Slice thread event) script log None Done contents contents') → PairSays (Slice thread event) t.is_told.pair t.answer → IsSlicedPair script log thread event contents contents'
+      by : (t : Told (PairSays (Slice thread event)) script log None Done contents contents') → PairSays (Slice thread event) t.is_told.pair t.answer → IsSlicedPair script log thread event contents contents'
       by t (verdict.Ordered, checked, inr (sliced, has, slice, is)) = record { of = ordered_pair t.is_told checked; sliced = sliced; is_slice = slice; contents = said contents contents' t.answer _ t.given is }
       by t (verdict.Ordered, checked, inl (fault, memory, cause, is)) = absurd (let never : NoEvent ≡ Done = other t.answer (says NoEvent (slice_line fault)) Done is t.done in cc)
       by t (verdict.Unordered first second, checked, is) = absurd (let never : Unordered ≡ Done = other t.answer (verdict_said (verdict.Unordered first second)) Done is t.done in cc)

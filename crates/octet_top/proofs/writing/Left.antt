@@ -17,7 +17,7 @@ use Rattle.octet_base.specs.declared.call.Call.{Call}
 use Rattle.octet_base.specs.declared.fault.DeskFault.{DeskFault}
 use Rattle.octet_base.specs.declared.call.Call.TheVariants as call
 use Rattle.octet_top.specs.Answer.{Answer, writes_file}
-use Rattle.octet_top.specs.Request.{Request, OfScript, OfLog, OfPair, Convert, Run, Gen, Hunt}
+use Rattle.octet_top.specs.Request.{Request, Tidy, Show, OfPair, Parallel, Convert, Run, Gen, Hunt}
 use Rattle.octet_top.specs.Inputs.{TakesOne, TakesBoth}
 use Rattle.octet_top.specs.Replies.{TakesFiles}
 use Rattle.octet_top.specs.Delivery.{Act, Add, Finish, Say, Makes, IsRefused, pieces, pieces_within, file_acts, acts_of}
@@ -98,9 +98,10 @@ both_held script log object Short files said before after holds (inr (short, (ta
 
 pub taken_held : (request : Option Request) (Short : Type 0) (files : Files) (said : List ℕ) (before after : DeskState) → Holds files said before → TakesFiles request Short before after → Holds files said after
 taken_held None Short files said before after holds same = rw same holds
-taken_held (Some (OfScript task script)) Short files said before after holds takes = one_held script MAX_SCRIPT_FILE Short files said before after holds takes
-taken_held (Some (OfLog task log)) Short files said before after holds takes = one_held log MAX_LOG_FILE Short files said before after holds takes
+taken_held (Some (Tidy script)) Short files said before after holds takes = one_held script MAX_SCRIPT_FILE Short files said before after holds takes
+taken_held (Some (Show log)) Short files said before after holds takes = one_held log MAX_LOG_FILE Short files said before after holds takes
 taken_held (Some (OfPair task script log object)) Short files said before after holds takes = both_held script log object Short files said before after holds takes
+taken_held (Some (Parallel script log)) Short files said before after holds takes = both_held script log None Short files said before after holds takes
 taken_held (Some (Convert script log out)) Short files said before after holds takes = both_held script log None Short files said before after holds takes
 taken_held (Some (Run task script log)) Short files said before after holds takes = one_held script MAX_SCRIPT_FILE Short files said before after holds takes
 taken_held (Some (Gen number script log)) Short files said before after holds same = rw same holds
