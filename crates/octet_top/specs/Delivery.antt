@@ -1,10 +1,9 @@
 -- How an answer is given to the desk: call by call, up to the first that is refused.
-use Rattle.std.specs.Prelude.{ℕ, zero, suc, ◌≡◌, ◌⊎◌, ◌++◌, List, [], ◌∷◌, map, take, drop, length, Result, Ok, Err}
+use Rattle.std.specs.Prelude.{ℕ, zero, suc, ◌≡◌, ◌⊎◌, ◌++◌, List, [], ◌∷◌, map, take, drop, length, Option, None, Some, Result, Ok, Err}
 use Rattle.std.specs.List.{flat_map}
 use Rattle.octet_base.specs.Desk.{DeskState, Begins, Adds, Finishes, Says}
 use Rattle.octet_base.specs.declared.fault.DeskFault.{DeskFault}
 use Rattle.octet_base.specs.declared.fault.DeskFault.TheVariants.{OutOfMemory}
-use Rattle.octet_model.specs.declared.list.OutOfMemory.{OutOfMemory as NoMemory}
 use Rattle.octet_top.specs.declared.reply.Reply.{Reply}
 use Rattle.octet_top.specs.declared.reply.Status.{Status}
 use Rattle.octet_top.specs.declared.reply.Status.TheVariants.{Write, Memory}
@@ -65,7 +64,7 @@ code_given status (Err OutOfMemory) = code_of Memory
 code_given status (Err _) = code_of Write
 
 -- the reply is given to the desk. Without memory for a reply, no call is made
-abbrev pub IsGiven : Result Reply NoMemory → DeskState → DeskState → ℕ → Type 0
-IsGiven (Ok reply) before after code =
+abbrev pub IsGiven : Option Reply → DeskState → DeskState → ℕ → Type 0
+IsGiven (Some reply) before after code =
     (made : Result (Unit {0}) DeskFault) × Makes (acts_of (answer_of reply)) before made after × (code ≡ code_given reply.status made)
-IsGiven (Err none) before after code = (after ≡ before) × (code ≡ code_of Memory)
+IsGiven None before after code = (after ≡ before) × (code ≡ code_of Memory)

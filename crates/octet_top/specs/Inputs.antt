@@ -18,10 +18,9 @@ use Rattle.octet_log.specs.Readings.{reading_of}
 use Rattle.octet_log.specs.Loading as log
 use Rattle.octet_top.specs.declared.inputs.Source.{Source}
 use Rattle.octet_top.specs.declared.inputs.Pair.{Pair}
-use Rattle.octet_model.specs.declared.list.OutOfMemory.{OutOfMemory as NoMemory}
-use Rattle.octet_top.specs.declared.reply.Reply.{Reply}
+use Rattle.octet_top.specs.declared.refusal.Refused.{Refused}
 use Rattle.octet_top.specs.Profile.{wanted_by}
-use Rattle.octet_top.specs.Answer.{Answer, answer_of, read_failed, too_long, no_such_object, script_refused, log_refused}
+use Rattle.octet_top.specs.Answer.{Answer, RefusesBy, read_failed, too_long, no_such_object, script_refused, log_refused}
 
 -- the second step with what the first gave, unless the first ends with an answer that refuses
 infixl 10 ◌>>=◌
@@ -73,26 +72,20 @@ abbrev pub IsPairRead : List ℕ → List ℕ → Option (List ℕ) → Option C
 IsPairRead script_name log_name object contents =
     IsScriptChosen script_name object contents >>= λ chosen. IsLogRead log_name contents >>= λ loaded read. read ≡ Ok (record { source = chosen.0; wanted = chosen.1; loaded = loaded })
 
--- the reason why reading ended early: the reply that refuses, if there was memory for it
-abbrev pub Refusal : Type 0
-Refusal = Result Reply NoMemory
-
 -- the result is a refusal
 abbrev pub WasRefused : {T E : Type 0} → Result T E → Type 0
 WasRefused (Ok value) = ⊥
 WasRefused (Err fault) = Unit {0}
 
 -- the result of a step, unless memory was refused
-abbrev pub Comes : {T : Type 0} → (Result T Answer → Type 0) → Result T Refusal → Type 0
+abbrev pub Comes : {T : Type 0} → (Result T Answer → Type 0) → Result T Refused → Type 0
 Comes Step (Ok value) = Step (Ok value)
-Comes Step (Err (Ok reply)) = Step (Err (answer_of reply))
-Comes Step (Err (Err none)) = Unit {0}
+Comes Step (Err refused) = RefusesBy (λ answer. Step (Err answer)) refused
 
 -- a reading ends as its steps say, with no failed take. Otherwise a take failed, which is said, or memory was refused
-abbrev pub Ends : {T : Type 0} → (Result T Answer → Type 0) → ℕ → Result T Refusal → ℕ → Type 0
+abbrev pub Ends : {T : Type 0} → (Result T Answer → Type 0) → ℕ → Result T Refused → ℕ → Type 0
 Ends Steps before (Ok value) after = Steps (Ok value) × (after ≡ before)
-Ends Steps before (Err (Ok reply)) after = (Steps (Err (answer_of reply)) × (after ≡ before)) ⊎ ((answer_of reply ≡ read_failed) × Rose before after)
-Ends Steps before (Err (Err none)) after = Unit {0}
+Ends Steps before (Err refused) after = RefusesBy (λ answer. (Steps (Err answer) × (after ≡ before)) ⊎ ((answer ≡ read_failed) × Rose before after)) refused
 
 -- a file is asked for, and taken unless what follows is short
 abbrev pub TakesOne : List ℕ → ℕ → Type 0 → DeskState → DeskState → Type 0

@@ -1,7 +1,6 @@
 -- How words are served.
-use Rattle.std.specs.Prelude.{ℕ, ◌⊎◌, Option, Some, Result}
+use Rattle.std.specs.Prelude.{ℕ, ◌⊎◌, Option, Some}
 use Rattle.octet_base.specs.Desk.{DeskState}
-use Rattle.octet_model.specs.declared.list.OutOfMemory.{OutOfMemory as NoMemory}
 use Rattle.octet_top.specs.declared.reply.Reply.{Reply}
 use Rattle.octet_top.specs.Request.{Request, Run, AsTheyCome}
 use Rattle.octet_top.specs.Replies.{Replies, IsNoSuccess}
@@ -11,7 +10,7 @@ use Rattle.octet_top.specs.Live.{IsRunLive}
 -- the reply is found first, with all that is to be written and said, and is then given
 pub record IsReplied (request : Option Request) (before after : DeskState) (code : ℕ) : Type 0 where
   pub mid : DeskState
-  pub reply : Result Reply NoMemory
+  pub reply : Option Reply
   pub found : Replies request before reply mid
   pub given : IsGiven reply mid after code
 

@@ -3,12 +3,12 @@
 ghost use Rattle.std.specs.Prelude.{◌≡◌, IfOk};
 ghost use Rattle.octet_clock.specs.declared.verdict.Verdict.TheVariants as verdict;
 ghost use Rattle.octet_top.specs.declared.request.PairTask.TheVariants.{Replay, Verify};
-ghost use Rattle.octet_top.specs.Answer.{answer_of, verdict_said};
+ghost use Rattle.octet_top.specs.Answer.{answer_of, verdict_said, IsAnswered};
 ghost use Rattle.octet_top.specs.Commands.{TidyAnswers, ShowAnswers, PairReplays, ParallelReplays};
 ghost use Rattle.octet_top.specs.Checked.{IsChecked};
 
-use crate::inputs::{Pair, Refusal, Source};
-use crate::refusal::does_not_fit;
+use crate::inputs::{Pair, Source};
+use crate::refusal::{Refused, does_not_fit};
 use crate::reply::{Reply, Status};
 use octet_clock::Verdict;
 use octet_log::Loaded;
@@ -34,13 +34,13 @@ pub(crate) fn show(alloc: Global, loaded: &Loaded) -> Result<Reply, OutOfMemory>
 }
 
 /// The outcome of the log's lowest order is said.
-pub(crate) fn replay(alloc: Global, pair: &Pair) -> Result<Reply, OutOfMemory>
-    ensures { IfOk result (λ reply. PairReplays Replay pair.now (answer_of reply)) }
+pub(crate) fn replay(alloc: Global, pair: &Pair) -> Result<Reply, Refused>
+    ensures { IsAnswered (PairReplays Replay pair.now) result }
 {
     let outcome = match octet_replay::replay(alloc, &pair.source.script, &pair.loaded.log) {
         Ok(outcome) => outcome,
-        Err(ReplayFault::OutOfMemory) => return Err(OutOfMemory),
-        Err(fault) => return does_not_fit(alloc, &fault),
+        Err(ReplayFault::OutOfMemory) => return Err(Refused::OutOfMemory),
+        Err(fault) => return Err(Refused::Because(does_not_fit(alloc, &fault)?)),
     };
     let text = outcome_text(alloc, &pair.source.script, &outcome)?;
     Ok(Reply::saying(alloc, Status::Done, text))
@@ -48,39 +48,35 @@ pub(crate) fn replay(alloc: Global, pair: &Pair) -> Result<Reply, OutOfMemory>
 
 /// Whether the log orders all conflicts is said.
 #[tactic(auto, using(crate::proofs::answering::Checking::verified_not, crate::proofs::answering::Checking::verified_ordered))]
-pub(crate) fn verify(alloc: Global, pair: &Pair) -> Result<Reply, OutOfMemory>
-    ensures { IfOk result (λ reply. PairReplays Verify pair.now (answer_of reply)) }
+pub(crate) fn verify(alloc: Global, pair: &Pair) -> Result<Reply, Refused>
+    ensures { IsAnswered (PairReplays Verify pair.now) result }
 {
-    match check_order(alloc, pair) {
-        Ok(()) => {
-            let line = Vec::from_slice(alloc, b"ordered\n")?;
-            Ok(Reply::saying(alloc, Status::Done, line))
-        }
-        Err(refusal) => refusal,
-    }
+    check_order(alloc, pair)?;
+    let line = Vec::from_slice(alloc, b"ordered\n")?;
+    Ok(Reply::saying(alloc, Status::Done, line))
 }
 
 /// Passes where the log fits the script and orders all conflicts; else it is said why not.
-pub(crate) fn check_order(alloc: Global, pair: &Pair) -> Result<(), Refusal>
+pub(crate) fn check_order(alloc: Global, pair: &Pair) -> Result<(), Refused>
     ensures { IsChecked pair.now result }
 {
     match octet_clock::verify(alloc, &pair.source.script, &pair.loaded.log) {
         Ok(Verdict::Ordered) => Ok(()),
-        Ok(Verdict::Unordered { first, second }) => Err(say_unordered(alloc, first, second)),
-        Err(ReplayFault::OutOfMemory) => Err(Err(OutOfMemory)),
-        Err(fault) => Err(does_not_fit(alloc, &fault)),
+        Ok(Verdict::Unordered { first, second }) => {
+            Err(Refused::Because(say_unordered(alloc, first, second)?))
+        }
+        Err(ReplayFault::OutOfMemory) => Err(Refused::OutOfMemory),
+        Err(fault) => Err(Refused::Because(does_not_fit(alloc, &fault)?)),
     }
 }
 
 /// The outcome of the log's lowest order is said, where the log orders all conflicts.
 #[tactic(auto, using(crate::proofs::answering::Checking::check_refused, crate::proofs::answering::Checking::check_passed))]
-pub(crate) fn replay_ordered(alloc: Global, pair: &Pair) -> Result<Reply, OutOfMemory>
-    ensures { IfOk result (λ reply. ParallelReplays pair.now (answer_of reply)) }
+pub(crate) fn replay_ordered(alloc: Global, pair: &Pair) -> Result<Reply, Refused>
+    ensures { IsAnswered (ParallelReplays pair.now) result }
 {
-    match check_order(alloc, pair) {
-        Ok(()) => replay(alloc, pair),
-        Err(refusal) => refusal,
-    }
+    check_order(alloc, pair)?;
+    replay(alloc, pair)
 }
 
 fn say_unordered(alloc: Global, first: Place, second: Place) -> Result<Reply, OutOfMemory>

@@ -1,12 +1,12 @@
 //! Gives an answer to the desk: first the files, in pieces, and then the text in one call.
 ghost use Rattle.std.specs.Prelude.{◌≡◌, None, OnOk, map as list_map};
 ghost use Rattle.std.specs.List.{flat_map};
-ghost use Rattle.octet_top.specs.Answer.{answer_of, file_of};
+ghost use Rattle.octet_top.specs.Answer.{answer_of, file_of, given_reply};
 ghost use Rattle.octet_top.specs.Delivery.{Makes, file_acts, acts_of, code_given, IsGiven};
 
+use crate::refusal::Refused;
 use crate::reply::{Output, Reply, Status};
 use octet_base::{Desk, DeskFault};
-use octet_model::OutOfMemory;
 use std::alloc::Global;
 
 /// How many bytes of a file are written at once.
@@ -59,12 +59,14 @@ fn give<D: Desk>(alloc: Global, desk: &mut D, reply: &Reply) -> Result<(), DeskF
 
 /// Gives the reply to the desk. The answer is the exit status: the reply's own, or that of a call
 /// that failed or of memory that was refused.
-pub(crate) fn deliver<D: Desk>(alloc: Global, desk: &mut D, reply: Result<Reply, OutOfMemory>) -> u8
+pub(crate) fn deliver<D: Desk>(alloc: Global, desk: &mut D, reply: Result<Reply, Refused>) -> u8
     requires { (D.state desk.old).begun ≡ None }
-    ensures { IsGiven reply (D.state desk.old) (D.state desk.new) result }
+    ensures { IsGiven (given_reply reply) (D.state desk.old) (D.state desk.new) result }
 {
-    let Ok(reply) = reply else {
-        return Status::Memory.code();
+    let reply = match reply {
+        Ok(reply) => reply,
+        Err(Refused::Because(reply)) => reply,
+        Err(Refused::OutOfMemory) => return Status::Memory.code(),
     };
     let given = give(alloc, desk, &reply);
     code_given(reply.status, given)

@@ -8,12 +8,11 @@ ghost use Rattle.octet_top.specs.Inputs.{Comes, Ends, IsTaken, IsParsed, IsDecod
 ghost use Rattle.octet_top.specs.Profile.{object_named};
 
 use crate::refusal::{
-    log_refused, no_such_object, read_failed, script_refused, too_long, wrong_script,
+    Refused, log_refused, no_such_object, read_failed, script_refused, too_long, wrong_script,
 };
-use crate::reply::Reply;
 use octet_base::{Desk, DeskFault};
 use octet_log::{Loaded, LogFault, decode};
-use octet_model::{List, MAX_LOG_FILE, MAX_SCRIPT_FILE, OutOfMemory, Script};
+use octet_model::{List, MAX_LOG_FILE, MAX_SCRIPT_FILE, Script};
 use octet_replay::fit;
 use octet_script::{ScriptFault, parse};
 use std::alloc::Global;
@@ -33,51 +32,47 @@ pub(crate) struct Pair {
     pub(crate) loaded: Loaded,
 }
 
-/// Why a request ended early: the reply that refuses, if there was memory for it.
-pub(crate) type Refusal = Result<Reply, OutOfMemory>;
-
 /// Takes the bytes of a file that has at most `limit`.
 fn take_file<D: Desk>(
     alloc: Global,
     desk: &mut D,
     name: &str,
     limit: u32,
-) -> Result<List<u8>, Refusal>
+) -> Result<List<u8>, Refused>
     ensures ends { Ends (IsTaken name.now limit (D.state desk.old).contents) (D.state desk.old).take_faults result (D.state desk.new).take_faults }
     ensures calls { TakesOne name.now limit (WasRefused result) (D.state desk.old) (D.state desk.new) }
 {
     match desk.take(alloc, name, limit) {
         Ok(bytes) => Ok(List::from_vec(bytes)),
-        Err(DeskFault::OutOfMemory) => Err(Err(OutOfMemory)),
-        Err(DeskFault::TooLong) => Err(too_long(alloc, name, limit)),
-        Err(DeskFault::Failed) => Err(read_failed(alloc)),
-        Err(DeskFault::Absent) => Err(read_failed(alloc)),
+        Err(DeskFault::OutOfMemory) => Err(Refused::OutOfMemory),
+        Err(DeskFault::TooLong) => Err(Refused::Because(too_long(alloc, name, limit)?)),
+        Err(DeskFault::Failed) => Err(Refused::Because(read_failed(alloc)?)),
+        Err(DeskFault::Absent) => Err(Refused::Because(read_failed(alloc)?)),
     }
 }
 
-fn parse_text(alloc: Global, text: List<u8>) -> Result<Source, Refusal>
+fn parse_text(alloc: Global, text: List<u8>) -> Result<Source, Refused>
     requires { length text ≤ MAX_SCRIPT_FILE }
     ensures { Comes (IsParsed text) result }
 {
     match parse(alloc, text.as_slice()) {
         Ok(script) => Ok(Source { text, script }),
-        Err(ScriptFault::OutOfMemory) => Err(Err(OutOfMemory)),
+        Err(ScriptFault::OutOfMemory) => Err(Refused::OutOfMemory),
         Err(ScriptFault::Refused { line, cause }) => {
-            let refusal = script_refused(alloc, line, cause);
-            Err(refusal)
+            Err(Refused::Because(script_refused(alloc, line, cause)?))
         }
     }
 }
 
-fn decode_bytes(alloc: Global, bytes: &[u8]) -> Result<Loaded, Refusal>
+fn decode_bytes(alloc: Global, bytes: &[u8]) -> Result<Loaded, Refused>
     requires { length bytes.now ≤ MAX_LOG_FILE }
     ensures comes { Comes (IsDecoded bytes.now) result }
     ensures few { IfOk result (λ loaded. marks_in loaded.log.threads ≤ MAX_MARKS) }
 {
     match decode(alloc, bytes) {
         Ok(loaded) => Ok(loaded),
-        Err(LogFault::OutOfMemory) => Err(Err(OutOfMemory)),
-        Err(LogFault::Refused { cause }) => Err(log_refused(alloc, cause)),
+        Err(LogFault::OutOfMemory) => Err(Refused::OutOfMemory),
+        Err(LogFault::Refused { cause }) => Err(Refused::Because(log_refused(alloc, cause)?)),
     }
 }
 
@@ -86,30 +81,26 @@ pub(crate) fn read_script<D: Desk>(
     alloc: Global,
     desk: &mut D,
     name: &str,
-) -> Result<Source, Refusal>
+) -> Result<Source, Refused>
     ensures ends { Ends (IsScriptRead name.now (D.state desk.old).contents) (D.state desk.old).take_faults result (D.state desk.new).take_faults }
     ensures calls { TakesOne name.now MAX_SCRIPT_FILE (WasRefused result) (D.state desk.old) (D.state desk.new) }
 {
-    match take_file(alloc, desk, name, MAX_SCRIPT_FILE) {
-        Ok(text) => parse_text(alloc, text),
-        Err(refusal) => Err(refusal),
-    }
+    let text = take_file(alloc, desk, name, MAX_SCRIPT_FILE)?;
+    parse_text(alloc, text)
 }
 
 /// Takes a file and reads it as a log.
-pub(crate) fn read_log<D: Desk>(alloc: Global, desk: &mut D, name: &str) -> Result<Loaded, Refusal>
+pub(crate) fn read_log<D: Desk>(alloc: Global, desk: &mut D, name: &str) -> Result<Loaded, Refused>
     ensures ends { Ends (IsLogRead name.now (D.state desk.old).contents) (D.state desk.old).take_faults result (D.state desk.new).take_faults }
     ensures calls { TakesOne name.now MAX_LOG_FILE (WasRefused result) (D.state desk.old) (D.state desk.new) }
     ensures few { IfOk result (λ loaded. marks_in loaded.log.threads ≤ MAX_MARKS) }
 {
-    match take_file(alloc, desk, name, MAX_LOG_FILE) {
-        Ok(bytes) => decode_bytes(alloc, bytes.as_slice()),
-        Err(refusal) => Err(refusal),
-    }
+    let bytes = take_file(alloc, desk, name, MAX_LOG_FILE)?;
+    decode_bytes(alloc, bytes.as_slice())
 }
 
 /// The place of the object that the name asks for. Without a name none is asked for.
-fn choose(alloc: Global, script: &Script, name: Option<&str>) -> Result<Option<usize>, Refusal>
+fn choose(alloc: Global, script: &Script, name: Option<&str>) -> Result<Option<usize>, Refused>
     ensures { Comes (IsChosen script.now (name_in name.entry)) result }
 {
     let Some(name) = name else {
@@ -117,7 +108,7 @@ fn choose(alloc: Global, script: &Script, name: Option<&str>) -> Result<Option<u
     };
     match object_named(script, name.as_bytes()) {
         Some(place) => Ok(Some(place)),
-        None => Err(no_such_object(alloc)),
+        None => Err(Refused::Because(no_such_object(alloc)?)),
     }
 }
 
@@ -137,17 +128,13 @@ pub(crate) fn read_chosen<D: Desk>(
     desk: &mut D,
     script_name: &str,
     object_name: Option<&str>,
-) -> Result<(Source, Option<usize>), Refusal>
+) -> Result<(Source, Option<usize>), Refused>
     ensures ends { Ends (IsScriptChosen script_name.now (name_in object_name.entry) (D.state desk.old).contents) (D.state desk.old).take_faults result (D.state desk.new).take_faults }
     ensures calls { TakesOne script_name.now MAX_SCRIPT_FILE (WasRefused result) (D.state desk.old) (D.state desk.new) }
 {
-    match read_script(alloc, desk, script_name) {
-        Ok(source) => match choose(alloc, &source.script, object_name) {
-            Ok(wanted) => Ok((source, wanted)),
-            Err(refusal) => Err(refusal),
-        },
-        Err(refusal) => Err(refusal),
-    }
+    let source = read_script(alloc, desk, script_name)?;
+    let wanted = choose(alloc, &source.script, object_name)?;
+    Ok((source, wanted))
 }
 
 /// Takes and reads a script and then a log.
@@ -157,22 +144,18 @@ fn read_pair<D: Desk>(
     script_name: &str,
     log_name: &str,
     object_name: Option<&str>,
-) -> Result<Pair, Refusal>
+) -> Result<Pair, Refused>
     ensures ends { Ends (IsPairRead script_name.now log_name.now (name_in object_name.entry) (D.state desk.old).contents) (D.state desk.old).take_faults result (D.state desk.new).take_faults }
     ensures calls { TakesBoth script_name.now log_name.now (name_in object_name.entry) (WasRefused result) (D.state desk.old) (D.state desk.new) }
     ensures few { IfOk result (λ pair. marks_in pair.loaded.log.threads ≤ MAX_MARKS) }
 {
-    match read_chosen(alloc, desk, script_name, object_name) {
-        Ok((source, wanted)) => match read_log(alloc, desk, log_name) {
-            Ok(loaded) => Ok(Pair {
-                source,
-                wanted,
-                loaded,
-            }),
-            Err(refusal) => Err(refusal),
-        },
-        Err(refusal) => Err(refusal),
-    }
+    let (source, wanted) = read_chosen(alloc, desk, script_name, object_name)?;
+    let loaded = read_log(alloc, desk, log_name)?;
+    Ok(Pair {
+        source,
+        wanted,
+        loaded,
+    })
 }
 
 /// Takes and reads a script and then a log, which is of that script or has no digest.
@@ -182,15 +165,13 @@ pub(crate) fn read_fitting<D: Desk>(
     script_name: &str,
     log_name: &str,
     object_name: Option<&str>,
-) -> Result<Pair, Refusal>
+) -> Result<Pair, Refused>
     ensures taken { IsFittingTaken script_name.now log_name.now (name_in object_name.entry) (D.state desk.old) result (D.state desk.new) }
     ensures few { IfOk result (λ pair. marks_in pair.loaded.log.threads ≤ MAX_MARKS) }
 {
-    match read_pair(alloc, desk, script_name, log_name, object_name) {
-        Ok(pair) => match fit(pair.source.text.as_slice(), &pair.loaded) {
-            Ok(()) => Ok(pair),
-            Err(fault) => Err(wrong_script(alloc, &fault)),
-        },
-        Err(refusal) => Err(refusal),
+    let pair = read_pair(alloc, desk, script_name, log_name, object_name)?;
+    match fit(pair.source.text.as_slice(), &pair.loaded) {
+        Ok(()) => Ok(pair),
+        Err(fault) => Err(Refused::Because(wrong_script(alloc, &fault)?)),
     }
 }

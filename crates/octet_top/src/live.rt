@@ -37,7 +37,7 @@ pub(crate) fn serve_live<R: Threads + Wait + Sync, D: Desk, G: HeapGate>(
             let written = write_live(rt, alloc, desk, gate, &source, log);
             code_given(Status::Done, written)
         }
-        Err(refusal) => deliver(alloc, desk, refusal),
+        Err(refused) => deliver(alloc, desk, Err(refused)),
     }
 }
 

@@ -2,13 +2,14 @@
 ghost use Rattle.std.specs.Prelude.{◌≡◌, IfOk, IfSome, None, Some};
 ghost use Rattle.octet_model.specs.Orders.{execution, lowest_order};
 ghost use Rattle.octet_clock.specs.Fronts.{OrdersConflicts};
-ghost use Rattle.octet_top.specs.Answer.{answer_of};
 ghost use Rattle.octet_top.specs.Request.{Parallel};
 ghost use Rattle.octet_top.specs.Commands.{ParallelReplays};
 ghost use Rattle.octet_top.specs.Replies.{Replies};
+ghost use Rattle.octet_top.specs.Answer.{IsAnswered, given_reply};
 
 use crate::commands::replay_ordered;
 use crate::inputs::{Pair, read_fitting};
+use crate::refusal::Refused;
 use crate::reply::{Reply, Status};
 use octet_base::{Desk, Gate};
 use octet_clock::untied;
@@ -27,13 +28,11 @@ pub(crate) fn replay_on_threads<R: Threads + Wait + Sync, D: Desk, G: Gate>(
     gate: &G,
     script: &str,
     log: &str,
-) -> Result<Reply, OutOfMemory>
-    ensures { Replies (Some (Parallel script.now log.now)) (D.state desk.old) result (D.state desk.new) }
+) -> Result<Reply, Refused>
+    ensures { Replies (Some (Parallel script.now log.now)) (D.state desk.old) (given_reply result) (D.state desk.new) }
 {
-    match read_fitting(alloc, desk, script, log, None) {
-        Ok(pair) => play_pair(rt, alloc, gate, &pair),
-        Err(refusal) => refusal,
-    }
+    let pair = read_fitting(alloc, desk, script, log, None)?;
+    play_pair(rt, alloc, gate, &pair)
 }
 
 /// Where the threads give no outcome, one thread finds out why.
@@ -43,8 +42,8 @@ fn play_pair<R: Threads + Wait + Sync, G: Gate>(
     alloc: Global,
     gate: &G,
     pair: &Pair,
-) -> Result<Reply, OutOfMemory>
-    ensures { IfOk result (λ reply. ParallelReplays pair.now (answer_of reply)) }
+) -> Result<Reply, Refused>
+    ensures { IsAnswered (ParallelReplays pair.now) result }
 {
     match outcome_on_threads(rt, alloc, gate, pair)? {
         Some(outcome) => {

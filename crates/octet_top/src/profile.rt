@@ -4,12 +4,12 @@ ghost use Rattle.octet_model.specs.Orders.{journals_after, lowest_order};
 ghost use Rattle.octet_replay.specs.Judged.{HasCause, IsLawful};
 ghost use Rattle.octet_replay.specs.ReplayState.{plain_state, HasHalted};
 ghost use Rattle.octet_top.specs.declared.request.PairTask.TheVariants.{Profile};
-ghost use Rattle.octet_top.specs.Answer.{answer_of};
+ghost use Rattle.octet_top.specs.Answer.{answer_of, IsAnswered};
 ghost use Rattle.octet_top.specs.Profile.{class_of, class_count, counts, counts_text};
 ghost use Rattle.octet_top.specs.Commands.{PairReplays};
 
 use crate::inputs::Pair;
-use crate::refusal::does_not_fit;
+use crate::refusal::{Refused, does_not_fit};
 use crate::reply::{Reply, Status};
 use octet_model::{Event, Log, Mark, OutOfMemory, Script};
 use octet_replay::{ReplayFault, Replayer, Stepped};
@@ -17,13 +17,13 @@ use octet_watch::{Class, Classes};
 use std::alloc::Global;
 
 /// How many events of each class the journals of the log's lowest order have is said.
-pub(crate) fn profile(alloc: Global, pair: &Pair) -> Result<Reply, OutOfMemory>
-    ensures { IfOk result (λ reply. PairReplays Profile pair.now (answer_of reply)) }
+pub(crate) fn profile(alloc: Global, pair: &Pair) -> Result<Reply, Refused>
+    ensures { IsAnswered (PairReplays Profile pair.now) result }
 {
     let numbers = match counts(alloc, pair.wanted, &pair.source.script, &pair.loaded.log) {
         Ok(numbers) => numbers,
-        Err(ReplayFault::OutOfMemory) => return Err(OutOfMemory),
-        Err(fault) => return does_not_fit(alloc, &fault),
+        Err(ReplayFault::OutOfMemory) => return Err(Refused::OutOfMemory),
+        Err(fault) => return Err(Refused::Because(does_not_fit(alloc, &fault)?)),
     };
     let text = counts_text(alloc, pair.wanted, numbers.as_slice())?;
     Ok(Reply::saying(alloc, Status::Done, text))

@@ -2,12 +2,12 @@
 ghost use Rattle.std.specs.Prelude.{◌≡◌, ◌++◌, IfOk, OnOk, codes, length};
 ghost use Rattle.std.specs.List.{flat_map};
 ghost use Rattle.octet_top.specs.declared.request.PairTask.TheVariants.{Regions};
-ghost use Rattle.octet_top.specs.Answer.{answer_of, cycle_text, does_not_fit, hop_line, region_line, region_text, serial_said};
+ghost use Rattle.octet_top.specs.Answer.{answer_of, cycle_text, does_not_fit, hop_line, region_line, region_text, serial_said, IsAnswered};
 ghost use Rattle.octet_top.specs.Commands.{Fitting, PairReplays, SerialSays};
 
 use crate::commands::check_order;
 use crate::inputs::Pair;
-use crate::refusal::does_not_fit;
+use crate::refusal::{Refused, does_not_fit};
 use crate::reply::{Reply, Status};
 use octet_model::{OutOfMemory, Script, outcome_text, push_number};
 use octet_regions::{Hop, Region, Serial, Serialized, serialize};
@@ -17,25 +17,23 @@ use std::alloc::Global;
 /// Of a log that orders all conflicts, the regions in a serial order and the outcome are said, or a
 /// cycle of hops; of another, why it does not.
 #[tactic(auto, using(crate::proofs::answering::Checking::check_refused, crate::proofs::answering::Checking::check_passed))]
-pub(crate) fn regions(alloc: Global, pair: &Pair) -> Result<Reply, OutOfMemory>
-    ensures { IfOk result (λ reply. PairReplays Regions pair.now (answer_of reply)) }
+pub(crate) fn regions(alloc: Global, pair: &Pair) -> Result<Reply, Refused>
+    ensures { IsAnswered (PairReplays Regions pair.now) result }
 {
-    match check_order(alloc, pair) {
-        Ok(()) => say_regions(alloc, pair),
-        Err(refusal) => refusal,
-    }
+    check_order(alloc, pair)?;
+    say_regions(alloc, pair)
 }
 
-fn say_regions(alloc: Global, pair: &Pair) -> Result<Reply, OutOfMemory>
-    ensures { IfOk result (λ reply. Fitting does_not_fit (SerialSays pair.now) pair.now.source.script pair.now.loaded.log.threads (answer_of reply)) }
+fn say_regions(alloc: Global, pair: &Pair) -> Result<Reply, Refused>
+    ensures { IsAnswered (Fitting does_not_fit (SerialSays pair.now) pair.now.source.script pair.now.loaded.log.threads) result }
 {
     let script = &pair.source.script;
     let found = match serialize(alloc, script, &pair.loaded.log) {
         Ok(found) => found,
-        Err(ReplayFault::OutOfMemory) => return Err(OutOfMemory),
-        Err(fault) => return does_not_fit(alloc, &fault),
+        Err(ReplayFault::OutOfMemory) => return Err(Refused::OutOfMemory),
+        Err(fault) => return Err(Refused::Because(does_not_fit(alloc, &fault)?)),
     };
-    say_serial(alloc, script, &found)
+    Ok(say_serial(alloc, script, &found)?)
 }
 
 fn say_serial(alloc: Global, script: &Script, found: &Serialized) -> Result<Reply, OutOfMemory>

@@ -6,13 +6,14 @@ ghost use Rattle.octet_model.specs.Orders.{journals_after, lowest_order};
 ghost use Rattle.octet_slice.specs.declared.slicing.SliceFault.TheVariants as fault;
 ghost use Rattle.octet_top.specs.declared.reply.Status.TheVariants.{NoEvent};
 ghost use Rattle.octet_top.specs.declared.request.PairTask.TheVariants.{Slice};
-ghost use Rattle.octet_top.specs.Answer.{answer_of, says};
+ghost use Rattle.octet_top.specs.Answer.{answer_of, says, IsAnswered};
 ghost use Rattle.octet_top.specs.Commands.{PairReplays};
 ghost use Rattle.octet_top.specs.Slices.{SliceSays, slice_line, slice_text};
 
 use crate::commands::check_order;
 use crate::event_text::{push_event, push_place};
 use crate::inputs::Pair;
+use crate::refusal::Refused;
 use crate::reply::{Reply, Status};
 use octet_model::{OutOfMemory, Script, push_number};
 use octet_slice::{SliceFault, Sliced};
@@ -21,31 +22,28 @@ use std::alloc::Global;
 /// The event at a place is said, and how many events lie in its past, where the log orders all
 /// conflicts.
 #[tactic(auto, using(crate::proofs::answering::Checking::check_refused, crate::proofs::answering::Checking::check_passed))]
-pub(crate) fn slice(
-    alloc: Global,
-    pair: &Pair,
-    thread: u64,
-    event: u64,
-) -> Result<Reply, OutOfMemory>
-    ensures { IfOk result (λ reply. PairReplays (Slice thread event) pair.now (answer_of reply)) }
+pub(crate) fn slice(alloc: Global, pair: &Pair, thread: u64, event: u64) -> Result<Reply, Refused>
+    ensures { IsAnswered (PairReplays (Slice thread event) pair.now) result }
 {
-    match check_order(alloc, pair) {
-        Ok(()) => slice_ordered(alloc, pair, thread, event),
-        Err(refusal) => refusal,
-    }
+    check_order(alloc, pair)?;
+    slice_ordered(alloc, pair, thread, event)
 }
 
-fn slice_ordered(alloc: Global, pair: &Pair, thread: u64, event: u64) -> Result<Reply, OutOfMemory>
+fn slice_ordered(alloc: Global, pair: &Pair, thread: u64, event: u64) -> Result<Reply, Refused>
     requires lawful { IsLawful pair.now.source.script pair.now.loaded.log.threads }
     requires ordered { IsOrdered (journals_after pair.now.source.script pair.now.loaded.log.threads (lowest_order pair.now.source.script pair.now.loaded.log.threads)) }
-    ensures { IfOk result (λ reply. SliceSays pair.now.source.script pair.now.loaded.log.threads thread event (answer_of reply)) }
+    ensures { IsAnswered (SliceSays pair.now.source.script pair.now.loaded.log.threads thread event) result }
 {
     let script = &pair.source.script;
     let sliced = match octet_slice::slice(alloc, script, &pair.loaded.log, thread, event) {
         Ok(sliced) => sliced,
-        Err(SliceFault::OutOfMemory) => return Err(OutOfMemory),
-        Err(SliceFault::NoThread { threads }) => return no_thread(alloc, threads),
-        Err(SliceFault::NoEvent { events }) => return no_event(alloc, events),
+        Err(SliceFault::OutOfMemory) => return Err(Refused::OutOfMemory),
+        Err(SliceFault::NoThread { threads }) => {
+            return Err(Refused::Because(no_thread(alloc, threads)?));
+        }
+        Err(SliceFault::NoEvent { events }) => {
+            return Err(Refused::Because(no_event(alloc, events)?));
+        }
     };
     let text = slice_text(alloc, script, thread, event, sliced)?;
     Ok(Reply::saying(alloc, Status::Done, text))

@@ -4,13 +4,13 @@ ghost use Rattle.octet_model.specs.Traces.{trace_of};
 ghost use Rattle.octet_replay.specs.Judged.{HasCause, IsLawful};
 ghost use Rattle.octet_slice.specs.FirstMatch.{IsFound};
 ghost use Rattle.octet_top.specs.declared.request.PairTask.TheVariants as task;
-ghost use Rattle.octet_top.specs.Answer.{answer_of};
+ghost use Rattle.octet_top.specs.Answer.{answer_of, IsAnswered};
 ghost use Rattle.octet_top.specs.Commands.{PairReplays};
 ghost use Rattle.octet_top.specs.Slices.{is_match, stop_text};
 
 use crate::event_text::{push_event, push_place};
 use crate::inputs::Pair;
-use crate::refusal::does_not_fit;
+use crate::refusal::{Refused, does_not_fit};
 use crate::reply::{Reply, Status};
 use octet_model::{Event, OutOfMemory, Script};
 use octet_replay::ReplayFault;
@@ -20,13 +20,13 @@ use std::alloc::Global;
 
 /// The first event is said that reads or writes the value of the object that is wanted, or updates
 /// it to that value.
-pub(crate) fn stop(alloc: Global, pair: &Pair, value: u64) -> Result<Reply, OutOfMemory>
-    ensures { IfOk result (λ reply. PairReplays (task.Stop value) pair.now (answer_of reply)) }
+pub(crate) fn stop(alloc: Global, pair: &Pair, value: u64) -> Result<Reply, Refused>
+    ensures { IsAnswered (PairReplays (task.Stop value) pair.now) result }
 {
     let found = match find(alloc, pair, value) {
         Ok(found) => found,
-        Err(ReplayFault::OutOfMemory) => return Err(OutOfMemory),
-        Err(fault) => return does_not_fit(alloc, &fault),
+        Err(ReplayFault::OutOfMemory) => return Err(Refused::OutOfMemory),
+        Err(fault) => return Err(Refused::Because(does_not_fit(alloc, &fault)?)),
     };
     let text = stop_text(alloc, &pair.source.script, found)?;
     Ok(Reply::saying(alloc, Status::Done, text))

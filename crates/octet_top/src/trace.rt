@@ -6,14 +6,14 @@ ghost use Rattle.octet_model.specs.Traces.{trace_of};
 ghost use Rattle.octet_replay.specs.Line.{fit_line};
 ghost use Rattle.octet_top.specs.declared.reply.Status.TheVariants.{Misfit};
 ghost use Rattle.octet_top.specs.declared.request.PairTask.TheVariants.{Trace};
-ghost use Rattle.octet_top.specs.Answer.{answer_of, says};
+ghost use Rattle.octet_top.specs.Answer.{answer_of, says, IsAnswered};
 ghost use Rattle.octet_top.specs.Commands.{PairReplays};
 ghost use Rattle.octet_top.specs.TraceTexts.{line_in, line_words, made_by, trace_text};
 ghost use Rattle.octet_top.specs.Tracing.{AreFollowers, FitsNext, TellsEvent, TellsRegions};
 
 use crate::event_text::{push_event, push_place};
 use crate::inputs::{Pair, Source};
-use crate::refusal::does_not_fit;
+use crate::refusal::{Refused, does_not_fit};
 use crate::reply::{Reply, Status};
 use octet_interp::Follower;
 use octet_model::{Event, List, OutOfMemory, Place, Script, push_number};
@@ -24,20 +24,20 @@ use std::alloc::Global;
 /// Each event of the log's lowest order is said, as far as that goes; and then, where the log does
 /// not fit, why.
 #[tactic(auto, using(crate::proofs::answering::Tracing::not_begun, crate::proofs::answering::Tracing::made_first))]
-pub(crate) fn trace(alloc: Global, pair: &Pair) -> Result<Reply, OutOfMemory>
-    ensures { IfOk result (λ reply. PairReplays Trace pair.now (answer_of reply)) }
+pub(crate) fn trace(alloc: Global, pair: &Pair) -> Result<Reply, Refused>
+    ensures { IsAnswered (PairReplays Trace pair.now) result }
 {
     let source = &pair.source;
     let mut tracer = match Tracer::new(alloc, &source.script, &pair.loaded.log) {
         Ok(tracer) => tracer,
-        Err(ReplayFault::OutOfMemory) => return Err(OutOfMemory),
-        Err(fault) => return does_not_fit(alloc, &fault),
+        Err(ReplayFault::OutOfMemory) => return Err(Refused::OutOfMemory),
+        Err(fault) => return Err(Refused::Because(does_not_fit(alloc, &fault)?)),
     };
     let text = trace_text(alloc, source, &mut tracer)?;
     match tracer.end(alloc) {
         Ok(_) => Ok(Reply::saying(alloc, Status::Done, text)),
-        Err(ReplayFault::OutOfMemory) => Err(OutOfMemory),
-        Err(fault) => say_misfit(alloc, text, &fault),
+        Err(ReplayFault::OutOfMemory) => Err(Refused::OutOfMemory),
+        Err(fault) => Err(Refused::Because(say_misfit(alloc, text, &fault)?)),
     }
 }
 

@@ -1,7 +1,7 @@
 //! Requests served with the runtime, which some of them need: `run SCRIPT LOG`, `locked SCRIPT LOG`,
 //! `turns SCRIPT LOG PICKS`, `gen NUMBER SCRIPT LOG` and `parallel SCRIPT LOG`.
 ghost use Rattle.std.specs.Prelude.{◌≡◌, IfOk, None, Some};
-ghost use Rattle.octet_top.specs.Answer.{answer_of, file_of};
+ghost use Rattle.octet_top.specs.Answer.{answer_of, file_of, IsAnswered, given_reply};
 ghost use Rattle.octet_top.specs.Request.{shown, shown_task, Run};
 ghost use Rattle.octet_top.specs.Commands.{RunAnswers, IsGeneration, Records};
 ghost use Rattle.octet_top.specs.Replies.{Replies};
@@ -12,6 +12,7 @@ use crate::inputs::{Source, read_script};
 use crate::live::serve_live;
 use crate::parallel::replay_on_threads;
 use crate::picks::picks_of;
+use crate::refusal::Refused;
 use crate::reply::{Output, Reply};
 use crate::request::{Request, RunTask};
 use crate::without_runtime::reply_alone;
@@ -74,13 +75,11 @@ fn run_script<R: Threads + Wait + Sync, D: Desk, G: HeapGate>(
     task: RunTask<'_>,
     script: &str,
     log: &str,
-) -> Result<Reply, OutOfMemory>
-    ensures { Replies (Some (Run (shown_task task.entry) script.now log.now)) (D.state desk.old) result (D.state desk.new) }
+) -> Result<Reply, Refused>
+    ensures { Replies (Some (Run (shown_task task.entry) script.now log.now)) (D.state desk.old) (given_reply result) (D.state desk.new) }
 {
-    match read_script(alloc, desk, script) {
-        Ok(source) => run_source(rt, alloc, gate, task, &source, log),
-        Err(refusal) => refusal,
-    }
+    let source = read_script(alloc, desk, script)?;
+    Ok(run_source(rt, alloc, gate, task, &source, log)?)
 }
 
 /// The script is run: the log's bytes are written, in version 1, and the outcome is said.
@@ -126,8 +125,8 @@ fn generate<R: Threads + Wait + Sync, G: HeapGate>(
     number: u64,
     script_name: &str,
     log_name: &str,
-) -> Result<Reply, OutOfMemory>
-    ensures { IfOk result (λ reply. IsGeneration number script_name.now log_name.now (answer_of reply)) }
+) -> Result<Reply, Refused>
+    ensures { IsAnswered (IsGeneration number script_name.now log_name.now) result }
 {
     let script = make(alloc, number)?;
     let recorded = run(rt, alloc, &script, gate)?;
@@ -135,12 +134,12 @@ fn generate<R: Threads + Wait + Sync, G: HeapGate>(
     let bytes = encode_v1(alloc, &recorded.log)?;
     let script_file = output(alloc, script_name, text)?;
     let log_file = output(alloc, log_name, bytes)?;
-    Reply::writing_both(
+    Ok(Reply::writing_both(
         alloc,
         script_file,
         log_file,
         Vec::from_slice(alloc, SUMMARY)?,
-    )
+    )?)
 }
 
 fn output(alloc: Global, name: &str, bytes: Vec<u8>) -> Result<Output, OutOfMemory>

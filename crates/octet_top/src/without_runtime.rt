@@ -1,16 +1,16 @@
 //! Requests that need no runtime: from the files to a reply, before any of it is written or said.
-ghost use Rattle.std.specs.Prelude.{◌≡◌, IfOk, Some};
-ghost use Rattle.octet_top.specs.Answer.{answer_of};
+ghost use Rattle.std.specs.Prelude.{◌≡◌, Some};
 ghost use Rattle.octet_top.specs.Request.{shown_alone, shown_quarry, alone_in, name_in, Tidy, Show, OfPair, Convert, Hunt};
 ghost use Rattle.octet_top.specs.Commands.{PairReplays};
 ghost use Rattle.octet_top.specs.Replies.{Replies};
+ghost use Rattle.octet_top.specs.Answer.{IsAnswered, given_reply};
 
 use crate::commands::{replay, show, tidy, verify};
 use crate::convert::convert;
 use crate::hunt::hunt;
 use crate::inputs::{Pair, read_chosen, read_fitting, read_log, read_script};
 use crate::profile::profile;
-use crate::refusal::not_a_command;
+use crate::refusal::{Refused, not_a_command};
 use crate::regions::regions;
 use crate::reply::Reply;
 use crate::request::{PairTask, Quarry, Request};
@@ -18,11 +18,10 @@ use crate::slice::slice;
 use crate::stop::stop;
 use crate::trace::trace;
 use octet_base::Desk;
-use octet_model::OutOfMemory;
 use std::alloc::Global;
 
-fn replay_pair(alloc: Global, task: PairTask, pair: &Pair) -> Result<Reply, OutOfMemory>
-    ensures { IfOk result (λ reply. PairReplays task pair.now (answer_of reply)) }
+fn replay_pair(alloc: Global, task: PairTask, pair: &Pair) -> Result<Reply, Refused>
+    ensures { IsAnswered (PairReplays task pair.now) result }
 {
     match task {
         PairTask::Replay => replay(alloc, pair),
@@ -36,23 +35,19 @@ fn replay_pair(alloc: Global, task: PairTask, pair: &Pair) -> Result<Reply, OutO
 }
 
 #[tactic(auto, using(crate::proofs::answering::Found::script_stops))]
-fn of_script<D: Desk>(alloc: Global, desk: &mut D, script: &str) -> Result<Reply, OutOfMemory>
-    ensures { Replies (Some (Tidy script.now)) (D.state desk.old) result (D.state desk.new) }
+fn of_script<D: Desk>(alloc: Global, desk: &mut D, script: &str) -> Result<Reply, Refused>
+    ensures { Replies (Some (Tidy script.now)) (D.state desk.old) (given_reply result) (D.state desk.new) }
 {
-    match read_script(alloc, desk, script) {
-        Ok(source) => tidy(alloc, &source),
-        Err(refusal) => refusal,
-    }
+    let source = read_script(alloc, desk, script)?;
+    Ok(tidy(alloc, &source)?)
 }
 
 #[tactic(auto, using(crate::proofs::answering::Found::log_stops))]
-fn of_log<D: Desk>(alloc: Global, desk: &mut D, log: &str) -> Result<Reply, OutOfMemory>
-    ensures { Replies (Some (Show log.now)) (D.state desk.old) result (D.state desk.new) }
+fn of_log<D: Desk>(alloc: Global, desk: &mut D, log: &str) -> Result<Reply, Refused>
+    ensures { Replies (Some (Show log.now)) (D.state desk.old) (given_reply result) (D.state desk.new) }
 {
-    match read_log(alloc, desk, log) {
-        Ok(loaded) => show(alloc, &loaded),
-        Err(refusal) => refusal,
-    }
+    let loaded = read_log(alloc, desk, log)?;
+    Ok(show(alloc, &loaded)?)
 }
 
 fn of_pair<D: Desk>(
@@ -62,13 +57,11 @@ fn of_pair<D: Desk>(
     script: &str,
     log: &str,
     object: Option<&str>,
-) -> Result<Reply, OutOfMemory>
-    ensures { Replies (Some (OfPair task script.now log.now (name_in object.entry))) (D.state desk.old) result (D.state desk.new) }
+) -> Result<Reply, Refused>
+    ensures { Replies (Some (OfPair task script.now log.now (name_in object.entry))) (D.state desk.old) (given_reply result) (D.state desk.new) }
 {
-    match read_fitting(alloc, desk, script, log, object) {
-        Ok(pair) => replay_pair(alloc, task, &pair),
-        Err(refusal) => refusal,
-    }
+    let pair = read_fitting(alloc, desk, script, log, object)?;
+    replay_pair(alloc, task, &pair)
 }
 
 fn of_conversion<D: Desk>(
@@ -77,13 +70,11 @@ fn of_conversion<D: Desk>(
     script: &str,
     log: &str,
     out: &str,
-) -> Result<Reply, OutOfMemory>
-    ensures { Replies (Some (Convert script.now log.now out.now)) (D.state desk.old) result (D.state desk.new) }
+) -> Result<Reply, Refused>
+    ensures { Replies (Some (Convert script.now log.now out.now)) (D.state desk.old) (given_reply result) (D.state desk.new) }
 {
-    match read_fitting(alloc, desk, script, log, None) {
-        Ok(pair) => convert(alloc, &pair, out),
-        Err(refusal) => refusal,
-    }
+    let pair = read_fitting(alloc, desk, script, log, None)?;
+    convert(alloc, &pair, out)
 }
 
 #[tactic(auto, using(crate::proofs::answering::Found::hunt_stops))]
@@ -94,22 +85,16 @@ fn of_hunt<D: Desk>(
     script: &str,
     log: &str,
     tries: u32,
-) -> Result<Reply, OutOfMemory>
-    ensures { Replies (Some (Hunt (shown_quarry quarry.entry) script.now log.now tries)) (D.state desk.old) result (D.state desk.new) }
+) -> Result<Reply, Refused>
+    ensures { Replies (Some (Hunt (shown_quarry quarry.entry) script.now log.now tries)) (D.state desk.old) (given_reply result) (D.state desk.new) }
 {
-    match read_chosen(alloc, desk, script, quarry.name()) {
-        Ok((source, wanted)) => hunt(alloc, &source, wanted, quarry, tries, log),
-        Err(refusal) => refusal,
-    }
+    let (source, wanted) = read_chosen(alloc, desk, script, quarry.name())?;
+    Ok(hunt(alloc, &source, wanted, quarry, tries, log)?)
 }
 
 /// The reply to a request that needs no runtime; to another, that it is no command.
-fn reply_to<D: Desk>(
-    alloc: Global,
-    desk: &mut D,
-    request: Request<'_>,
-) -> Result<Reply, OutOfMemory>
-    ensures { Replies (shown_alone request.entry) (D.state desk.old) result (D.state desk.new) }
+fn reply_to<D: Desk>(alloc: Global, desk: &mut D, request: Request<'_>) -> Result<Reply, Refused>
+    ensures { Replies (shown_alone request.entry) (D.state desk.old) (given_reply result) (D.state desk.new) }
 {
     match request {
         Request::Tidy { script } => of_script(alloc, desk, script),
@@ -127,7 +112,7 @@ fn reply_to<D: Desk>(
             log,
             tries,
         } => of_hunt(alloc, desk, quarry, script, log, tries),
-        _ => not_a_command(alloc),
+        _ => Err(Refused::Because(not_a_command(alloc)?)),
     }
 }
 
@@ -137,11 +122,11 @@ pub(crate) fn reply_alone<D: Desk>(
     alloc: Global,
     desk: &mut D,
     request: Option<Request<'_>>,
-) -> Result<Reply, OutOfMemory>
-    ensures { Replies (alone_in request.entry) (D.state desk.old) result (D.state desk.new) }
+) -> Result<Reply, Refused>
+    ensures { Replies (alone_in request.entry) (D.state desk.old) (given_reply result) (D.state desk.new) }
 {
     match request {
         Some(request) => reply_to(alloc, desk, request),
-        None => not_a_command(alloc),
+        None => Err(Refused::Because(not_a_command(alloc)?)),
     }
 }

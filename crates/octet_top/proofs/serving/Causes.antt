@@ -5,7 +5,6 @@ use Rattle.octet_base.specs.declared.fault.DeskFault.{DeskFault}
 use Rattle.octet_base.specs.declared.fault.DeskFault.TheVariants as fault
 use Rattle.sha2.specs.Sha256.{sha256}
 use Rattle.std.specs.Global.{Vec}
-use Rattle.octet_model.specs.declared.list.OutOfMemory.{OutOfMemory as NoMemory}
 use Rattle.octet_model.specs.Texts.{outcome_text}
 use Rattle.octet_log.specs.v2.Pieces.{pieced_bytes}
 use Rattle.octet_top.specs.declared.reply.Reply.{Reply}
@@ -127,19 +126,19 @@ module _ (words : List (List ℕ)) (before after : DeskState) (code : ℕ) where
   replied_ends : IsReplied (request_in words) before after code → Ending words before after code
   replied_ends served = by served.reply served.found served.given
     where
-      held : (reply : Result Reply NoMemory) (t : Contents) → Replies (request_in words) before reply served.mid → before.contents ≡ Some t → Holds t.files t.said served.mid
+      held : (reply : Option Reply) (t : Contents) → Replies (request_in words) before reply served.mid → before.contents ≡ Some t → Holds t.files t.said served.mid
       held reply t replies tells = taken_held (request_in words) _ t.files t.said before served.mid (record { contents = t; tells = tells; files_are = refl; said_is = refl }) replies.calls
 
-      found : (reply : Reply) → Replies (request_in words) before (Ok reply) served.mid → after.take_faults ≡ served.mid.take_faults → IsFound words before after (answer_of reply)
+      found : (reply : Reply) → Replies (request_in words) before (Some reply) served.mid → after.take_faults ≡ served.mid.take_faults → IsFound words before after (answer_of reply)
       found reply replies kept = elim replies.found [ inl (answers, same) ↦ inl (answers, kept ∙ same) | inr (said, rose) ↦ inr (said, rw kept rose) ]
 
-      by : (reply : Result Reply NoMemory) → Replies (request_in words) before reply served.mid → IsGiven reply served.mid after code → Ending words before after code
-      by (Ok reply) replies (made, makes, is) =
+      by : (reply : Option Reply) → Replies (request_in words) before reply served.mid → IsGiven reply served.mid after code → Ending words before after code
+      by (Some reply) replies (made, makes, is) =
           let counts = makes_count (acts_of (answer_of reply)) served.mid made after makes in
           given_ends words before served.mid after code (answer_of reply) made (found reply replies counts.takes) replies.write_faults counts
-          (λ t t' tells tells'. answer_left (answer_of reply) served.mid made after t t' (held (Ok reply) t replies tells) tells' makes) is
-      by (Err none) replies (same, is) = Lacking is (inl (ap (λ (s : DeskState). s.write_faults) same ∙ replies.write_faults))
-          (λ t t' tells tells'. (let mid = held (Err none) t replies tells in
+          (λ t t' tells tells'. answer_left (answer_of reply) served.mid made after t t' (held (Some reply) t replies tells) tells' makes) is
+      by None replies (same, is) = Lacking is (inl (ap (λ (s : DeskState). s.write_faults) same ∙ replies.write_faults))
+          (λ t t' tells tells'. (let mid = held None t replies tells in
           let now : t' ≡ mid.contents = some_is (sym tells' ∙ ap (λ (s : DeskState). s.contents) same ∙ mid.tells) in
           inl (ap (λ (c : Contents). c.files) now ∙ mid.files_are, ap (λ (c : Contents). c.said) now ∙ mid.said_is)))
 

@@ -1,8 +1,6 @@
 use Rattle.std.proofs.Common.{◌≡◌, ◌∙◌, List, ℕ, length, inr, ap, arith}
-use Rattle.std.proofs.lemmas.Result.{IfOk-weaker}
 use Rattle.sha2.specs.Sha256.{sha256}
-use Rattle.octet_top.specs.Answer.{answer_of, writes_file}
-use Rattle.octet_top.specs.Commands.{Converts}
+use Rattle.octet_top.specs.Answer.{writes_file}
 use Rattle.octet_top.proofs.writing.Lengths.{is_second, second_file}
 use Rattle.octet_top.proofs.convert.convert.Goals as goal
 
@@ -14,12 +12,10 @@ returns c =
     let said = c.in_ok-said.said.items in
     let of_text : c.digest-digest.result.bytes ≡ sha256 pair.source.text = c.digest-digest.ensures ∙ ap sha256 c.as_slice.ensures in
     let threads : length pair.source.script.threads ≡ length pair.loaded.log.threads = grind (arith, c.if-script-log.false, c.len-script.ensures, c.len-log.ensures) in
-    IfOk-weaker c.writing.result (λ reply. answer_of reply ≡ writes_file out bytes said) (λ reply. Converts out pair (answer_of reply))
-    (λ reply is. inr (
+    inr (
       threads,
       second_file pair.source.text c.digest-digest.result.bytes pair.loaded.log bytes of_text c.requires c.in_ok-bytes.ensures.whole c.in_ok-bytes.ensures.spells,
-      is
+      c.in_ok-writing.ensures
           ∙ ap (λ (b : List ℕ). writes_file out b said) (is_second pair.source.text c.digest-digest.result.bytes pair.loaded.log bytes of_text c.requires c.in_ok-bytes.ensures.whole c.in_ok-bytes.ensures.spells)
           ∙ ap (writes_file out _) c.in_ok-said.ensures.items,
-    ))
-    c.writing.ensures
+    )

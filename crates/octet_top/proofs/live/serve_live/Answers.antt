@@ -1,5 +1,6 @@
-use Rattle.std.proofs.Common.{Ok, inl, inr}
+use Rattle.std.proofs.Common.{Err, inl, inr}
 use Rattle.octet_model.specs.declared.limits.TheConstants.{MAX_SCRIPT_FILE}
+use Rattle.octet_top.specs.Answer.{given_reply}
 use Rattle.octet_top.specs.Inputs.{IsScriptRead}
 use Rattle.octet_top.specs.Request.{AsTheyCome}
 use Rattle.octet_top.proofs.answering.Found.{run_stops, is_short}
@@ -29,9 +30,9 @@ returns-in-Err g c =
     inl (
       record {
         mid = state c.read_script.new.desk;
-        reply = c.in-Err.refusal;
-        found = run_stops AsTheyCome c.args.script.now c.args.log.now before (state c.read_script.new.desk) c.in-Err.refusal c.in-Err.ensures.ends c.in-Err.ensures.calls;
+        reply = given_reply (Err c.in-Err.refused);
+        found = run_stops AsTheyCome c.args.script.now c.args.log.now before (state c.read_script.new.desk) c.in-Err.refused c.in-Err.ensures.ends c.in-Err.ensures.calls;
         given = c.deliver.ensures;
       },
-      is_short (IsScriptRead c.args.script.now before.contents) (script_refused c.args.script.now before.contents) _ _ c.in-Err.refusal c.in-Err.ensures.ends,
+      is_short (IsScriptRead c.args.script.now before.contents) (script_refused c.args.script.now before.contents) _ _ c.in-Err.refused c.in-Err.ensures.ends,
     )

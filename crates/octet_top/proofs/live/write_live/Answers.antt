@@ -1,4 +1,4 @@
-use Rattle.std.proofs.Common.{◌≡◌, ◌∙◌, ap}
+use Rattle.std.proofs.Common.{◌∙◌, ap}
 use Rattle.sha2.specs.Sha256.{sha256}
 use Rattle.octet_top.proofs.writing.LiveMade.{begin_refused, head_refused, run_refused, run_ended}
 use Rattle.octet_top.proofs.live.write_live.Goals as goal

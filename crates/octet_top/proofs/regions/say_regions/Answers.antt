@@ -6,7 +6,7 @@ use Rattle.octet_top.proofs.regions.say_regions.Goals as goal
 pub returns : goal.returns
 returns c =
     let e = c.in-Ok.ensures in
-    serial_answered c.args.pair.now c.in-Ok.found c.say_serial.result e.lawful e.serial e.shows e.outcome c.say_serial.ensures
+    serial_answered c.args.pair.now c.in-Ok.found _ e.lawful e.serial e.shows e.outcome c.in_ok-say_serial.ensures
 
 pub say_serial-requires-clause-ends : goal.say_serial-requires-clause-ends
 say_serial-requires-clause-ends c = (executed_whole c.args.pair.now.source.script c.args.pair.now.loaded.log.threads (lowest_order c.args.pair.now.source.script c.args.pair.now.loaded.log.threads) c.in-Ok.found.outcome c.in-Ok.ensures.outcome).ends

@@ -1,4 +1,4 @@
-use Rattle.std.proofs.Common.{◌≡◌, ◌∙◌, ℕ, List, [], length, Some, slice_get, sym, ap, subst, arith, length-append}
+use Rattle.std.proofs.Common.{◌∙◌, ℕ, List, [], length, slice_get, sym, ap, subst, arith, length-append}
 use Rattle.octet_model.specs.declared.event.Event.{Event}
 use Rattle.octet_model.proofs.lemmas.Fronts.{no_journal}
 use Rattle.octet_interp.specs.Following.{FollowerState}

@@ -1,4 +1,4 @@
-use Rattle.std.proofs.Common.{◌≡◌, ◌∙◌, ◌+◌, ◌++◌, ℕ, List, [], ◌∷◌, codes, length, refl, sym, ap, arith, append-nil}
+use Rattle.std.proofs.Common.{◌≡◌, ◌∙◌, ◌+◌, ◌++◌, ℕ, List, [], codes, length, refl, sym, ap, arith, append-nil}
 use Rattle.std.specs.Fmt.{decimal}
 use Rattle.octet_interp.specs.Following.{places_ahead, PassesRegion, PassesNone}
 use Rattle.octet_top.specs.Answer.{place_text}

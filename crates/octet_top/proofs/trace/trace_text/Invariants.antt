@@ -1,4 +1,4 @@
-use Rattle.std.proofs.Common.{◌≡◌, ℕ, ◌-◌, ◌++◌, length, drop}
+use Rattle.std.proofs.Common.{◌≡◌, ◌-◌, ◌++◌, length, drop}
 use Rattle.octet_model.specs.Traces.{trace_of}
 use Rattle.octet_script.specs.LineNumbers.{command_lines}
 use Rattle.octet_replay.specs.ReplayState.{state_at}

@@ -1,6 +1,7 @@
 use Rattle.std.proofs.Common.{Some, sym, subst}
 use Rattle.octet_top.specs.declared.request.Request.{Request}
 use Rattle.octet_top.specs.Request.{shown}
+use Rattle.octet_top.specs.Answer.{given_reply}
 use Rattle.octet_top.specs.Serving.{IsServed}
 use Rattle.octet_top.proofs.answering.Found.{generated_reply}
 use Rattle.octet_top.proofs.with_runtime.serve_request.Goals as goal
@@ -16,7 +17,7 @@ returns-in-Gen g c =
     subst (λ (request : Request). IsServed (Some (shown request)) (state c.args.desk.now) (state c.deliver-in-Gen.new.desk) c.deliver-in-Gen.result) (sym c.in-Gen.is)
     (record {
       mid = state c.args.desk.now;
-      reply = c.generate-reply.result;
+      reply = given_reply c.generate-reply.result;
       found = generated_reply c.in-Gen.number c.in-Gen.script.now c.in-Gen.log.now (state c.args.desk.now) c.generate-reply.result c.generate-reply.ensures;
       given = c.deliver-in-Gen.ensures;
     })

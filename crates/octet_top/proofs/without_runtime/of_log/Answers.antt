@@ -1,5 +1,6 @@
+use Rattle.std.proofs.Common.{Ok}
 use Rattle.octet_top.proofs.answering.Found.{log_read}
 use Rattle.octet_top.proofs.without_runtime.of_log.Goals as goal
 
-pub returns-in-Ok : goal.returns-in-Ok
-returns-in-Ok g c = log_read c.args.log.now _ _ c.in-Ok.loaded _ c.in-Ok.ensures.ends c.in-Ok.ensures.calls c.show.ensures
+pub returns : goal.returns
+returns g c = log_read c.args.log.now _ _ c.in_ok-loaded.loaded (Ok c.in_ok-show.field-0) c.in_ok-loaded.ensures.ends c.in_ok-loaded.ensures.calls c.in_ok-show.ensures
