@@ -1,5 +1,5 @@
 -- What a recorder notes, in the words of a session.
-use Rattle.std.proofs.Common.{◌≡◌, ◌∙◌, ℕ, ◌+◌, ◌-◌, ◌≤◌, Bool, true, false, List, [], ◌++◌, length, map, Some, refl, ap, lit≤, arith, length-append, append-nil}
+use Rattle.std.proofs.Common.{◌≡◌, ◌∙◌, ℕ, ◌+◌, ◌-◌, ◌≤◌, Bool, true, false, List, [], ◌++◌, length, map, Some, IfErr, refl, ap, lit≤, arith, length-append, append-nil}
 use Rattle.octet_model.specs.declared.command.Command.{Command}
 use Rattle.octet_model.specs.declared.event.Event.{Event}
 use Rattle.octet_model.specs.declared.event.Event.TheVariants as event
@@ -12,14 +12,26 @@ use Rattle.octet_heap.specs.declared.updated.Updated.TheVariants as updated
 use Rattle.octet_heap.specs.Calls.{access_to}
 use Rattle.octet_heap.specs.Updates.{amount_made, answer_after}
 use Rattle.octet_heap.specs.Workers.{seat_of, pending_after}
+use Rattle.octet_recorder.specs.declared.access.Access.{Access}
 use Rattle.octet_recorder.specs.declared.access.Access.TheVariants.{Read, Write, Update}
 use Rattle.octet_recorder.specs.declared.recorder.Recorder.{Recorder}
 use Rattle.octet_recorder.specs.declared.track.Track.{Track}
 use Rattle.octet_recorder.specs.declared.track.TheConstants.{LINES_OF_ACCESS}
-use Rattle.octet_recorder.specs.Polls.{NotesUpdate}
+use Rattle.octet_recorder.specs.Polls.{NotesUpdate, NotesPoll}
 use Rattle.octet_recorder.specs.Tracks.{lines_in, lines_noted, number_of, lines_of, Notes}
 use Rattle.octet_session.specs.Asking.{lines_of_region, Asks}
-use Rattle.octet_session.specs.Recording.{poll_answer, update_answer, track_standing}
+use Rattle.octet_session.specs.Recording.{poll_answer, update_answer, track_standing, IsTrackReason}
+
+-- a poll that is pending is the reason of an access that waits
+pub poll_is_reason : (wanted : Access) (before after : Track) (answer : Poll) → NotesPoll wanted before answer after → IfErr (poll_answer answer) (IsTrackReason (Some wanted) before after)
+poll_is_reason wanted before after (Ready value) notes = tt
+poll_is_reason wanted before after (Pending why) notes = (why, notes)
+
+-- and an update that is pending
+pub update_is_reason : (object : ℕ) (change : Change) (before after : Track) (answer : Updated) → NotesUpdate object change before answer after
+    → IfErr (update_answer answer) (IsTrackReason (Some (Update object change)) before after)
+update_is_reason object change before after (updated.Made found) notes = tt
+update_is_reason object change before after (updated.Pending why) notes = (why, (updated.Pending why, refl, notes))
 
 -- a region takes one line at most
 few_of_region : (region : Bool) → lines_of_region region ≤ 1

@@ -1,17 +1,20 @@
 -- A recorder and its tracks as a session.
-use Rattle.std.specs.Prelude.{◌≡◌, ℕ, ◌-◌, None, Result, Ok, Err}
+use Rattle.std.specs.Prelude.{◌≡◌, ℕ, ◌-◌, Option, Some, None, Result, Ok, Err}
 use Rattle.octet_state.specs.declared.phase.Phase.TheVariants.{Idle}
+use Rattle.octet_state.specs.declared.why.Why.{Why}
 use Rattle.octet_heap.specs.declared.poll.Poll.{Poll}
 use Rattle.octet_heap.specs.declared.poll.Poll.TheVariants as poll
 use Rattle.octet_heap.specs.declared.updated.Updated.{Updated}
 use Rattle.octet_heap.specs.declared.updated.Updated.TheVariants as updated
 use Rattle.octet_heap.specs.Workers.{seat_of}
 use Rattle.octet_rule.specs.Conditions.{IsResting}
+use Rattle.octet_recorder.specs.declared.access.Access.{Access}
 use Rattle.octet_recorder.specs.declared.recorder.Recorder.{Recorder}
 use Rattle.octet_recorder.specs.declared.track.Track.{Track}
+use Rattle.octet_recorder.specs.Polls.{NotesPoll}
 use Rattle.octet_recorder.specs.Tracks.{lines_in, lines_noted, number_of}
 use Rattle.octet_session.specs.declared.not_made.NotMade.{NotMade}
-use Rattle.octet_session.specs.declared.not_made.NotMade.TheVariants.{Waits}
+use Rattle.octet_session.specs.declared.not_made.NotMade.TheVariants.{Waits, NoRoom}
 use Rattle.octet_session.specs.Standing.{Standing}
 
 -- a poll as the answer of a session
@@ -41,3 +44,10 @@ TrackRuns track = track.begun ≡ None → (seat_of track.worker).thread.phase �
 -- a track is off or blocked
 abbrev pub TrackRests : Track → Type 0
 TrackRests track = IsResting (seat_of track.worker).thread.phase
+
+-- why a track's access is not made: a poll of it was pending, or there is no room, of which `HasCause` says when.
+-- A track has no recording to leave, and its end is never refused
+abbrev pub IsTrackReason : Option Access → Track → Track → NotMade → Type 0
+IsTrackReason (Some wanted) before after Waits = (why : Why) × NotesPoll wanted before (poll.Pending why) after
+IsTrackReason (Some wanted) before after NoRoom = Unit {0}
+IsTrackReason _ before after why = ⊥

@@ -2,7 +2,7 @@
 ghost use Rattle.std.specs.Prelude.{◌≡◌, ◌+◌, Some, None, length};
 ghost use Rattle.octet_parallel.specs.Calls.{script_in};
 ghost use Rattle.octet_rerun.specs.Reruns.{recorded_of, IsFollowerOf};
-ghost use Rattle.octet_session.specs.Again.{second_standing, HasMadeAll};
+ghost use Rattle.octet_session.specs.Again.{second_standing, HasMadeAll, IsSecondReason};
 ghost use Rattle.octet_session.specs.Asking.{lines_of, lines_of_region};
 
 use crate::not_made::NotMade;
@@ -38,6 +38,8 @@ impl Session for Rerun {
     ghost Rests = { λ _. Unit {0} };
 
     ghost HasEnded = { HasMadeAll };
+
+    ghost IsReason = { λ rerun wanted _ after. IsSecondReason rerun wanted after };
 
     fn ask(&self, thread: &mut SecondThread, wanted: Access) -> Result<u64, NotMade> {
         thread.begun = None;

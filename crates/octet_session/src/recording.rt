@@ -1,11 +1,11 @@
 //! A recorder is a session: its threads are tracks.
-ghost use Rattle.std.specs.Prelude.{◌≡◌, ◌<◌, ◌≤◌, ◌+◌, Some, None};
+ghost use Rattle.std.specs.Prelude.{◌≡◌, ◌<◌, ◌≤◌, ◌+◌, Some, None, IfErr};
 ghost use Rattle.octet_state.specs.declared.act.Mode.TheVariants as mode;
 ghost use Rattle.octet_heap.specs.Calls.{access_to};
 ghost use Rattle.octet_heap.specs.Workers.{pending_after};
 ghost use Rattle.octet_recorder.specs.declared.access.Access.TheVariants as want;
 ghost use Rattle.octet_recorder.specs.Tracks.{objects_in, lines_in, lines_noted, number_of, IsTrackOf, IsIdleIfMade, Notes};
-ghost use Rattle.octet_session.specs.Recording.{track_standing, TrackRuns, TrackRests};
+ghost use Rattle.octet_session.specs.Recording.{track_standing, TrackRuns, TrackRests, IsTrackReason};
 ghost use Rattle.octet_session.specs.Asking.{object_of, MayAsk, Asks};
 
 use crate::answers::{poll_answer, update_answer};
@@ -61,6 +61,7 @@ fn access_on(recorder: &Recorder, track: &mut Track, wanted: Access) -> Result<u
     ensures own { IsTrackOf recorder.now track.new }
     ensures runs { TrackRuns track.new }
     ensures asks { Asks wanted (track_standing recorder.now track.old) result (track_standing recorder.now track.new) }
+    ensures reason { IfErr result (IsTrackReason (Some wanted) track.old track.new) }
 {
     match wanted {
         Access::Read { object } => poll_answer(read_on(recorder, track, object)),
@@ -85,6 +86,8 @@ impl Session for Recorder {
     ghost Rests = { TrackRests };
 
     ghost HasEnded = { λ _ track. TrackRests track };
+
+    ghost IsReason = { λ _. IsTrackReason };
 
     fn ask(&self, thread: &mut Track, wanted: Access) -> Result<u64, NotMade> {
         if self.lines_left(thread) < LINES_OF_ACCESS {

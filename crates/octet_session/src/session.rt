@@ -1,7 +1,9 @@
 //! What the threads of a run share.
-ghost use Rattle.std.specs.Prelude.{◌≡◌, ℕ, ◌<◌, List, Option, None, true, IfErr, OnOk};
+ghost use Rattle.std.specs.Prelude.{◌≡◌, ℕ, ◌<◌, List, Option, Some, None, true, IfErr, OnOk};
 ghost use Rattle.octet_model.specs.declared.event.Event.{Event};
+ghost use Rattle.octet_recorder.specs.declared.access.Access.{Access};
 ghost use Rattle.octet_recorder.specs.declared.access.Access.TheVariants as want;
+ghost use Rattle.octet_session.specs.declared.not_made.NotMade.{NotMade};
 ghost use Rattle.octet_session.specs.Standing.{Standing, Keeps, BeginsRegion, GainsMarks, Follows};
 ghost use Rattle.octet_session.specs.Asking.{object_of, MayAsk, Asks};
 
@@ -27,6 +29,10 @@ pub trait Session: Sync {
 
     ghost HasEnded: { Self → Self.Thread → Type 0 };
 
+    // Why a call, from one state of the thread to the next, has not made this access: or has not ended the thread, where no
+    // access is wanted.
+    ghost IsReason: { Self → Option Access → Self.Thread → Self.Thread → NotMade → Type 0 };
+
     /// Asks for an access. Answers the value that a read or an update found, or that a write wrote: in a second run the
     /// one that was recorded. After `Waits` the same call goes on with it; after any other error the thread ends.
     fn ask(&self, thread: &mut Self::Thread, wanted: Access) -> Result<u64, NotMade>
@@ -37,6 +43,7 @@ pub trait Session: Sync {
         ensures own { IsThreadOf self.now thread.new }
         ensures runs { Runs thread.new }
         ensures asks { Asks wanted (standing self.now thread.old) result (standing self.now thread.new) }
+        ensures reason { IfErr result (IsReason self.now (Some wanted) thread.old thread.new) }
         ensures follows { Follows (recorded self.now thread.new) (standing self.now thread.new).journal };
 
     /// Begins a region with the next access.
@@ -86,6 +93,7 @@ pub trait Session: Sync {
         ensures marks { GainsMarks (standing self.now thread.old).journal (standing self.now thread.new).journal }
         ensures ended { OnOk result (HasEnded self.now thread.new) }
         ensures again { IfErr result (λ _. Runs thread.new × ((standing self.now thread.new).begun ≡ None)) }
+        ensures reason { IfErr result (IsReason self.now None thread.old thread.new) }
         ensures follows { Follows (recorded self.now thread.new) (standing self.now thread.new).journal };
 
     /// Reads an object.
@@ -97,6 +105,7 @@ pub trait Session: Sync {
         ensures own { IsThreadOf self.now thread.new }
         ensures runs { Runs thread.new }
         ensures asks { Asks (want.Read object) (standing self.now thread.old) result (standing self.now thread.new) }
+        ensures reason { IfErr result (IsReason self.now (Some (want.Read object)) thread.old thread.new) }
         ensures follows { Follows (recorded self.now thread.new) (standing self.now thread.new).journal }
     {
         self.ask(thread, Access::Read { object })
@@ -116,6 +125,7 @@ pub trait Session: Sync {
         ensures own { IsThreadOf self.now thread.new }
         ensures runs { Runs thread.new }
         ensures asks { Asks (want.Write object value) (standing self.now thread.old) result (standing self.now thread.new) }
+        ensures reason { IfErr result (IsReason self.now (Some (want.Write object value)) thread.old thread.new) }
         ensures follows { Follows (recorded self.now thread.new) (standing self.now thread.new).journal }
     {
         self.ask(thread, Access::Write { object, value })
@@ -135,6 +145,7 @@ pub trait Session: Sync {
         ensures own { IsThreadOf self.now thread.new }
         ensures runs { Runs thread.new }
         ensures asks { Asks (want.Update object change) (standing self.now thread.old) result (standing self.now thread.new) }
+        ensures reason { IfErr result (IsReason self.now (Some (want.Update object change)) thread.old thread.new) }
         ensures follows { Follows (recorded self.now thread.new) (standing self.now thread.new).journal }
     {
         self.ask(thread, Access::Update { object, change })

@@ -1,5 +1,5 @@
 //! The calls of a session that may wait, repeated until they do not.
-ghost use Rattle.std.specs.Prelude.{◌≡◌, ◌≢◌, ◌<◌, Err, None, OnOk};
+ghost use Rattle.std.specs.Prelude.{◌≡◌, ◌≢◌, ◌<◌, Err, Some, None, IfErr, OnOk};
 ghost use Rattle.octet_session.specs.declared.not_made.NotMade.TheVariants.{Waits};
 ghost use Rattle.octet_session.specs.Standing.{GainsMarks, Follows};
 ghost use Rattle.octet_session.specs.Asking.{object_of, MayAsk, Asks};
@@ -24,6 +24,7 @@ pub fn make<R: Wait, S: Session>(
     ensures own { S.IsThreadOf session.now thread.new }
     ensures runs { S.Runs thread.new }
     ensures asks { Asks wanted (S.standing session.now thread.old) result (S.standing session.now thread.new) }
+    ensures reason { IfErr result (λ why. (before : S.Thread) × S.IsReason session.now (Some wanted) before thread.new why) }
     ensures follows { Follows (S.recorded session.now thread.new) (S.standing session.now thread.new).journal }
     ensures idle { (S.standing session.now thread.new).begun ≡ None }
     ensures made { result ≢ Err Waits }
@@ -48,6 +49,7 @@ pub fn end<R: Wait, S: Session>(rt: &R, session: &S, thread: &mut S::Thread) -> 
     ensures number { (S.standing session.now thread.new).number ≡ (S.standing session.now thread.old).number }
     ensures marks { GainsMarks (S.standing session.now thread.old).journal (S.standing session.now thread.new).journal }
     ensures ended { OnOk result (S.HasEnded session.now thread.new) }
+    ensures reason { IfErr result (λ why. (before : S.Thread) × S.IsReason session.now None before thread.new why) }
     ensures follows { Follows (S.recorded session.now thread.new) (S.standing session.now thread.new).journal }
     ensures made { result ≢ Err Waits }
 {

@@ -1,4 +1,5 @@
-use Rattle.std.proofs.Common.{rules, ◌≡◌, ◌∙◌}
+use Rattle.std.proofs.Common.{rules, ◌≡◌, ◌∙◌, Result, None, IfErr, subst}
+use Rattle.octet_session.specs.declared.not_made.NotMade.{NotMade}
 use Rattle.octet_session.proofs.Gained.{gains_more}
 use Rattle.octet_session.proofs.waiting.end.Goals as goal
 
@@ -24,3 +25,8 @@ returns-in-Err-clause-marks g c =
     let v = g.S.Session.standing c.args.session.now c.args.thread.now in
     let u = g.S.Session.standing c.args.session.now c.loop.thread in let w = g.S.Session.standing c.args.session.now c.finish.new.thread in
     gains_more v.journal u.journal w.journal c.loop.invariant.journal c.finish.ensures.marks
+
+pub returns-in-Err-clause-reason : goal.returns-in-Err-clause-reason
+returns-in-Err-clause-reason g c =
+    let reason = g.S.Session.IsReason c.args.session.now None c.loop.thread c.finish.new.thread in
+    (c.loop.thread, subst (λ (r : Result Unit NotMade). IfErr r reason) c.in-Err.is c.finish.ensures.reason)

@@ -1,4 +1,4 @@
-use Rattle.std.proofs.Common.{rules, ◌≡◌, ◌∙◌, ℕ, Result, Ok, Err, inr, ap, subst, arith}
+use Rattle.std.proofs.Common.{rules, ◌≡◌, ◌∙◌, ℕ, Result, Ok, Err, Some, IfErr, inr, ap, subst, arith}
 use Rattle.octet_session.specs.declared.not_made.NotMade.{NotMade}
 use Rattle.octet_session.specs.declared.not_made.NotMade.TheVariants.{Waits}
 use Rattle.octet_session.specs.Asking.{Asks}
@@ -31,3 +31,8 @@ returns-in-Err-clause-asks g c =
     let i = c.loop.invariant in let v = g.S.Session.standing c.args.session.now c.args.thread.now in
     let u = g.S.Session.standing c.args.session.now c.loop.thread in let w = g.S.Session.standing c.args.session.now c.ask.new.thread in
     asked_after c.args.wanted v u (Err c.in-Err.why) w i.number i.journal i.region i.left (subst (λ (r : Result ℕ NotMade). Asks c.args.wanted u r w) c.in-Err.is c.ask.ensures.asks)
+
+pub returns-in-Err-clause-reason : goal.returns-in-Err-clause-reason
+returns-in-Err-clause-reason g c =
+    let reason = g.S.Session.IsReason c.args.session.now (Some c.args.wanted) c.loop.thread c.ask.new.thread in
+    (c.loop.thread, subst (λ (r : Result ℕ NotMade). IfErr r reason) c.in-Err.is c.ask.ensures.reason)
