@@ -1,9 +1,10 @@
 //! What the threads of a run share.
-ghost use Rattle.std.specs.Prelude.{◌≡◌, ℕ, ◌<◌, List, Option, Some, None, true, IfErr, OnOk};
+ghost use Rattle.std.specs.Prelude.{◌≡◌, ◌≢◌, ℕ, ◌<◌, List, Option, Err, Some, None, true, IfErr, OnOk};
 ghost use Rattle.octet_model.specs.declared.event.Event.{Event};
 ghost use Rattle.octet_recorder.specs.declared.access.Access.{Access};
 ghost use Rattle.octet_recorder.specs.declared.access.Access.TheVariants as want;
 ghost use Rattle.octet_session.specs.declared.not_made.NotMade.{NotMade};
+ghost use Rattle.octet_session.specs.declared.not_made.NotMade.TheVariants.{NoRoom};
 ghost use Rattle.octet_session.specs.Standing.{Standing, Keeps, BeginsRegion, GainsMarks, Follows};
 ghost use Rattle.octet_session.specs.Asking.{object_of, MayAsk, Asks};
 
@@ -94,6 +95,7 @@ pub trait Session: Sync {
         ensures ended { OnOk result (HasEnded self.now thread.new) }
         ensures again { IfErr result (λ _. Runs thread.new × ((standing self.now thread.new).begun ≡ None)) }
         ensures reason { IfErr result (IsReason self.now None thread.old thread.new) }
+        ensures no_room { result ≢ Err NoRoom }
         ensures follows { Follows (recorded self.now thread.new) (standing self.now thread.new).journal };
 
     /// Reads an object.

@@ -1,6 +1,6 @@
 //! The calls of a session that may wait, repeated until they do not.
 ghost use Rattle.std.specs.Prelude.{◌≡◌, ◌≢◌, ◌<◌, Err, Some, None, IfErr, OnOk};
-ghost use Rattle.octet_session.specs.declared.not_made.NotMade.TheVariants.{Waits};
+ghost use Rattle.octet_session.specs.declared.not_made.NotMade.TheVariants.{Waits, NoRoom};
 ghost use Rattle.octet_session.specs.Standing.{GainsMarks, Follows};
 ghost use Rattle.octet_session.specs.Asking.{object_of, MayAsk, Asks};
 
@@ -50,6 +50,7 @@ pub fn end<R: Wait, S: Session>(rt: &R, session: &S, thread: &mut S::Thread) -> 
     ensures marks { GainsMarks (S.standing session.now thread.old).journal (S.standing session.now thread.new).journal }
     ensures ended { OnOk result (S.HasEnded session.now thread.new) }
     ensures reason { IfErr result (λ why. (before : S.Thread) × S.IsReason session.now None before thread.new why) }
+    ensures no_room { result ≢ Err NoRoom }
     ensures follows { Follows (S.recorded session.now thread.new) (S.standing session.now thread.new).journal }
     ensures made { result ≢ Err Waits }
 {

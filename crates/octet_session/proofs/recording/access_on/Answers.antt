@@ -1,4 +1,4 @@
-use Rattle.std.proofs.Common.{rules, ◌≡◌, ℕ, Result, Some, IfErr, sym, subst}
+use Rattle.std.proofs.Common.{ℕ, Result, Some, IfErr, sym, subst}
 use Rattle.octet_recorder.specs.declared.access.Access.{Access}
 use Rattle.octet_recorder.specs.declared.access.Access.TheVariants.{Read, Write, Update}
 use Rattle.octet_session.specs.declared.not_made.NotMade.{NotMade}

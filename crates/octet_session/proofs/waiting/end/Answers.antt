@@ -1,4 +1,4 @@
-use Rattle.std.proofs.Common.{rules, ◌≡◌, ◌∙◌, Result, None, IfErr, subst}
+use Rattle.std.proofs.Common.{◌∙◌, Result, None, IfErr, subst}
 use Rattle.octet_session.specs.declared.not_made.NotMade.{NotMade}
 use Rattle.octet_session.proofs.Gained.{gains_more}
 use Rattle.octet_session.proofs.waiting.end.Goals as goal
