@@ -1,7 +1,7 @@
 //! Two markers: one hands its marks on, empties its buffer, and goes on.
-ghost use Rattle.std.specs.Prelude.{◌≡◌, IfOk, true};
+ghost use Rattle.std.specs.Prelude.{◌≡◌, IfOk, IsSome};
 ghost use Rattle.octet_rule.specs.Seats.{threads_of, objects_of};
-ghost use Rattle.octet_heap.specs.Markers.{IsNew, RestsAs};
+ghost use Rattle.octet_heap.specs.Markers.{marker_seat, IsIdle, IsMarkerOf, IsNew, RestsAs};
 
 use octet_heap::{Heap, Marker, Poll};
 use octet_model::{Gapped, List, Mark, OutOfMemory};
@@ -60,50 +60,79 @@ fn has<R: Abort>(rt: &R, marker: &Marker, marks: &[Gapped], base: u64, gap: u32,
     assert_eq!(rt; marker.has_room(), room);
 }
 
-/// The second marker takes an object from the first one, hands its mark on, and is asked for the object, while the first
-/// one empties its own buffer between two polls. Answers whether all came so.
-fn take_turns<R: Abort>(rt: &R, heap: &Heap, first: &mut Marker, second: &mut Marker) -> bool
+/// An access to the first object that an idle marker makes at once, with its value.
+fn made_at_once(heap: &Heap, marker: &mut Marker, mode: Mode, value: u64) -> Option<u64>
+    requires heap { objects_of heap.now.words ≡ 2 }
+    requires own { IsMarkerOf heap.now marker.old }
+    requires idle { IsIdle marker.old }
+    ensures own { IsMarkerOf heap.now marker.new }
+    ensures number { (marker_seat marker.new).number ≡ (marker_seat marker.old).number }
+    ensures idle { IsSome result → IsIdle marker.new }
+{
+    if !marker.has_room() {
+        return None;
+    }
+    match marker.access_or_begin(heap, 0, mode, value) {
+        Poll::Ready { value } => Some(value),
+        Poll::Pending { .. } => None,
+    }
+}
+
+/// The second marker takes the object from the first one, which is blocked, and hands its mark on.
+fn take<R: Abort>(rt: &R, heap: &Heap, first: &mut Marker, second: &mut Marker) -> Option<()>
     requires heap { objects_of heap.now.words ≡ 2 }
     requires first { IsNew heap.now ROOM 0 first.old }
     requires second { IsNew heap.now ROOM 1 second.old }
-    ensures first { result ≡ true → RestsAs heap.now 0 first.new }
-    ensures second { result ≡ true → RestsAs heap.now 1 second.new }
+    ensures first { IsSome result → RestsAs heap.now 0 first.new }
+    ensures second { IsMarkerOf heap.now second.new × ((marker_seat second.new).number ≡ 1) }
+    ensures idle { IsSome result → IsIdle second.new }
 {
     first.unblock(heap);
-    assert!(rt; first.has_room());
-    let written = first.access_or_begin(heap, 0, Mode::Write, 7);
-    assert!(rt; written == Poll::Ready { value: 7 });
+    let written = made_at_once(heap, first, Mode::Write, 7)?;
     first.block(heap);
     second.unblock(heap);
-    assert!(rt; second.has_room());
-    let taken = second.access_or_begin(heap, 0, Mode::Update, 1);
-    assert!(rt; taken == Poll::Ready { value: 8 });
+    let sum = made_at_once(heap, second, Mode::Update, 1)?;
+    assert_eq!(rt; (written, sum), (7, 8));
     has(rt, second, &[join(0, 1)], 0, 1, false);
     second.clear(heap);
     has(rt, second, &[], 2, 0, true);
+    Some(())
+}
+
+/// The first marker asks for the object, and empties its own buffer between two polls.
+fn give_back<R: Abort>(rt: &R, heap: &Heap, first: &mut Marker, second: &mut Marker) -> Option<()>
+    requires heap { objects_of heap.now.words ≡ 2 }
+    requires first { RestsAs heap.now 0 first.old }
+    requires second { IsMarkerOf heap.now second.old × ((marker_seat second.old).number ≡ 1) }
+    requires idle { IsIdle second.old }
+    ensures first { IsSome result → RestsAs heap.now 0 first.new }
+    ensures second { IsSome result → RestsAs heap.now 1 second.new }
+{
     first.unblock(heap);
-    assert!(rt; first.has_room());
+    if !first.has_room() {
+        return None;
+    }
     first.begin(heap, 0, Mode::Read, 0);
     let Poll::Pending { .. } = first.poll(heap) else {
-        return false;
+        return None;
     };
     first.clear(heap);
     assert!(rt; second.safe_point(heap));
     let Poll::Ready { value: 8 } = first.poll(heap) else {
-        return false;
+        return None;
     };
     has(rt, first, &[join(1, 2)], 1, 1, false);
     first.block(heap);
     second.block(heap);
-    true
+    Some(())
 }
 
 #[test]
 fn a_marker_empties_its_buffer_and_goes_on(rt: HostRuntime) -> Result<(), Fail> {
     let alloc = rt.alloc();
     let (heap, mut first, mut second) = two_markers(alloc)?;
-    let made = take_turns(&rt, &heap, &mut first, &mut second);
-    assert!(rt; made);
+    take(&rt, &heap, &mut first, &mut second).expect(&rt, "accesses at once");
+    give_back(&rt, &heap, &mut first, &mut second).expect(&rt, "an answer");
     assert_eq!(rt; (first.accesses(), second.accesses()), (2, 1));
     let values = close_both(heap, alloc, first, second)?;
     assert_eq!(rt; values.as_slice(), [8u64, 3].as_slice());
