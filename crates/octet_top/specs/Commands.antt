@@ -1,5 +1,6 @@
 -- The commands' answers, each by what was read.
-use Rattle.std.specs.Prelude.{ℕ, ◌≡◌, ◌≢◌, ◌≤◌, ◌<◌, ◌⊎◌, ◌++◌, List, [], length, codes, Option, None, Some, Result, Ok, Err}
+use Rattle.std.specs.Prelude.{ℕ, ◌≡◌, ◌≢◌, ◌≤◌, ◌<◌, ◌⊎◌, ◌++◌, List, [], length, map, codes, Option, None, Some, Result, Ok, Err}
+use Rattle.std.specs.Char.{digit_value}
 use Rattle.sha2.specs.Sha256.{sha256}
 use Rattle.octet_base.specs.Desk.{Contents}
 use Rattle.octet_model.specs.declared.script.Script.{Script}
@@ -42,7 +43,10 @@ use Rattle.octet_top.specs.declared.request.PairTask.TheVariants.{Replay, Verify
 use Rattle.octet_top.specs.Answer.{Answer, says, writes_file, writes_both, not_a_command, wrong_script, does_not_fit, verdict_said, serial_said, cycle_text, try_text, no_other_end, no_cycle, summary}
 use Rattle.octet_machine.specs.Turns.{IsPlayed}
 use Rattle.octet_top.specs.Headline.{digest_kept}
-use Rattle.octet_top.specs.Request.{Way, AsTheyCome, BehindLock, ByPicks, Quarry, OtherEnd, AnyCycle, named_by, Request, Tidy, Show, OfPair, Parallel, Convert, Run, Gen, Hunt, request_in}
+use Rattle.octet_top.specs.Request.{Way, Quarry, named_by, Request, request_in}
+use Rattle.octet_top.specs.declared.request.Request.TheVariants.{Tidy, Show, OfPair, Parallel, Convert, Run, Gen, Hunt}
+use Rattle.octet_top.specs.declared.request.Way.TheVariants.{AsTheyCome, BehindLock, ByPicks}
+use Rattle.octet_top.specs.declared.request.Quarry.TheVariants.{OtherEnd, AnyCycle}
 use Rattle.octet_top.specs.TraceTexts.{trace_text}
 use Rattle.octet_top.specs.Profile.{profile_text}
 use Rattle.octet_top.specs.Slices.{SliceSays, StopSays}
@@ -52,7 +56,7 @@ use Rattle.octet_top.specs.Inputs.{IsScriptRead, IsLogRead, IsScriptChosen, IsPa
 abbrev pub Records : Way → Script → Log → Outcome → Type 0
 Records AsTheyCome script log outcome = IsFaithful script log.threads outcome
 Records BehindLock script log outcome = IsFaithful script log.threads outcome
-Records (ByPicks picks) script log outcome = IsFaithful script log.threads outcome × IsPlayed script picks (record { log = log; outcome = outcome })
+Records (ByPicks picks) script log outcome = IsFaithful script log.threads outcome × IsPlayed script (map digit_value picks) (record { log = log; outcome = outcome })
 
 -- the bytes spell a log, with that digest or in version 1, and are no more than a log's file may have
 pub record IsLogFile (bytes : List ℕ) (digest : Option (List ℕ)) (logs : List ThreadLog) : Type 0 where

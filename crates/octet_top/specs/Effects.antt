@@ -17,7 +17,9 @@ use Rattle.octet_top.specs.declared.reply.Status.TheVariants.{Done, Read, Write,
 use Rattle.octet_top.specs.declared.request.PairTask.{PairTask}
 use Rattle.octet_top.specs.declared.request.PairTask.TheVariants.{Regions, Slice}
 use Rattle.octet_top.specs.Answer.{Answer, code_of, read_failed}
-use Rattle.octet_top.specs.Request.{Request, Tidy, Show, OfPair, Parallel, Convert, Run, AsTheyCome, Gen, Hunt, named_by, request_in, outputs_in}
+use Rattle.octet_top.specs.Request.{Request, named_by, request_in, outputs_in}
+use Rattle.octet_top.specs.declared.request.Request.TheVariants.{Tidy, Show, OfPair, Parallel, Convert, Run, Gen, Hunt}
+use Rattle.octet_top.specs.declared.request.Way.TheVariants.{AsTheyCome}
 use Rattle.octet_top.specs.Inputs.{IsScriptRead, IsLogRead, IsScriptChosen, IsPairRead}
 use Rattle.octet_top.specs.Commands.{IsAnswer}
 use Rattle.octet_top.specs.Outputs.{IsWhole, IsCutShort, IsPartlyWritten}

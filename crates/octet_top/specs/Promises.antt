@@ -1,7 +1,8 @@
 -- What the top call promises of each command.
 use Rattle.octet_model.specs.declared.limits.TheConstants.{MAX_LOG_FILE}
-use Rattle.std.specs.Prelude.{ℕ, ◌≡◌, ◌≤◌, ◌<◌, ◌⊎◌, ◌++◌, List, length, codes, Some, ◌≢◌, Option, None, Ok}
+use Rattle.std.specs.Prelude.{ℕ, ◌≡◌, ◌≤◌, ◌<◌, ◌⊎◌, ◌++◌, List, length, map, codes, Some, ◌≢◌, Option, None, Ok}
 use Rattle.std.specs.FinMap.{get}
+use Rattle.std.specs.Char.{digit_value}
 use Rattle.sha2.specs.Sha256.{sha256}
 use Rattle.octet_base.specs.Desk.{Contents, DeskState}
 use Rattle.octet_model.specs.declared.script.Script.{Script}
@@ -30,7 +31,9 @@ use Rattle.octet_hunt.specs.Hunts.{Meets}
 use Rattle.octet_gen.specs.Generated.{IsGenerated}
 use Rattle.octet_machine.specs.Turns.{IsPlayed}
 use Rattle.octet_top.specs.Headline.{IsFaithfulRun}
-use Rattle.octet_top.specs.Request.{Way, ByPicks, Run, request_in, OfPair, Parallel, Convert, Gen, Quarry, Hunt, named_by}
+use Rattle.octet_top.specs.Request.{Way, request_in, Quarry, named_by}
+use Rattle.octet_top.specs.declared.request.Request.TheVariants.{Run, OfPair, Parallel, Convert, Gen, Hunt}
+use Rattle.octet_top.specs.declared.request.Way.TheVariants.{ByPicks}
 use Rattle.octet_top.specs.declared.reply.Status.TheVariants.{Done, Misfit, Cycle}
 use Rattle.std.specs.List.{sum_by}
 use Rattle.octet_top.specs.declared.inputs.Source.{Source}
@@ -56,12 +59,12 @@ RunsWithExactTotals words before after code =
     (way : Way) (script_name log_name : List ℕ) (contents contents' : Contents) → request_in words ≡ Some (Run way script_name log_name) → code ≡ code_of Done → before.contents ≡ Some contents → after.contents ≡ Some contents'
     → (run : IsFaithfulRun way script_name log_name contents contents') × HasExactTotals run
 
--- a run by picks for which all was done is a faithful run, and is the machine's run by these picks,
+-- a run by picks for which all was done is a faithful run, and is the machine's run by the values of these digits,
 -- where the desk tells its contents
 abbrev pub RunsAsPicked : List (List ℕ) → DeskState → DeskState → ℕ → Type 0
 RunsAsPicked words before after code =
     (picks : List ℕ) (script_name log_name : List ℕ) (contents contents' : Contents) → request_in words ≡ Some (Run (ByPicks picks) script_name log_name) → code ≡ code_of Done → before.contents ≡ Some contents → after.contents ≡ Some contents'
-    → (run : IsFaithfulRun (ByPicks picks) script_name log_name contents contents') × IsPlayed run.script picks (record { log = run.log; outcome = run.outcome })
+    → (run : IsFaithfulRun (ByPicks picks) script_name log_name contents contents') × IsPlayed run.script (map digit_value picks) (record { log = run.log; outcome = run.outcome })
 
 -- a script and a log of it were taken. The lowest order of the log is lawful, its journals are ordered,
 -- and all lawful orders have one outcome

@@ -2,7 +2,9 @@
 use Rattle.std.specs.Prelude.{ℕ, ◌⊎◌, Option, Some}
 use Rattle.octet_base.specs.Desk.{DeskState}
 use Rattle.octet_top.specs.declared.reply.Reply.{Reply}
-use Rattle.octet_top.specs.Request.{Request, Run, AsTheyCome}
+use Rattle.octet_top.specs.Request.{Request}
+use Rattle.octet_top.specs.declared.request.Request.TheVariants.{Run}
+use Rattle.octet_top.specs.declared.request.Way.TheVariants.{AsTheyCome}
 use Rattle.octet_top.specs.Replies.{Replies, IsNoSuccess}
 use Rattle.octet_top.specs.Delivery.{IsGiven}
 use Rattle.octet_top.specs.Live.{IsRunLive}

@@ -17,7 +17,7 @@ use std::alloc::Global;
 
 // What is looked for, at the object that is wanted.
 #[tactic(auto, using(crate::proofs::answering::Hunted::wanted_is_there, crate::proofs::answering::Hunted::few_objects))]
-fn aim_of(source: &Source, wanted: Option<usize>, quarry: Quarry<'_>) -> Aim
+fn aim_of(source: &Source, wanted: Option<usize>, quarry: Quarry<&str>) -> Aim
     requires { IsChosen source.now.script (named_by (shown_quarry quarry)) (Ok wanted) }
     ensures aim { result ≡ aim_of (shown_quarry quarry.entry) wanted }
     ensures object { IsAimAt (length source.now.script.objects) result }
@@ -38,7 +38,7 @@ pub(crate) fn hunt(
     alloc: Global,
     source: &Source,
     wanted: Option<usize>,
-    quarry: Quarry<'_>,
+    quarry: Quarry<&str>,
     tries: u32,
     log_name: &str,
 ) -> Result<Reply, OutOfMemory>
@@ -56,7 +56,7 @@ fn say_find(
     alloc: Global,
     source: &Source,
     wanted: Option<usize>,
-    quarry: Quarry<'_>,
+    quarry: Quarry<&str>,
     tries: u32,
     find: &Find,
     log_name: &str,
@@ -76,7 +76,7 @@ fn find_text(
     alloc: Global,
     source: &Source,
     wanted: Option<usize>,
-    quarry: Quarry<'_>,
+    quarry: Quarry<&str>,
     find: &Find,
 ) -> Result<Vec<u8>, OutOfMemory>
     requires meets { Meets source.now.script (aim_of (shown_quarry quarry) wanted) find.now.recorded find.now.hops }
@@ -94,7 +94,7 @@ fn found_text(
     alloc: Global,
     source: &Source,
     wanted: Option<usize>,
-    quarry: Quarry<'_>,
+    quarry: Quarry<&str>,
     find: &Find,
 ) -> Result<Vec<u8>, OutOfMemory>
     requires meets { Meets source.now.script (aim_of (shown_quarry quarry) wanted) find.now.recorded find.now.hops }
@@ -106,7 +106,7 @@ fn found_text(
     }
 }
 
-fn say_none(alloc: Global, quarry: Quarry<'_>, tries: u32) -> Result<Reply, OutOfMemory>
+fn say_none(alloc: Global, quarry: Quarry<&str>, tries: u32) -> Result<Reply, OutOfMemory>
     ensures { IfOk result (λ reply. answer_of reply ≡ none_found (shown_quarry quarry.entry) tries) }
 {
     let line = match quarry {

@@ -2,7 +2,7 @@
 ghost use Rattle.std.specs.Prelude.{◌≡◌, IfOk, IfSome, None, Some};
 ghost use Rattle.octet_model.specs.Orders.{execution, lowest_order};
 ghost use Rattle.octet_clock.specs.Fronts.{OrdersConflicts};
-ghost use Rattle.octet_top.specs.Request.{Parallel};
+ghost use Rattle.octet_top.specs.declared.request.Request.TheVariants.{Parallel};
 ghost use Rattle.octet_top.specs.Commands.{ParallelReplays};
 ghost use Rattle.octet_top.specs.Replies.{Replies};
 ghost use Rattle.octet_top.specs.Answer.{IsAnswered, given_reply};

@@ -1,7 +1,7 @@
 //! What words ask for: which task, and of which files.
-ghost use Rattle.std.specs.Prelude.{◌≡◌, ◌∷◌, []};
+ghost use Rattle.std.specs.Prelude.{◌≡◌};
 ghost use Rattle.std.specs.Option.{option_map};
-ghost use Rattle.octet_top.specs.Request.{texts, shown, alone_in, or_else, request_in, reading_in, reading_of_two, reading_of_three, reading_of_four, reading_of_five, reading_of_six, running_of_three, running_of_four, tries_of, shown_quarry, named_by, name_in};
+ghost use Rattle.octet_top.specs.Request.{texts, shown, request_in, asked_by_two, asked_by_three, asked_by_four, asked_by_five, asked_by_six, tries_of, shown_quarry, named_by, name_in};
 
 use crate::picks::are_picks;
 use octet_hunt::MAX_TRIES;
@@ -22,26 +22,28 @@ pub(crate) enum PairTask {
     Profile,
 }
 
-/// Ways to run a script and then write its log.
+/// Ways to run a script and write its log.
 #[derive(Clone, Copy)]
-pub(crate) enum RunTask<'a> {
+pub(crate) enum Way<Text> {
+    /// As its threads come, beside each other, while the log is written.
+    AsTheyCome,
     /// As its threads come, over a machine behind one lock.
-    Locked,
+    BehindLock,
     /// A turn for each hexadecimal digit, and then by rounds.
-    Turns { picks: &'a str },
+    ByPicks { picks: Text },
 }
 
 /// What a hunt looks for.
 #[derive(Clone, Copy)]
-pub(crate) enum Quarry<'a> {
+pub(crate) enum Quarry<Text> {
     /// A run whose threads are all done, and that ends with another value than this number at the
     /// object of this name.
-    OtherEnd { name: &'a str, number: u64 },
+    OtherEnd { name: Text, number: u64 },
     /// A run whose regions have a cycle.
     AnyCycle,
 }
 
-impl<'a> Quarry<'a> {
+impl<'a> Quarry<&'a str> {
     /// The object that is named.
     pub(crate) fn name(self) -> Option<&'a str>
         ensures { name_in result ≡ named_by (shown_quarry self.entry) }
@@ -53,65 +55,60 @@ impl<'a> Quarry<'a> {
     }
 }
 
-/// What words ask for, with the names of its files.
+/// What words ask for, with the names of its files. The program's texts are `&str`; definitions
+/// speak of the same request with lists of bytes.
 #[derive(Clone, Copy)]
-pub(crate) enum Request<'a> {
+pub(crate) enum Request<Text> {
     /// The script's canonical text.
     Tidy {
-        script: &'a str,
+        script: Text,
     },
     /// The log's text.
     Show {
-        log: &'a str,
+        log: Text,
     },
     /// Of a script and a log, and of one object where it is named.
     OfPair {
         task: PairTask,
-        script: &'a str,
-        log: &'a str,
-        object: Option<&'a str>,
+        script: Text,
+        log: Text,
+        object: Option<Text>,
+    },
+    /// A replay on threads, where the log orders all conflicts.
+    Parallel {
+        script: Text,
+        log: Text,
     },
     /// Of a script, a log, and the file that is written.
     Convert {
-        script: &'a str,
-        log: &'a str,
-        out: &'a str,
+        script: Text,
+        log: Text,
+        out: Text,
     },
-    /// A run of the script as its threads come, beside each other, while its log is written.
-    Live {
-        script: &'a str,
-        log: &'a str,
-    },
-    /// A run of the script, and then its log is written.
+    /// A run of the script, whose log is written.
     Run {
-        task: RunTask<'a>,
-        script: &'a str,
-        log: &'a str,
+        way: Way<Text>,
+        script: Text,
+        log: Text,
     },
     /// A run of the script that the number generates.
     Gen {
         number: u64,
-        script: &'a str,
-        log: &'a str,
+        script: Text,
+        log: Text,
     },
     /// Runs by schedules, up to one that is looked for, whose log is written.
     Hunt {
-        quarry: Quarry<'a>,
-        script: &'a str,
-        log: &'a str,
+        quarry: Quarry<Text>,
+        script: Text,
+        log: Text,
         tries: u32,
-    },
-    /// A replay on threads, where the log orders all conflicts.
-    Parallel {
-        script: &'a str,
-        log: &'a str,
     },
 }
 
 /// What words ask for, if they ask for anything.
-pub(crate) fn request_of(words: &[String]) -> Option<Request<'_>>
-    ensures asked { option_map shown result ≡ request_in (texts words.now) }
-    ensures alone { alone_in result ≡ reading_in (texts words.now) }
+pub(crate) fn request_of(words: &[String]) -> Option<Request<&str>>
+    ensures { option_map shown result ≡ request_in (texts words.now) }
 {
     match words {
         [word, file] => of_two(word, file),
@@ -123,9 +120,8 @@ pub(crate) fn request_of(words: &[String]) -> Option<Request<'_>>
     }
 }
 
-fn of_two<'a>(word: &str, file: &'a str) -> Option<Request<'a>>
-    ensures asked { option_map shown result ≡ reading_of_two word.now file.now }
-    ensures alone { alone_in result ≡ reading_of_two word.now file.now }
+fn of_two<'a>(word: &str, file: &'a str) -> Option<Request<&'a str>>
+    ensures { option_map shown result ≡ asked_by_two word.now file.now }
 {
     match word {
         "tidy" => Some(Request::Tidy { script: file }),
@@ -134,15 +130,20 @@ fn of_two<'a>(word: &str, file: &'a str) -> Option<Request<'a>>
     }
 }
 
-fn of_three<'a>(word: &str, script: &'a str, log: &'a str) -> Option<Request<'a>>
-    ensures asked { option_map shown result ≡ or_else (running_of_three word.now script.now log.now) (reading_of_three word.now script.now log.now) }
-    ensures alone { alone_in result ≡ reading_of_three word.now script.now log.now }
+fn of_three<'a>(word: &str, script: &'a str, log: &'a str) -> Option<Request<&'a str>>
+    ensures { option_map shown result ≡ asked_by_three word.now script.now log.now }
 {
     let task = match word {
-        "run" => return Some(Request::Live { script, log }),
+        "run" => {
+            return Some(Request::Run {
+                way: Way::AsTheyCome,
+                script,
+                log,
+            });
+        }
         "locked" => {
             return Some(Request::Run {
-                task: RunTask::Locked,
+                way: Way::BehindLock,
                 script,
                 log,
             });
@@ -163,9 +164,13 @@ fn of_three<'a>(word: &str, script: &'a str, log: &'a str) -> Option<Request<'a>
     })
 }
 
-fn of_four<'a>(word: &str, first: &'a str, second: &'a str, third: &'a str) -> Option<Request<'a>>
-    ensures asked { option_map shown result ≡ or_else (running_of_four word.now first.now second.now third.now) (reading_of_four word.now first.now second.now third.now) }
-    ensures alone { alone_in result ≡ reading_of_four word.now first.now second.now third.now }
+fn of_four<'a>(
+    word: &str,
+    first: &'a str,
+    second: &'a str,
+    third: &'a str,
+) -> Option<Request<&'a str>>
+    ensures { option_map shown result ≡ asked_by_four word.now first.now second.now third.now }
 {
     match word {
         "gen" => Some(Request::Gen {
@@ -174,7 +179,7 @@ fn of_four<'a>(word: &str, first: &'a str, second: &'a str, third: &'a str) -> O
             log: third,
         }),
         "turns" if are_picks(third) => Some(Request::Run {
-            task: RunTask::Turns { picks: third },
+            way: Way::ByPicks { picks: third },
             script: first,
             log: second,
         }),
@@ -205,9 +210,8 @@ fn of_five<'a>(
     log: &'a str,
     third: &'a str,
     last: &'a str,
-) -> Option<Request<'a>>
-    ensures asked { option_map shown result ≡ reading_of_five word.now script.now log.now third.now last.now }
-    ensures alone { alone_in result ≡ reading_of_five word.now script.now log.now third.now last.now }
+) -> Option<Request<&'a str>>
+    ensures { option_map shown result ≡ asked_by_five word.now script.now log.now third.now last.now }
 {
     match word {
         "slice" => Some(Request::OfPair {
@@ -238,9 +242,8 @@ fn of_six<'a>(
     name: &'a str,
     number: &str,
     last: &str,
-) -> Option<Request<'a>>
-    ensures asked { option_map shown result ≡ reading_of_six word.now script.now log.now name.now number.now last.now }
-    ensures alone { alone_in result ≡ reading_of_six word.now script.now log.now name.now number.now last.now }
+) -> Option<Request<&'a str>>
+    ensures { option_map shown result ≡ asked_by_six word.now script.now log.now name.now number.now last.now }
 {
     match word {
         "hunt" => Some(Request::Hunt {

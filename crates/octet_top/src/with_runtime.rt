@@ -1,20 +1,24 @@
 //! Requests served with the runtime, which some of them need: `run SCRIPT LOG`, `locked SCRIPT LOG`,
 //! `turns SCRIPT LOG PICKS`, `gen NUMBER SCRIPT LOG` and `parallel SCRIPT LOG`.
 ghost use Rattle.std.specs.Prelude.{◌≡◌, IfOk, None, Some};
-ghost use Rattle.octet_top.specs.Answer.{answer_of, file_of, IsAnswered, given_reply};
-ghost use Rattle.octet_top.specs.Request.{shown, shown_task, Run};
-ghost use Rattle.octet_top.specs.Commands.{RunAnswers, IsGeneration, Records};
+ghost use Rattle.octet_top.specs.Answer.{answer_of, file_of, IsAnswered, given_reply, writes_file};
+ghost use Rattle.octet_top.specs.Request.{shown};
+ghost use Rattle.octet_top.specs.declared.request.Request.TheVariants.{Run};
+ghost use Rattle.octet_top.specs.declared.request.Way.TheVariants.{BehindLock, ByPicks};
+ghost use Rattle.octet_top.specs.Commands.{IsGeneration, Records};
+ghost use Rattle.octet_model.specs.Orders.{IsFaithful};
+ghost use Rattle.octet_model.specs.Texts.{log_bytes, outcome_text};
 ghost use Rattle.octet_top.specs.Replies.{Replies};
 ghost use Rattle.octet_top.specs.Serving.{IsServed};
 
 use crate::deliver::deliver;
-use crate::inputs::{Source, read_script};
+use crate::inputs::read_script;
 use crate::live::serve_live;
 use crate::parallel::replay_on_threads;
 use crate::picks::picks_of;
 use crate::refusal::Refused;
 use crate::reply::{Output, Reply};
-use crate::request::{Request, RunTask};
+use crate::request::{Request, Way};
 use crate::without_runtime::reply_alone;
 use octet_base::Desk;
 use octet_gen::make;
@@ -34,7 +38,7 @@ const SUMMARY: &[u8] = b"threads 8\nobjects 64\naccesses 160000\n";
 pub(crate) fn serve_request<R: Threads + Wait + Sync, D: Desk, G: HeapGate>(
     rt: &R,
     alloc: Global,
-    request: Request<'_>,
+    request: Request<&str>,
     desk: &mut D,
     gate: &G,
 ) -> u8
@@ -42,11 +46,17 @@ pub(crate) fn serve_request<R: Threads + Wait + Sync, D: Desk, G: HeapGate>(
     ensures { IsServed (Some (shown request.entry)) (D.state desk.old) (D.state desk.new) result }
 {
     match request {
-        Request::Live { script, log } => serve_live(rt, alloc, desk, gate, script, log),
-        Request::Run { task, script, log } => {
-            let reply = run_script(rt, alloc, desk, gate, task, script, log);
-            deliver(alloc, desk, reply)
-        }
+        Request::Run { way, script, log } => match way {
+            Way::AsTheyCome => serve_live(rt, alloc, desk, gate, script, log),
+            Way::BehindLock => {
+                let reply = run_behind_lock(rt, alloc, desk, gate, script, log);
+                deliver(alloc, desk, reply)
+            }
+            Way::ByPicks { picks } => {
+                let reply = run_by_picks(rt, alloc, desk, picks, script, log);
+                deliver(alloc, desk, reply)
+            }
+        },
         Request::Gen {
             number,
             script,
@@ -66,54 +76,66 @@ pub(crate) fn serve_request<R: Threads + Wait + Sync, D: Desk, G: HeapGate>(
     }
 }
 
+/// The script is run as its threads come, over a machine behind one lock; they pass the gate before
+/// each access.
 #[tactic(auto, using(crate::proofs::answering::Found::run_stops))]
-fn run_script<R: Threads + Wait + Sync, D: Desk, G: HeapGate>(
+fn run_behind_lock<R: Threads + Wait + Sync, D: Desk, G: HeapGate>(
     rt: &R,
     alloc: Global,
     desk: &mut D,
     gate: &G,
-    task: RunTask<'_>,
     script: &str,
     log: &str,
 ) -> Result<Reply, Refused>
-    ensures { Replies (Some (Run (shown_task task.entry) script.now log.now)) (D.state desk.old) (given_reply result) (D.state desk.new) }
+    ensures { Replies (Some (Run BehindLock script.now log.now)) (D.state desk.old) (given_reply result) (D.state desk.new) }
 {
     let source = read_script(alloc, desk, script)?;
-    Ok(run_source(rt, alloc, gate, task, &source, log)?)
+    let recorded = run_locked(rt, alloc, &source.script, gate)?;
+    Ok(say_recorded(alloc, &source.script, &recorded, log)?)
 }
 
-/// The script is run: the log's bytes are written, in version 1, and the outcome is said.
-fn run_source<R: Threads + Wait + Sync, G: HeapGate>(
+/// The script is run by picks, on the calling thread.
+#[tactic(auto, using(crate::proofs::answering::Found::run_stops))]
+fn run_by_picks<R: Threads + Wait + Sync, D: Desk>(
     rt: &R,
     alloc: Global,
-    gate: &G,
-    task: RunTask<'_>,
-    source: &Source,
+    desk: &mut D,
+    picks: &str,
+    script: &str,
+    log: &str,
+) -> Result<Reply, Refused>
+    ensures { Replies (Some (Run (ByPicks picks.now) script.now log.now)) (D.state desk.old) (given_reply result) (D.state desk.new) }
+{
+    let source = read_script(alloc, desk, script)?;
+    let recorded = record_by_picks(rt, alloc, &source.script, picks)?;
+    Ok(say_recorded(alloc, &source.script, &recorded, log)?)
+}
+
+/// A faithful recording of the script, which is that of a run by these picks.
+fn record_by_picks<R: Threads + Wait + Sync>(
+    rt: &R,
+    alloc: Global,
+    script: &Script,
+    picks: &str,
+) -> Result<Recorded, OutOfMemory>
+    ensures { IfOk result (λ recorded. Records (ByPicks picks.now) script.now recorded.log recorded.outcome) }
+{
+    play(rt, alloc, script, &picks_of(alloc, picks)?)
+}
+
+/// The log's bytes are written, in version 1, and the outcome is said.
+fn say_recorded(
+    alloc: Global,
+    script: &Script,
+    recorded: &Recorded,
     log_name: &str,
 ) -> Result<Reply, OutOfMemory>
-    ensures { IfOk result (λ reply. RunAnswers (shown_task task.entry) log_name.now source.now (answer_of reply)) }
+    requires { IsFaithful script.now recorded.now.log.threads recorded.now.outcome }
+    ensures { IfOk result (λ reply. answer_of reply ≡ writes_file log_name.now (log_bytes recorded.now.log.threads) (outcome_text script.now recorded.now.outcome)) }
 {
-    let recorded = record(rt, alloc, task, &source.script, gate)?;
-    let text = outcome_text(alloc, &source.script, &recorded.outcome)?;
+    let text = outcome_text(alloc, script, &recorded.outcome)?;
     let bytes = encode_v1(alloc, &recorded.log)?;
     Reply::writing(alloc, log_name, bytes, text)
-}
-
-/// A faithful recording of the script: by threads over a machine behind one lock, which pass the gate
-/// before each access, or by picks, on the calling thread.
-fn record<R: Threads + Wait + Sync, G: HeapGate>(
-    rt: &R,
-    alloc: Global,
-    task: RunTask<'_>,
-    script: &Script,
-    gate: &G,
-) -> Result<Recorded, OutOfMemory>
-    ensures { IfOk result (λ recorded. Records (shown_task task.entry) script.now recorded.log recorded.outcome) }
-{
-    match task {
-        RunTask::Locked => run_locked(rt, alloc, script, gate),
-        RunTask::Turns { picks } => play(rt, alloc, script, &picks_of(alloc, picks)?),
-    }
 }
 
 /// The number's script is run: its canonical text and then the log's bytes are written, and the

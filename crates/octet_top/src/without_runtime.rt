@@ -1,6 +1,8 @@
 //! Requests that need no runtime: from the files to a reply, before any of it is written or said.
 ghost use Rattle.std.specs.Prelude.{◌≡◌, Some};
-ghost use Rattle.octet_top.specs.Request.{shown_alone, shown_quarry, alone_in, name_in, Tidy, Show, OfPair, Convert, Hunt};
+ghost use Rattle.std.specs.Option.{option_map};
+ghost use Rattle.octet_top.specs.Request.{shown, if_alone, shown_quarry, alone_in, name_in};
+ghost use Rattle.octet_top.specs.declared.request.Request.TheVariants.{Tidy, Show, OfPair, Convert, Hunt};
 ghost use Rattle.octet_top.specs.Commands.{PairReplays};
 ghost use Rattle.octet_top.specs.Replies.{Replies};
 ghost use Rattle.octet_top.specs.Answer.{IsAnswered, given_reply};
@@ -81,7 +83,7 @@ fn of_conversion<D: Desk>(
 fn of_hunt<D: Desk>(
     alloc: Global,
     desk: &mut D,
-    quarry: Quarry<'_>,
+    quarry: Quarry<&str>,
     script: &str,
     log: &str,
     tries: u32,
@@ -93,8 +95,8 @@ fn of_hunt<D: Desk>(
 }
 
 /// The reply to a request that needs no runtime; to another, that it is no command.
-fn reply_to<D: Desk>(alloc: Global, desk: &mut D, request: Request<'_>) -> Result<Reply, Refused>
-    ensures { Replies (shown_alone request.entry) (D.state desk.old) (given_reply result) (D.state desk.new) }
+fn reply_to<D: Desk>(alloc: Global, desk: &mut D, request: Request<&str>) -> Result<Reply, Refused>
+    ensures { Replies (if_alone (shown request.entry)) (D.state desk.old) (given_reply result) (D.state desk.new) }
 {
     match request {
         Request::Tidy { script } => of_script(alloc, desk, script),
@@ -121,9 +123,9 @@ fn reply_to<D: Desk>(alloc: Global, desk: &mut D, request: Request<'_>) -> Resul
 pub(crate) fn reply_alone<D: Desk>(
     alloc: Global,
     desk: &mut D,
-    request: Option<Request<'_>>,
+    request: Option<Request<&str>>,
 ) -> Result<Reply, Refused>
-    ensures { Replies (alone_in request.entry) (D.state desk.old) (given_reply result) (D.state desk.new) }
+    ensures { Replies (alone_in (option_map shown request.entry)) (D.state desk.old) (given_reply result) (D.state desk.new) }
 {
     match request {
         Some(request) => reply_to(alloc, desk, request),

@@ -13,7 +13,8 @@ use Rattle.octet_replay.specs.declared.fitting.FitFault.{FitFault}
 use Rattle.octet_replay.specs.Fit.{IsOfScript, IsOfAnother}
 use Rattle.octet_model.specs.declared.limits.TheConstants.{MAX_LOG_FILE, MAX_SCRIPT_FILE}
 use Rattle.octet_top.specs.declared.inputs.Source.{Source}
-use Rattle.octet_top.specs.Request.{Way, Request, Tidy, Show, OfPair, Parallel, Convert, Run, Gen, Hunt, Quarry, named_by}
+use Rattle.octet_top.specs.Request.{Way, Request, Quarry, named_by}
+use Rattle.octet_top.specs.declared.request.Request.TheVariants.{Tidy, Show, OfPair, Parallel, Convert, Run, Gen, Hunt}
 use Rattle.octet_top.specs.Inputs.{IsScriptRead, IsLogRead, IsScriptChosen, IsPairRead, Ends, WasRefused, TakesOne, TakesBoth}
 use Rattle.octet_top.specs.Checked.{IsPairTaken, IsFittingTaken}
 use Rattle.octet_top.specs.Commands.{Answering, Answers, TidyAnswers, ShowAnswers, RunAnswers, RequestAnswers, Matching, PairReplays, ParallelReplays, Converts, IsGeneration, HuntAnswers}

@@ -1,5 +1,6 @@
 -- What each way to run a script records is faithful, and a whole outcome of it.
-use Rattle.std.proofs.Common.{◌≡◌, ◌≤◌, ℕ, List, length, Option, Some, IfSome, Result, Ok, Err, IfOk, arith, sym, subst}
+use Rattle.std.proofs.Common.{◌≡◌, ◌≤◌, ℕ, List, map, length, Option, Some, IfSome, Result, Ok, Err, IfOk, arith, sym, subst}
+use Rattle.std.specs.Char.{digit_value}
 use Rattle.octet_model.specs.declared.list.OutOfMemory.{OutOfMemory}
 use Rattle.octet_model.specs.declared.script.Script.{Script}
 use Rattle.octet_model.specs.declared.log.Log.{Log}
@@ -16,7 +17,8 @@ use Rattle.octet_top.proofs.writing.Lengths.{first_has_few}
 use Rattle.octet_machine.specs.Turns.{IsPlayed}
 use Rattle.octet_replay.specs.Laws.{IsWholeOutcome}
 use Rattle.octet_replay.proofs.lemmas.WholeOutcomes.{whole, faithful_whole}
-use Rattle.octet_top.specs.Request.{Way, AsTheyCome, BehindLock, ByPicks}
+use Rattle.octet_top.specs.Request.{Way}
+use Rattle.octet_top.specs.declared.request.Way.TheVariants.{AsTheyCome, BehindLock, ByPicks}
 use Rattle.octet_top.specs.Commands.{Records}
 
 pub recorded_faithfully : (way : Way) (script : Script) (log : Log) (outcome : Outcome) → Records way script log outcome → IsFaithful script log.threads outcome
@@ -31,11 +33,10 @@ pub recorded_whole : (way : Way) (script : Script) (log : Log) (outcome : Outcom
 recorded_whole way script log outcome recorded = faithful_whole script log.threads outcome (recorded_faithfully way script log outcome recorded)
 
 -- what plays picks records by them
-pub recorded_by_picks : (way : Way) (digits picks : List ℕ) (script : Script) (result : Result Recorded OutOfMemory) → way ≡ ByPicks digits → picks ≡ digits
-    → IfOk result (λ r. IsPlayed script picks r) → IfOk result (λ r. IsFaithful script r.log.threads r.outcome) → IfOk result (λ r. Records way script r.log r.outcome)
-recorded_by_picks way digits picks script (Ok r) is same played faithful =
-    subst (λ (w : Way). Records w script r.log r.outcome) (sym is) (faithful, subst (λ (p : List ℕ). IsPlayed script p r) same played)
-recorded_by_picks way digits picks script (Err none) is same played faithful = tt
+pub recorded_by_picks : (digits picks : List ℕ) (script : Script) (result : Result Recorded OutOfMemory) → picks ≡ map digit_value digits
+    → IfOk result (λ r. IsPlayed script picks r) → IfOk result (λ r. IsFaithful script r.log.threads r.outcome) → IfOk result (λ r. Records (ByPicks digits) script r.log r.outcome)
+recorded_by_picks digits picks script (Ok r) same played faithful = (faithful, subst (λ (p : List ℕ). IsPlayed script p r) same played)
+recorded_by_picks digits picks script (Err none) same played faithful = tt
 
 -- and has few marks
 pub faithful_few : (script : Script) (log : Log) (outcome : Outcome) → IsFaithful script log.threads outcome → marks_in log.threads ≤ MAX_MARKS

@@ -24,7 +24,9 @@ use Rattle.octet_top.specs.declared.reply.Status.{Status}
 use Rattle.octet_top.specs.declared.reply.Status.TheVariants as exit
 use Rattle.octet_log.specs.declared.loader.Loaded.{Loaded}
 use Rattle.octet_top.specs.Answer.{Answer, verdict_said}
-use Rattle.octet_top.specs.Request.{Way, Request, Tidy, Show, OfPair, Parallel, Convert, Run, Gen, Hunt, Quarry, OtherEnd, AnyCycle, named_by, outputs_of, outputs_in}
+use Rattle.octet_top.specs.Request.{Way, Request, Quarry, named_by, outputs_of, outputs_in}
+use Rattle.octet_top.specs.declared.request.Request.TheVariants.{Tidy, Show, OfPair, Parallel, Convert, Run, Gen, Hunt}
+use Rattle.octet_top.specs.declared.request.Quarry.TheVariants.{OtherEnd, AnyCycle}
 use Rattle.octet_top.specs.Inputs.{IsTaken, IsScriptRead, IsLogRead, IsScriptChosen, IsPairRead}
 use Rattle.octet_top.specs.Commands.{Answers, RequestAnswers, TidyAnswers, ShowAnswers, OutcomeSays, WhereOrdered, PairSays, RunAnswers, none_found}
 

@@ -11,7 +11,9 @@ use Rattle.octet_top.specs.declared.reply.Reply.{Reply}
 use Rattle.octet_top.specs.declared.reply.Status.{Status}
 use Rattle.octet_top.specs.declared.reply.Status.TheVariants as exit
 use Rattle.octet_top.specs.Answer.{Answer, answer_of, code_of, read_failed, writes_file}
-use Rattle.octet_top.specs.Request.{Request, Tidy, Show, OfPair, Parallel, Convert, Run, AsTheyCome, BehindLock, ByPicks, Gen, Hunt, request_in}
+use Rattle.octet_top.specs.Request.{Request, request_in}
+use Rattle.octet_top.specs.declared.request.Request.TheVariants.{Tidy, Show, OfPair, Parallel, Convert, Run, Gen, Hunt}
+use Rattle.octet_top.specs.declared.request.Way.TheVariants.{AsTheyCome, BehindLock, ByPicks}
 use Rattle.octet_top.specs.Commands.{Answers, IsAnswer}
 use Rattle.octet_top.specs.Replies.{Replies}
 use Rattle.octet_top.specs.Delivery.{Act, Begin, Add, Finish, Say, Does, Makes, IsRefused, acts_of, code_given, IsGiven}

@@ -23,7 +23,8 @@ use Rattle.octet_top.specs.declared.request.PairTask.{PairTask}
 use Rattle.octet_top.specs.declared.reply.Status.{Status}
 use Rattle.octet_top.specs.declared.reply.Status.TheVariants as exit
 use Rattle.octet_top.specs.Answer.{Answer, code_of, not_a_command, read_failed, too_long, script_refused, log_refused}
-use Rattle.octet_top.specs.Request.{Request, Tidy, Show, OfPair, Parallel, Convert, Run, Gen, Hunt, Quarry, named_by, request_in}
+use Rattle.octet_top.specs.Request.{Request, Quarry, named_by, request_in}
+use Rattle.octet_top.specs.declared.request.Request.TheVariants.{Tidy, Show, OfPair, Parallel, Convert, Run, Gen, Hunt}
 use Rattle.octet_top.specs.Inputs.{◌>>=◌, IsTaken, IsParsed, IsDecoded, IsChosen, IsScriptRead, IsLogRead, IsScriptChosen, IsPairRead}
 use Rattle.octet_top.specs.Serving.{IsServed}
 use Rattle.octet_top.specs.Causes.{IsDue, FindsOrNot, NoneFailed}

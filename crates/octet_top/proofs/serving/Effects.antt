@@ -10,7 +10,8 @@ use Rattle.octet_top.specs.declared.request.PairTask.TheVariants.{Replay, Verify
 use Rattle.octet_top.specs.declared.reply.Status.{Status}
 use Rattle.octet_top.specs.declared.reply.Status.TheVariants as exit
 use Rattle.octet_top.specs.Answer.{Answer, code_of}
-use Rattle.octet_top.specs.Request.{Request, Tidy, Show, OfPair, Parallel, Convert, Run, Gen, Hunt, named_by, request_in, outputs_in}
+use Rattle.octet_top.specs.Request.{Request, named_by, request_in, outputs_in}
+use Rattle.octet_top.specs.declared.request.Request.TheVariants.{Tidy, Show, OfPair, Parallel, Convert, Run, Gen, Hunt}
 use Rattle.octet_top.specs.Commands.{Answers, RequestAnswers, PairAnswers, ParallelAnswers, ConvertAnswers, IsAnswer}
 use Rattle.octet_top.specs.Serving.{IsServed}
 use Rattle.octet_top.specs.Outputs.{written, ArePartlyWritten}

@@ -19,7 +19,8 @@ use Rattle.octet_top.specs.declared.reply.Status.{Status}
 use Rattle.octet_top.specs.declared.reply.Status.TheVariants.{Done, Misfit, Unordered, Cycle, NoEvent}
 use Rattle.octet_top.specs.Answer.{Answer, code_of, says, verdict_said}
 use Rattle.octet_top.specs.Slices.{slice_line}
-use Rattle.octet_top.specs.Request.{Request, request_in, OfPair}
+use Rattle.octet_top.specs.Request.{Request, request_in}
+use Rattle.octet_top.specs.declared.request.Request.TheVariants.{OfPair}
 use Rattle.octet_top.specs.Inputs.{IsPairRead}
 use Rattle.octet_top.specs.Commands.{Answers, RequestAnswers, OutcomeSays, WhereOrdered, Answering, Matching, Fitting, PairSays, told_before}
 use Rattle.octet_top.specs.Serving.{IsServed}

@@ -8,7 +8,9 @@ use Rattle.octet_model.proofs.lemmas.Totals.{faithful_adds_up}
 use Rattle.octet_top.specs.declared.reply.Status.{Status}
 use Rattle.octet_top.specs.declared.reply.Status.TheVariants.{Done, Read, Write, Memory, NotFound}
 use Rattle.octet_top.specs.Answer.{Answer, code_of, writes_file, writes_both, summary, try_text}
-use Rattle.octet_top.specs.Request.{Way, ByPicks, Run, request_in, Convert, Gen, Quarry, Hunt, named_by}
+use Rattle.octet_top.specs.Request.{Way, request_in, Quarry, named_by}
+use Rattle.octet_top.specs.declared.request.Request.TheVariants.{Run, Convert, Gen, Hunt}
+use Rattle.octet_top.specs.declared.request.Way.TheVariants.{ByPicks}
 use Rattle.octet_log.specs.Spellings.{IsSpelling}
 use Rattle.octet_top.specs.Headline.{digest_kept, IsFaithfulRun, RunsFaithfully}
 use Rattle.octet_top.specs.Commands.{Answers, Records, RequestAnswers, found_said, second_bytes}

@@ -5,7 +5,9 @@ use Rattle.octet_model.specs.Texts.{outcome_text}
 use Rattle.octet_top.specs.declared.reply.Status.{Status}
 use Rattle.octet_top.specs.declared.reply.Status.TheVariants as exit
 use Rattle.octet_top.specs.Answer.{Answer, code_of, writes_file}
-use Rattle.octet_top.specs.Request.{Request, Run, AsTheyCome, request_in}
+use Rattle.octet_top.specs.Request.{Request, request_in}
+use Rattle.octet_top.specs.declared.request.Request.TheVariants.{Run}
+use Rattle.octet_top.specs.declared.request.Way.TheVariants.{AsTheyCome}
 use Rattle.octet_top.specs.Commands.{Answers, RequestAnswers}
 use Rattle.octet_top.specs.Effects.{IsGivenAnswer, LeavesLog, LeavesText, LeavesLine, CutsRun}
 use Rattle.octet_top.specs.Outputs.{written, IsCutShort, ArePartlyWritten}

@@ -20,10 +20,6 @@ use Rattle.octet_log.specs.v2.Short.{groups, short_bytes}
 use Rattle.octet_log.specs.v2.Pieces.{Piece, short_mark_of, short_mark_bytes, piece_bytes, tail_bytes, marks_in, whole_pieces, pieced_bytes}
 use Rattle.octet_log.specs.Spellings.{IsSpelling}
 use Rattle.octet_log.proofs.lemmas.Sizes.{few_marks}
-use Rattle.octet_top.specs.declared.request.RunTask.{RunTask}
-use Rattle.octet_top.specs.declared.request.RunTask.TheVariants as run
-use Rattle.octet_top.specs.Request.{shown_task}
-use Rattle.octet_top.specs.Headline.{digest_kept}
 use Rattle.octet_top.specs.Commands.{IsLogFile, second_bytes}
 
 -- a short number has at most ten bytes, and a small one few
@@ -174,6 +170,5 @@ module _ (text digest : List ℕ) (log : Log) (bytes : List ℕ) (of_text : dige
   second_file = subst (λ (b : List ℕ). IsLogFile b (Some (sha256 text)) log.threads) is_second second_written
 
 -- a log that is written in version 1, after its run
-pub first_file : (task : RunTask) (text : List ℕ) (log : Log) (bytes : List ℕ) → length (log_bytes log.threads) ≤ MAX_LOG_FILE → bytes ≡ log_bytes log.threads → IsLogFile bytes (digest_kept (shown_task task) text) log.threads
-first_file run.Locked text log bytes short is = record { spelled = is; within_limit = omega (arith, ap (λ (l : List ℕ). length l) is, short) }
-first_file (run.Turns picks) text log bytes short is = record { spelled = is; within_limit = omega (arith, ap (λ (l : List ℕ). length l) is, short) }
+pub first_file : (log : Log) (bytes : List ℕ) → length (log_bytes log.threads) ≤ MAX_LOG_FILE → bytes ≡ log_bytes log.threads → IsLogFile bytes None log.threads
+first_file log bytes short is = record { spelled = is; within_limit = omega (arith, ap (λ (l : List ℕ). length l) is, short) }

@@ -1,4 +1,5 @@
-use Rattle.octet_top.specs.Request.{AsTheyCome, shown_quarry}
+use Rattle.octet_top.specs.Request.{shown_quarry}
+use Rattle.octet_top.specs.declared.request.Way.TheVariants.{AsTheyCome}
 use Rattle.octet_top.specs.Commands.{aim_of}
 use Rattle.octet_top.proofs.answering.Recorded.{recorded_whole}
 use Rattle.octet_top.proofs.answering.Hunted.{met_faithfully}

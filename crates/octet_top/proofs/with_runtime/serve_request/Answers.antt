@@ -1,20 +1,26 @@
-use Rattle.std.proofs.Common.{Some, sym, subst}
+use denote.Ref.{Bor}
+use Rattle.std.proofs.Common.{ℕ, List, Some, sym, subst}
+use Rattle.octet_top.specs.declared.request.Way.{Way}
 use Rattle.octet_top.specs.declared.request.Request.{Request}
+use Rattle.octet_top.specs.declared.request.Request.TheVariants.{Run}
 use Rattle.octet_top.specs.Request.{shown}
 use Rattle.octet_top.specs.Answer.{given_reply}
 use Rattle.octet_top.specs.Serving.{IsServed}
 use Rattle.octet_top.proofs.answering.Found.{generated_reply}
 use Rattle.octet_top.proofs.with_runtime.serve_request.Goals as goal
 
-pub returns-in-Live : goal.returns-in-Live
-returns-in-Live g c =
+pub returns-in-AsTheyCome : goal.returns-in-AsTheyCome
+returns-in-AsTheyCome g c =
     let state = g.D.Desk.state in
-    subst (λ (request : Request). IsServed (Some (shown request)) (state c.args.desk.now) (state c.serve_live.new.desk) c.serve_live.result) (sym c.in-Live.is) c.serve_live.ensures
+    let before = state c.args.desk.now in
+    let after = state c.serve_live.new.desk in
+    subst (λ (request : Request (Bor (List ℕ))). IsServed (Some (shown request)) before after c.serve_live.result) (sym c.in-Run.is)
+    (subst (λ (way : Way (Bor (List ℕ))). IsServed (Some (shown (Run way c.in-Run.script c.in-Run.log))) before after c.serve_live.result) (sym c.in-AsTheyCome.is) c.serve_live.ensures)
 
 pub returns-in-Gen : goal.returns-in-Gen
 returns-in-Gen g c =
     let state = g.D.Desk.state in
-    subst (λ (request : Request). IsServed (Some (shown request)) (state c.args.desk.now) (state c.deliver-in-Gen.new.desk) c.deliver-in-Gen.result) (sym c.in-Gen.is)
+    subst (λ (request : Request (Bor (List ℕ))). IsServed (Some (shown request)) (state c.args.desk.now) (state c.deliver-in-Gen.new.desk) c.deliver-in-Gen.result) (sym c.in-Gen.is)
     (record {
       mid = state c.args.desk.now;
       reply = given_reply c.generate-reply.result;

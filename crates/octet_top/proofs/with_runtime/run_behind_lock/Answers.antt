@@ -1,0 +1,14 @@
+use Rattle.std.proofs.Common.{Ok, refl}
+use Rattle.octet_model.specs.Texts.{log_bytes}
+use Rattle.octet_top.specs.declared.request.Way.TheVariants.{BehindLock}
+use Rattle.octet_top.proofs.writing.Lengths.{first_file}
+use Rattle.octet_top.proofs.answering.Found.{run_read}
+use Rattle.octet_top.proofs.answering.Recorded.{recorded_short}
+use Rattle.octet_top.proofs.with_runtime.run_behind_lock.Goals as goal
+
+pub returns : goal.returns
+returns g c =
+    let recorded = c.in_ok-recorded.recorded in
+    let bytes = log_bytes recorded.log.threads in
+    run_read BehindLock c.args.script.now c.args.log.now _ _ c.in_ok-source.source (Ok c.in_ok-say_recorded.field-0) c.in_ok-source.ensures.ends c.in_ok-source.ensures.calls
+    (recorded.log, recorded.outcome, bytes, c.in_ok-recorded.ensures.faithful, first_file recorded.log bytes (recorded_short BehindLock c.in_ok-source.source.script recorded.log recorded.outcome c.in_ok-recorded.ensures.faithful) refl, c.in_ok-say_recorded.ensures)
