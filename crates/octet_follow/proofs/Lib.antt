@@ -1,0 +1,9 @@
+mod steps
+mod seats
+mod Following
+mod Starting
+mod Recordings
+mod Closing
+mod Faithful
+mod Histories
+mod Demands

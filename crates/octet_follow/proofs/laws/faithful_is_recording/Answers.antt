@@ -1,0 +1,5 @@
+use Rattle.octet_follow.proofs.Scripts.{faithful_is_recording}
+use Rattle.octet_follow.proofs.laws.faithful_is_recording.Goals as goal
+
+pub returns : goal.returns
+returns c = faithful_is_recording

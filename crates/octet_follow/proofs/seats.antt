@@ -1,0 +1,4 @@
+pub mod Splitting
+pub mod LaidOut
+pub mod Spread
+pub mod Ending

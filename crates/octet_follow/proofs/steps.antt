@@ -1,0 +1,4 @@
+pub mod Keeping
+pub mod Lawful
+pub mod Kept
+pub mod Allowed

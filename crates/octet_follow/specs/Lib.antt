@@ -1,0 +1,14 @@
+pub mod State
+pub mod Steps
+pub mod Soundness
+pub mod Views
+pub mod Rule
+pub mod Laws
+pub mod Seats
+pub mod Halts
+pub mod Calls
+pub mod Recordings
+pub mod Repeats
+pub mod Faithful
+pub mod Histories
+pub mod Demands
