@@ -10,20 +10,16 @@ use Rattle.octet_model.specs.Journals.{gapped_marks, access_count, gap_after}
 use Rattle.octet_model.specs.Machine.{Journals, journal_of, PlainState, AllFinished, IsFront, starting_state}
 use Rattle.octet_model.specs.Plays.{by_journals, state_after_play}
 use Rattle.octet_model.specs.Plans.{thread_log_of}
-use Rattle.octet_follow.specs.declared.access.Access.{Access}
-use Rattle.octet_follow.specs.declared.answer.Answer.{Answer}
-use Rattle.octet_follow.specs.declared.answer.Answer.TheVariants.{Ready, Waits, WaitsForDraws, NeedsMarks, OverEnd, EndsEarly, NoObject, Amiss}
 use Rattle.octet_follow.specs.declared.course.Course.{Course}
 use Rattle.octet_follow.specs.declared.follower.Follower.{Follower}
 use Rattle.octet_follow.specs.declared.words.Seat.{Seat}
 use Rattle.octet_follow.specs.State.{FollowerState, CourseState, journals_of, plain}
-use Rattle.octet_follow.specs.Views.{FollowerView}
 use Rattle.octet_follow.specs.Rule.{IsSeenBy}
 use Rattle.octet_follow.specs.Seats.{view, IsSeatOf, Closes}
 use Rattle.octet_follow.specs.Seats as seats
-use Rattle.octet_follow.specs.Calls.{view_of, journal_in, journals_in, pending, followers_in, IsLeft, IsUpTo, Answers, EachOf, ClosesTo}
+use Rattle.octet_follow.specs.Calls.{view_of, journal_in, journals_in, pending, followers_in, IsLeft, IsUpTo, EachOf, ClosesTo}
 use Rattle.octet_follow.specs.Recordings.{Threads, by_marks, IsRecording, Ahead, IsOnTrack, IsDemandedBy, AllFollow}
-use Rattle.octet_follow.specs.Repeats.{KeepsIn, IsRecordedSoFar, IsRecordedIfMade, HasBegun, AllHaveBegun, KeepsToRecording, HasFollowed, AllHaveFollowed, RepeatsRecording}
+use Rattle.octet_follow.specs.Repeats.{KeepsIn, IsRecordedSoFar, HasBegun, AllHaveBegun, KeepsToRecording, HasFollowed, AllHaveFollowed, RepeatsRecording}
 use Rattle.octet_follow.proofs.steps.Keeping.{journal_at}
 use Rattle.octet_follow.proofs.Recordings.{begins, ends_there, is_through}
 
@@ -130,16 +126,6 @@ recorded_so_far f s seen = record {
       refl end recording;
 }
 
-pub recorded_if_made : (access : Access) (v : FollowerView) (answer : Answer) (f : Follower) → Answers access v answer (view_of f) → IsRecordedIfMade answer f
-recorded_if_made access v (Ready value) f made = recorded_so_far f made.state made.seen
-recorded_if_made access v (Waits whom needs found) f made = tt
-recorded_if_made access v (WaitsForDraws needs found) f made = tt
-recorded_if_made access v NeedsMarks f made = tt
-recorded_if_made access v OverEnd f made = tt
-recorded_if_made access v (EndsEarly left) f made = tt
-recorded_if_made access v NoObject f made = tt
-recorded_if_made access v Amiss f made = tt
-
 module _ (starts : List ℕ) (followers : List Follower) (heap : List ℕ) (closes : ClosesTo starts followers heap) where
   abbrev last : CourseState
   last = closes.last
@@ -215,7 +201,7 @@ module _ (starts : List ℕ) (followers : List Follower) (heap : List ℕ) (clos
         let has = f.1 in
         let same : journal_of (journals_of last) t ≡ journal_in f.0 = ap (λ (js : Journals). journal_of js t) journals_are ∙ f.2 in
         ap (λ (j : List Event). by_marks threads log t j) same
-        ∙ is_through (threads t (journal_in f.0)) (thread_log_of log t) (journal_in f.0) (marks_are t f.0 has) (accesses_are t f.0 has) has.demanded.end has.demanded.ends
+        ∙ is_through (threads t (journal_in f.0)) (thread_log_of log t) (journal_in f.0) (marks_are t f.0 has) (accesses_are t f.0 has) has.demanded.ends
 
     pub same_end : (end : PlainState) → IsRecording threads starts log end → (journals_in followers ≡ end.journals) × (heap ≡ end.heap)
     same_end end recording =

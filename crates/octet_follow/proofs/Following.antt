@@ -1,6 +1,7 @@
 -- What becomes of a follower that makes an event.
-use Rattle.std.proofs.Common.{◌≡◌, ◌≢◌, ◌∙◌, ℕ, zero, suc, ◌+◌, ◌-◌, ◌<◌, ◌≤◌, Bool, true, false, List, [], ◌∷◌, ◌++◌, map, drop, length, get_or, refl, sym, ap, subst, subst₂, arith, append-nil, append_assoc, length-append}
+use Rattle.std.proofs.Common.{◌≡◌, ◌≢◌, ◌∙◌, ℕ, zero, suc, ◌+◌, ◌-◌, ◌<◌, ◌≤◌, inr, Bool, true, false, if◌then◌else◌, List, [], ◌∷◌, ◌++◌, map, drop, length, get_or, refl, sym, ap, subst, subst₂, arith, append-nil, append_assoc, length-append}
 use Rattle.std.proofs.lemmas.List.{map-append}
+use Rattle.std.specs.Vec.{vec_capacity}
 use Rattle.octet_model.specs.declared.event.Event.{Event}
 use Rattle.octet_model.specs.declared.event.Event.TheVariants.{Marked}
 use Rattle.octet_model.specs.declared.event.Mark.{Mark}
@@ -8,14 +9,14 @@ use Rattle.octet_model.specs.declared.log.Gapped.{Gapped}
 use Rattle.octet_model.specs.Journals.{access_count, mark_count, gap_after, gapped_marks}
 use Rattle.octet_model.proofs.lemmas.Splits.{length_parts, accesses_split, marks_split, gap_split, gapped_marks_split}
 use Rattle.octet_follow.specs.declared.access.Access.{Access}
-use Rattle.octet_follow.specs.declared.answer.Answer.{Answer}
-use Rattle.octet_follow.specs.declared.answer.Answer.TheVariants.{Ready, Waits, WaitsForDraws, NeedsMarks, OverEnd, EndsEarly, NoObject, Amiss}
+use Rattle.octet_follow.specs.declared.halt.Halt.{Halt}
+use Rattle.octet_follow.specs.declared.halt.Halt.TheVariants.{Waits, WaitsForDraws, NeedsMarks, OverEnd, EndsEarly, NoObject, Amiss}
 use Rattle.octet_follow.specs.declared.course.Course.{Course}
 use Rattle.octet_follow.specs.declared.follower.Follower.{Follower}
-use Rattle.octet_follow.specs.Halts.{IsNoAccess}
+use Rattle.octet_follow.specs.Halts.{HaltsMark}
 use Rattle.octet_follow.specs.Views.{FollowerView}
 use Rattle.octet_follow.specs.Seats.{IsSeatOf, Goes, IsStill}
-use Rattle.octet_follow.specs.Calls.{view_of, journal_in, pending, given, IsLeft, IsUpTo, IsFollowerOf, IsGivenSame, IsDue, CountsMark, MakesMarks, Makes, Answers, IsComplete, event_of, value_in}
+use Rattle.octet_follow.specs.Calls.{view_of, journal_in, pending, given, IsLeft, IsUpTo, IsFollowerOf, IsGivenSame, IsOut, IsDue, CountsMark, MakesMarks, Makes, IsComplete, HaltsAtMark, HaltsMarks, event_of, found_in}
 
 longer : (j : List Event) (e : Event) → length (j ++ e ∷ []) ≡ length j + 1
 longer j e = length-append j (e ∷ [])
@@ -38,26 +39,39 @@ left_on j e is [] true total left before =
     let b : total ≡ suc left + access_count j = before in
     omega (arith, accesses_split j (e ∷ []), is.one)
 
-pub accessed : (course : Course) (f g : Follower) (e : Event) → IsAccess e → IsFollowerOf course f → IsSeatOf course.words g.seat → Goes (view_of f) (e ∷ []) (view_of g)
-    → g.number ≡ f.number → g.ended ≡ f.ended → g.total ≡ f.total → g.marked ≡ f.marked → g.next ≡ f.next → g.marks.items ≡ f.marks.items → g.events ≡ f.events + 1 → suc g.left ≡ f.left
+-- what it shows, by whether it shows the event
+shown_is : (b : Bool) (events before : ℕ) (g : Follower) → g.events ≡ length (journal_in g) → g.shown ≡ (if b then g.events else before) → before ≡ events
+    → (view_of g).follower.shown ≡ (if b then length (journal_in g) else events) → g.shown ≡ (view_of g).follower.shown
+shown_is true events before g made shows same is = shows ∙ made ∙ sym is
+shown_is false events before g made shows same is = shows ∙ same ∙ sym is
+
+shows_all : (b : Bool) (before : ℕ) (g : Follower) → g.events ≡ length (journal_in g) → g.shown ≡ (if b then g.events else before) → (b ≡ false → g.events < g.awaited)
+    → g.awaited ≤ length (journal_in g) → g.shown ≡ length (journal_in g)
+shows_all true before g made shows awaits h = shows ∙ made
+shows_all false before g made shows awaits h = absurd (let a = awaits refl in omega arith)
+
+pub accessed : (course : Course) (f g : Follower) (e : Event) (shows : Bool) → IsAccess e → IsFollowerOf course f → IsSeatOf course.words g.seat → Goes (view_of f) (e ∷ []) shows (view_of g)
+    → (shows ≡ false → g.events < g.awaited) → g.shown ≡ (if shows then g.events else f.shown)
+    → g.number ≡ f.number → g.ended ≡ f.ended → g.total ≡ f.total → g.awaited ≡ f.awaited → g.marked ≡ f.marked → g.next ≡ f.next → g.marks ≡ f.marks → g.events ≡ f.events + 1 → suc g.left ≡ f.left
     → IsFollowerOf course g × IsGivenSame f g
-accessed course f g e is own seat goes number ended total marked next marks events left = (
+accessed course f g e shows is own seat goes awaits shown number ended total awaited marked next marks events left = (
   record {
     own = seat;
     number = goes.number ∙ own.number ∙ sym number;
     inside = let a = own.inside in omega arith;
     up = record {
-      paid = goes.free;
-      events = events ∙ (ap (λ (n : ℕ). n + 1) own.up.events ∙ sym (longer (journal_in f) e)) ∙ ap (λ (j : List Event). length j) (sym goes.journal);
+      events = made;
       marked = marked ∙ own.up.marked ∙ (let a = marks_split (journal_in f) (e ∷ []) in let b = is.no_mark in let c : mark_count (journal_in f) ≡ mark_count (journal_in f ++ e ∷ []) = omega arith in c) ∙ ap mark_count (sym goes.journal);
-      next = let a = own.up.next in let b = ap (λ (l : List Gapped). length l) marks in omega arith;
+      shown = shown_is shows (view_of f).follower.shown f.shown g made shown own.up.shown goes.shown;
+      shows = shows_all shows f.shown g made shown awaits;
+      next = let a = own.up.next in let b = ap (λ (l : List Gapped). length l) items in omega arith;
       left = subst (λ (j : List Event). IsLeft (pending g) g.ended g.total g.left j) (sym goes.journal)
           (left_on (journal_in f) e is (pending g) g.ended g.total g.left
           (subst (λ z. z) (λ i. IsLeft (sym same_pending i) (sym ended i) (sym total i) (sym left i) (journal_in f)) own.up.left));
     };
   },
   record {
-    number = goes.number;
+    same = record { number = goes.number; room = ap (λ v. vec_capacity v) marks; awaited = awaited };
     marks =
         (λ i. gapped_marks 0 (goes.journal i) ++ same_pending i)
         ∙ ap (λ (l : List Gapped). l ++ pending f) (gapped_marks_split 0 (journal_in f) (e ∷ []) ∙ ap (λ (l : List Gapped). gapped_marks 0 (journal_in f) ++ l) (is.none (gap_after 0 (journal_in f))) ∙ append-nil (gapped_marks 0 (journal_in f)));
@@ -66,8 +80,14 @@ accessed course f g e is own seat goes number ended total marked next marks even
   },
 )
   where
+    items : g.marks.items ≡ f.marks.items
+    items = ap (λ v. v.items) marks
+
     same_pending : pending g ≡ pending f
-    same_pending = λ i. drop (next i) (marks i)
+    same_pending = λ i. drop (next i) (items i)
+
+    made : g.events ≡ length (journal_in g)
+    made = events ∙ (ap (λ (n : ℕ). n + 1) own.up.events ∙ sym (longer (journal_in f) e)) ∙ ap (λ (j : List Event). length j) (sym goes.journal)
 
 drop_at : (xs : List Gapped) (k : ℕ) (d : Gapped) → k < length xs → drop k xs ≡ get_or xs k d ∷ drop (suc k) xs
 drop_at [] k d h = absurd (omega arith)
@@ -80,24 +100,25 @@ drop_none (x ∷ xs) zero is = absurd cc
 drop_none (x ∷ xs) (suc k) is = let a = drop_none xs k is in omega arith
 
 -- the first mark of the buffer is made and counted: `h` is the follower with its seat after the mark
-pub marked_one : (course : Course) (f h g : Follower) (d : Gapped) → IsDue f → IsFollowerOf course f → IsSeatOf course.words h.seat → Goes (view_of f) (Marked (get_or f.marks.items f.next d).mark ∷ []) (view_of h)
-    → h.number ≡ f.number → h.ended ≡ f.ended → h.total ≡ f.total → h.marked ≡ f.marked → h.next ≡ f.next → h.marks.items ≡ f.marks.items → h.events ≡ f.events → h.left ≡ f.left → CountsMark h g
+pub marked_one : (course : Course) (f h g : Follower) (d : Gapped) → IsDue f → IsFollowerOf course f → IsSeatOf course.words h.seat → Goes (view_of f) (Marked (get_or f.marks.items f.next d).mark ∷ []) true (view_of h)
+    → h.number ≡ f.number → h.ended ≡ f.ended → h.total ≡ f.total → h.awaited ≡ f.awaited → h.marked ≡ f.marked → h.next ≡ f.next → h.marks ≡ f.marks → h.events ≡ f.events → h.left ≡ f.left → CountsMark h g
     → IsFollowerOf course g × IsGivenSame f g
-marked_one course f h g d due own seat goes number ended total marked next marks events left counts = (
+marked_one course f h g d due own seat goes number ended total awaited marked next marks events left counts = (
   record {
     own = subst (IsSeatOf course.words) (sym counts.seat) seat;
     number = ap (λ (v : FollowerView). v.number) same_view ∙ goes.number ∙ own.number ∙ sym (counts.number ∙ number);
     inside = let a = own.inside in let b = counts.number in omega arith;
     up = record {
-      paid = ap (λ (v : FollowerView). v.follower.owes) same_view ∙ goes.free;
-      events = counts.events ∙ ap (λ (n : ℕ). n + 1) (events ∙ own.up.events) ∙ sym (longer (journal_in f) e) ∙ ap (λ (j : List Event). length j) (sym journal);
+      events = made;
+      shown = shown_all ∙ made ∙ sym (ap (λ (v : FollowerView). v.follower.shown) same_view ∙ goes.shown ∙ ap (λ (v : FollowerView). length v.follower.journal) (sym same_view));
+      shows = λ h. shown_all ∙ made;
       marked = counts.marked ∙ ap (λ (n : ℕ). n + 1) (marked ∙ own.up.marked) ∙ (let a = marks_split (journal_in f) (e ∷ []) in let c : mark_count (journal_in f) + 1 ≡ mark_count (journal_in f ++ e ∷ []) = omega arith in c) ∙ ap mark_count (sym journal);
-      next = let a = due.1 in let b = ap (λ (l : List Gapped). length l) (counts.marks ∙ marks) in let c = counts.on in omega arith;
+      next = let a = due.1 in let b = ap (λ (l : List Gapped). length l) items in let c = counts.on in omega arith;
       left = subst₂ (λ (j : List Event) (b : Bool). IsLeft (pending g) b g.total g.left j) (sym journal) (sym (counts.ended ∙ ended ∙ first_left.1)) (go (pending g) refl);
     };
   },
   record {
-    number = ap (λ (v : FollowerView). v.number) same_view ∙ goes.number;
+    same = record { number = ap (λ (v : FollowerView). v.number) same_view ∙ goes.number; room = ap (λ v. vec_capacity v) (counts.marks ∙ marks); awaited = counts.awaited ∙ awaited };
     marks =
         (λ i. gapped_marks 0 (journal i) ++ rest_is i)
         ∙ ap (λ (l : List Gapped). l ++ rest) (gapped_marks_split 0 (journal_in f) (e ∷ []))
@@ -118,11 +139,20 @@ marked_one course f h g d due own seat goes number ended total marked next marks
     rest : List Gapped
     rest = drop (suc f.next) f.marks.items
 
+    items : g.marks.items ≡ f.marks.items
+    items = ap (λ v. v.items) (counts.marks ∙ marks)
+
     same_view : view_of g ≡ view_of h
     same_view = ap (λ s. s.inner.me.0) counts.seat
 
     journal : journal_in g ≡ journal_in f ++ e ∷ []
     journal = ap (λ (v : FollowerView). v.follower.journal) same_view ∙ goes.journal
+
+    made : g.events ≡ length (journal_in g)
+    made = counts.events ∙ ap (λ (n : ℕ). n + 1) (events ∙ own.up.events) ∙ sym (longer (journal_in f) e) ∙ ap (λ (j : List Event). length j) (sym journal)
+
+    shown_all : g.shown ≡ g.events
+    shown_all = counts.shown ∙ sym counts.events
 
     is_pending : pending f ≡ first ∷ rest
     is_pending = drop_at f.marks.items f.next d due.1
@@ -134,33 +164,34 @@ marked_one course f h g d due own seat goes number ended total marked next marks
     on = let a = counts.on in omega arith
 
     rest_is : pending g ≡ rest
-    rest_is = λ i. drop (on i) ((counts.marks ∙ marks) i)
+    rest_is = λ i. drop (on i) (items i)
 
     gap_is : gap_after 0 (journal_in f ++ e ∷ []) ≡ 0
     gap_is = gap_split 0 (journal_in f) (e ∷ [])
 
     go : (l : List Gapped) → pending g ≡ l → IsLeft l false g.total g.left (journal_in f ++ e ∷ [])
     go (mark ∷ l) is = (sym (counts.left mark l is) ∙ (let a = gap_is in let b : g.left ≡ g.left + gap_after 0 (journal_in f ++ e ∷ []) = omega arith in b), refl)
-    go [] is = ((counts.last (let a = drop_none g.marks.items g.next is in let b = due.1 in let c = ap (λ (l : List Gapped). length l) (counts.marks ∙ marks) in let z = ap (λ (l : List Gapped). length l) counts.marks in omega arith) ∙ left ∙ due.0), gap_is)
+    go [] is = ((counts.last (let a = drop_none g.marks.items g.next is in let b = due.1 in let c = ap (λ (l : List Gapped). length l) items in let z = ap (λ v. length v.items) counts.marks in omega arith) ∙ left ∙ due.0), gap_is)
 
 pub still : (course : Course) (f g : Follower) → IsFollowerOf course f → IsSeatOf course.words g.seat → IsStill (view_of f) (view_of g)
-    → g.number ≡ f.number → g.ended ≡ f.ended → g.total ≡ f.total → g.marked ≡ f.marked → g.next ≡ f.next → g.marks.items ≡ f.marks.items → g.events ≡ f.events → g.left ≡ f.left
+    → g.number ≡ f.number → g.ended ≡ f.ended → g.total ≡ f.total → g.awaited ≡ f.awaited → g.shown ≡ f.shown → g.marked ≡ f.marked → g.next ≡ f.next → g.marks ≡ f.marks → g.events ≡ f.events → g.left ≡ f.left
     → IsFollowerOf course g × IsGivenSame f g
-still course f g own seat stays number ended total marked next marks events left = (
+still course f g own seat stays number ended total awaited shown marked next marks events left = (
   record {
     own = seat;
     number = stays.number ∙ own.number ∙ sym number;
     inside = let a = own.inside in omega arith;
     up = record {
-      paid = stays.free;
+      shown = shown ∙ own.up.shown ∙ sym stays.shown;
+      shows = λ h. shown ∙ own.up.shows (let a = ap (λ (j : List Event). length j) stays.journal in omega arith) ∙ ap (λ (j : List Event). length j) (sym stays.journal);
       events = events ∙ own.up.events ∙ ap (λ (j : List Event). length j) (sym stays.journal);
       marked = marked ∙ own.up.marked ∙ ap mark_count (sym stays.journal);
-      next = let a = own.up.next in let b = ap (λ (l : List Gapped). length l) marks in omega arith;
+      next = let a = own.up.next in let b = ap (λ v. length v.items) marks in omega arith;
       left = subst (λ z. z) (λ i. IsLeft (sym same_pending i) (sym ended i) (sym total i) (sym left i) (sym stays.journal i)) own.up.left;
     };
   },
   record {
-    number = stays.number;
+    same = record { number = stays.number; room = ap (λ v. vec_capacity v) marks; awaited = awaited };
     marks = λ i. gapped_marks 0 (stays.journal i) ++ same_pending i;
     ended = ended;
     total = total;
@@ -168,7 +199,7 @@ still course f g own seat stays number ended total marked next marks events left
 )
   where
     same_pending : pending g ≡ pending f
-    same_pending = λ i. drop (next i) (marks i)
+    same_pending = λ i. drop (next i) ((marks i).items)
 
 -- ---- what is made
 pub no_marks : (v w : FollowerView) → w.follower.journal ≡ v.follower.journal → MakesMarks v w
@@ -176,6 +207,9 @@ no_marks v w same = record { marks = []; grown = same ∙ sym (append-nil v.foll
 
 pub one_mark : (v w : FollowerView) (mark : Mark) → w.follower.journal ≡ v.follower.journal ++ Marked mark ∷ [] → MakesMarks v w
 one_mark v w mark made = record { marks = mark ∷ []; grown = made }
+
+pub mark_made : (f h g : Follower) (mark : Mark) → Goes (view_of f) (Marked mark ∷ []) true (view_of h) → CountsMark h g → MakesMarks (view_of f) (view_of g)
+mark_made f h g mark goes counts = one_mark (view_of f) (view_of g) mark (ap (λ s. s.inner.me.0.follower.journal) counts.seat ∙ goes.journal)
 
 pub marks_both : (v u w : FollowerView) → MakesMarks v u → MakesMarks u w → MakesMarks v w
 marks_both v u w before after = record {
@@ -187,16 +221,16 @@ marks_both v u w before after = record {
 }
 
 pub given_both : (f g h : Follower) → IsGivenSame f g → IsGivenSame g h → IsGivenSame f h
-given_both f g h a b = record { number = b.number ∙ a.number; marks = b.marks ∙ a.marks; ended = b.ended ∙ a.ended; total = b.total ∙ a.total }
+given_both f g h a b = record { same = record { number = b.same.number ∙ a.same.number; room = b.same.room ∙ a.same.room; awaited = b.same.awaited ∙ a.same.awaited }; marks = b.marks ∙ a.marks; ended = b.ended ∙ a.ended; total = b.total ∙ a.total }
 
 pub given_self : (f : Follower) → IsGivenSame f f
-given_self f = record { number = refl; marks = refl; ended = refl; total = refl }
+given_self f = record { same = record { number = refl; room = refl; awaited = refl }; marks = refl; ended = refl; total = refl }
 
-pub makes_access : (access : Access) (found value : ℕ) (v w : FollowerView) → Goes v (event_of access found ∷ []) w → value ≡ value_in (event_of access found) → Makes access v value w
-makes_access access found value v w goes told = record { marks = []; found = found; grown = goes.journal; told = told; state = goes.state; seen = goes.seen }
+pub makes_access : (access : Access) (found value : ℕ) (v w : FollowerView) (shows : Bool) → Goes v (event_of access found ∷ []) shows w → value ≡ found_in (event_of access found) → Makes access v value w
+makes_access access found value v w shows goes told = record { marks = []; found = found; grown = goes.journal; told = told; state = goes.state; seen = goes.seen }
 
 -- marks, and then an access after more of them
-marks_first : (access : Access) (v u : FollowerView) (value : ℕ) (w : FollowerView) → MakesMarks v u → Makes access u value w → Makes access v value w
+pub marks_first : (access : Access) (v u : FollowerView) (value : ℕ) (w : FollowerView) → MakesMarks v u → Makes access u value w → Makes access v value w
 marks_first access v u value w before made = record {
   marks = before.marks ++ made.marks;
   found = made.found;
@@ -212,28 +246,6 @@ marks_first access v u value w before made = record {
   seen = made.seen;
 }
 
--- marks, and then what was answered after them
-pub answers_after : (access : Access) (v u : FollowerView) (answer : Answer) (w : FollowerView) → MakesMarks v u → Answers access u answer w → Answers access v answer w
-answers_after access v u (Ready value) w before made = marks_first access v u value w before made
-answers_after access v u (Waits whom needs found) w before made = marks_both v u w before made
-answers_after access v u (WaitsForDraws needs found) w before made = marks_both v u w before made
-answers_after access v u NeedsMarks w before made = marks_both v u w before made
-answers_after access v u OverEnd w before made = marks_both v u w before made
-answers_after access v u (EndsEarly left) w before made = marks_both v u w before made
-answers_after access v u NoObject w before made = marks_both v u w before made
-answers_after access v u Amiss w before made = marks_both v u w before made
-
--- no access was made
-pub answers_none : (access : Access) (v : FollowerView) (answer : Answer) (w : FollowerView) → IsNoAccess answer → MakesMarks v w → Answers access v answer w
-answers_none access v (Ready value) w none made = absurd none
-answers_none access v (Waits whom needs found) w none made = made
-answers_none access v (WaitsForDraws needs found) w none made = made
-answers_none access v NeedsMarks w none made = made
-answers_none access v OverEnd w none made = made
-answers_none access v (EndsEarly left) w none made = made
-answers_none access v NoObject w none made = made
-answers_none access v Amiss w none made = made
-
 -- ---- numbers
 pub one_less : (n : ℕ) → n ≢ 0 → suc (n - 1) ≡ n
 one_less zero ne = absurd (ne refl)
@@ -243,14 +255,18 @@ pub few_marked : (f : Follower) → IsUpTo f → f.marked ≤ f.events
 few_marked f up = let a = up.events in let b = up.marked in let c = length_parts (journal_in f) in omega arith
 
 -- the end of an empty buffer
-pub last_of : (follower : Follower) → IsUpTo follower → length follower.marks.items ≤ follower.next → pending follower ≡ []
-last_of follower up past = go follower.marks.items follower.next past
+pub last_of : (follower : Follower) → length follower.marks.items ≤ follower.next → pending follower ≡ []
+last_of follower past = go follower.marks.items follower.next past
   where
     go : (xs : List Gapped) (k : ℕ) → length xs ≤ k → drop k xs ≡ []
     go [] zero h = refl
     go [] (suc k) h = refl
     go (x ∷ xs) zero h = absurd (omega arith)
     go (x ∷ xs) (suc k) h = go xs k (omega arith)
+
+-- a buffer that has a mark left
+pub not_last : (follower : Follower) → follower.next < length follower.marks.items → IsOut follower → ⊥
+not_last follower more out = let a = drop_none follower.marks.items follower.next out.1 in omega arith
 
 -- a follower of whose recording nothing is left
 pub is_complete : (follower : Follower) → IsUpTo follower → follower.ended ≡ true → follower.left ≡ 0 → pending follower ≡ [] → IsComplete follower
@@ -263,34 +279,35 @@ is_complete follower up ended left none = record {
 }
 
 -- ---- what it is given
-module _ (f : Follower) (up : IsUpTo f) (open_ : f.ended ≡ false) (past : length f.marks.items ≤ f.next) where
+module _ (f : Follower) (up : IsUpTo f) (out : IsOut f) where
   none_left : (f.left ≡ 0) × (gap_after 0 (journal_in f) ≡ 0)
-  none_left = subst₂ (λ (l : List Gapped) (b : Bool). IsLeft l b f.total f.left (journal_in f)) (last_of f up past) open_ up.left
+  none_left = subst₂ (λ (l : List Gapped) (b : Bool). IsLeft l b f.total f.left (journal_in f)) out.1 out.0 up.left
 
   -- the next ones
   pub refilled : (items : List Gapped) (left : ℕ) → ((first : Gapped) (rest : List Gapped) → items ≡ first ∷ rest → left ≡ first.gap) → (items ≡ [] → left ≡ 0) → IsLeft items f.ended f.total left (journal_in f)
-  refilled (first ∷ rest) left some none = (sym (some first rest refl) ∙ (let a = none_left.1 in let b : left ≡ left + gap_after 0 (journal_in f) = omega arith in b), open_)
-  refilled [] left some none = subst (λ (b : Bool). IsLeft [] b f.total left (journal_in f)) (sym open_) (none refl, none_left.1)
+  refilled (first ∷ rest) left some none = (sym (some first rest refl) ∙ (let a = none_left.1 in let b : left ≡ left + gap_after 0 (journal_in f) = omega arith in b), out.0)
+  refilled [] left some none = subst (λ (b : Bool). IsLeft [] b f.total left (journal_in f)) (sym out.0) (none refl, none_left.1)
 
   -- the end
   pub ended : (accesses : ℕ) → f.events - f.marked ≤ accesses → IsLeft (pending f) true accesses (accesses - (f.events - f.marked)) (journal_in f)
-  ended accesses enough = subst (λ (l : List Gapped). IsLeft l true accesses (accesses - (f.events - f.marked)) (journal_in f)) (sym (last_of f up past))
+  ended accesses enough = subst (λ (l : List Gapped). IsLeft l true accesses (accesses - (f.events - f.marked)) (journal_in f)) (sym out.1)
       (let a = up.events in let b = up.marked in let c = length_parts (journal_in f) in let is : accesses ≡ (accesses - (f.events - f.marked)) + access_count (journal_in f) = omega arith in is)
 
 -- as it is after its buffer was filled again
-pub is_refilled : (f g : Follower) → IsUpTo f → f.ended ≡ false → length f.marks.items ≤ f.next → g.seat ≡ f.seat → g.number ≡ f.number → g.ended ≡ f.ended → g.total ≡ f.total → g.marked ≡ f.marked → g.events ≡ f.events → g.next ≡ 0
+pub is_refilled : (f g : Follower) → IsUpTo f → IsOut f → g.seat ≡ f.seat → g.ended ≡ f.ended → g.total ≡ f.total → g.awaited ≡ f.awaited → g.shown ≡ f.shown → g.marked ≡ f.marked → g.events ≡ f.events → g.next ≡ 0
     → ((first : Gapped) (rest : List Gapped) → g.marks.items ≡ first ∷ rest → g.left ≡ first.gap) → (g.marks.items ≡ [] → g.left ≡ 0)
     → IsUpTo g × (given g ≡ given f ++ g.marks.items)
-is_refilled f g up open_ past seat number ended_ total marked events next some none = (
+is_refilled f g up out seat ended_ total awaited shown marked events next some none = (
   record {
-    paid = ap (λ s. s.inner.me.0.follower.owes) seat ∙ up.paid;
+    shown = shown ∙ up.shown ∙ ap (λ s. s.inner.me.0.follower.shown) (sym seat);
+    shows = λ h. shown ∙ up.shows (let a = ap (λ (j : List Event). length j) journal in omega arith) ∙ ap (λ (j : List Event). length j) (sym journal);
     events = events ∙ up.events ∙ ap (λ (j : List Event). length j) (sym journal);
     marked = marked ∙ up.marked ∙ ap mark_count (sym journal);
     next = omega (arith, next);
-    left = subst (λ z. z) (λ i. IsLeft (sym all i) (sym ended_ i) (sym total i) g.left (sym journal i)) (refilled f up open_ past g.marks.items g.left some none);
+    left = subst (λ z. z) (λ i. IsLeft (sym all i) (sym ended_ i) (sym total i) g.left (sym journal i)) (refilled f up out g.marks.items g.left some none);
   },
   (λ i. gapped_marks 0 (journal i) ++ all i)
-      ∙ ap (λ (l : List Gapped). l ++ g.marks.items) (sym (ap (λ (l : List Gapped). gapped_marks 0 (journal_in f) ++ l) (last_of f up past) ∙ append-nil (gapped_marks 0 (journal_in f)))),
+      ∙ ap (λ (l : List Gapped). l ++ g.marks.items) (sym (ap (λ (l : List Gapped). gapped_marks 0 (journal_in f) ++ l) out.1 ∙ append-nil (gapped_marks 0 (journal_in f)))),
 )
   where
     journal : journal_in g ≡ journal_in f
@@ -299,14 +316,15 @@ is_refilled f g up open_ past seat number ended_ total marked events next some n
     all : pending g ≡ g.marks.items
     all = ap (λ (n : ℕ). drop n g.marks.items) next
 
-pub is_ended : (f g : Follower) → IsUpTo f → f.ended ≡ false → length f.marks.items ≤ f.next → g.seat ≡ f.seat → g.ended ≡ true → g.marks.items ≡ f.marks.items → g.next ≡ f.next → g.marked ≡ f.marked → g.events ≡ f.events
+pub is_ended : (f g : Follower) → IsUpTo f → IsOut f → g.seat ≡ f.seat → g.awaited ≡ f.awaited → g.shown ≡ f.shown → g.ended ≡ true → g.marks.items ≡ f.marks.items → g.next ≡ f.next → g.marked ≡ f.marked → g.events ≡ f.events
     → f.events - f.marked ≤ g.total → g.left ≡ g.total - (f.events - f.marked) → IsUpTo g
-is_ended f g up open_ past seat ended_ marks next marked events enough left = record {
-  paid = ap (λ s. s.inner.me.0.follower.owes) seat ∙ up.paid;
+is_ended f g up out seat awaited shown ended_ marks next marked events enough left = record {
+  shown = shown ∙ up.shown ∙ ap (λ s. s.inner.me.0.follower.shown) (sym seat);
+  shows = λ h. shown ∙ up.shows (let a = ap (λ (j : List Event). length j) journal in omega arith) ∙ ap (λ (j : List Event). length j) (sym journal);
   events = events ∙ up.events ∙ ap (λ (j : List Event). length j) (sym journal);
   marked = marked ∙ up.marked ∙ ap mark_count (sym journal);
   next = let a = up.next in let b = ap (λ (l : List Gapped). length l) marks in omega arith;
-  left = subst (λ z. z) (λ i. IsLeft (drop (sym next i) (sym marks i)) (sym ended_ i) g.total (sym left i) (sym journal i)) (ended f up open_ past g.total enough);
+  left = subst (λ z. z) (λ i. IsLeft (drop (sym next i) (sym marks i)) (sym ended_ i) g.total (sym left i) (sym journal i)) (ended f up out g.total enough);
 }
   where
     journal : journal_in g ≡ journal_in f
@@ -320,3 +338,54 @@ still_own course f g own seat number up = record {
   inside = let a = own.inside in omega arith;
   up = up;
 }
+
+-- a mark that is due, and was not made
+pub halted : (f g : Follower) (d : Gapped) (halt : Halt) → IsDue f → g.marks ≡ f.marks → g.next ≡ f.next → g.left ≡ f.left → HaltsMark (get_or f.marks.items f.next d).mark halt (view_of g) → HaltsMarks halt g
+halted f g d halt due marks next left why = by halt at
+  where
+    at : HaltsAtMark halt g
+    at = record {
+      next = get_or f.marks.items f.next d;
+      later = drop (suc f.next) f.marks.items;
+      pends = (λ i. drop (next i) ((marks i).items)) ∙ drop_at f.marks.items f.next d due.1;
+      due = left ∙ due.0;
+      why = why;
+    }
+
+    by : (halt : Halt) → HaltsAtMark halt g → HaltsMarks halt g
+    by (Waits whom needs found) at = at
+    by (WaitsForDraws needs found) at = at
+    by NeedsMarks at = absurd at.why
+    by OverEnd at = at
+    by (EndsEarly left) at = at
+    by NoObject at = at
+    by Amiss at = inr at
+
+-- the follower after it was told what is awaited
+pub told_awaited : (course : Course) (f g : Follower) → IsFollowerOf course f → IsSeatOf course.words g.seat → (view_of g).number ≡ (view_of f).number → journal_in g ≡ journal_in f
+    → g.number ≡ f.number → g.ended ≡ f.ended → g.total ≡ f.total → g.marked ≡ f.marked → g.next ≡ f.next → g.marks ≡ f.marks → g.events ≡ f.events → g.left ≡ f.left
+    → g.shown ≡ (view_of g).follower.shown → (g.awaited ≤ length (journal_in g) → g.shown ≡ length (journal_in g))
+    → IsFollowerOf course g × (given g ≡ given f)
+told_awaited course f g own seat view_number journal number ended total marked next marks events left shown shows = (
+  record {
+    own = seat;
+    number = view_number ∙ own.number ∙ sym number;
+    inside = let a = own.inside in omega arith;
+    up = record {
+      events = events ∙ own.up.events ∙ ap (λ (j : List Event). length j) (sym journal);
+      marked = marked ∙ own.up.marked ∙ ap mark_count (sym journal);
+      shown = shown;
+      shows = shows;
+      next = let a = own.up.next in let b = ap (λ v. length v.items) marks in omega arith;
+      left = subst (λ z. z) (λ i. IsLeft (sym same_pending i) (sym ended i) (sym total i) (sym left i) (sym journal i)) own.up.left;
+    };
+  },
+  (λ i. gapped_marks 0 (journal i) ++ same_pending i),
+)
+  where
+    same_pending : pending g ≡ pending f
+    same_pending = λ i. drop (next i) ((marks i).items)
+
+-- how many accesses it has made
+pub accesses_made : (f : Follower) → IsUpTo f → f.events - f.marked ≡ access_count (journal_in f)
+accesses_made f up = let a = up.events in let b = up.marked in let c = length_parts (journal_in f) in omega arith

@@ -39,7 +39,7 @@ module _ (threads : Threads) (starts : List ℕ) (journals : Journals) (heap : L
   comes = λ i. record { heap = history.gives i; journals = history.makes_all.makes i; draws = history.counts i }
 
   through : AllFinished (by_marks threads log) end
-  through t h = let it = each t h in is_through (threads t (journal_of journals t)) (thread_log_of log t) (journal_of journals t) (ap (λ (l : ThreadLog). l.marks) (own_log t h)) (ap (λ (l : ThreadLog). l.accesses) (own_log t h)) it.end it.ends
+  through t h = let it = each t h in is_through (threads t (journal_of journals t)) (thread_log_of log t) (journal_of journals t) (ap (λ (l : ThreadLog). l.marks) (own_log t h)) (ap (λ (l : ThreadLog). l.accesses) (own_log t h)) it.ends
 
 pub history_is_recording : HistoryIsRecording
 history_is_recording threads starts journals heap draws history each =

@@ -7,10 +7,8 @@ use Rattle.octet_model.specs.declared.event.Event.TheVariants.{Read, Write, Upda
 use Rattle.octet_model.specs.declared.event.Mark.{Mark}
 use Rattle.octet_model.specs.declared.log.Gapped.{Gapped}
 use Rattle.octet_model.specs.declared.log.ThreadLog.{ThreadLog}
-use Rattle.octet_model.specs.declared.outcome.End.{End}
-use Rattle.octet_model.specs.Thread.{AccessOrEnd, ToRead, ToWrite, ToBump, ToEnd, added}
-use Rattle.octet_model.specs.Journals.{access_count, mark_count, gap_after, gapped_marks, due_mark, next_access, mark_first}
-use Rattle.octet_model.specs.Machine.{Journals, journal_of, PlainState, starting_state, Operation, Next, Finished, Behavior, is_enabled, event_made, appended, performed, next_of, may_proceed, proceeded, may_step, step, after, IsFront, AllFinished}
+use Rattle.octet_model.specs.Journals.{access_count, mark_count, gap_after, gapped_marks, due_mark, mark_first}
+use Rattle.octet_model.specs.Machine.{Journals, journal_of, PlainState, starting_state, Operation, MakeUpdate, Next, Wants, Finished, Behavior, is_enabled, event_made, appended, performed, next_of, may_proceed, proceeded, may_step, step, after, IsFront, AllFinished}
 use Rattle.octet_model.specs.HappensBefore.{IsOrdered}
 use Rattle.octet_model.specs.Plans.{thread_log_of}
 use Rattle.octet_model.specs.Plays.{operation_of, next_in, by_journals, state_after_play}
@@ -18,8 +16,8 @@ use Rattle.octet_model.proofs.lemmas.Lists.{slice_get_split}
 use Rattle.octet_model.proofs.lemmas.Splits.{accesses_split, gap_split, gapped_marks_split, length-gapped_marks}
 use Rattle.octet_model.proofs.lemmas.Steps.{at, same_journal, what_it_makes}
 use Rattle.octet_model.proofs.lemmas.Fronts.{front_leads_on, one_end, after_on}
-use Rattle.octet_model.proofs.lemmas.LogsOfJournals.{IsNextFor, grown, as_many_after, same_start}
-use Rattle.octet_follow.specs.Recordings.{Threads, next_by_marks, by_marks, IsRecording, IsDemanded, Ahead, IsOnTrack, AllFollow, Begins}
+use Rattle.octet_model.proofs.lemmas.LogsOfJournals.{grown, as_many_after, same_start}
+use Rattle.octet_follow.specs.Recordings.{Demand, ToRead, ToWrite, ToUpdate, ToEnd, Threads, next_access, next_by_marks, by_marks, IsRecording, IsDemanded, Ahead, IsOnTrack, AllFollow, Begins}
 
 -- the first mark has at least the accesses before it as its gap
 gaps_ahead : (before : ℕ) (journal : List Event) (rest : List Gapped) → Ahead rest (gap_after before journal) → Ahead (gapped_marks before journal ++ rest) before
@@ -38,7 +36,7 @@ is_due : (gap : ℕ) (mark : Mark) → due_mark (Some (record { gap = gap; mark 
 is_due gap mark = ap (λ (b : Bool). cond b (Some mark) None) (eq-eqb gap gap refl)
 
 -- what is next, from the four things that decide it
-next_parts : (demand : AccessOrEnd) (log : ThreadLog) (journal : List Event) (mark : Option Mark) (d : AccessOrEnd) (a m : Bool)
+next_parts : (demand : Demand) (log : ThreadLog) (journal : List Event) (mark : Option Mark) (d : Demand) (a m : Bool)
     → due_mark (slice_get log.marks (mark_count journal)) (gap_after 0 journal) ≡ mark
     → demand ≡ d
     → ltb (access_count journal) log.accesses ≡ a
@@ -46,11 +44,11 @@ next_parts : (demand : AccessOrEnd) (log : ThreadLog) (journal : List Event) (ma
     → next_by_marks demand log journal ≡ mark_first mark (next_access d a m)
 next_parts demand log journal mark d a m p q r s =
     ap (λ (o : Option Mark). mark_first o (next_access demand (ltb (access_count journal) log.accesses) (ltb (mark_count journal) (length log.marks)))) p
-    ∙ ap (λ (x : AccessOrEnd). mark_first mark (next_access x (ltb (access_count journal) log.accesses) (ltb (mark_count journal) (length log.marks)))) q
+    ∙ ap (λ (x : Demand). mark_first mark (next_access x (ltb (access_count journal) log.accesses) (ltb (mark_count journal) (length log.marks)))) q
     ∙ ap (λ (b : Bool). mark_first mark (next_access d b (ltb (mark_count journal) (length log.marks)))) r
     ∙ ap (λ (b : Bool). mark_first mark (next_access d a b)) s
 
-module _ (demand : AccessOrEnd) (log : ThreadLog) (before later : List Event) (e : Event) (track : IsOnTrack log (before ++ e ∷ later)) where
+module _ (demand : Demand) (log : ThreadLog) (before later : List Event) (e : Event) (track : IsOnTrack log (before ++ e ∷ later)) where
   abbrev gap : ℕ
   gap = gap_after 0 before
 
@@ -64,7 +62,7 @@ module _ (demand : AccessOrEnd) (log : ThreadLog) (before later : List Event) (e
   ahead : Ahead track.rest (gap_after gap (e ∷ later))
   ahead = subst (λ (g : ℕ). Ahead track.rest g) (gap_split 0 before (e ∷ later)) track.ahead
 
-  access_next : (d : AccessOrEnd) → gapped_marks gap (e ∷ later) ≡ gapped_marks (suc gap) later → gap_after gap (e ∷ later) ≡ gap_after (suc gap) later → access_count (e ∷ later) ≡ suc (access_count later) → demand ≡ d
+  access_next : (d : Demand) → gapped_marks gap (e ∷ later) ≡ gapped_marks (suc gap) later → gap_after gap (e ∷ later) ≡ gap_after (suc gap) later → access_count (e ∷ later) ≡ suc (access_count later) → demand ≡ d
       → next_by_marks demand log before ≡ next_access d true (ltb (mark_count before) (length log.marks))
   access_next d marks gaps one demands =
       next_parts demand log before None d true _
@@ -74,11 +72,17 @@ module _ (demand : AccessOrEnd) (log : ThreadLog) (before later : List Event) (e
       (lt-ltb (access_count before) log.accesses (let a = track.accesses in let b = accesses_split before (e ∷ later) in omega arith))
       refl
 
-next_on_track : (demand : AccessOrEnd) (log : ThreadLog) (before later : List Event) (e : Event) → IsOnTrack log (before ++ e ∷ later) → IsDemanded demand e → IsNextFor (Some e) (next_by_marks demand log before)
+-- what is next by the marks where this event is next by the journals. An update takes its change from the demand, and not from the journal
+abbrev IsNextFor : Option Event → Next → Type 0
+IsNextFor None next = next ≡ Finished
+IsNextFor (Some (Update object before after)) next = (change : ℕ → ℕ) × (next ≡ Wants (MakeUpdate object change)) × (after ≡ change before)
+IsNextFor (Some event) next = next ≡ Wants (operation_of event)
+
+next_on_track : (demand : Demand) (log : ThreadLog) (before later : List Event) (e : Event) → IsOnTrack log (before ++ e ∷ later) → IsDemanded demand e → IsNextFor (Some e) (next_by_marks demand log before)
 next_on_track demand log before later (Read object value) track is = access_next demand log before later (Read object value) track (ToRead object) refl refl refl is
 next_on_track demand log before later (Write object value) track is = access_next demand log before later (Write object value) track (ToWrite object value) refl refl refl is
 next_on_track demand log before later (Update object old new) track is =
-    (is.0, access_next demand log before later (Update object old new) track (ToBump object is.0) refl refl refl is.1, is.2)
+    (is.0, access_next demand log before later (Update object old new) track (ToUpdate object is.0) refl refl refl is.1, is.2)
 next_on_track demand log before later (Marked mark) track is =
     next_parts demand log before (Some mark) _ _ _
     (ap (λ (o : Option Gapped). due_mark o (gap_after 0 before)) (next_left demand log before later (Marked mark) track) ∙ is_due (gap_after 0 before) mark)
@@ -95,7 +99,7 @@ made_alike : (s : PlainState) (t : ℕ) (event : Event) (next : Next) → IsNext
 made_alike s t (Update object before after) next is held =
     let holds : slice_index s.heap object ≡ before = cc in
     ap (proceeded s t) is.1
-    ∙ ap (λ (y : ℕ). record { heap = slice_set s.heap object y; journals = appended s.journals t (Update object (slice_index s.heap object) y); draws = s.draws }) (ap (added is.0) holds ∙ sym is.2)
+    ∙ ap (λ (y : ℕ). record { heap = slice_set s.heap object y; journals = appended s.journals t (Update object (slice_index s.heap object) y); draws = s.draws }) (ap is.0 holds ∙ sym is.2)
 made_alike s t other next is held = ap (proceeded s t) is
 
 module _ (threads : Threads) (log : List ThreadLog) (journals : Journals) (follow : AllFollow threads log journals) where
@@ -161,10 +165,10 @@ module _ (threads : Threads) (log : List ThreadLog) (journals : Journals) (follo
           ∙ recording.ends
 
 -- a thread that has made all its accesses and marks, and demands its end, is through
-pub is_through : (demand : AccessOrEnd) (log : ThreadLog) (journal : List Event) → log.marks ≡ gapped_marks 0 journal → log.accesses ≡ access_count journal → (end : End) → demand ≡ ToEnd end → next_by_marks demand log journal ≡ Finished
-is_through demand log journal marks accesses end ends =
+pub is_through : (demand : Demand) (log : ThreadLog) (journal : List Event) → log.marks ≡ gapped_marks 0 journal → log.accesses ≡ access_count journal → demand ≡ ToEnd → next_by_marks demand log journal ≡ Finished
+is_through demand log journal marks accesses ends =
     let many : length log.marks ≡ mark_count journal = ap (λ (l : List Gapped). length l) marks ∙ length-gapped_marks 0 journal in
-    next_parts demand log journal None (ToEnd end) false false
+    next_parts demand log journal None ToEnd false false
     (ap (λ (o : Option Gapped). due_mark o (gap_after 0 journal)) (slice_get_past log.marks (mark_count journal) (omega arith)))
     ends
     (le-ltb (access_count journal) log.accesses (omega arith))

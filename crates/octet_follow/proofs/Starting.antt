@@ -10,28 +10,28 @@ use Rattle.octet_follow.specs.Seats.{IsSeatOf, IsFresh, EachFresh}
 use Rattle.octet_follow.specs.Calls.{journal_in, pending, IsLeft, followers_in, IsAtStart, EachAtStart, IsFollowerAt, AreFollowersAt}
 
 -- one follower more
-pub followers_more : (n k : ℕ) (seats : List Seat) (followers : List Follower) (seat : Seat) (follower : Follower) → AreFollowersAt n seats followers → n + length seats ≡ k → IsFollowerAt k seat follower
-    → AreFollowersAt n (seats ++ seat ∷ []) (followers ++ follower ∷ [])
-followers_more n k [] [] seat follower are is at = (subst (λ (m : ℕ). IsFollowerAt m seat follower) (let e : k ≡ n = omega arith in e) at, tt)
-followers_more n k [] (q ∷ followers) seat follower are is at = absurd are
-followers_more n k (x ∷ seats) [] seat follower are is at = absurd are
-followers_more n k (x ∷ seats) (q ∷ followers) seat follower are is at = (are.0, followers_more (n + 1) k seats followers seat follower are.1 (omega arith) at)
+pub followers_more : (room n k : ℕ) (seats : List Seat) (followers : List Follower) (seat : Seat) (follower : Follower) → AreFollowersAt room n seats followers → n + length seats ≡ k → IsFollowerAt room k seat follower
+    → AreFollowersAt room n (seats ++ seat ∷ []) (followers ++ follower ∷ [])
+followers_more room n k [] [] seat follower are is at = (subst (λ (m : ℕ). IsFollowerAt room m seat follower) (let e : k ≡ n = omega arith in e) at, tt)
+followers_more room n k [] (q ∷ followers) seat follower are is at = absurd are
+followers_more room n k (x ∷ seats) [] seat follower are is at = absurd are
+followers_more room n k (x ∷ seats) (q ∷ followers) seat follower are is at = (are.0, followers_more room (n + 1) k seats followers seat follower are.1 (omega arith) at)
 
-pub as_many_followers : (n : ℕ) (seats : List Seat) (followers : List Follower) → AreFollowersAt n seats followers → length followers ≡ length seats
-as_many_followers n [] [] are = refl
-as_many_followers n [] (q ∷ followers) are = absurd are
-as_many_followers n (x ∷ seats) [] are = absurd are
-as_many_followers n (x ∷ seats) (q ∷ followers) are = ap suc (as_many_followers (n + 1) seats followers are.1)
+pub as_many_followers : (room n : ℕ) (seats : List Seat) (followers : List Follower) → AreFollowersAt room n seats followers → length followers ≡ length seats
+as_many_followers room n [] [] are = refl
+as_many_followers room n [] (q ∷ followers) are = absurd are
+as_many_followers room n (x ∷ seats) [] are = absurd are
+as_many_followers room n (x ∷ seats) (q ∷ followers) are = ap suc (as_many_followers room (n + 1) seats followers are.1)
 
-follower_at : (n : ℕ) (seats : List Seat) (followers : List Follower) → AreFollowersAt n seats followers → (k : ℕ) (none : Follower) → k < length followers → IsFollowerAt (n + k) (get_or seats k none.seat) (get_or followers k none)
-follower_at n [] [] are k none h = absurd (omega arith)
-follower_at n [] (q ∷ followers) are k none h = absurd are
-follower_at n (x ∷ seats) [] are k none h = absurd are
-follower_at n (x ∷ seats) (q ∷ followers) are zero none h = subst (λ (m : ℕ). IsFollowerAt m x q) (sym (add-zero n)) are.0
-follower_at n (x ∷ seats) (q ∷ followers) are (suc k) none h = subst (λ (m : ℕ). IsFollowerAt m (get_or seats k none.seat) (get_or followers k none)) (let e : (n + 1) + k ≡ n + suc k = omega arith in e) (follower_at (n + 1) seats followers are.1 k none (omega arith))
+follower_at : (room n : ℕ) (seats : List Seat) (followers : List Follower) → AreFollowersAt room n seats followers → (k : ℕ) (none : Follower) → k < length followers → IsFollowerAt room (n + k) (get_or seats k none.seat) (get_or followers k none)
+follower_at room n [] [] are k none h = absurd (omega arith)
+follower_at room n [] (q ∷ followers) are k none h = absurd are
+follower_at room n (x ∷ seats) [] are k none h = absurd are
+follower_at room n (x ∷ seats) (q ∷ followers) are zero none h = subst (λ (m : ℕ). IsFollowerAt room m x q) (sym (add-zero n)) are.0
+follower_at room n (x ∷ seats) (q ∷ followers) are (suc k) none h = subst (λ (m : ℕ). IsFollowerAt room m (get_or seats k none.seat) (get_or followers k none)) (let e : (n + 1) + k ≡ n + suc k = omega arith in e) (follower_at room (n + 1) seats followers are.1 k none (omega arith))
 
-module _ (course : Course) where
-  begun : (k : ℕ) (seat : Seat) (follower : Follower) → IsFollowerAt k seat follower → IsSeatOf course.words seat → IsFresh k seat → k < followers_in course → IsAtStart course k follower
+module _ (course : Course) (room : ℕ) where
+  begun : (k : ℕ) (seat : Seat) (follower : Follower) → IsFollowerAt room k seat follower → IsSeatOf course.words seat → IsFresh k seat → k < followers_in course → IsAtStart course room k follower
   begun k seat follower at own fresh inside =
       let here : IsFresh k follower.seat = subst (IsFresh k) (sym at.seated) fresh in
       let journal : journal_in follower ≡ [] = ap (λ (p : FollowerState). p.journal) here.1 in
@@ -42,7 +42,8 @@ module _ (course : Course) where
           number = here.0 ∙ sym at.numbered;
           inside = let e = at.numbered in omega arith;
           up = record {
-            paid = ap (λ (p : FollowerState). p.owes) here.1;
+            shown = at.shown ∙ ap (λ (p : FollowerState). p.shown) (sym here.1);
+            shows = λ h. at.shown ∙ ap (λ (j : List Event). length j) (sym journal);
             events = at.events ∙ ap (λ (j : List Event). length j) (sym journal);
             marked = at.marked ∙ ap mark_count (sym journal);
             next = let e = at.next in omega arith;
@@ -52,11 +53,13 @@ module _ (course : Course) where
         numbered = here.0;
         unbegun = here.1;
         given_none = λ i. gapped_marks 0 (journal i) ++ none i;
+        open_ = at.ended;
+        buffer = at.buffer;
       }
 
-  pub each_at_start : (seats : List Seat) (followers : List Follower) → AreFollowersAt 0 seats followers → EachFresh course.words seats → length seats ≡ followers_in course → EachAtStart course followers
+  pub each_at_start : (seats : List Seat) (followers : List Follower) → AreFollowersAt room 0 seats followers → EachFresh course.words seats → length seats ≡ followers_in course → EachAtStart course room followers
   each_at_start seats followers are fresh all k none h =
-      let many = as_many_followers 0 seats followers are in
-      let at = follower_at 0 seats followers are k none h in
+      let many = as_many_followers room 0 seats followers are in
+      let at = follower_at room 0 seats followers are k none h in
       let seat = fresh k none.seat (omega arith) in
-      begun k (get_or seats k none.seat) (get_or followers k none) (subst (λ (m : ℕ). IsFollowerAt m (get_or seats k none.seat) (get_or followers k none)) (let e : 0 + k ≡ k = omega arith in e) at) seat.0 seat.1 (omega arith)
+      begun k (get_or seats k none.seat) (get_or followers k none) (subst (λ (m : ℕ). IsFollowerAt room m (get_or seats k none.seat) (get_or followers k none)) (let e : 0 + k ≡ k = omega arith in e) at) seat.0 seat.1 (omega arith)

@@ -1,18 +1,19 @@
 -- What the calls of a course and of a follower say.
-use Rattle.std.specs.Prelude.{◌≡◌, ◌≢◌, ℕ, ◌+◌, ◌<◌, ◌≤◌, Bool, true, false, List, [], ◌∷◌, ◌++◌, map, drop, length, slice_index_or}
+use Rattle.std.specs.Prelude.{◌≡◌, ◌≢◌, ℕ, suc, ◌+◌, ◌^◌, ◌<◌, ◌≤◌, ◌⊎◌, Bool, true, false, List, [], ◌∷◌, ◌++◌, map, drop, length, slice_index_or}
+use Rattle.std.specs.Vec.{vec_capacity}
 use Rattle.octet_model.specs.declared.event.Event.{Event}
 use Rattle.octet_model.specs.declared.event.Event.TheVariants as event
 use Rattle.octet_model.specs.declared.event.Mark.{Mark}
 use Rattle.octet_model.specs.declared.log.Gapped.{Gapped}
 use Rattle.octet_model.specs.Journals.{access_count, mark_count, gap_after, gapped_marks}
 use Rattle.octet_model.specs.Machine.{Journals}
-use Rattle.octet_model.specs.Thread.{added}
+use Rattle.octet_rule.specs.Changes.{changed_by}
 use Rattle.octet_follow.specs.declared.access.Access.{Access}
-use Rattle.octet_follow.specs.declared.access.Access.TheVariants.{Read, Write, Bump}
-use Rattle.octet_follow.specs.declared.answer.Answer.{Answer}
-use Rattle.octet_follow.specs.declared.answer.Answer.TheVariants.{Ready, NeedsMarks, OverEnd, NoObject, EndsEarly}
+use Rattle.octet_follow.specs.declared.access.Access.TheVariants.{Read, Write, Update}
 use Rattle.octet_follow.specs.declared.course.Course.{Course}
 use Rattle.octet_follow.specs.declared.follower.Follower.{Follower}
+use Rattle.octet_follow.specs.declared.halt.Halt.{Halt}
+use Rattle.octet_follow.specs.declared.halt.Halt.TheVariants.{NeedsMarks, OverEnd, NoObject, EndsEarly, Amiss}
 use Rattle.octet_follow.specs.Halts.{HaltsMark}
 use Rattle.octet_follow.specs.State.{CourseState, unbegun}
 use Rattle.octet_follow.specs.Views.{FollowerView}
@@ -21,42 +22,51 @@ use Rattle.octet_follow.specs.Soundness.{IsSoundCourse}
 use Rattle.octet_follow.specs.declared.words.Seat.{Seat}
 use Rattle.octet_follow.specs.Seats.{view, starts_of, IsSeatOf}
 
+-- what the follower knows
 abbrev pub view_of : Follower → FollowerView
 view_of follower = view follower.seat
 
--- what it has made
+-- what the follower has made
 abbrev pub journal_in : Follower → List Event
 journal_in follower = (view_of follower).follower.journal
 
+-- what the followers have made
 abbrev pub journals_in : List Follower → Journals
 journals_in followers = map journal_in followers
 
--- the cells at first
+-- the starting values of the course's objects
 abbrev pub starts_in : Course → List ℕ
 starts_in course = starts_of course.words
 
+-- the number of the course's followers
 abbrev pub followers_in : Course → ℕ
 followers_in course = course.words.followers
 
--- the marks in its buffer that it has not made
+-- the marks in the follower's buffer that it has not made
 abbrev pub pending : Follower → List Gapped
 pending follower = drop follower.next follower.marks.items
 
--- all marks that it was given
+-- the number of marks for which the buffer has room
+abbrev pub room_of : Follower → ℕ
+room_of follower = vec_capacity follower.marks
+
+-- all marks that the follower was given
 abbrev pub given : Follower → List Gapped
 given follower = gapped_marks 0 (journal_in follower) ++ pending follower
 
--- so many accesses come before the next mark, or before the end
+-- so many accesses come before the next mark, or before the end where this is told
 abbrev pub IsLeft : List Gapped → Bool → ℕ → ℕ → List Event → Type 0
 IsLeft (mark ∷ marks) ended total left journal = (mark.gap ≡ left + gap_after 0 journal) × (ended ≡ false)
 IsLeft [] false total left journal = (left ≡ 0) × (gap_after 0 journal ≡ 0)
 IsLeft [] true total left journal = total ≡ left + access_count journal
 
--- what a follower keeps, of itself
+-- the follower's counts are those of what it has made and was given.
+-- Its progress word shows all of it, once it has made as many events as another one awaits
 pub record IsUpTo (follower : Follower) : Type 0 where
-  pub paid : (view_of follower).follower.owes ≡ false
   pub events : follower.events ≡ length (journal_in follower)
   pub marked : follower.marked ≡ mark_count (journal_in follower)
+  pub shown : follower.shown ≡ (view_of follower).follower.shown
+  pub shows : follower.awaited ≤ length (journal_in follower) → follower.shown ≡ length (journal_in follower)
   pub next : follower.next ≤ length follower.marks.items
   pub left : IsLeft (pending follower) follower.ended follower.total follower.left (journal_in follower)
 
@@ -67,102 +77,126 @@ pub record IsFollowerOf (course : Course) (follower : Follower) : Type 0 where
   pub inside : follower.number < followers_in course
   pub up : IsUpTo follower
 
--- it was given the same
-pub record IsGivenSame (follower next : Follower) : Type 0 where
+-- the follower has the same number, room and awaited count
+pub record IsSame (follower next : Follower) : Type 0 where
   pub number : (view_of next).number ≡ (view_of follower).number
+  pub room : room_of next ≡ room_of follower
+  pub awaited : next.awaited ≡ follower.awaited
+
+-- the follower was given the same marks, and told the same end
+pub record IsGivenSame (follower next : Follower) : Type 0 where
+  pub same : IsSame follower next
   pub marks : given next ≡ given follower
   pub ended : next.ended ≡ follower.ended
   pub total : next.total ≡ follower.total
 
--- the event of an access whose cell had this value, and the value that the thread is told
+-- the event of an access whose cell had this value
 abbrev pub event_of : Access → ℕ → Event
 event_of (Read object) found = event.Read object found
 event_of (Write object value) found = event.Write object value
-event_of (Bump object amount) found = event.Update object found (added amount found)
+event_of (Update object change) found = event.Update object found (changed_by change found)
 
-abbrev pub value_in : Event → ℕ
-value_in (event.Read object value) = value
-value_in (event.Write object value) = value
-value_in (event.Update object before after) = after
-value_in (event.Marked mark) = 0
+-- the value that an event found. Of a write it is the one that it wrote
+abbrev pub found_in : Event → ℕ
+found_in (event.Read object value) = value
+found_in (event.Write object value) = value
+found_in (event.Update object before after) = before
+found_in (event.Marked mark) = 0
 
--- a follower has made marks alone
+-- the follower has made marks alone
 pub record MakesMarks (v w : FollowerView) : Type 0 where
   pub marks : List Mark
   pub grown : w.follower.journal ≡ v.follower.journal ++ map (λ mark. event.Marked mark) marks
 
--- it has made marks, and then this access, with the value that the thread is told
+-- the follower has made marks, and then this access, with the value that the thread is told
 pub record Makes (access : Access) (v : FollowerView) (value : ℕ) (w : FollowerView) : Type 0 where
   pub marks : List Mark
   pub found : ℕ
   pub grown : w.follower.journal ≡ v.follower.journal ++ (map (λ mark. event.Marked mark) marks ++ event_of access found ∷ [])
-  pub told : value ≡ value_in (event_of access found)
+  pub told : value ≡ found_in (event_of access found)
   pub state : CourseState
   pub seen : IsSeenBy w state
 
--- the access was made, or marks at most
-abbrev pub Answers : Access → FollowerView → Answer → FollowerView → Type 0
-Answers access v (Ready value) w = Makes access v value w
-Answers access v answer w = MakesMarks v w
-
--- what is next for it: an access, or the end
+-- what is next for the follower: an access, or its end
 abbrev pub IsNextFor : Bool → Follower → Type 0
 IsNextFor true follower = follower.left ≢ 0
 IsNextFor false follower = (follower.ended ≡ true) × (follower.left ≡ 0) × (pending follower ≡ [])
 
--- its next mark is due
+-- the next mark of the follower is due
 abbrev pub IsDue : Follower → Type 0
 IsDue follower = (follower.left ≡ 0) × (follower.next < length follower.marks.items)
 
--- the first mark of its buffer is counted
+-- the first mark of the buffer is counted, and shown
 pub record CountsMark (follower next : Follower) : Type 0 where
   pub seat : next.seat ≡ follower.seat
   pub number : next.number ≡ follower.number
   pub ended : next.ended ≡ follower.ended
   pub total : next.total ≡ follower.total
-  pub marks : next.marks.items ≡ follower.marks.items
+  pub awaited : next.awaited ≡ follower.awaited
+  pub marks : next.marks ≡ follower.marks
   pub events : next.events ≡ follower.events + 1
   pub marked : next.marked ≡ follower.marked + 1
+  pub shown : next.shown ≡ follower.events + 1
   pub on : next.next ≡ follower.next + 1
   pub last : length follower.marks.items ≡ next.next → next.left ≡ follower.left
   pub left : (mark : Gapped) (marks : List Gapped) → pending next ≡ mark ∷ marks → next.left ≡ mark.gap
 
--- its recording is at its end, and so is it
+-- the follower has no mark left, and was not told its end
+abbrev pub IsOut : Follower → Type 0
+IsOut follower = (follower.ended ≡ false) × (pending follower ≡ [])
+
+-- the follower was told its end, at which it has made so many accesses
+pub record IsToldEnd (accesses : ℕ) (follower next : Follower) : Type 0 where
+  pub out : IsOut follower
+  pub enough : access_count (journal_in follower) ≤ accesses
+  pub ended : next.ended ≡ true
+  pub total : next.total ≡ accesses
+
+-- the reason why a follower takes no such end
+abbrev pub IsNoEnd : ℕ → Follower → Type 0
+IsNoEnd accesses follower = (IsOut follower → ⊥) ⊎ (accesses < access_count (journal_in follower))
+
+-- the follower's recording is at its end, and so is the follower
 pub record IsComplete (follower : Follower) : Type 0 where
   pub ended : follower.ended ≡ true
   pub marks : given follower ≡ gapped_marks 0 (journal_in follower)
   pub accesses : follower.total ≡ access_count (journal_in follower)
 
--- the follower of this number, which has made nothing and was given nothing
-pub record IsAtStart (course : Course) (number : ℕ) (follower : Follower) : Type 0 where
+-- the follower of this number, which has made nothing and was given nothing, with room for so many marks
+pub record IsAtStart (course : Course) (room number : ℕ) (follower : Follower) : Type 0 where
   pub own : IsFollowerOf course follower
   pub numbered : (view_of follower).number ≡ number
   pub unbegun : (view_of follower).follower ≡ unbegun
   pub given_none : given follower ≡ []
+  pub open_ : follower.ended ≡ false
+  pub buffer : room_of follower ≡ room
 
-abbrev pub EachAtStart : Course → List Follower → Type 0
-EachAtStart course followers = (number : ℕ) (none : Follower) → number < length followers → IsAtStart course number (slice_index_or followers number none)
+-- each follower is at its start
+abbrev pub EachAtStart : Course → ℕ → List Follower → Type 0
+EachAtStart course room followers = (number : ℕ) (none : Follower) → number < length followers → IsAtStart course room number (slice_index_or followers number none)
 
--- each is one of the course's, that of its number
+-- each follower is one of the course's, that of its number
 abbrev pub EachOf : Course → List Follower → Type 0
 EachOf course followers = (number : ℕ) (none : Follower) → number < length followers → IsFollowerOf course (slice_index_or followers number none) × ((view_of (slice_index_or followers number none)).number ≡ number)
 
 -- the follower of a seat at first
-pub record IsFollowerAt (number : ℕ) (seat : Seat) (follower : Follower) : Type 0 where
+pub record IsFollowerAt (room number : ℕ) (seat : Seat) (follower : Follower) : Type 0 where
   pub seated : follower.seat ≡ seat
   pub numbered : follower.number ≡ number
   pub ended : follower.ended ≡ false
   pub left : follower.left ≡ 0
   pub events : follower.events ≡ 0
   pub marked : follower.marked ≡ 0
+  pub shown : follower.shown ≡ 0
   pub next : follower.next ≡ 0
   pub marks : follower.marks.items ≡ []
+  pub buffer : room_of follower ≡ room
 
--- those of the seats from a number on
-abbrev pub AreFollowersAt : ℕ → List Seat → List Follower → Type 0
-AreFollowersAt number [] [] = Unit {0}
-AreFollowersAt number (seat ∷ seats) (follower ∷ followers) = IsFollowerAt number seat follower × AreFollowersAt (number + 1) seats followers
-AreFollowersAt number _ _ = ⊥
+-- the followers of the seats from a number on
+abbrev pub AreFollowersAt : ℕ → ℕ → List Seat → List Follower → Type 0
+AreFollowersAt room number [] [] = Unit {0}
+AreFollowersAt room number (seat ∷ seats) (follower ∷ followers) = IsFollowerAt room number seat follower × AreFollowersAt room (number + 1) seats followers
+AreFollowersAt room number _ _ = ⊥
 
 -- the cells have these values in one sound state that began with these, whose followers are these
 pub record ClosesTo (starts : List ℕ) (followers : List Follower) (heap : List ℕ) : Type 0 where
@@ -172,25 +206,37 @@ pub record ClosesTo (starts : List ℕ) (followers : List Follower) (heap : List
   pub are : last.followers ≡ map (λ follower. (view_of follower).follower) followers
   pub cells : last.cells ≡ heap
 
--- why the marks that are due were not all made
-abbrev pub HaltsMarks : Answer → Follower → Type 0
-HaltsMarks NeedsMarks follower = (follower.ended ≡ false) × (pending follower ≡ [])
-HaltsMarks answer follower = HaltsMark answer
+-- the follower has made as many events as its count can hold
+abbrev pub IsFull : Follower → Type 0
+IsFull follower = suc (length (journal_in follower)) ≡ 2 ^ 64
+
+-- a mark of the follower is due, and was not made for this reason
+pub record HaltsAtMark (halt : Halt) (follower : Follower) : Type 0 where
+  pub next : Gapped
+  pub later : List Gapped
+  pub pends : pending follower ≡ next ∷ later
+  pub due : follower.left ≡ 0
+  pub why : HaltsMark next.mark halt (view_of follower)
+
+-- the reason why the marks that are due were not all made
+abbrev pub HaltsMarks : Halt → Follower → Type 0
+HaltsMarks NeedsMarks follower = IsOut follower × (follower.left ≡ 0)
+HaltsMarks Amiss follower = IsFull follower ⊎ HaltsAtMark Amiss follower
+HaltsMarks halt follower = HaltsAtMark halt follower
 
 -- the object of an access
 abbrev pub object_in : Access → ℕ
 object_in (Read object) = object
 object_in (Write object value) = object
-object_in (Bump object amount) = object
+object_in (Update object change) = object
 
--- why an access was not made
-abbrev pub Refuses : Course → Access → Answer → Follower → Type 0
-Refuses course access (Ready value) follower = Unit {0}
-Refuses course access OverEnd follower = IsNextFor false follower
-Refuses course access NoObject follower = course.words.objects ≤ object_in access
-Refuses course access answer follower = HaltsMarks answer follower
+-- the reason why an access was not made
+abbrev pub Halts : Course → Access → Halt → Follower → Type 0
+Halts course access OverEnd follower = IsNextFor false follower
+Halts course access NoObject follower = length (starts_in course) ≤ object_in access
+Halts course access halt follower = HaltsMarks halt follower
 
--- why a thread is not at its end
-abbrev pub IsNotEnded : Answer → Follower → Type 0
+-- the reason why a thread is not at its end
+abbrev pub IsNotEnded : Halt → Follower → Type 0
 IsNotEnded (EndsEarly left) follower = (left ≡ follower.left) × (left ≢ 0)
-IsNotEnded answer follower = HaltsMarks answer follower
+IsNotEnded halt follower = HaltsMarks halt follower

@@ -3,16 +3,24 @@ use Rattle.std.specs.Prelude.{◌≡◌, ℕ, List, map}
 use Rattle.octet_model.specs.declared.log.ThreadLog.{ThreadLog}
 use Rattle.octet_model.specs.declared.outcome.Outcome.{Outcome}
 use Rattle.octet_model.specs.Machine.{PlainState}
-use Rattle.octet_model.specs.Thread.{demanded, configuration_after, starting_configuration}
+use Rattle.octet_model.specs.Thread.{AccessOrEnd, added, demanded, configuration_after, starting_configuration}
+use Rattle.octet_model.specs.Thread as thread
 use Rattle.octet_model.specs.Plans.{Plan, commands_of, outcome_of, values_read, IsFaithful}
 use Rattle.octet_follow.specs.declared.follower.Follower.{Follower}
 use Rattle.octet_follow.specs.Calls.{journals_in}
-use Rattle.octet_follow.specs.Recordings.{Threads, IsRecording}
+use Rattle.octet_follow.specs.Recordings.{Demand, ToRead, ToWrite, ToUpdate, ToEnd, Threads, IsRecording}
 use Rattle.octet_follow.specs.Repeats.{AllHaveFollowed}
 
--- what the threads of a plan do
+-- what a thread of a plan demands. A bump is an update that adds its amount
+abbrev pub demand_in : AccessOrEnd → Demand
+demand_in (thread.ToRead object) = ToRead object
+demand_in (thread.ToWrite object value) = ToWrite object value
+demand_in (thread.ToBump object amount) = ToUpdate object (added amount)
+demand_in (thread.ToEnd end) = ToEnd
+
+-- the threads of a plan
 abbrev pub threads_of : Plan → Threads
-threads_of plan thread journal = demanded (commands_of plan thread) (configuration_after (commands_of plan thread) (starting_configuration plan.fuel) journal)
+threads_of plan thread journal = demand_in (demanded (commands_of plan thread) (configuration_after (commands_of plan thread) (starting_configuration plan.fuel) journal))
 
 -- the log is a recording of the plan's threads, which ends with this outcome
 pub record IsRecordingOf (plan : Plan) (log : List ThreadLog) (outcome : Outcome) : Type 0 where

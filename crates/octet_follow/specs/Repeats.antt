@@ -4,8 +4,6 @@ use Rattle.octet_model.specs.declared.log.Gapped.{Gapped}
 use Rattle.octet_model.specs.declared.log.ThreadLog.{ThreadLog}
 use Rattle.octet_model.specs.Machine.{Journals, journal_of, PlainState}
 use Rattle.octet_model.specs.Plans.{thread_log_of}
-use Rattle.octet_follow.specs.declared.answer.Answer.{Answer}
-use Rattle.octet_follow.specs.declared.answer.Answer.TheVariants.{Ready}
 use Rattle.octet_follow.specs.declared.follower.Follower.{Follower}
 use Rattle.octet_follow.specs.State.{CourseState, journals_of}
 use Rattle.octet_follow.specs.Rule.{IsSeenBy}
@@ -18,19 +16,15 @@ KeepsIn starts journals = (threads : Threads) (log : List ThreadLog) (end : Plai
     → IsRecording threads starts log end → AllFollow threads log journals
     → (t : ℕ) → Begins (journal_of journals t) (journal_of end.journals t)
 
--- there is a state of the course with this follower as it is, in which that is so
+-- that is so in a state of the course in which this follower is as it is
 pub record IsRecordedSoFar (follower : Follower) : Type 0 where
   pub state : CourseState
   pub seen : IsSeenBy (view_of follower) state
   pub own : journal_of (journals_of state) (view_of follower).number ≡ journal_in follower
   pub keeps : KeepsIn (view_of follower).starts (journals_of state)
 
--- so where an access was made
-abbrev pub IsRecordedIfMade : Answer → Follower → Type 0
-IsRecordedIfMade (Ready value) follower = IsRecordedSoFar follower
-IsRecordedIfMade _ follower = Unit {0}
-
--- a follower was given marks of its thread in a log, and its accesses are what its thread demands. Where it is told the end, it has all marks
+-- a follower was given marks of its thread in a log, and its accesses are what its thread demands.
+-- Where it was told the end, it was given all marks
 pub record HasBegun (threads : Threads) (log : List ThreadLog) (t : ℕ) (follower : Follower) : Type 0 where
   pub gaps : sum_by (λ mark. mark.gap) (thread_log_of log t).marks ≤ (thread_log_of log t).accesses
   pub more : List Gapped
@@ -38,11 +32,12 @@ pub record HasBegun (threads : Threads) (log : List ThreadLog) (t : ℕ) (follow
   pub ended : follower.ended ≡ true → (more ≡ []) × (follower.total ≡ (thread_log_of log t).accesses)
   pub demanded : IsDemandedBy (threads t) (journal_in follower)
 
+-- all followers have begun so
 pub record AllHaveBegun (threads : Threads) (log : List ThreadLog) (followers : List Follower) : Type 0 where
   pub many : length followers ≡ length log
   pub each : (t : ℕ) (none : Follower) → t < length followers → HasBegun threads log t (slice_index_or followers t none)
 
--- where all have, what each has made is the beginning of what it made in the recording
+-- where all followers have begun a recording so, what each has made is the beginning of what it made in the recording
 abbrev pub KeepsToRecording : List ℕ → List Follower → Type 0
 KeepsToRecording starts followers = (threads : Threads) (log : List ThreadLog) (end : PlainState)
     → IsRecording threads starts log end → AllHaveBegun threads log followers
@@ -55,11 +50,12 @@ pub record HasFollowed (threads : Threads) (log : List ThreadLog) (t : ℕ) (fol
   pub complete : IsComplete follower
   pub demanded : IsDemandedToEnd (threads t) (journal_in follower)
 
+-- all followers have come to their ends so
 pub record AllHaveFollowed (threads : Threads) (log : List ThreadLog) (followers : List Follower) : Type 0 where
   pub many : length followers ≡ length log
   pub each : (t : ℕ) (none : Follower) → t < length followers → HasFollowed threads log t (slice_index_or followers t none)
 
--- where all have, each has made what it made in the recording, and the cells are those that it ended with
+-- where all followers have come to their ends so, each has made what it made in the recording, and the cells are those that it ended with
 abbrev pub RepeatsRecording : List ℕ → List Follower → List ℕ → Type 0
 RepeatsRecording starts followers heap = (threads : Threads) (log : List ThreadLog) (end : PlainState)
     → IsRecording threads starts log end → AllHaveFollowed threads log followers

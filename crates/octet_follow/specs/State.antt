@@ -1,17 +1,20 @@
 -- The state of a course: the words that followers share, and how far each follower is.
-use Rattle.std.specs.Prelude.{ℕ, suc, pred, ◌+◌, ◌*◌, Bool, true, false, List, [], ◌∷◌, ◌++◌, map, length, replicate, get_or}
+use Rattle.std.specs.Prelude.{ℕ, suc, ◌+◌, ◌*◌, List, [], ◌∷◌, ◌++◌, map, length, replicate, get_or}
 use Rattle.octet_model.specs.declared.event.Event.{Event}
 use Rattle.octet_model.specs.Machine.{Journals, PlainState}
+use Rattle.octet_seats.specs.Cells.{spread}
 
--- a follower's journal, whether its last event isn't counted yet by its progress word, whose progress word it looked at last and the number found there, and the number of draws that it found last
+-- the state of a follower: its journal, and the number of its events that its progress word shows.
+-- It keeps whose progress word it looked at last and the number found there, and the number of draws found last
 pub record FollowerState : Type 0 where
   pub journal : List Event
-  pub owes : Bool
+  pub shown : ℕ
   pub whom : ℕ
   pub found : ℕ
   pub seen : ℕ
 
--- the cells at first, whose events were made in their order, the followers, the number of draws, and the values of the cells
+-- the state of a course: the starting values, whose events were made in their order, the followers,
+-- the number of draws, and the values of the cells
 pub record CourseState : Type 0 where
   pub starts : List ℕ
   pub play : List ℕ
@@ -19,40 +22,39 @@ pub record CourseState : Type 0 where
   pub draws : ℕ
   pub cells : List ℕ
 
--- before the first event
+-- the follower before its first event
 abbrev pub unbegun : FollowerState
-unbegun = record { journal = []; owes = false; whom = 0; found = 0; seen = 0 }
+unbegun = record { journal = []; shown = 0; whom = 0; found = 0; seen = 0 }
 
+-- the follower of a number in this state
 abbrev pub follower_of : CourseState → ℕ → FollowerState
 follower_of s follower = get_or s.followers follower unbegun
 
--- how many events a follower has made
+-- the number of events that a follower has made
 abbrev pub made_by : CourseState → ℕ → ℕ
 made_by s follower = length (follower_of s follower).journal
 
--- how many of its events a follower shows: its progress word
+-- the progress word of a follower
 abbrev pub progress : FollowerState → ℕ
-progress p = elim p.owes [ true ↦ pred (length p.journal) | false ↦ length p.journal ]
+progress p = p.shown
 
--- the words lie eight apart, so that followers at work on different words do not disturb each other
-abbrev pub spread : List ℕ → List ℕ
-spread [] = []
-spread (word ∷ words) = word ∷ 0 ∷ 0 ∷ 0 ∷ 0 ∷ 0 ∷ 0 ∷ 0 ∷ spread words
-
--- a progress word for each follower, the number of draws, and a cell for each object
+-- the words of a course: a progress word for each follower, the number of draws, and a cell for each object
 abbrev pub words : CourseState → List ℕ
 words s = spread (map progress s.followers ++ s.draws ∷ s.cells)
 
--- where they lie
+-- the place of a follower's progress word
 abbrev pub progress_place : ℕ → ℕ
 progress_place follower = 8 * follower
 
+-- the place of the number of draws
 abbrev pub draws_place : ℕ → ℕ
 draws_place followers = 8 * followers
 
+-- the place of an object's cell
 abbrev pub cell_place : ℕ → ℕ → ℕ
 cell_place followers object = 8 * (followers + suc object)
 
+-- the journals of all followers
 abbrev pub journals_of : CourseState → Journals
 journals_of s = map (λ p. p.journal) s.followers
 
@@ -60,6 +62,6 @@ journals_of s = map (λ p. p.journal) s.followers
 abbrev pub plain : CourseState → PlainState
 plain s = record { heap = s.cells; journals = journals_of s; draws = s.draws }
 
--- before the first step
+-- the state before the first step
 abbrev pub opening : List ℕ → ℕ → CourseState
 opening starts followers = record { starts = starts; play = []; followers = replicate followers unbegun; draws = 0; cells = starts }

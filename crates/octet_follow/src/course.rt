@@ -1,5 +1,6 @@
 //! The course of threads that run again.
-ghost use Rattle.std.specs.Prelude.{◌≡◌};
+ghost use Rattle.std.specs.Prelude.{◌≡◌, length};
+ghost use Rattle.octet_follow.specs.Calls.{starts_in};
 
 mod ask;
 mod close;
@@ -18,7 +19,7 @@ pub struct Course {
 impl Course {
     /// How many objects there are.
     pub fn objects(&self) -> u16
-        ensures { result ≡ self.now.words.objects }
+        ensures { result ≡ length (starts_in self.now) }
     {
         self.words.objects
     }

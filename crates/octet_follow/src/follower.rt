@@ -1,7 +1,8 @@
 //! A follower: one thread as far as it has run again, with its seat on the words.
-ghost use Rattle.std.specs.Prelude.{◌≡◌, ◌≤◌, ◌++◌, ◌∷◌, [], List, take, length, true};
+ghost use Rattle.std.specs.Prelude.{◌≡◌, ◌≤◌, ◌++◌, ◌∷◌, [], List, take, length, min, true, false};
+ghost use Rattle.std.specs.Vec.{vec_capacity};
 ghost use Rattle.octet_model.specs.declared.log.Gapped.{Gapped as AGapped};
-ghost use Rattle.octet_follow.specs.Calls.{given, IsUpTo};
+ghost use Rattle.octet_follow.specs.Calls.{given, room_of, journal_in, IsUpTo, IsOut, IsToldEnd, IsNoEnd};
 
 use crate::words::Seat;
 use octet_model::Gapped;
@@ -22,6 +23,10 @@ pub struct Follower {
     pub(crate) events: u64,
     /// How many of them are marks.
     pub(crate) marked: u64,
+    /// How many of them its progress word shows.
+    pub(crate) shown: u64,
+    /// How many it makes before it shows the next accesses.
+    pub(crate) awaited: u64,
     /// How many accesses it makes in all, once it is told.
     pub(crate) total: u64,
     pub(crate) marks: Vec<Gapped>,
@@ -32,8 +37,9 @@ pub struct Follower {
 
 // Copies the first marks, as many as there is room for, over what was there.
 fn copy(buffer: &mut Vec<Gapped>, marks: &[Gapped]) -> usize
-    ensures few { result ≤ length marks.now }
+    ensures fills { result ≡ min (length marks.now) (vec_capacity buffer.old) }
     ensures copied { buffer.new.items ≡ take result marks.now }
+    ensures room { vec_capacity buffer.new ≡ vec_capacity buffer.old }
 {
     buffer.clear();
     let mut taken = 0;
@@ -65,9 +71,21 @@ impl Follower {
 
     /// How many events it has made, marks included.
     pub fn events(&self) -> u64
-        ensures { result ≡ self.now.events }
+        requires up { IsUpTo self.now }
+        ensures { result ≡ length (journal_in self.now) }
     {
         self.events
+    }
+
+    // Whether it has no mark left, and was not told its end.
+    fn is_out(&self) -> bool
+        ensures out { result ≡ true → IsOut self.now }
+        ensures not_out { result ≡ false → IsOut self.now → ⊥ }
+    {
+        if self.ended {
+            return false;
+        }
+        self.next >= self.marks.len()
     }
 
     /// Takes the marks that come next, as many as there is room for, where it has none left. Answers
@@ -76,9 +94,12 @@ impl Follower {
         requires up { IsUpTo self.old }
         ensures up { IsUpTo self.new }
         ensures seat { (self.new.seat ≡ self.old.seat) × (self.new.number ≡ self.old.number) }
+        ensures same { (room_of self.new ≡ room_of self.old) × (self.new.awaited ≡ self.old.awaited) × (self.new.ended ≡ self.old.ended) × (self.new.total ≡ self.old.total) }
         ensures taken { (result ≤ length marks.now) × (given self.new ≡ given self.old ++ take result marks.now) }
+        ensures fills { IsOut self.old → result ≡ min (length marks.now) (room_of self.old) }
+        ensures leaves { (IsOut self.old → ⊥) → result ≡ 0 }
     {
-        if self.ended || self.next < self.marks.len() {
+        if !self.is_out() {
             return 0;
         }
         let taken = copy(&mut self.marks, marks);
@@ -93,11 +114,16 @@ impl Follower {
         requires up { IsUpTo self.old }
         ensures up { IsUpTo self.new }
         ensures seat { (self.new.seat ≡ self.old.seat) × (self.new.number ≡ self.old.number) }
+        ensures same { (room_of self.new ≡ room_of self.old) × (self.new.awaited ≡ self.old.awaited) }
         ensures given { given self.new ≡ given self.old }
-        ensures told { result ≡ true → (self.new.ended ≡ true) × (self.new.total ≡ accesses) }
+        ensures told { result ≡ true → IsToldEnd accesses self.old self.new }
+        ensures refused { result ≡ false → IsNoEnd accesses self.old × (self.new ≡ self.old) }
     {
+        if !self.is_out() {
+            return false;
+        }
         let made = self.events - self.marked;
-        if self.ended || self.next < self.marks.len() || accesses < made {
+        if accesses < made {
             return false;
         }
         self.ended = true;

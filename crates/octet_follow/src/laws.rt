@@ -1,22 +1,23 @@
 //! Laws of recordings, each the contract of a function that does nothing.
-ghost use Rattle.octet_follow.specs.Demands.{AskingKeepsDemanded};
-ghost use Rattle.octet_follow.specs.Histories.{HistoryIsRecording};
+ghost use Rattle.octet_follow.specs.Demands.{MakingKeepsDemanded, HaltingKeepsDemanded};
 ghost use Rattle.octet_follow.specs.Faithful.{FaithfulIsRecording};
+ghost use Rattle.octet_follow.specs.Histories.{HistoryIsRecording};
 
-/// A faithful recording of a script is a recording of the threads of that script, which ends with its
-/// outcome.
+/// A faithful recording of a plan is a recording of the threads of that plan, which ends with its
+/// outcome. So is one of a script, whose orders are those of its plan.
 pub fn faithful_is_recording()
     ensures { FaithfulIsRecording }
 {}
 
-/// Journals of one history, which is what every state of a recorded run keeps of any size, are with
-/// their log a recording of all threads that demand what the journals have.
+/// Journals of one history, which is what a recorded run of any length leaves, are with their log a
+/// recording of all threads that demand what the journals have.
 pub fn history_is_recording()
     ensures { HistoryIsRecording }
 {}
 
 /// A thread that has asked for what it demands, by the values that it was told, and does so now, has
-/// done so after the answer too; where no access was made, it demands the same again.
+/// done so after the answer too. Where no access was made, it demands the same again.
 pub fn asking_keeps_demanded()
-    ensures { AskingKeepsDemanded }
+    ensures made { MakingKeepsDemanded }
+    ensures halted { HaltingKeepsDemanded }
 {}

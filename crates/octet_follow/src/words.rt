@@ -1,6 +1,5 @@
 //! The words, and the seats of the followers.
-ghost use Rattle.std.specs.Prelude.{◌≡◌, suc, ◌+◌, ◌*◌, ◌<◌, ◌≤◌, true, [], length};
-ghost use Rattle.octet_model.specs.declared.limits.TheConstants.{MAX_THREADS};
+ghost use Rattle.std.specs.Prelude.{◌≡◌, suc, ◌+◌, ◌*◌, ◌<◌, true, [], length};
 
 mod accesses;
 mod close;

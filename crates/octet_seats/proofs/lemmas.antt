@@ -1,5 +1,6 @@
 pub mod Seats
 pub mod Rows
+pub mod Spread
 pub mod Cells
 pub mod Runs
 pub mod Telling

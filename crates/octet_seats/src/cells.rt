@@ -7,9 +7,9 @@ use atomic_table::Closed;
 use std::alloc::{AllocError, Global};
 
 /// The values of so many cells, in order. The first lies at this place, and each further one eight words on.
-pub fn read_cells(
+pub fn read_cells<S>(
     alloc: Global,
-    closed: &Closed<(), Global>,
+    closed: &Closed<S, Global>,
     first: usize,
     cells: u16,
 ) -> Result<Vec<u64>, AllocError>

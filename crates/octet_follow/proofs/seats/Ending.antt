@@ -14,7 +14,7 @@ use Rattle.octet_seats.proofs.lemmas.Cells.{all_cells}
 use Rattle.octet_seats.proofs.lemmas.Rows.{row_of, row_so, each_of, same_members}
 use Rattle.octet_seats.proofs.lemmas.Seats.{left_at}
 use Rattle.octet_follow.specs.Rule.{HasLeft, IsRuled}
-use Rattle.octet_follow.specs.Seats.{view, BelongsTo, IsSeatOf, IsFresh, IsFreshSeat, EachFresh, EachOf, IsNumberedSeat, AreNumbered, state_left, Closes}
+use Rattle.octet_follow.specs.Seats.{view, BelongsTo, IsSeatOf, IsFresh, IsFreshSeat, EachFresh, EachOf, IsNumberedSeat, AreNumbered, left_by, Closes}
 use Rattle.octet_follow.proofs.seats.Spread.{get_cell}
 
 all_cells_of : (s : CourseState) → cells_in (words s) (8 * (length s.followers + 1)) (length s.cells) ≡ s.cells
@@ -22,11 +22,11 @@ all_cells_of s = all_cells (words s) s.cells (8 * (length s.followers + 1)) (λ 
 
 -- the seat of the first follower has taken the others back
 pub closes : (starts : List ℕ) (followers : ℕ) (ws : List ℕ) (slots : List Mark) (id : ℕ) (w : Words) (seat : Seat) (seats : List Seat) (v : FollowerView)
-    → v.is_live ≡ true → v.number ≡ 0 → v.follower ≡ (view seat).follower → v.joined ≡ map state_left seats → AreNumbered w 1 seats → 1 + length seats ≡ followers
+    → v.is_live ≡ true → v.number ≡ 0 → v.follower ≡ (view seat).follower → v.joined ≡ map left_by seats → AreNumbered w 1 seats → 1 + length seats ≡ followers
     → Final (Seen (IsRuled starts followers) id v) ws slots → Closes starts (seat ∷ seats) (cells_in ws (8 * (followers + 1)) (length starts))
 closes starts followers ws slots id w seat seats v live zeroth mine joined others all final =
     let r = final.1.0 in let it = r.seats.seated id v final.1.1 live in let s = r.state in let has_joined = r.seats.has_joined in
-    let those : AreJoined (HasLeft s) has_joined (map state_left seats) = subst (λ (l : List (ℕ × FollowerState)). AreJoined (HasLeft s) has_joined l) joined (it.are_joined zeroth) in
+    let those : AreJoined (HasLeft s) has_joined (map left_by seats) = subst (λ (l : List (ℕ × FollowerState)). AreJoined (HasLeft s) has_joined l) joined (it.are_joined zeroth) in
     let many : length s.followers ≡ followers = r.many in
     let cells : length s.cells ≡ length starts = r.sound.wide ∙ ap (λ (z : List ℕ). length z) r.begins in
     let first : follower_of s 0 ≡ (view seat).follower = ap (follower_of s) (sym zeroth) ∙ (it.seen.stands ∙ mine) in record {
@@ -39,7 +39,7 @@ closes starts followers ws slots id w seat seats v live zeroth mine joined other
       cells = sym ((λ i. cells_in ((sym final.2 ∙ r.lie) i) (8 * (sym many i + 1)) (sym cells i)) ∙ all_cells_of s);
     }
   where
-    at_number : (s : CourseState) (has_joined : ℕ → Bool) (w : Words) (seats : List Seat) → AreNumbered w 1 seats → AreJoined (HasLeft s) has_joined (map state_left seats) → (seat : Seat) → follower_of s 0 ≡ (view seat).follower
+    at_number : (s : CourseState) (has_joined : ℕ → Bool) (w : Words) (seats : List Seat) → AreNumbered w 1 seats → AreJoined (HasLeft s) has_joined (map left_by seats) → (seat : Seat) → follower_of s 0 ≡ (view seat).follower
         → (t : ℕ) → t < 1 + length seats → follower_of s t ≡ get_or (map (λ (x : Seat). (view x).follower) (seat ∷ seats)) t unbegun
     at_number s has_joined w seats row those seat first zero h = first
     at_number s has_joined w seats row those seat first (suc t) h = let n : suc t ≡ 1 + t = omega arith in ap (follower_of s) n

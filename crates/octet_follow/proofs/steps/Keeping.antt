@@ -110,7 +110,7 @@ module _ (s : CourseState) (sound : IsSoundCourse s) where
         -- a follower that is as it was
         pub kept : (p : FollowerState) → IsSoundFollower s p → IsSoundFollower next p
         kept p its = record {
-          owes = its.owes;
+          shown = its.shown;
           look = let a = its.look in let b = made_more p.whom in omega arith;
           seen = let a = its.seen in omega arith;
         }
@@ -156,15 +156,15 @@ module _ (s : CourseState) (sound : IsSoundCourse s) where
       grown : State (map (λ (p : FollowerState). p.journal) (set s.followers t q))
       grown = subst State longer_journals (play_grows s.starts (journals_of s) s.cells s.draws t e s.play sound.is_play sound.comes (let m = many_journals in omega arith) enabled made)
 
-      pub event_keeps : q.whom ≡ (follower_of s t).whom → q.found ≡ (follower_of s t).found → q.seen ≡ (follower_of s t).seen
+      pub event_keeps : q.shown ≤ length q.journal → q.whom ≡ (follower_of s t).whom → q.found ≡ (follower_of s t).found → q.seen ≡ (follower_of s t).seen
           → IsSoundCourse (record { starts = s.starts; play = s.play ++ t ∷ []; followers = set s.followers t q; draws = draws_after (operation_of e) s.draws; cells = heap_after (operation_of e) s.cells })
-      event_keeps whom found seen =
+      event_keeps shown whom found seen =
           let its = sound.each t within in
           let more = draws_grow (operation_of e) s.draws in
           let up = made_more q (s.play ++ t ∷ []) (draws_after (operation_of e) s.draws) (heap_after (operation_of e) s.cells) longer more q.whom in
           keeps_sound q (s.play ++ t ∷ []) (draws_after (operation_of e) s.draws) (heap_after (operation_of e) s.cells) longer more (same_length (operation_of e) s.cells ∙ sound.wide) grown.0 grown.1
           (record {
-            owes = λ is. omega (arith, length-append (follower_of s t).journal (e ∷ []), ap (λ (j : List Event). length j) is_journal);
+            shown = shown;
             look = let a = its.look in let b = ap (λ (n : ℕ). made_by s n) whom in omega arith;
             seen = let a = its.seen in omega arith;
           })

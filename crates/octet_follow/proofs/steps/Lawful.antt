@@ -1,16 +1,16 @@
 -- Each kind of step keeps a state sound, and does to the words and the followers what it says.
-use Rattle.std.proofs.Common.{◌≡◌, ℕ, zero, suc, pred, ◌<◌, ◌≤◌, Bool, true, false, List, [], ◌∷◌, ◌++◌, map, length, replicate, get_or, set, IsTrue, refl, sym, ap, ◌∙◌, subst, arith, length-append}
+use Rattle.std.proofs.Common.{◌≡◌, ℕ, zero, suc, ◌<◌, ◌≤◌, List, [], ◌∷◌, ◌++◌, map, length, replicate, get_or, set, IsTrue, refl, sym, ap, ◌∙◌, subst, arith, length-append}
 use Rattle.std.proofs.lemmas.Bool.{le-leb, eq-eqb}
 use Rattle.std.proofs.lemmas.List.{set-get_or}
 use Rattle.octet_model.specs.declared.event.Event.{Event}
 use Rattle.octet_model.specs.declared.event.Event.TheVariants.{Read, Write, Update, Marked}
 use Rattle.octet_model.specs.declared.event.Mark.{Mark}
 use Rattle.octet_model.specs.declared.event.Mark.TheVariants.{Join, Draw, Fence}
-use Rattle.octet_model.specs.Thread.{added}
 use Rattle.octet_model.specs.Machine.{Journals, journal_of, no_events, MakeMark, is_enabled, draws_after}
 use Rattle.octet_model.specs.Plays.{state_after_play}
-use Rattle.octet_follow.specs.State.{FollowerState, CourseState, follower_of, unbegun, made_by, progress, words, spread, progress_place, draws_place, cell_place, journals_of, plain, opening}
-use Rattle.octet_follow.specs.Steps.{Kind, after, ToLook, ToLookAtDraws, ToRead, ToWrite, ToBump, ToDraw, ToMark, ToCount, IsFree, IsOwn}
+use Rattle.octet_seats.specs.Cells.{spread}
+use Rattle.octet_follow.specs.State.{FollowerState, CourseState, follower_of, unbegun, made_by, progress, words, progress_place, draws_place, cell_place, journals_of, plain, opening}
+use Rattle.octet_follow.specs.Steps.{Kind, after, ToLook, ToLookAtDraws, ToRead, ToWrite, ToUpdate, ToDraw, ToMark, ToShow, IsOwn}
 use Rattle.octet_follow.specs.Seats.{HasFound}
 use Rattle.octet_follow.specs.Soundness.{IsSoundFollower, IsSoundCourse}
 use Rattle.octet_follow.specs.Laws.{IsLawfulStep}
@@ -27,18 +27,6 @@ left ws place at found operation is finds same = (λ i. set ws (is i) ((same ∙
 longer : (j : List Event) (e : Event) → length (j ++ e ∷ []) ≡ suc (length j)
 longer j e = let a = length-append j (e ∷ []) in omega arith
 
--- the progress word, by what is owed
-word_by : (p : FollowerState) (b : Bool) → p.owes ≡ b → progress p ≡ elim b [ true ↦ pred (length p.journal) | false ↦ length p.journal ]
-word_by p b is = ap (λ (c : Bool). elim c [ true ↦ pred (length p.journal) | false ↦ length p.journal ]) is
-
--- what a progress word tells is at most what was made
-few : (p : FollowerState) → progress p ≤ length p.journal
-few p = go p.owes
-  where
-    go : (b : Bool) → elim b [ true ↦ pred (length p.journal) | false ↦ length p.journal ] ≤ length p.journal
-    go true = omega arith
-    go false = omega arith
-
 module _ (s : CourseState) (t : ℕ) (sound : IsSoundCourse s) (within : t < length s.followers) where
   abbrev p : FollowerState
   p = follower_of s t
@@ -54,15 +42,15 @@ module _ (s : CourseState) (t : ℕ) (sound : IsSoundCourse s) (within : t < len
     up : (u : ℕ) → made_by s u ≤ made_by (record { starts = s.starts; play = s.play; followers = set s.followers t q; draws = s.draws; cells = s.cells }) u
     up = made_more s sound t within q s.play s.draws s.cells (let e = ap (λ (j : List Event). length j) no_event in omega arith) (omega arith)
 
-  pub look_is_lawful : (place whom : ℕ) (operation : ℕ → ℕ) → IsFree p → whom < length s.followers → place ≡ progress_place whom → ((word : ℕ) → operation word ≡ word) → IsLawfulStep (ToLook whom) t place operation s
-  look_is_lawful place whom operation free inside at same =
+  pub look_is_lawful : (place whom : ℕ) (operation : ℕ → ℕ) → whom < length s.followers → place ≡ progress_place whom → ((word : ℕ) → operation word ≡ word) → IsLawfulStep (ToLook whom) t place operation s
+  look_is_lawful place whom operation inside at same =
       let q : FollowerState = after (ToLook whom) (progress (follower_of s whom)) p in
       let its = sound.each t within in
       record {
-        may = (free, inside);
+        may = inside;
         sound = quiet_keeps (ToLook whom) q refl (record {
-          owes = its.owes;
-          look = let a = few (follower_of s whom) in let b = up (ToLook whom) q refl whom in omega arith;
+          shown = its.shown;
+          look = let a = (sound.each whom inside).shown in let b = up (ToLook whom) q refl whom in omega arith;
           seen = its.seen;
         });
         does = record {
@@ -75,14 +63,14 @@ module _ (s : CourseState) (t : ℕ) (sound : IsSoundCourse s) (within : t < len
         };
       }
 
-  pub look_at_draws_is_lawful : (place : ℕ) (operation : ℕ → ℕ) → IsFree p → place ≡ draws_place (length s.followers) → operation s.draws ≡ s.draws → IsLawfulStep ToLookAtDraws t place operation s
-  look_at_draws_is_lawful place operation free at same =
+  pub look_at_draws_is_lawful : (place : ℕ) (operation : ℕ → ℕ) → place ≡ draws_place (length s.followers) → operation s.draws ≡ s.draws → IsLawfulStep ToLookAtDraws t place operation s
+  look_at_draws_is_lawful place operation at same =
       let q : FollowerState = after ToLookAtDraws s.draws p in
       let its = sound.each t within in
       record {
-        may = free;
+        may = tt;
         sound = quiet_keeps ToLookAtDraws q refl (record {
-          owes = its.owes;
+          shown = its.shown;
           look = let a = its.look in let b = up ToLookAtDraws q refl p.whom in omega arith;
           seen = omega arith;
         });
@@ -96,16 +84,16 @@ module _ (s : CourseState) (t : ℕ) (sound : IsSoundCourse s) (within : t < len
         };
       }
 
-  -- it counts the event that it owes
-  pub count_is_lawful : (place : ℕ) (operation : ℕ → ℕ) → p.owes ≡ true → place ≡ progress_place t → ((word : ℕ) → operation word ≡ length p.journal) → IsLawfulStep ToCount t place operation s
-  count_is_lawful place operation owes at stores =
-      let q : FollowerState = after ToCount (progress p) p in
+  -- it shows what it has made
+  pub show_is_lawful : (place : ℕ) (operation : ℕ → ℕ) → place ≡ progress_place t → ((word : ℕ) → operation word ≡ length p.journal) → IsLawfulStep ToShow t place operation s
+  show_is_lawful place operation at stores =
+      let q : FollowerState = after ToShow (progress p) p in
       let its = sound.each t within in
       record {
-        may = owes;
-        sound = quiet_keeps ToCount q refl (record {
-          owes = λ is. absurd cc;
-          look = let a = its.look in let b = up ToCount q refl p.whom in omega arith;
+        may = tt;
+        sound = quiet_keeps ToShow q refl (record {
+          shown = omega arith;
+          look = let a = its.look in let b = up ToShow q refl p.whom in omega arith;
           seen = its.seen;
         });
         does = record {
@@ -117,73 +105,73 @@ module _ (s : CourseState) (t : ℕ) (sound : IsSoundCourse s) (within : t < len
         };
       }
 
-  -- an event on another word leaves the own progress word
-  same_word : (q : FollowerState) (e : Event) → IsFree p → q.owes ≡ true → q.journal ≡ p.journal ++ e ∷ [] → progress q ≡ progress p
-  same_word q e free owes is = word_by q true owes ∙ ap (λ (j : List Event). pred (length j)) is ∙ ap pred (longer p.journal e) ∙ sym (word_by p false free)
+  -- what it shows it has made, also after one more event
+  still_shown : (e : Event) → p.shown ≤ length (p.journal ++ e ∷ [])
+  still_shown e = let a = (sound.each t within).shown in let b = longer p.journal e in omega arith
 
-  pub read_is_lawful : (place object : ℕ) (operation : ℕ → ℕ) → IsFree p → object < length s.cells → place ≡ cell_place (length s.followers) object → ((word : ℕ) → operation word ≡ word) → IsLawfulStep (ToRead object) t place operation s
-  read_is_lawful place object operation free inside at same =
+  pub read_is_lawful : (place object : ℕ) (operation : ℕ → ℕ) → object < length s.cells → place ≡ cell_place (length s.followers) object → ((word : ℕ) → operation word ≡ word) → IsLawfulStep (ToRead object) t place operation s
+  read_is_lawful place object operation inside at same =
       let e : Event = Read object (get_or s.cells object 0) in
       let q : FollowerState = after (ToRead object) (get_or s.cells object 0) p in
       record {
-        may = (free, inside);
-        sound = event_keeps s sound t within e refl refl q refl refl refl refl;
+        may = inside;
+        sound = event_keeps s sound t within e refl refl q refl (still_shown e) refl refl refl;
         does = record {
           finds = ap (λ (n : ℕ). get_or (words s) n 0) at ∙ get_cell s object;
           leaves = left (words s) place (cell_place (length s.followers) object) _ operation at (get_cell s object) (same _)
-              ∙ ap (λ (l : List ℕ). spread (l ++ s.draws ∷ s.cells)) (sym (same_progress s.followers t q (same_word q e free refl refl)));
+              ∙ ap (λ (l : List ℕ). spread (l ++ s.draws ∷ s.cells)) (sym (same_progress s.followers t q refl));
           mine = mine s sound t within q (s.play ++ t ∷ []) s.draws s.cells;
           others = others s sound t within q (s.play ++ t ∷ []) s.draws s.cells;
           many = as_many_followers s sound t within q (s.play ++ t ∷ []) s.draws s.cells;
         };
       }
 
-  pub write_is_lawful : (place object value : ℕ) (operation : ℕ → ℕ) → IsFree p → object < length s.cells → place ≡ cell_place (length s.followers) object → ((word : ℕ) → operation word ≡ value) → IsLawfulStep (ToWrite object value) t place operation s
-  write_is_lawful place object value operation free inside at stores =
+  pub write_is_lawful : (place object value : ℕ) (operation : ℕ → ℕ) → object < length s.cells → place ≡ cell_place (length s.followers) object → ((word : ℕ) → operation word ≡ value) → IsLawfulStep (ToWrite object value) t place operation s
+  write_is_lawful place object value operation inside at stores =
       let e : Event = Write object value in
       let q : FollowerState = after (ToWrite object value) (get_or s.cells object 0) p in
       record {
-        may = (free, inside);
-        sound = event_keeps s sound t within e refl refl q refl refl refl refl;
+        may = inside;
+        sound = event_keeps s sound t within e refl refl q refl (still_shown e) refl refl refl;
         does = record {
           finds = ap (λ (n : ℕ). get_or (words s) n 0) at ∙ get_cell s object;
           leaves = (λ i. set (words s) (at i) (stores (get_or s.cells object 0) i)) ∙ set_cell s object value
-              ∙ ap (λ (l : List ℕ). spread (l ++ s.draws ∷ set s.cells object value)) (sym (same_progress s.followers t q (same_word q e free refl refl)));
+              ∙ ap (λ (l : List ℕ). spread (l ++ s.draws ∷ set s.cells object value)) (sym (same_progress s.followers t q refl));
           mine = mine s sound t within q (s.play ++ t ∷ []) s.draws (set s.cells object value);
           others = others s sound t within q (s.play ++ t ∷ []) s.draws (set s.cells object value);
           many = as_many_followers s sound t within q (s.play ++ t ∷ []) s.draws (set s.cells object value);
         };
       }
 
-  pub bump_is_lawful : (place object amount : ℕ) (operation : ℕ → ℕ) → IsFree p → object < length s.cells → place ≡ cell_place (length s.followers) object → ((word : ℕ) → operation word ≡ added amount word) → IsLawfulStep (ToBump object amount) t place operation s
-  bump_is_lawful place object amount operation free inside at adds =
+  pub update_is_lawful : (place object : ℕ) (change operation : ℕ → ℕ) → object < length s.cells → place ≡ cell_place (length s.followers) object → ((word : ℕ) → operation word ≡ change word) → IsLawfulStep (ToUpdate object change) t place operation s
+  update_is_lawful place object change operation inside at changes =
       let found : ℕ = get_or s.cells object 0 in
-      let e : Event = Update object found (added amount found) in
-      let q : FollowerState = after (ToBump object amount) found p in
+      let e : Event = Update object found (change found) in
+      let q : FollowerState = after (ToUpdate object change) found p in
       record {
-        may = (free, inside);
-        sound = event_keeps s sound t within e refl refl q refl refl refl refl;
+        may = inside;
+        sound = event_keeps s sound t within e refl refl q refl (still_shown e) refl refl refl;
         does = record {
           finds = ap (λ (n : ℕ). get_or (words s) n 0) at ∙ get_cell s object;
-          leaves = (λ i. set (words s) (at i) (adds found i)) ∙ set_cell s object (added amount found)
-              ∙ ap (λ (l : List ℕ). spread (l ++ s.draws ∷ set s.cells object (added amount found))) (sym (same_progress s.followers t q (same_word q e free refl refl)));
-          mine = mine s sound t within q (s.play ++ t ∷ []) s.draws (set s.cells object (added amount found));
-          others = others s sound t within q (s.play ++ t ∷ []) s.draws (set s.cells object (added amount found));
-          many = as_many_followers s sound t within q (s.play ++ t ∷ []) s.draws (set s.cells object (added amount found));
+          leaves = (λ i. set (words s) (at i) (changes found i)) ∙ set_cell s object (change found)
+              ∙ ap (λ (l : List ℕ). spread (l ++ s.draws ∷ set s.cells object (change found))) (sym (same_progress s.followers t q refl));
+          mine = mine s sound t within q (s.play ++ t ∷ []) s.draws (set s.cells object (change found));
+          others = others s sound t within q (s.play ++ t ∷ []) s.draws (set s.cells object (change found));
+          many = as_many_followers s sound t within q (s.play ++ t ∷ []) s.draws (set s.cells object (change found));
         };
       }
 
-  pub draw_is_lawful : (place number : ℕ) (operation : ℕ → ℕ) → IsFree p → number ≡ suc s.draws → place ≡ draws_place (length s.followers) → operation s.draws ≡ suc s.draws → IsLawfulStep (ToDraw number) t place operation s
-  draw_is_lawful place number operation free next at draws =
+  pub draw_is_lawful : (place number : ℕ) (operation : ℕ → ℕ) → number ≡ suc s.draws → place ≡ draws_place (length s.followers) → operation s.draws ≡ suc s.draws → IsLawfulStep (ToDraw number) t place operation s
+  draw_is_lawful place number operation next at draws =
       let e : Event = Marked (Draw number) in
       let q : FollowerState = after (ToDraw number) s.draws p in
       record {
-        may = (free, next);
-        sound = event_keeps s sound t within e (eq-eqb number (suc s.draws) next) refl q refl refl refl refl;
+        may = next;
+        sound = event_keeps s sound t within e (eq-eqb number (suc s.draws) next) refl q refl (still_shown e) refl refl refl;
         does = record {
           finds = ap (λ (n : ℕ). get_or (words s) n 0) at ∙ get_draws s;
           leaves = (λ i. set (words s) (at i) (draws i)) ∙ set_draws s (suc s.draws)
-              ∙ ap (λ (l : List ℕ). spread (l ++ suc s.draws ∷ s.cells)) (sym (same_progress s.followers t q (same_word q e free refl refl)));
+              ∙ ap (λ (l : List ℕ). spread (l ++ suc s.draws ∷ s.cells)) (sym (same_progress s.followers t q refl));
           mine = mine s sound t within q (s.play ++ t ∷ []) (suc s.draws) s.cells;
           others = others s sound t within q (s.play ++ t ∷ []) (suc s.draws) s.cells;
           many = as_many_followers s sound t within q (s.play ++ t ∷ []) (suc s.draws) s.cells;
@@ -209,19 +197,17 @@ module _ (s : CourseState) (t : ℕ) (sound : IsSoundCourse s) (within : t < len
   found_enough (Draw number) found = absurd found
   found_enough (Fence number) found = let its = sound.each t within in le-leb number s.draws (let a = its.seen in let b : number ≤ p.seen = found in omega arith)
 
-  pub mark_is_lawful : (place : ℕ) (mark : Mark) (operation : ℕ → ℕ) → IsFree p → HasFound p mark → place ≡ progress_place t → operation (length p.journal) ≡ suc (length p.journal) → IsLawfulStep (ToMark mark) t place operation s
-  mark_is_lawful place mark operation free found at stores =
+  pub mark_is_lawful : (place : ℕ) (mark : Mark) (operation : ℕ → ℕ) → HasFound p mark → place ≡ progress_place t → operation p.shown ≡ suc (length p.journal) → IsLawfulStep (ToMark mark) t place operation s
+  mark_is_lawful place mark operation found at stores =
       let e : Event = Marked mark in
       let q : FollowerState = after (ToMark mark) (progress p) p in
       let draws : ℕ = draws_after (MakeMark mark) s.draws in
-      let shows : progress p ≡ length p.journal = word_by p false free in
-      let shown : progress q ≡ suc (length p.journal) = word_by q false free ∙ longer p.journal e in
       record {
-        may = (free, is_own mark found, found_enough mark found);
-        sound = event_keeps s sound t within e (found_enough mark found) refl q refl refl refl refl;
+        may = (is_own mark found, found_enough mark found);
+        sound = event_keeps s sound t within e (found_enough mark found) refl q refl (omega arith) refl refl refl;
         does = record {
           finds = ap (λ (n : ℕ). get_or (words s) n 0) at ∙ get_progress s t within;
-          leaves = (λ i. set (words s) (at i) ((ap operation shows ∙ stores ∙ sym shown) i)) ∙ set_progress s t q within
+          leaves = (λ i. set (words s) (at i) ((stores ∙ sym (longer p.journal e)) i)) ∙ set_progress s t q within
               ∙ ap (λ (d : ℕ). spread (map progress (set s.followers t q) ++ d ∷ s.cells)) (sym (same_draws mark found));
           mine = mine s sound t within q (s.play ++ t ∷ []) draws s.cells;
           others = others s sound t within q (s.play ++ t ∷ []) draws s.cells;
@@ -247,5 +233,5 @@ opening_is_sound starts many = record {
   wide = refl;
   is_play = tt;
   comes = none_before starts many;
-  each = λ t inside. subst (λ (p : FollowerState). IsSoundFollower (opening starts many) p) (sym (none_found many t)) (record { owes = λ is. absurd cc; look = omega arith; seen = omega arith });
+  each = λ t inside. subst (λ (p : FollowerState). IsSoundFollower (opening starts many) p) (sym (none_found many t)) (record { shown = omega arith; look = omega arith; seen = omega arith });
 }

@@ -1,16 +1,16 @@
 //! What a thread asks of its follower. No call takes memory, and none waits.
-ghost use Rattle.std.specs.Prelude.{◌≡◌, ◌≢◌, ◌<◌, ◌≤◌, ◌^◌, ◌+◌, length, IsNone, IfOk, IfErr, IfSome};
-ghost use Rattle.octet_follow.specs.declared.access.Access.TheVariants.{Read, Write, Bump};
-ghost use Rattle.octet_follow.specs.Halts.{HaltsMark};
-ghost use Rattle.octet_follow.specs.Calls.{view_of, IsFollowerOf, IsGivenSame, MakesMarks, Answers, IsComplete, IsDue, IsNextFor, CountsMark, HaltsMarks, Refuses, IsNotEnded};
-ghost use Rattle.octet_follow.specs.Repeats.{IsRecordedIfMade};
+ghost use Rattle.std.specs.Prelude.{◌≡◌, ◌≢◌, ◌<◌, ◌≤◌, ◌^◌, ◌+◌, length, false, if◌then◌else◌, IfOk, IfErr, OnOk};
+ghost use Rattle.octet_follow.specs.declared.access.Access.TheVariants.{Read, Write, Update};
+ghost use Rattle.octet_follow.specs.Calls.{view_of, IsFollowerOf, IsGivenSame, MakesMarks, Makes, IsComplete, IsDue, IsNextFor, CountsMark, HaltsMarks, Halts, IsNotEnded};
+ghost use Rattle.octet_follow.specs.Repeats.{IsRecordedSoFar};
 
 use crate::access::Access;
-use crate::answer::Answer;
 use crate::course::Course;
 use crate::follower::Follower;
+use crate::halt::Halt;
+use octet_rule::Change;
 
-// Counts a mark that was made, the first one in the buffer.
+// Counts a mark that was made, the first one in the buffer, and shown.
 fn count_mark(follower: &mut Follower)
     requires room { follower.old.events + 1 < 2 ^ 64 }
     requires few { follower.old.marked ≤ follower.old.events }
@@ -19,54 +19,75 @@ fn count_mark(follower: &mut Follower)
 {
     follower.events += 1;
     follower.marked += 1;
+    follower.shown = follower.events;
     follower.next += 1;
     if follower.next < follower.marks.len() {
         follower.left = follower.marks[follower.next].gap as u64;
     }
 }
 
+// Whether another thread may wait for a follower that has made so many events.
+#[inline(always)]
+fn is_awaited(events: u64, awaited: u64) -> bool
+    ensures { result ≡ false → events < awaited }
+{
+    events >= awaited
+}
+
+// How many events a follower shows that has made so many, by whether it shows them.
+#[inline(always)]
+fn shown_after(shows: bool, events: u64, before: u64) -> u64
+    ensures { result ≡ (if shows then events else before) }
+{
+    if shows { events } else { before }
+}
+
 impl Course {
     // Makes the mark that is due, or tells why not.
-    fn take_mark(&self, follower: &mut Follower) -> Option<Answer>
+    fn take_mark(&self, follower: &mut Follower) -> Result<(), Halt>
         requires own { IsFollowerOf self.now follower.old }
         requires due { IsDue follower.old }
         ensures own { IsFollowerOf self.now follower.new }
         ensures given { IsGivenSame follower.old follower.new }
         ensures marks { MakesMarks (view_of follower.old) (view_of follower.new) }
-        ensures halts { IfSome result HaltsMark }
-        ensures on { IsNone result → (follower.new.next ≡ follower.old.next + 1) × (length follower.new.marks.items ≡ length follower.old.marks.items) }
+        ensures halts { IfErr result (λ halt. HaltsMarks halt follower.new) }
+        ensures on { OnOk result ((follower.new.next ≡ follower.old.next + 1) × (length follower.new.marks.items ≡ length follower.old.marks.items)) }
     {
         if follower.events == u64::MAX {
-            return Some(Answer::Amiss);
+            return Err(Halt::Amiss);
         }
         let mark = follower.marks[follower.next].mark;
-        let halt = self
-            .words
-            .make_mark(&mut follower.seat, follower.number, follower.events, mark);
-        if halt.is_some() {
-            return halt;
+        let made = self.words.make_mark(
+            &mut follower.seat,
+            follower.number,
+            follower.shown,
+            follower.events + 1,
+            mark,
+        );
+        if let Err(halt) = made {
+            return Err(halt);
         }
         count_mark(follower);
-        None
+        Ok(())
     }
 
     // Makes the marks that are due. Whether an access is next, or the end.
-    fn make_marks(&self, follower: &mut Follower) -> Result<bool, Answer>
+    fn make_marks(&self, follower: &mut Follower) -> Result<bool, Halt>
         requires own { IsFollowerOf self.now follower.old }
         ensures own { IsFollowerOf self.now follower.new }
         ensures given { IsGivenSame follower.old follower.new }
         ensures marks { MakesMarks (view_of follower.old) (view_of follower.new) }
         ensures next { IfOk result (λ access. IsNextFor access follower.new) }
-        ensures halts { IfErr result (λ answer. HaltsMarks answer follower.new) }
+        ensures halts { IfErr result (λ halt. HaltsMarks halt follower.new) }
     {
         while follower.left == 0 {
             if follower.next >= follower.marks.len() {
                 if follower.ended {
                     return Ok(false);
                 }
-                return Err(Answer::NeedsMarks);
+                return Err(Halt::NeedsMarks);
             }
-            if let Some(halt) = self.take_mark(follower) {
+            if let Err(halt) = self.take_mark(follower) {
                 return Err(halt);
             }
         }
@@ -74,130 +95,143 @@ impl Course {
     }
 
     #[inline(always)]
-    fn read(&self, follower: &mut Follower, object: u16) -> Answer
+    fn read(&self, follower: &mut Follower, object: u16) -> Result<u64, Halt>
         requires own { IsFollowerOf self.now follower.old }
         requires access { follower.old.left ≢ 0 }
         ensures own { IsFollowerOf self.now follower.new }
         ensures given { IsGivenSame follower.old follower.new }
-        ensures answers { Answers (Read object) (view_of follower.old) result (view_of follower.new) }
-        ensures refuses { Refuses self.now (Read object) result follower.new }
+        ensures made { IfOk result (λ value. Makes (Read object) (view_of follower.old) value (view_of follower.new)) }
+        ensures marks { IfErr result (λ _. MakesMarks (view_of follower.old) (view_of follower.new)) }
+        ensures halts { IfErr result (λ halt. Halts self.now (Read object) halt follower.new) }
     {
         if object >= self.words.objects {
-            return Answer::NoObject;
+            return Err(Halt::NoObject);
         }
         if follower.events == u64::MAX {
-            return Answer::Amiss;
+            return Err(Halt::Amiss);
         }
         follower.events += 1;
         follower.left -= 1;
+        let shows = is_awaited(follower.events, follower.awaited);
+        follower.shown = shown_after(shows, follower.events, follower.shown);
         let value = self.words.make_read(
             &mut follower.seat,
             follower.number,
             follower.events,
+            shows,
             object,
         );
-        Answer::Ready { value }
+        Ok(value)
     }
 
     #[inline(always)]
-    fn write(&self, follower: &mut Follower, object: u16, value: u64) -> Answer
+    fn write(&self, follower: &mut Follower, object: u16, value: u64) -> Result<u64, Halt>
         requires own { IsFollowerOf self.now follower.old }
         requires access { follower.old.left ≢ 0 }
         ensures own { IsFollowerOf self.now follower.new }
         ensures given { IsGivenSame follower.old follower.new }
-        ensures answers { Answers (Write object value) (view_of follower.old) result (view_of follower.new) }
-        ensures refuses { Refuses self.now (Write object value) result follower.new }
+        ensures made { IfOk result (λ told. Makes (Write object value) (view_of follower.old) told (view_of follower.new)) }
+        ensures marks { IfErr result (λ _. MakesMarks (view_of follower.old) (view_of follower.new)) }
+        ensures halts { IfErr result (λ halt. Halts self.now (Write object value) halt follower.new) }
     {
         if object >= self.words.objects {
-            return Answer::NoObject;
+            return Err(Halt::NoObject);
         }
         if follower.events == u64::MAX {
-            return Answer::Amiss;
+            return Err(Halt::Amiss);
         }
         follower.events += 1;
         follower.left -= 1;
+        let shows = is_awaited(follower.events, follower.awaited);
+        follower.shown = shown_after(shows, follower.events, follower.shown);
         self.words.make_write(
             &mut follower.seat,
             follower.number,
             follower.events,
+            shows,
             object,
             value,
         );
-        Answer::Ready { value }
+        Ok(value)
     }
 
     #[inline(always)]
-    fn bump(&self, follower: &mut Follower, object: u16, amount: u64) -> Answer
+    fn update(&self, follower: &mut Follower, object: u16, change: Change) -> Result<u64, Halt>
         requires own { IsFollowerOf self.now follower.old }
         requires access { follower.old.left ≢ 0 }
         ensures own { IsFollowerOf self.now follower.new }
         ensures given { IsGivenSame follower.old follower.new }
-        ensures answers { Answers (Bump object amount) (view_of follower.old) result (view_of follower.new) }
-        ensures refuses { Refuses self.now (Bump object amount) result follower.new }
+        ensures made { IfOk result (λ value. Makes (Update object change) (view_of follower.old) value (view_of follower.new)) }
+        ensures marks { IfErr result (λ _. MakesMarks (view_of follower.old) (view_of follower.new)) }
+        ensures halts { IfErr result (λ halt. Halts self.now (Update object change) halt follower.new) }
     {
         if object >= self.words.objects {
-            return Answer::NoObject;
+            return Err(Halt::NoObject);
         }
         if follower.events == u64::MAX {
-            return Answer::Amiss;
+            return Err(Halt::Amiss);
         }
         follower.events += 1;
         follower.left -= 1;
-        let before = self.words.make_bump(
+        let shows = is_awaited(follower.events, follower.awaited);
+        follower.shown = shown_after(shows, follower.events, follower.shown);
+        let before = self.words.make_update(
             &mut follower.seat,
             follower.number,
             follower.events,
+            shows,
             object,
-            amount,
+            change,
         );
-        Answer::Ready {
-            value: before.wrapping_add(amount),
-        }
+        Ok(before)
     }
 
     // Makes an access, before which no mark stands.
     #[inline(always)]
-    fn make_access(&self, follower: &mut Follower, access: Access) -> Answer
+    fn make_access(&self, follower: &mut Follower, access: Access) -> Result<u64, Halt>
         requires own { IsFollowerOf self.now follower.old }
         requires access { follower.old.left ≢ 0 }
         ensures own { IsFollowerOf self.now follower.new }
         ensures given { IsGivenSame follower.old follower.new }
-        ensures answers { Answers access (view_of follower.old) result (view_of follower.new) }
-        ensures refuses { Refuses self.now access result follower.new }
+        ensures made { IfOk result (λ value. Makes access (view_of follower.old) value (view_of follower.new)) }
+        ensures marks { IfErr result (λ _. MakesMarks (view_of follower.old) (view_of follower.new)) }
+        ensures halts { IfErr result (λ halt. Halts self.now access halt follower.new) }
     {
         match access {
             Access::Read { object } => self.read(follower, object),
             Access::Write { object, value } => self.write(follower, object, value),
-            Access::Bump { object, amount } => self.bump(follower, object, amount),
+            Access::Update { object, change } => self.update(follower, object, change),
         }
     }
 
     // Makes the marks that are due, and then the access.
-    fn ask_after_marks(&self, follower: &mut Follower, access: Access) -> Answer
+    fn ask_after_marks(&self, follower: &mut Follower, access: Access) -> Result<u64, Halt>
         requires own { IsFollowerOf self.now follower.old }
         ensures own { IsFollowerOf self.now follower.new }
         ensures given { IsGivenSame follower.old follower.new }
-        ensures answers { Answers access (view_of follower.old) result (view_of follower.new) }
-        ensures refuses { Refuses self.now access result follower.new }
+        ensures made { IfOk result (λ value. Makes access (view_of follower.old) value (view_of follower.new)) }
+        ensures marks { IfErr result (λ _. MakesMarks (view_of follower.old) (view_of follower.new)) }
+        ensures halts { IfErr result (λ halt. Halts self.now access halt follower.new) }
     {
         match self.make_marks(follower) {
-            Err(halt) => halt,
-            Ok(false) => Answer::OverEnd,
+            Err(halt) => Err(halt),
+            Ok(false) => Err(Halt::OverEnd),
             Ok(true) => self.make_access(follower, access),
         }
     }
 
     /// Asks for an access: makes the marks that stand before it, and then the access, if nothing is
-    /// to be waited for. Takes no memory, and waits for nobody.
+    /// to be waited for. Answers the value that a read or an update found, or that a write wrote. Takes
+    /// no memory, and waits for nobody.
     #[inline(always)]
-    pub fn ask(&self, follower: &mut Follower, access: Access) -> Answer
+    pub fn ask(&self, follower: &mut Follower, access: Access) -> Result<u64, Halt>
         requires own { IsFollowerOf self.now follower.old }
         ensures own { IsFollowerOf self.now follower.new }
-        ensures number { (view_of follower.new).number ≡ (view_of follower.old).number }
         ensures given { IsGivenSame follower.old follower.new }
-        ensures answers { Answers access (view_of follower.old) result (view_of follower.new) }
-        ensures refuses { Refuses self.now access result follower.new }
-        ensures recorded { IsRecordedIfMade result follower.new }
+        ensures made { IfOk result (λ value. Makes access (view_of follower.old) value (view_of follower.new)) }
+        ensures marks { IfErr result (λ _. MakesMarks (view_of follower.old) (view_of follower.new)) }
+        ensures halts { IfErr result (λ halt. Halts self.now access halt follower.new) }
+        ensures recorded { IfOk result (λ _. IsRecordedSoFar follower.new) }
     {
         if follower.left == 0 {
             return self.ask_after_marks(follower, access);
@@ -205,21 +239,19 @@ impl Course {
         self.make_access(follower, access)
     }
 
-    /// Ends the thread: makes the marks that are left. None where the recording of the thread ends
-    /// there too.
-    pub fn finish(&self, follower: &mut Follower) -> Option<Answer>
+    /// Ends the thread: makes the marks that are left. Refused where the recording of the thread goes on.
+    pub fn finish(&self, follower: &mut Follower) -> Result<(), Halt>
         requires own { IsFollowerOf self.now follower.old }
         ensures own { IsFollowerOf self.now follower.new }
-        ensures number { (view_of follower.new).number ≡ (view_of follower.old).number }
         ensures given { IsGivenSame follower.old follower.new }
         ensures marks { MakesMarks (view_of follower.old) (view_of follower.new) }
-        ensures complete { IsNone result → IsComplete follower.new }
-        ensures why { IfSome result (λ answer. IsNotEnded answer follower.new) }
+        ensures complete { OnOk result (IsComplete follower.new) }
+        ensures halts { IfErr result (λ halt. IsNotEnded halt follower.new) }
     {
         match self.make_marks(follower) {
-            Err(halt) => Some(halt),
-            Ok(false) => None,
-            Ok(true) => Some(Answer::EndsEarly {
+            Err(halt) => Err(halt),
+            Ok(false) => Ok(()),
+            Ok(true) => Err(Halt::EndsEarly {
                 left: follower.left,
             }),
         }

@@ -1,6 +1,6 @@
 //! What a follower is told of its recording.
-ghost use Rattle.std.specs.Prelude.{◌≡◌, ◌≤◌, ◌++◌, take, length, true};
-ghost use Rattle.octet_follow.specs.Calls.{view_of, given, IsFollowerOf};
+ghost use Rattle.std.specs.Prelude.{◌≡◌, ◌≤◌, ◌++◌, take, length, min, true, false};
+ghost use Rattle.octet_follow.specs.Calls.{view_of, journal_in, given, room_of, IsFollowerOf, IsSame, IsOut, IsToldEnd, IsNoEnd};
 
 use crate::course::Course;
 use crate::follower::Follower;
@@ -12,8 +12,10 @@ impl Course {
     pub fn refill(&self, follower: &mut Follower, marks: &[Gapped]) -> usize
         requires own { IsFollowerOf self.now follower.old }
         ensures own { IsFollowerOf self.now follower.new }
-        ensures number { (view_of follower.new).number ≡ (view_of follower.old).number }
+        ensures same { IsSame follower.old follower.new × (follower.new.ended ≡ follower.old.ended) × (follower.new.total ≡ follower.old.total) }
         ensures taken { (result ≤ length marks.now) × (given follower.new ≡ given follower.old ++ take result marks.now) }
+        ensures fills { IsOut follower.old → result ≡ min (length marks.now) (room_of follower.old) }
+        ensures leaves { (IsOut follower.old → ⊥) → result ≡ 0 }
     {
         follower.refill(marks)
     }
@@ -23,10 +25,31 @@ impl Course {
     pub fn end(&self, follower: &mut Follower, accesses: u64) -> bool
         requires own { IsFollowerOf self.now follower.old }
         ensures own { IsFollowerOf self.now follower.new }
-        ensures number { (view_of follower.new).number ≡ (view_of follower.old).number }
+        ensures same { IsSame follower.old follower.new }
         ensures given { given follower.new ≡ given follower.old }
-        ensures told { result ≡ true → (follower.new.ended ≡ true) × (follower.new.total ≡ accesses) }
+        ensures told { result ≡ true → IsToldEnd accesses follower.old follower.new }
+        ensures refused { result ≡ false → IsNoEnd accesses follower.old × (follower.new ≡ follower.old) }
     {
         follower.end(accesses)
+    }
+
+    /// Tells the follower that no thread waits for its accesses before it has made so many events. Until
+    /// then it shows none of them, and from then on each: at first it shows each. Marks it always shows.
+    pub fn await_events(&self, follower: &mut Follower, events: u64)
+        requires own { IsFollowerOf self.now follower.old }
+        ensures own { IsFollowerOf self.now follower.new }
+        ensures awaited { follower.new.awaited ≡ events }
+        ensures number { (view_of follower.new).number ≡ (view_of follower.old).number }
+        ensures room { room_of follower.new ≡ room_of follower.old }
+        ensures made { journal_in follower.new ≡ journal_in follower.old }
+        ensures given { (given follower.new ≡ given follower.old) × (follower.new.ended ≡ follower.old.ended) × (follower.new.total ≡ follower.old.total) }
+    {
+        follower.awaited = events;
+        if follower.events < events {
+            return;
+        }
+        self.words
+            .show(&mut follower.seat, follower.number, follower.events);
+        follower.shown = follower.events;
     }
 }

@@ -20,7 +20,7 @@ impl Course {
         requires some { 0 < followers }
         requires objects { length starts.now < 2 ^ 16 }
         ensures of { IfOk result (λ new. (starts_in new.0 ≡ starts.now) × (followers_in new.0 ≡ followers)) }
-        ensures followers { IfOk result (λ new. (length new.1 ≡ followers) × EachAtStart new.0 new.1) }
+        ensures followers { IfOk result (λ new. (length new.1 ≡ followers) × EachAtStart new.0 room new.1) }
     {
         let (words, seats) = Words::new(alloc, starts, followers)?;
         let followers = followers_of(alloc, seats, room)?;
@@ -31,7 +31,7 @@ impl Course {
 // One follower for each seat.
 fn followers_of(alloc: Global, seats: Vec<Seat>, room: usize) -> Result<Vec<Follower>, OutOfMemory>
     requires few { length seats.items < 2 ^ 8 }
-    ensures { IfOk result (λ followers. AreFollowersAt 0 seats.items followers.items) }
+    ensures { IfOk result (λ followers. AreFollowersAt room 0 seats.items followers.items) }
 {
     let mut followers = Vec::new(alloc);
     let mut number = 0;
@@ -44,7 +44,7 @@ fn followers_of(alloc: Global, seats: Vec<Seat>, room: usize) -> Result<Vec<Foll
 
 // The follower of a seat that has taken no step.
 fn follower(alloc: Global, number: u8, seat: Seat, room: usize) -> Result<Follower, OutOfMemory>
-    ensures { IfOk result (λ follower. IsFollowerAt number seat follower) }
+    ensures { IfOk result (λ follower. IsFollowerAt room number seat follower) }
 {
     Ok(Follower {
         seat,
@@ -53,6 +53,8 @@ fn follower(alloc: Global, number: u8, seat: Seat, room: usize) -> Result<Follow
         left: 0,
         events: 0,
         marked: 0,
+        shown: 0,
+        awaited: 0,
         total: 0,
         marks: Vec::with_capacity(alloc, room)?,
         next: 0,

@@ -1,25 +1,49 @@
-//! Accesses of followers: each is one step on its cell, and is then counted.
-ghost use Rattle.std.specs.Prelude.{◌≡◌, ◌+◌, ◌<◌, ◌∷◌, [], length};
-ghost use Rattle.octet_model.specs.Thread.{added};
+//! Accesses of followers: each is one step on its cell, and is shown where another follower awaits it.
+ghost use Rattle.std.specs.Prelude.{◌≡◌, ◌+◌, ◌<◌, ◌∷◌, [], if◌then◌else◌, length};
 ghost use Rattle.octet_model.specs.declared.event.Event.TheVariants.{Read, Write, Update};
-ghost use Rattle.octet_follow.specs.Seats.{view, IsSeatOf, IsFreeSeat, Goes};
+ghost use Rattle.octet_rule.specs.Changes.{changed_by};
+ghost use Rattle.octet_follow.specs.State.{CourseState};
+ghost use Rattle.octet_follow.specs.Rule.{IsSeenBy};
+ghost use Rattle.octet_follow.specs.Seats.{view, IsSeatOf, Goes};
 
 use crate::words::{Seat, Words};
+use octet_rule::Change;
 
 impl Words {
-    /// Reads the cell. With that the follower has made so many events.
+    // Shows that the follower has made so many events, if it is to.
     #[inline(always)]
-    pub(crate) fn make_read(&self, seat: &mut Seat, follower: u8, events: u64, object: u16) -> u64
+    fn show_if(&self, seat: &mut Seat, follower: u8, events: u64, shows: bool)
         requires own { IsSeatOf self.now seat.old }
         requires number { ((view seat.old).number ≡ follower) × (follower < self.now.followers) }
-        requires free { IsFreeSeat seat.old }
+        requires events { events ≡ length (view seat.old).follower.journal }
+        requires seen { (state : CourseState) × IsSeenBy (view seat.old) state }
+        ensures own { IsSeatOf self.now seat.new }
+        ensures goes { Goes (view seat.old) [] shows (view seat.new) }
+    {
+        if shows {
+            self.show(seat, follower, events);
+        }
+    }
+
+    /// Reads the cell. With that the follower has made so many events, and shows them if it is to.
+    #[inline(always)]
+    pub(crate) fn make_read(
+        &self,
+        seat: &mut Seat,
+        follower: u8,
+        events: u64,
+        shows: bool,
+        object: u16,
+    ) -> u64
+        requires own { IsSeatOf self.now seat.old }
+        requires number { ((view seat.old).number ≡ follower) × (follower < self.now.followers) }
         requires events { events ≡ length (view seat.old).follower.journal + 1 }
         requires object { object < self.now.objects }
         ensures own { IsSeatOf self.now seat.new }
-        ensures goes { Goes (view seat.old) (Read object result ∷ []) (view seat.new) }
+        ensures goes { Goes (view seat.old) (Read object result ∷ []) shows (view seat.new) }
     {
         let value = self.read(seat, object);
-        self.count(seat, follower, events);
+        self.show_if(seat, follower, events, shows);
         value
     }
 
@@ -30,41 +54,41 @@ impl Words {
         seat: &mut Seat,
         follower: u8,
         events: u64,
+        shows: bool,
         object: u16,
         value: u64,
     )
         requires own { IsSeatOf self.now seat.old }
         requires number { ((view seat.old).number ≡ follower) × (follower < self.now.followers) }
-        requires free { IsFreeSeat seat.old }
         requires events { events ≡ length (view seat.old).follower.journal + 1 }
         requires object { object < self.now.objects }
         ensures own { IsSeatOf self.now seat.new }
-        ensures goes { Goes (view seat.old) (Write object value ∷ []) (view seat.new) }
+        ensures goes { Goes (view seat.old) (Write object value ∷ []) shows (view seat.new) }
     {
         self.write(seat, object, value);
-        self.count(seat, follower, events);
+        self.show_if(seat, follower, events, shows);
     }
 
-    /// Adds the amount to the cell, likewise. Answers the value before.
+    /// Changes the value of the cell, likewise. Answers the value before.
     #[inline(always)]
-    pub(crate) fn make_bump(
+    pub(crate) fn make_update(
         &self,
         seat: &mut Seat,
         follower: u8,
         events: u64,
+        shows: bool,
         object: u16,
-        amount: u64,
+        change: Change,
     ) -> u64
         requires own { IsSeatOf self.now seat.old }
         requires number { ((view seat.old).number ≡ follower) × (follower < self.now.followers) }
-        requires free { IsFreeSeat seat.old }
         requires events { events ≡ length (view seat.old).follower.journal + 1 }
         requires object { object < self.now.objects }
         ensures own { IsSeatOf self.now seat.new }
-        ensures goes { Goes (view seat.old) (Update object result (added amount result) ∷ []) (view seat.new) }
+        ensures goes { Goes (view seat.old) (Update object result (changed_by change result) ∷ []) shows (view seat.new) }
     {
-        let before = self.bump(seat, object, amount);
-        self.count(seat, follower, events);
+        let before = self.update(seat, object, change);
+        self.show_if(seat, follower, events, shows);
         before
     }
 }

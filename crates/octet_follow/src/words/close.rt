@@ -1,13 +1,10 @@
 //! The seats join into one, and the cells' values are read.
-ghost use Rattle.std.specs.Prelude.{◌≡◌, ◌+◌, ◌*◌, ◌≤◌, [], length, map, IfOk};
-ghost use Rattle.std.specs.Mem.Slots.{slots_items, slots_len, IsFull};
-ghost use Rattle.octet_seats.specs.Cells.{cells_in};
+ghost use Rattle.std.specs.Prelude.{◌≡◌, ◌+◌, ◌*◌, [], length, map, IfOk};
 ghost use Rattle.octet_follow.specs.Views.{after_join};
-ghost use Rattle.octet_follow.specs.Seats.{view, starts_of, BelongsTo, EachOf, AreNumbered, state_left, Closes};
+ghost use Rattle.octet_follow.specs.Seats.{view, starts_of, BelongsTo, EachOf, AreNumbered, left_by, Closes};
 
 use crate::words::{Seat, Words, kinds};
-use atomic_table::Closed;
-use octet_model::Mark;
+use octet_seats::read_cells;
 use std::alloc::{AllocError, Global};
 
 impl Words {
@@ -38,7 +35,7 @@ impl Words {
         requires seats { AreNumbered self.now 1 seats.items }
         ensures own { BelongsTo self.now result × ((view result).number ≡ 0) }
         ensures first { (view result).follower ≡ (view first).follower }
-        ensures joined { (view result).joined ≡ map state_left seats.items }
+        ensures joined { (view result).joined ≡ map left_by seats.items }
     {
         while !seats.is_empty() {
             let seat = seats.remove(0);
@@ -58,22 +55,4 @@ impl Words {
             .shared
             .join_seat::<kinds::JoinSeat>(&mut first.inner, inner);
     }
-}
-
-// The values of so many cells, in order. The first lies at this place, and each further one eight words on.
-fn read_cells(
-    alloc: Global,
-    closed: &Closed<Mark, Global>,
-    first: usize,
-    cells: u16,
-) -> Result<Vec<u64>, AllocError>
-    requires full { IsFull closed.now.words }
-    requires room { first + 8 * cells ≤ slots_len closed.now.words + 7 }
-    ensures { IfOk result (λ values. values.items ≡ cells_in (slots_items closed.now.words) first cells) }
-{
-    let mut values = Vec::new(alloc);
-    for cell in 0..cells {
-        values.push(closed.word(first + 8 * cell as usize))?;
-    }
-    Ok(values)
 }

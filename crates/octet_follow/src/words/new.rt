@@ -1,6 +1,5 @@
 //! The words and the seats at first.
-ghost use Rattle.std.specs.Prelude.{◌≡◌, ◌+◌, ◌<◌, ◌^◌, ◌++◌, ◌∷◌, [], length, replicate, IfOk, OnOk};
-ghost use Rattle.octet_follow.specs.State.{spread};
+ghost use Rattle.std.specs.Prelude.{◌≡◌, ◌+◌, ◌<◌, ◌^◌, [], length, IfOk};
 ghost use Rattle.octet_follow.specs.Views.{after_split, split_off};
 ghost use Rattle.octet_follow.specs.Seats.{view, starts_of, BelongsTo, IsFresh, EachFresh};
 
@@ -8,6 +7,7 @@ use crate::view::Key;
 use crate::words::{Seat, Words, kinds};
 use atomic_table::Table;
 use octet_model::{List, OutOfMemory};
+use octet_seats::lay_out;
 use std::alloc::{AllocError, Global};
 use std::snapshot::Snapshot;
 
@@ -23,7 +23,7 @@ impl Words {
         ensures of { IfOk result (λ new. (starts_of new.0 ≡ starts.now) × (new.0.followers ≡ followers)) }
         ensures seats { IfOk result (λ new. (length new.1.items ≡ followers) × EachFresh new.0 new.1.items) }
     {
-        let words = lay_out(alloc, followers, starts.as_slice())?;
+        let words = lay_out(alloc, followers as u16 + 1, starts.as_slice())?;
         let key = Key {
             starts: Snapshot::of(starts),
             followers,
@@ -66,25 +66,4 @@ impl Words {
                 .split_seat::<kinds::SplitSeat>(&mut first.inner),
         }
     }
-}
-
-// A progress word for each follower, the number of draws, and the cells, eight apart.
-fn lay_out(alloc: Global, followers: u8, cells: &[u64]) -> Result<Vec<u64>, AllocError>
-    ensures { IfOk result (λ words. words.items ≡ spread (replicate followers 0 ++ 0 ∷ cells.now)) }
-{
-    let mut words = Vec::new(alloc);
-    for _ in 0..followers {
-        push_apart(&mut words, 0)?;
-    }
-    push_apart(&mut words, 0)?;
-    for object in 0..cells.len() {
-        push_apart(&mut words, cells[object])?;
-    }
-    Ok(words)
-}
-
-fn push_apart(words: &mut Vec<u64>, word: u64) -> Result<(), AllocError>
-    ensures { OnOk result (words.new.items ≡ words.old.items ++ spread (word ∷ [])) }
-{
-    words.extend_from_slice([word, 0, 0, 0, 0, 0, 0, 0].as_slice())
 }

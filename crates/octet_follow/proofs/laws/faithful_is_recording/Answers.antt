@@ -1,4 +1,4 @@
-use Rattle.octet_follow.proofs.Scripts.{faithful_is_recording}
+use Rattle.octet_follow.proofs.Faithful.{faithful_is_recording}
 use Rattle.octet_follow.proofs.laws.faithful_is_recording.Goals as goal
 
 pub returns : goal.returns

@@ -4,4 +4,4 @@ use Rattle.octet_seats.specs.Cells.{cells_in}
 use Rattle.octet_seats.proofs.cells.read_cells.Given as goal
 
 abbrev pub invariant-loop-cell : goal.invariant-loop-cell
-invariant-loop-cell l = l.values.items ≡ cells_in (slots_items l.closed.words) l.first l.cell
+invariant-loop-cell g l = l.values.items ≡ cells_in (slots_items l.closed.words) l.first l.cell

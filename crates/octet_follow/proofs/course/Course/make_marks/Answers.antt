@@ -1,8 +1,8 @@
 use Rattle.octet_follow.proofs.Following.{marks_both, given_both}
 use Rattle.octet_follow.proofs.course.Course.make_marks.Goals as goal
 
-pub returns-in-Some-clause-marks : goal.returns-in-Some-clause-marks
-returns-in-Some-clause-marks c = marks_both _ _ _ c.loop-follower.invariant.marks c.take_mark.ensures.marks
+pub returns-in-Err-clause-marks : goal.returns-in-Err-clause-marks
+returns-in-Err-clause-marks c = marks_both _ _ _ c.loop-follower.invariant.marks c.take_mark.ensures.marks
 
 pub loop-follower-preserved : goal.loop-follower-preserved
 loop-follower-preserved c = record {

@@ -11,6 +11,6 @@ loop-seat-preserved c =
     let pushed : c.push.new.self.items ≡ c.loop-seat.followers.items ++ c.in_ok-follower.field-0 ∷ [] = search rules in record {
       left = omega (arith, i.left, ap (λ (l : List Seat). length l) next);
       count = omega (arith, i.count, length-append c.loop-seat.yielded (c.in-Some.seat ∷ []));
-      followers = subst (AreFollowersAt 0 (c.loop-seat.yielded ++ c.in-Some.seat ∷ [])) (sym pushed)
-          (followers_more 0 c.loop-seat.number _ _ _ _ i.followers (omega (arith, i.count)) c.in_ok-follower.ensures);
+      followers = subst (AreFollowersAt c.args.room 0 (c.loop-seat.yielded ++ c.in-Some.seat ∷ [])) (sym pushed)
+          (followers_more c.args.room 0 c.loop-seat.number _ _ _ _ i.followers (omega (arith, i.count)) c.in_ok-follower.ensures);
     }

@@ -6,5 +6,5 @@ abbrev pub invariant-loop-seat : goal.invariant-loop-seat
 invariant-loop-seat l = record {
   left : l.number + length l.seat-iterator.rest.items < 2 ^ 8;
   count : length l.yielded ≡ l.number;
-  followers : AreFollowersAt 0 l.yielded l.followers.items;
+  followers : AreFollowersAt l.room 0 l.yielded l.followers.items;
 }

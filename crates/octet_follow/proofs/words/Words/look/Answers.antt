@@ -5,7 +5,7 @@ use Rattle.octet_follow.proofs.steps.Allowed.{looks}
 use Rattle.octet_follow.proofs.words.Words.look.Goals as goal
 
 pub load-requires : goal.load-requires
-load-requires c = (search rules, search rules, looks _ _ _ _ _ (search rules) _ c.args.whom c.requires.free (search rules) (search rules))
+load-requires c = (search rules, search rules, looks _ _ _ _ _ (search rules) _ c.args.whom (search rules) (search rules))
 
 pub returns-clause-step : goal.returns-clause-step
 returns-clause-step c =

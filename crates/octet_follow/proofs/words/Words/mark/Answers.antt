@@ -7,7 +7,7 @@ use Rattle.octet_follow.proofs.steps.Allowed.{marks}
 use Rattle.octet_follow.proofs.words.Words.mark.Goals as goal
 
 pub compare_exchange_with-requires : goal.compare_exchange_with-requires
-compare_exchange_with-requires c = (search rules, search rules, marks _ _ _ _ _ (search rules) _ c.args.before c.args.events c.args.mark c.requires.free c.requires.found c.requires.before c.requires.events (search rules))
+compare_exchange_with-requires c = (search rules, search rules, marks _ _ _ _ _ (search rules) _ c.args.shown c.args.events c.args.mark c.requires.found c.requires.shown c.requires.events (search rules))
 
 pub returns-clause-step : goal.returns-clause-step
 returns-clause-step c =

@@ -6,7 +6,7 @@ use Rattle.octet_follow.proofs.steps.Allowed.{reads, object_there}
 use Rattle.octet_follow.proofs.words.Words.read.Goals as goal
 
 pub load-requires : goal.load-requires
-load-requires c = (search rules, search rules, reads _ _ _ _ _ (search rules) _ c.args.object c.requires.free (search rules) (search rules))
+load-requires c = (search rules, search rules, reads _ _ _ _ _ (search rules) _ c.args.object (search rules) (search rules))
 
 pub returns-clause-step : goal.returns-clause-step
 returns-clause-step c =

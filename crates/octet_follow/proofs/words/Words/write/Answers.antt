@@ -6,7 +6,7 @@ use Rattle.octet_follow.proofs.steps.Allowed.{writes, object_there}
 use Rattle.octet_follow.proofs.words.Words.write.Goals as goal
 
 pub store-requires : goal.store-requires
-store-requires c = (search rules, search rules, writes _ _ _ _ _ (search rules) _ c.args.object c.args.value c.requires.free (search rules) (search rules))
+store-requires c = (search rules, search rules, writes _ _ _ _ _ (search rules) _ c.args.object c.args.value (search rules) (search rules))
 
 pub returns-clause-step : goal.returns-clause-step
 returns-clause-step c =

@@ -1,7 +1,0 @@
-use Rattle.std.proofs.Common.{◌≡◌}
-use Rattle.std.specs.Mem.Slots.{slots_items}
-use Rattle.octet_seats.specs.Cells.{cells_in}
-use Rattle.octet_follow.proofs.words.close.read_cells.Given as goal
-
-abbrev pub invariant-loop-cell : goal.invariant-loop-cell
-invariant-loop-cell l = l.values.items ≡ cells_in (slots_items l.closed.words) l.first l.cell
