@@ -15,3 +15,4 @@ pub use access::Access;
 pub use course::Course;
 pub use follower::Follower;
 pub use halt::Halt;
+pub use octet_rule::Change;

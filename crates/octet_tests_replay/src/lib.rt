@@ -7,6 +7,8 @@ mod atomicity_tests;
 #[cfg(test)]
 mod clock_tests;
 #[cfg(test)]
+mod follow_tests;
+#[cfg(test)]
 mod parallel_tests;
 #[cfg(test)]
 mod regions_tests;
