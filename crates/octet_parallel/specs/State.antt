@@ -5,6 +5,7 @@ use Rattle.octet_model.specs.declared.script.Script.{Script}
 use Rattle.octet_model.specs.declared.log.Log.{Log}
 use Rattle.octet_model.specs.Machine.{PlainState, Next}
 use Rattle.octet_model.specs.Orders.{by_log, state_after, starting_heap}
+use Rattle.octet_seats.specs.Cells.{spread}
 use Rattle.octet_parallel.specs.declared.fate.Fate.{Fate}
 use Rattle.octet_parallel.specs.declared.fate.Fate.TheVariants.{Playing, Amiss, Stopped}
 use Rattle.octet_parallel.specs.declared.words.TheConstants.{STOP_NUMBER}
@@ -57,11 +58,6 @@ shown p = elim p.owes [ true ↦ pred (length p.journal) | false ↦ length p.jo
 -- the progress word of a player
 abbrev pub progress : PlayerState → ℕ
 progress p = elim p.fate [ Playing ↦ shown p | Amiss ↦ stop_number | Stopped whom ↦ stop_number ]
-
--- the words laid out, each eight words from the next. Players at work on different words do not disturb each other
-abbrev pub spread : List ℕ → List ℕ
-spread [] = []
-spread (word ∷ words) = word ∷ 0 ∷ 0 ∷ 0 ∷ 0 ∷ 0 ∷ 0 ∷ 0 ∷ spread words
 
 -- the words of a field: a progress word for each player, and a cell for each object
 abbrev pub words : FieldState → List ℕ

@@ -1,48 +1,8 @@
 -- Where the words of a state lie among all.
-use Rattle.std.proofs.Common.{◌≡◌, ℕ, zero, suc, ◌+◌, ◌*◌, ◌<◌, List, [], ◌∷◌, ◌++◌, map, length, get_or, set, refl, ap, ◌∙◌, arith, zero-add}
-use Rattle.octet_parallel.specs.State.{PlayerState, FieldState, player_of, unbegun, progress, spread, words, progress_place, cell_place}
-
--- eight words further on
-eight_more : (i : ℕ) → 8 * suc i ≡ suc (suc (suc (suc (suc (suc (suc (suc (8 * i))))))))
-eight_more i = omega arith
-
-pub get_spread : (ws : List ℕ) (i : ℕ) → get_or (spread ws) (8 * i) 0 ≡ get_or ws i 0
-get_spread [] i = refl
-get_spread (w ∷ ws) zero = refl
-get_spread (w ∷ ws) (suc i) = ap (λ (n : ℕ). get_or (spread (w ∷ ws)) n 0) (eight_more i) ∙ get_spread ws i
-
-pub set_spread : (ws : List ℕ) (i v : ℕ) → set (spread ws) (8 * i) v ≡ spread (set ws i v)
-set_spread [] i v = refl
-set_spread (w ∷ ws) zero v = refl
-set_spread (w ∷ ws) (suc i) v = ap (λ (n : ℕ). set (spread (w ∷ ws)) n v) (eight_more i)
-    ∙ ap (λ l. w ∷ 0 ∷ 0 ∷ 0 ∷ 0 ∷ 0 ∷ 0 ∷ 0 ∷ l) (set_spread ws i v)
-
-pub length_spread : (ws : List ℕ) → length (spread ws) ≡ 8 * length ws
-length_spread [] = refl
-length_spread (w ∷ ws) = let e = length_spread ws in omega arith
-
-module _ {A : Type 0} (f : A → ℕ) (d : A) where
-  -- within the first of two lists
-  set_first : (xs : List A) (ys : List ℕ) (i : ℕ) (x : A) → i < length xs → set (map f xs ++ ys) i (f x) ≡ map f (set xs i x) ++ ys
-  set_first [] ys i x h = absurd (omega arith)
-  set_first (y ∷ xs) ys zero x h = refl
-  set_first (y ∷ xs) ys (suc i) x h = ap (λ l. f y ∷ l) (set_first xs ys i x (omega arith))
-
-  get_first : (xs : List A) (ys : List ℕ) (i : ℕ) → i < length xs → get_or (map f xs ++ ys) i 0 ≡ f (get_or xs i d)
-  get_first [] ys i h = absurd (omega arith)
-  get_first (y ∷ xs) ys zero h = refl
-  get_first (y ∷ xs) ys (suc i) h = get_first xs ys i (omega arith)
-
-  -- past it
-  set_second : (xs : List A) (ys : List ℕ) (i v : ℕ) → set (map f xs ++ ys) (length xs + i) v ≡ map f xs ++ set ys i v
-  set_second [] ys i v = ap (λ (n : ℕ). set ys n v) (zero-add i)
-  set_second (y ∷ xs) ys i v = let e : suc (length xs) + i ≡ suc (length xs + i) = omega arith in
-      ap (λ (n : ℕ). set (f y ∷ (map f xs ++ ys)) n v) e ∙ ap (λ l. f y ∷ l) (set_second xs ys i v)
-
-  get_second : (xs : List A) (ys : List ℕ) (i : ℕ) → get_or (map f xs ++ ys) (length xs + i) 0 ≡ get_or ys i 0
-  get_second [] ys i = ap (λ (n : ℕ). get_or ys n 0) (zero-add i)
-  get_second (y ∷ xs) ys i = let same : suc (length xs) + i ≡ suc (length xs + i) = omega arith in
-      ap (λ (n : ℕ). get_or (f y ∷ (map f xs ++ ys)) n 0) same ∙ get_second xs ys i
+use Rattle.std.proofs.Common.{◌≡◌, ℕ, ◌+◌, ◌<◌, List, ◌++◌, map, length, get_or, set, ap, ◌∙◌}
+use Rattle.octet_seats.specs.Cells.{spread}
+use Rattle.octet_seats.proofs.lemmas.Spread.{get_spread, set_spread, set_first, get_first, set_second, get_second, same_numbers}
+use Rattle.octet_parallel.specs.State.{PlayerState, FieldState, player_of, unbegun, progress, words, progress_place, cell_place}
 
 -- the progress word of a player
 pub get_progress : (s : FieldState) (t : ℕ) → t < length s.players → get_or (words s) (progress_place t) 0 ≡ progress (player_of s t)
@@ -60,6 +20,4 @@ set_cell s object v = set_spread (map progress s.players ++ s.cells) (length s.p
 
 -- a player whose progress word stays
 pub same_progress : (ps : List PlayerState) (t : ℕ) (p : PlayerState) → progress p ≡ progress (get_or ps t unbegun) → map progress (set ps t p) ≡ map progress ps
-same_progress [] t p e = refl
-same_progress (q ∷ ps) zero p e = ap (λ (n : ℕ). n ∷ map progress ps) e
-same_progress (q ∷ ps) (suc t) p e = ap (λ l. progress q ∷ l) (same_progress ps t p e)
+same_progress = same_numbers progress unbegun

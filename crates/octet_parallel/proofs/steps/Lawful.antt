@@ -13,7 +13,8 @@ use Rattle.octet_model.proofs.lemmas.LowestFronts.{is_next}
 use Rattle.octet_parallel.specs.declared.fate.Fate.{Fate}
 use Rattle.octet_parallel.specs.declared.fate.Fate.TheVariants.{Playing, Amiss, Stopped}
 use Rattle.octet_parallel.specs.Needs.{Needs}
-use Rattle.octet_parallel.specs.State.{PlayerState, FieldState, SomeAmiss, player_of, unbegun, made_by, stop_number, shown, progress, words, spread, progress_place, cell_place, next_of_player, plain, opening}
+use Rattle.octet_seats.specs.Cells.{spread}
+use Rattle.octet_parallel.specs.State.{PlayerState, FieldState, SomeAmiss, player_of, unbegun, made_by, stop_number, shown, progress, words, progress_place, cell_place, next_of_player, plain, opening}
 use Rattle.octet_parallel.specs.Steps.{step, after, told, with_event, event_next, front_after, cells_after, target, ToLook, ToRead, ToWrite, ToBump, ToAdvance, ToStop, StopsAs, IsFree, IsRead, IsWrite, IsAmissBy}
 use Rattle.octet_parallel.specs.Soundness.{IsSoundLook, IsSoundPlayer, IsSoundField}
 use Rattle.octet_parallel.specs.Laws.{LookIsLawful, ReadIsLawful, WriteIsLawful, BumpIsLawful, CountIsLawful, MarkIsLawful, StopIsLawful, OpeningIsSound, WordTellsStop}

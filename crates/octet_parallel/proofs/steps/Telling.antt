@@ -13,7 +13,8 @@ use Rattle.octet_seats.specs.Runs.{after_all, steps_by}
 use Rattle.octet_seats.proofs.lemmas.Rows.{same_members}
 use Rattle.octet_seats.proofs.lemmas.Telling.{same_known, same_word}
 use Rattle.octet_seats.proofs.lemmas.Seeing.{all_agree}
-use Rattle.octet_parallel.specs.State.{PlayerState, FieldState, player_of, unbegun, progress, spread, next_of_player, opening}
+use Rattle.octet_seats.specs.Cells.{spread}
+use Rattle.octet_parallel.specs.State.{PlayerState, FieldState, player_of, unbegun, progress, next_of_player, opening}
 use Rattle.octet_parallel.specs.Steps.{Kind, May, step, told, after, target, cells_after, IsRead, IsWrite, IsBump, ToLook, ToRead, ToWrite, ToBump, ToAdvance, ToStop}
 use Rattle.octet_parallel.specs.Views.{Taken, facts_of}
 use Rattle.octet_parallel.specs.Runs.{PlayerStep, taken_in, moves, MayStep, IsRun, field_after, steps_of}

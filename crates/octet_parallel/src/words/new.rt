@@ -1,7 +1,6 @@
 //! The words and the seats at first.
-ghost use Rattle.std.specs.Prelude.{◌≡◌, ◌+◌, ◌<◌, ◌++◌, ◌∷◌, [], length, replicate, IfOk, OnOk};
+ghost use Rattle.std.specs.Prelude.{◌≡◌, ◌+◌, ◌<◌, [], length, IfOk};
 ghost use Rattle.octet_clock.specs.Untied.{IsUntied};
-ghost use Rattle.octet_parallel.specs.State.{spread};
 ghost use Rattle.octet_parallel.specs.Views.{after_split, split_off};
 ghost use Rattle.octet_parallel.specs.Seats.{view, script_of, log_of, BelongsTo, IsFresh, EachFresh};
 
@@ -9,6 +8,7 @@ use crate::view::Key;
 use crate::words::{Seat, Words, kinds};
 use atomic_table::Table;
 use octet_model::{Log, OutOfMemory, Script};
+use octet_seats::lay_out;
 use std::alloc::{AllocError, Global};
 use std::snapshot::Snapshot;
 
@@ -26,7 +26,7 @@ impl Words {
     {
         let players = script.thread_count();
         let cells = script.starting_heap(alloc)?;
-        let words = lay_out(alloc, players, cells.as_slice())?;
+        let words = lay_out(alloc, players as u16, cells.as_slice())?;
         let key = Key {
             script: Snapshot::of(script),
             log: Snapshot::of(log),
@@ -69,24 +69,4 @@ impl Words {
                 .split_seat::<kinds::SplitSeat>(&mut first.inner),
         }
     }
-}
-
-// A progress word for each player, and the cells, eight apart.
-fn lay_out(alloc: Global, players: u8, cells: &[u64]) -> Result<Vec<u64>, AllocError>
-    ensures { IfOk result (λ words. words.items ≡ spread (replicate players 0 ++ cells.now)) }
-{
-    let mut words = Vec::new(alloc);
-    for _ in 0..players {
-        push_apart(&mut words, 0)?;
-    }
-    for object in 0..cells.len() {
-        push_apart(&mut words, cells[object])?;
-    }
-    Ok(words)
-}
-
-fn push_apart(words: &mut Vec<u64>, word: u64) -> Result<(), AllocError>
-    ensures { OnOk result (words.new.items ≡ words.old.items ++ spread (word ∷ [])) }
-{
-    words.extend_from_slice([word, 0, 0, 0, 0, 0, 0, 0].as_slice())
 }

@@ -3,9 +3,10 @@ use Rattle.atomic_table.specs.Table as table
 use Rattle.octet_model.specs.declared.script.Script.{Script}
 use Rattle.octet_model.specs.declared.log.Log.{Log}
 use Rattle.octet_parallel.specs.Rule.{IsRuled, first_view}
-use Rattle.octet_parallel.specs.State.{spread}
+use Rattle.octet_seats.specs.Cells.{spread}
+use Rattle.octet_seats.proofs.lemmas.Spread.{as_many_words}
 use Rattle.octet_model.specs.Orders.{starting_heap}
-use Rattle.octet_parallel.proofs.seats.LaidOut.{opens, words_at_first, as_many_words, many_starts}
+use Rattle.octet_parallel.proofs.seats.LaidOut.{opens, words_at_first, many_starts}
 use Rattle.octet_parallel.proofs.words.Words.new.Goals as goal
 
 pub of_words-requires : goal.of_words-requires
