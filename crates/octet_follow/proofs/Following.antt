@@ -1,5 +1,5 @@
 -- What becomes of a follower that makes an event.
-use Rattle.std.proofs.Common.{◌≡◌, ◌≢◌, ◌∙◌, ℕ, zero, suc, ◌+◌, ◌-◌, ◌<◌, ◌≤◌, inr, Bool, true, false, if◌then◌else◌, List, [], ◌∷◌, ◌++◌, map, drop, length, get_or, refl, sym, ap, subst, subst₂, arith, append-nil, append_assoc, length-append}
+use Rattle.std.proofs.Common.{◌≡◌, ◌≢◌, ◌∙◌, ℕ, zero, suc, ◌+◌, ◌-◌, ◌<◌, ◌≤◌, Bool, true, false, if◌then◌else◌, List, [], ◌∷◌, ◌++◌, map, drop, length, get_or, refl, sym, ap, subst, subst₂, arith, append-nil, append_assoc, length-append}
 use Rattle.std.proofs.lemmas.List.{map-append}
 use Rattle.std.specs.Vec.{vec_capacity}
 use Rattle.octet_model.specs.declared.event.Event.{Event}
@@ -9,14 +9,11 @@ use Rattle.octet_model.specs.declared.log.Gapped.{Gapped}
 use Rattle.octet_model.specs.Journals.{access_count, mark_count, gap_after, gapped_marks}
 use Rattle.octet_model.proofs.lemmas.Splits.{length_parts, accesses_split, marks_split, gap_split, gapped_marks_split}
 use Rattle.octet_follow.specs.declared.access.Access.{Access}
-use Rattle.octet_follow.specs.declared.halt.Halt.{Halt}
-use Rattle.octet_follow.specs.declared.halt.Halt.TheVariants.{Waits, WaitsForDraws, NeedsMarks, OverEnd, EndsEarly, NoObject, Amiss}
 use Rattle.octet_follow.specs.declared.course.Course.{Course}
 use Rattle.octet_follow.specs.declared.follower.Follower.{Follower}
-use Rattle.octet_follow.specs.Halts.{HaltsMark}
 use Rattle.octet_follow.specs.Views.{FollowerView}
-use Rattle.octet_follow.specs.Seats.{IsSeatOf, Goes, IsStill}
-use Rattle.octet_follow.specs.Calls.{view_of, journal_in, pending, given, IsLeft, IsUpTo, IsFollowerOf, IsGivenSame, IsOut, IsDue, CountsMark, MakesMarks, Makes, IsComplete, HaltsAtMark, HaltsMarks, event_of, found_in}
+use Rattle.octet_follow.specs.Seats.{IsSeatOf, Goes}
+use Rattle.octet_follow.specs.Calls.{view_of, journal_in, pending, given, IsLeft, IsUpTo, IsFollowerOf, IsGivenSame, IsOut, IsDue, CountsMark, MakesMarks, Makes, event_of, found_in}
 
 longer : (j : List Event) (e : Event) → length (j ++ e ∷ []) ≡ length j + 1
 longer j e = length-append j (e ∷ [])
@@ -173,39 +170,8 @@ marked_one course f h g d due own seat goes number ended total awaited marked ne
     go (mark ∷ l) is = (sym (counts.left mark l is) ∙ (let a = gap_is in let b : g.left ≡ g.left + gap_after 0 (journal_in f ++ e ∷ []) = omega arith in b), refl)
     go [] is = ((counts.last (let a = drop_none g.marks.items g.next is in let b = due.1 in let c = ap (λ (l : List Gapped). length l) items in let z = ap (λ v. length v.items) counts.marks in omega arith) ∙ left ∙ due.0), gap_is)
 
-pub still : (course : Course) (f g : Follower) → IsFollowerOf course f → IsSeatOf course.words g.seat → IsStill (view_of f) (view_of g)
-    → g.number ≡ f.number → g.ended ≡ f.ended → g.total ≡ f.total → g.awaited ≡ f.awaited → g.shown ≡ f.shown → g.marked ≡ f.marked → g.next ≡ f.next → g.marks ≡ f.marks → g.events ≡ f.events → g.left ≡ f.left
-    → IsFollowerOf course g × IsGivenSame f g
-still course f g own seat stays number ended total awaited shown marked next marks events left = (
-  record {
-    own = seat;
-    number = stays.number ∙ own.number ∙ sym number;
-    inside = let a = own.inside in omega arith;
-    up = record {
-      shown = shown ∙ own.up.shown ∙ sym stays.shown;
-      shows = λ h. shown ∙ own.up.shows (let a = ap (λ (j : List Event). length j) stays.journal in omega arith) ∙ ap (λ (j : List Event). length j) (sym stays.journal);
-      events = events ∙ own.up.events ∙ ap (λ (j : List Event). length j) (sym stays.journal);
-      marked = marked ∙ own.up.marked ∙ ap mark_count (sym stays.journal);
-      next = let a = own.up.next in let b = ap (λ v. length v.items) marks in omega arith;
-      left = subst (λ z. z) (λ i. IsLeft (sym same_pending i) (sym ended i) (sym total i) (sym left i) (sym stays.journal i)) own.up.left;
-    };
-  },
-  record {
-    same = record { number = stays.number; room = ap (λ v. vec_capacity v) marks; awaited = awaited };
-    marks = λ i. gapped_marks 0 (stays.journal i) ++ same_pending i;
-    ended = ended;
-    total = total;
-  },
-)
-  where
-    same_pending : pending g ≡ pending f
-    same_pending = λ i. drop (next i) ((marks i).items)
-
--- ---- what is made
-pub no_marks : (v w : FollowerView) → w.follower.journal ≡ v.follower.journal → MakesMarks v w
-no_marks v w same = record { marks = []; grown = same ∙ sym (append-nil v.follower.journal) }
-
-pub one_mark : (v w : FollowerView) (mark : Mark) → w.follower.journal ≡ v.follower.journal ++ Marked mark ∷ [] → MakesMarks v w
+-- what is made
+one_mark : (v w : FollowerView) (mark : Mark) → w.follower.journal ≡ v.follower.journal ++ Marked mark ∷ [] → MakesMarks v w
 one_mark v w mark made = record { marks = mark ∷ []; grown = made }
 
 pub mark_made : (f h g : Follower) (mark : Mark) → Goes (view_of f) (Marked mark ∷ []) true (view_of h) → CountsMark h g → MakesMarks (view_of f) (view_of g)
@@ -222,9 +188,6 @@ marks_both v u w before after = record {
 
 pub given_both : (f g h : Follower) → IsGivenSame f g → IsGivenSame g h → IsGivenSame f h
 given_both f g h a b = record { same = record { number = b.same.number ∙ a.same.number; room = b.same.room ∙ a.same.room; awaited = b.same.awaited ∙ a.same.awaited }; marks = b.marks ∙ a.marks; ended = b.ended ∙ a.ended; total = b.total ∙ a.total }
-
-pub given_self : (f : Follower) → IsGivenSame f f
-given_self f = record { same = record { number = refl; room = refl; awaited = refl }; marks = refl; ended = refl; total = refl }
 
 pub makes_access : (access : Access) (found value : ℕ) (v w : FollowerView) (shows : Bool) → Goes v (event_of access found ∷ []) shows w → value ≡ found_in (event_of access found) → Makes access v value w
 makes_access access found value v w shows goes told = record { marks = []; found = found; grown = goes.journal; told = told; state = goes.state; seen = goes.seen }
@@ -246,7 +209,7 @@ marks_first access v u value w before made = record {
   seen = made.seen;
 }
 
--- ---- numbers
+-- numbers
 pub one_less : (n : ℕ) → n ≢ 0 → suc (n - 1) ≡ n
 one_less zero ne = absurd (ne refl)
 one_less (suc n) ne = omega arith
@@ -254,31 +217,11 @@ one_less (suc n) ne = omega arith
 pub few_marked : (f : Follower) → IsUpTo f → f.marked ≤ f.events
 few_marked f up = let a = up.events in let b = up.marked in let c = length_parts (journal_in f) in omega arith
 
--- the end of an empty buffer
-pub last_of : (follower : Follower) → length follower.marks.items ≤ follower.next → pending follower ≡ []
-last_of follower past = go follower.marks.items follower.next past
-  where
-    go : (xs : List Gapped) (k : ℕ) → length xs ≤ k → drop k xs ≡ []
-    go [] zero h = refl
-    go [] (suc k) h = refl
-    go (x ∷ xs) zero h = absurd (omega arith)
-    go (x ∷ xs) (suc k) h = go xs k (omega arith)
-
 -- a buffer that has a mark left
 pub not_last : (follower : Follower) → follower.next < length follower.marks.items → IsOut follower → ⊥
 not_last follower more out = let a = drop_none follower.marks.items follower.next out.1 in omega arith
 
--- a follower of whose recording nothing is left
-pub is_complete : (follower : Follower) → IsUpTo follower → follower.ended ≡ true → follower.left ≡ 0 → pending follower ≡ [] → IsComplete follower
-is_complete follower up ended left none = record {
-  ended = ended;
-  marks = ap (λ (l : List Gapped). gapped_marks 0 (journal_in follower) ++ l) none ∙ append-nil (gapped_marks 0 (journal_in follower));
-  accesses =
-      let at : IsLeft [] true follower.total follower.left (journal_in follower) = subst₂ (λ (l : List Gapped) (b : Bool). IsLeft l b follower.total follower.left (journal_in follower)) none ended up.left in
-      let is : follower.total ≡ follower.left + access_count (journal_in follower) = at in omega arith;
-}
-
--- ---- what it is given
+-- what it is given
 module _ (f : Follower) (up : IsUpTo f) (out : IsOut f) where
   none_left : (f.left ≡ 0) × (gap_after 0 (journal_in f) ≡ 0)
   none_left = subst₂ (λ (l : List Gapped) (b : Bool). IsLeft l b f.total f.left (journal_in f)) out.1 out.0 up.left
@@ -338,53 +281,6 @@ still_own course f g own seat number up = record {
   inside = let a = own.inside in omega arith;
   up = up;
 }
-
--- a mark that is due, and was not made
-pub halted : (f g : Follower) (d : Gapped) (halt : Halt) → IsDue f → g.marks ≡ f.marks → g.next ≡ f.next → g.left ≡ f.left → HaltsMark (get_or f.marks.items f.next d).mark halt (view_of g) → HaltsMarks halt g
-halted f g d halt due marks next left why = by halt at
-  where
-    at : HaltsAtMark halt g
-    at = record {
-      next = get_or f.marks.items f.next d;
-      later = drop (suc f.next) f.marks.items;
-      pends = (λ i. drop (next i) ((marks i).items)) ∙ drop_at f.marks.items f.next d due.1;
-      due = left ∙ due.0;
-      why = why;
-    }
-
-    by : (halt : Halt) → HaltsAtMark halt g → HaltsMarks halt g
-    by (Waits whom needs found) at = at
-    by (WaitsForDraws needs found) at = at
-    by NeedsMarks at = absurd at.why
-    by OverEnd at = at
-    by (EndsEarly left) at = at
-    by NoObject at = at
-    by Amiss at = inr at
-
--- the follower after it was told what is awaited
-pub told_awaited : (course : Course) (f g : Follower) → IsFollowerOf course f → IsSeatOf course.words g.seat → (view_of g).number ≡ (view_of f).number → journal_in g ≡ journal_in f
-    → g.number ≡ f.number → g.ended ≡ f.ended → g.total ≡ f.total → g.marked ≡ f.marked → g.next ≡ f.next → g.marks ≡ f.marks → g.events ≡ f.events → g.left ≡ f.left
-    → g.shown ≡ (view_of g).follower.shown → (g.awaited ≤ length (journal_in g) → g.shown ≡ length (journal_in g))
-    → IsFollowerOf course g × (given g ≡ given f)
-told_awaited course f g own seat view_number journal number ended total marked next marks events left shown shows = (
-  record {
-    own = seat;
-    number = view_number ∙ own.number ∙ sym number;
-    inside = let a = own.inside in omega arith;
-    up = record {
-      events = events ∙ own.up.events ∙ ap (λ (j : List Event). length j) (sym journal);
-      marked = marked ∙ own.up.marked ∙ ap mark_count (sym journal);
-      shown = shown;
-      shows = shows;
-      next = let a = own.up.next in let b = ap (λ v. length v.items) marks in omega arith;
-      left = subst (λ z. z) (λ i. IsLeft (sym same_pending i) (sym ended i) (sym total i) (sym left i) (sym journal i)) own.up.left;
-    };
-  },
-  (λ i. gapped_marks 0 (journal i) ++ same_pending i),
-)
-  where
-    same_pending : pending g ≡ pending f
-    same_pending = λ i. drop (next i) ((marks i).items)
 
 -- how many accesses it has made
 pub accesses_made : (f : Follower) → IsUpTo f → f.events - f.marked ≡ access_count (journal_in f)

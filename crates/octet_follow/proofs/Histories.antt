@@ -6,11 +6,13 @@ use Rattle.octet_model.specs.Journals.{gapped_marks, log_of_journal, log_of}
 use Rattle.octet_model.specs.Machine.{Journals, journal_of, PlainState, AllFinished}
 use Rattle.octet_model.specs.Plans.{thread_log_of}
 use Rattle.octet_model.specs.Plays.{state_after_play, lowest_play, IsOneHistory}
-use Rattle.octet_follow.specs.Recordings.{Threads, by_marks, IsOnTrack, AllFollow, IsDemandedToEnd}
-use Rattle.octet_follow.specs.Histories.{HistoryIsRecording}
+use Rattle.octet_follow.specs.Recordings.{Threads, by_marks, IsOnTrack, AllFollow}
+use Rattle.octet_follow.specs.declared.follower.Follower.{Follower}
+use Rattle.octet_follow.specs.Repeats.{RepeatsRecording}
+use Rattle.octet_follow.specs.Histories.{AllDemanded, HistoryIsRecording, RepeatsHistory}
 use Rattle.octet_follow.proofs.Recordings.{front, is_through}
 
-module _ (threads : Threads) (starts : List ℕ) (journals : Journals) (heap : List ℕ) (draws : ℕ) (history : IsOneHistory starts journals heap draws) (each : (t : ℕ) → t < length journals → IsDemandedToEnd (threads t) (journal_of journals t)) where
+module _ (threads : Threads) (starts : List ℕ) (journals : Journals) (heap : List ℕ) (draws : ℕ) (history : IsOneHistory starts journals heap draws) (each : AllDemanded threads journals) where
   abbrev log : List ThreadLog
   log = log_of journals
 
@@ -50,3 +52,7 @@ history_is_recording threads starts journals heap draws history each =
       ends = is_front.1;
       ordered = history.ordered;
     }
+
+pub repeats_history : (starts : List ℕ) (followers : List Follower) (cells : List ℕ) → RepeatsRecording starts followers cells → RepeatsHistory starts followers cells
+repeats_history starts followers cells repeats threads journals heap draws history each have =
+    repeats threads (log_of journals) (record { heap = heap; journals = journals; draws = draws }) (history_is_recording threads starts journals heap draws history each) have

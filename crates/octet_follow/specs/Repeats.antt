@@ -10,7 +10,8 @@ use Rattle.octet_follow.specs.Rule.{IsSeenBy}
 use Rattle.octet_follow.specs.Calls.{view_of, journal_in, journals_in, given, IsComplete}
 use Rattle.octet_follow.specs.Recordings.{Threads, IsRecording, IsDemandedBy, AllFollow, IsDemandedToEnd, Begins}
 
--- where each thread has made accesses that it demands, and the marks that a recording has before them, what it has made is the beginning of what it made in the recording
+-- where each thread has made accesses that it demands, and the marks that a recording has before them,
+-- what it has made is the beginning of what it made in the recording
 abbrev pub KeepsIn : List ℕ → Journals → Type 0
 KeepsIn starts journals = (threads : Threads) (log : List ThreadLog) (end : PlainState)
     → IsRecording threads starts log end → AllFollow threads log journals
@@ -55,7 +56,8 @@ pub record AllHaveFollowed (threads : Threads) (log : List ThreadLog) (followers
   pub many : length followers ≡ length log
   pub each : (t : ℕ) (none : Follower) → t < length followers → HasFollowed threads log t (slice_index_or followers t none)
 
--- where all followers have come to their ends so, each has made what it made in the recording, and the cells are those that it ended with
+-- where all followers have come to their ends so, each has made what it made in the recording,
+-- and the cells are those at the recording's end
 abbrev pub RepeatsRecording : List ℕ → List Follower → List ℕ → Type 0
 RepeatsRecording starts followers heap = (threads : Threads) (log : List ThreadLog) (end : PlainState)
     → IsRecording threads starts log end → AllHaveFollowed threads log followers

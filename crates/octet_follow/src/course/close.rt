@@ -1,7 +1,8 @@
 //! A course is closed, and its cells are read.
-ghost use Rattle.std.specs.Prelude.{◌≡◌, All, length, map, IfOk};
+ghost use Rattle.std.specs.Prelude.{◌≡◌, length, map, IfOk};
 ghost use Rattle.octet_follow.specs.Calls.{followers_in, starts_in, EachOf, ClosesTo};
 ghost use Rattle.octet_follow.specs.Repeats.{RepeatsRecording, KeepsToRecording};
+ghost use Rattle.octet_follow.specs.Histories.{RepeatsHistory};
 ghost use Rattle.octet_follow.specs.Faithful.{RepeatsPlan};
 
 use crate::course::Course;
@@ -20,6 +21,7 @@ impl Course {
         ensures closes { IfOk result (λ heap. ClosesTo (starts_in self) followers heap) }
         ensures keeps { IfOk result (λ heap. KeepsToRecording (starts_in self) followers) }
         ensures repeats { IfOk result (λ heap. RepeatsRecording (starts_in self) followers heap) }
+        ensures history { IfOk result (λ heap. RepeatsHistory (starts_in self) followers heap) }
         ensures plan { IfOk result (λ heap. RepeatsPlan (starts_in self) followers heap) }
     {
         let seats = seats_of(alloc, followers.into_vec())?;

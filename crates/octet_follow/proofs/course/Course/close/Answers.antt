@@ -3,6 +3,7 @@ use Rattle.octet_follow.specs.declared.follower.Follower.{Follower}
 use Rattle.octet_follow.specs.Calls.{starts_in, ClosesTo}
 use Rattle.octet_follow.proofs.Closing.{each_seat, closes_to, keeps, repeats}
 use Rattle.octet_follow.proofs.Faithful.{repeats_plan}
+use Rattle.octet_follow.proofs.Histories.{repeats_history}
 use Rattle.octet_follow.proofs.course.Course.close.Goals.{After-from_vec}
 use Rattle.octet_follow.proofs.course.Course.close.Goals as goal
 
@@ -24,3 +25,6 @@ returns-clause-repeats c = repeats (starts_in c.args.self) c.args.followers c.fr
 
 pub returns-clause-plan : goal.returns-clause-plan
 returns-clause-plan c = repeats_plan (starts_in c.args.self) c.args.followers c.from_vec.result (repeats (starts_in c.args.self) c.args.followers c.from_vec.result (closes c))
+
+pub returns-clause-history : goal.returns-clause-history
+returns-clause-history c = repeats_history (starts_in c.args.self) c.args.followers c.from_vec.result (repeats (starts_in c.args.self) c.args.followers c.from_vec.result (closes c))
