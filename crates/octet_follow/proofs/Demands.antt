@@ -6,7 +6,7 @@ use Rattle.octet_model.specs.declared.event.Mark.{Mark}
 use Rattle.octet_rule.specs.Changes.{changed_by}
 use Rattle.octet_follow.specs.declared.access.Access.{Access}
 use Rattle.octet_follow.specs.declared.access.Access.TheVariants.{Read, Write, Update}
-use Rattle.octet_follow.specs.Calls.{event_of}
+use Rattle.octet_follow.specs.Accesses.{event_of}
 use Rattle.octet_follow.specs.Recordings.{Demand, IsDemanded, IsDemandedBy}
 use Rattle.octet_follow.specs.Demands.{demand_of, IgnoresMarks, MakingKeepsDemanded, HaltingKeepsDemanded}
 

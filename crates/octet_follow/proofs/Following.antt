@@ -13,7 +13,9 @@ use Rattle.octet_follow.specs.declared.course.Course.{Course}
 use Rattle.octet_follow.specs.declared.follower.Follower.{Follower}
 use Rattle.octet_follow.specs.Views.{FollowerView}
 use Rattle.octet_follow.specs.Seats.{IsSeatOf, Goes}
-use Rattle.octet_follow.specs.Calls.{view_of, journal_in, pending, given, IsLeft, IsUpTo, IsFollowerOf, IsGivenSame, IsOut, IsDue, CountsMark, MakesMarks, Makes, event_of, found_in}
+use Rattle.octet_follow.specs.declared.access.Access.TheVariants.{Read, Write, Update}
+use Rattle.octet_follow.specs.Accesses.{event_of, GoesBy}
+use Rattle.octet_follow.specs.Calls.{view_of, journal_in, pending, given, IsLeft, IsUpTo, IsFollowerOf, IsGivenSame, IsOut, IsDue, CountsMark, MakesMarks, Makes}
 
 longer : (j : List Event) (e : Event) → length (j ++ e ∷ []) ≡ length j + 1
 longer j e = length-append j (e ∷ [])
@@ -24,6 +26,11 @@ pub record IsAccess (e : Event) : Type 0 where
   pub no_mark : mark_count (e ∷ []) ≡ 0
   pub gap : (before : ℕ) → gap_after before (e ∷ []) ≡ suc before
   pub none : (before : ℕ) → gapped_marks before (e ∷ []) ≡ []
+
+pub is_access : (access : Access) (found : ℕ) → IsAccess (event_of access found)
+is_access (Read object) found = record { one = refl; no_mark = refl; gap = λ before. refl; none = λ before. refl }
+is_access (Write object value) found = record { one = refl; no_mark = refl; gap = λ before. refl; none = λ before. refl }
+is_access (Update object change) found = record { one = refl; no_mark = refl; gap = λ before. refl; none = λ before. refl }
 
 -- one access more, one fewer left
 left_on : (j : List Event) (e : Event) → IsAccess e → (marks : List Gapped) (ended : Bool) (total left : ℕ) → IsLeft marks ended total (suc left) j → IsLeft marks ended total left (j ++ e ∷ [])
@@ -189,8 +196,8 @@ marks_both v u w before after = record {
 pub given_both : (f g h : Follower) → IsGivenSame f g → IsGivenSame g h → IsGivenSame f h
 given_both f g h a b = record { same = record { number = b.same.number ∙ a.same.number; room = b.same.room ∙ a.same.room; awaited = b.same.awaited ∙ a.same.awaited }; marks = b.marks ∙ a.marks; ended = b.ended ∙ a.ended; total = b.total ∙ a.total }
 
-pub makes_access : (access : Access) (found value : ℕ) (v w : FollowerView) (shows : Bool) → Goes v (event_of access found ∷ []) shows w → value ≡ found_in (event_of access found) → Makes access v value w
-makes_access access found value v w shows goes told = record { marks = []; found = found; grown = goes.journal; told = told; state = goes.state; seen = goes.seen }
+pub makes_access : (access : Access) (value : ℕ) (v w : FollowerView) (shows : Bool) → GoesBy access v value shows w → Makes access v value w
+makes_access access value v w shows by = record { marks = []; found = by.found; grown = by.goes.journal; told = by.told; state = by.goes.state; seen = by.goes.seen }
 
 -- marks, and then an access after more of them
 pub marks_first : (access : Access) (v u : FollowerView) (value : ℕ) (w : FollowerView) → MakesMarks v u → Makes access u value w → Makes access v value w

@@ -7,11 +7,10 @@ use Rattle.octet_model.specs.declared.event.Mark.{Mark}
 use Rattle.octet_model.specs.declared.log.Gapped.{Gapped}
 use Rattle.octet_model.specs.Journals.{access_count, mark_count, gap_after, gapped_marks}
 use Rattle.octet_model.specs.Machine.{Journals}
-use Rattle.octet_rule.specs.Changes.{changed_by}
 use Rattle.octet_follow.specs.declared.access.Access.{Access}
-use Rattle.octet_follow.specs.declared.access.Access.TheVariants.{Read, Write, Update}
 use Rattle.octet_follow.specs.declared.course.Course.{Course}
 use Rattle.octet_follow.specs.declared.follower.Follower.{Follower}
+use Rattle.octet_follow.specs.Accesses.{object_in, event_of, found_in}
 use Rattle.octet_follow.specs.declared.halt.Halt.{Halt}
 use Rattle.octet_follow.specs.declared.halt.Halt.TheVariants.{NeedsMarks, OverEnd, NoObject, EndsEarly, Amiss}
 use Rattle.octet_follow.specs.Halts.{HaltsMark}
@@ -89,19 +88,6 @@ pub record IsGivenSame (follower next : Follower) : Type 0 where
   pub marks : given next ≡ given follower
   pub ended : next.ended ≡ follower.ended
   pub total : next.total ≡ follower.total
-
--- the event of an access whose cell had this value
-abbrev pub event_of : Access → ℕ → Event
-event_of (Read object) found = event.Read object found
-event_of (Write object value) found = event.Write object value
-event_of (Update object change) found = event.Update object found (changed_by change found)
-
--- the value that an event found. Of a write it is the one that it wrote
-abbrev pub found_in : Event → ℕ
-found_in (event.Read object value) = value
-found_in (event.Write object value) = value
-found_in (event.Update object before after) = before
-found_in (event.Marked mark) = 0
 
 -- the follower has made marks alone
 pub record MakesMarks (v w : FollowerView) : Type 0 where
@@ -223,12 +209,6 @@ abbrev pub HaltsMarks : Halt → Follower → Type 0
 HaltsMarks NeedsMarks follower = IsOut follower × (follower.left ≡ 0)
 HaltsMarks Amiss follower = IsFull follower ⊎ HaltsAtMark Amiss follower
 HaltsMarks halt follower = HaltsAtMark halt follower
-
--- the object of an access
-abbrev pub object_in : Access → ℕ
-object_in (Read object) = object
-object_in (Write object value) = object
-object_in (Update object change) = object
 
 -- the reason why an access was not made
 abbrev pub Halts : Course → Access → Halt → Follower → Type 0

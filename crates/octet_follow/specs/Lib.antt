@@ -5,6 +5,7 @@ pub mod Views
 pub mod Rule
 pub mod Laws
 pub mod Seats
+pub mod Accesses
 pub mod Halts
 pub mod Calls
 pub mod Recordings

@@ -1,4 +1,7 @@
 //! An access that a thread is about to make.
+ghost use Rattle.std.specs.Prelude.{◌≡◌};
+ghost use Rattle.octet_follow.specs.Accesses.{object_in};
+
 use octet_rule::Change;
 
 /// An access that a thread is about to make.
@@ -10,4 +13,18 @@ pub enum Access {
     Write { object: u16, value: u64 },
     /// One read-modify-write of the object by the change.
     Update { object: u16, change: Change },
+}
+
+impl Access {
+    /// The object that it accesses.
+    #[inline(always)]
+    pub fn object(self) -> u16
+        ensures { result ≡ object_in self }
+    {
+        match self {
+            Access::Read { object }
+            | Access::Write { object, .. }
+            | Access::Update { object, .. } => object,
+        }
+    }
 }

@@ -1,6 +1,5 @@
 //! What a thread asks of its follower. No call takes memory, and none waits.
 ghost use Rattle.std.specs.Prelude.{◌≡◌, ◌≢◌, ◌<◌, ◌≤◌, ◌^◌, ◌+◌, length, false, if◌then◌else◌, IfOk, IfErr, OnOk};
-ghost use Rattle.octet_follow.specs.declared.access.Access.TheVariants.{Read, Write, Update};
 ghost use Rattle.octet_follow.specs.Calls.{view_of, IsFollowerOf, IsGivenSame, MakesMarks, Makes, IsComplete, IsDue, IsNextFor, CountsMark, HaltsMarks, Halts, IsNotEnded};
 ghost use Rattle.octet_follow.specs.Repeats.{IsRecordedSoFar};
 
@@ -8,7 +7,6 @@ use crate::access::Access;
 use crate::course::Course;
 use crate::follower::Follower;
 use crate::halt::Halt;
-use octet_rule::Change;
 
 // Counts a mark that was made, the first one in the buffer, and shown.
 fn count_mark(follower: &mut Follower)
@@ -94,98 +92,6 @@ impl Course {
         Ok(true)
     }
 
-    #[inline(always)]
-    fn read(&self, follower: &mut Follower, object: u16) -> Result<u64, Halt>
-        requires own { IsFollowerOf self.now follower.old }
-        requires access { follower.old.left ≢ 0 }
-        ensures own { IsFollowerOf self.now follower.new }
-        ensures given { IsGivenSame follower.old follower.new }
-        ensures made { IfOk result (λ value. Makes (Read object) (view_of follower.old) value (view_of follower.new)) }
-        ensures marks { IfErr result (λ _. MakesMarks (view_of follower.old) (view_of follower.new)) }
-        ensures halts { IfErr result (λ halt. Halts self.now (Read object) halt follower.new) }
-    {
-        if object >= self.words.objects {
-            return Err(Halt::NoObject);
-        }
-        if follower.events == u64::MAX {
-            return Err(Halt::Amiss);
-        }
-        follower.events += 1;
-        follower.left -= 1;
-        let shows = is_awaited(follower.events, follower.awaited);
-        follower.shown = shown_after(shows, follower.events, follower.shown);
-        let value = self.words.make_read(
-            &mut follower.seat,
-            follower.number,
-            follower.events,
-            shows,
-            object,
-        );
-        Ok(value)
-    }
-
-    #[inline(always)]
-    fn write(&self, follower: &mut Follower, object: u16, value: u64) -> Result<u64, Halt>
-        requires own { IsFollowerOf self.now follower.old }
-        requires access { follower.old.left ≢ 0 }
-        ensures own { IsFollowerOf self.now follower.new }
-        ensures given { IsGivenSame follower.old follower.new }
-        ensures made { IfOk result (λ told. Makes (Write object value) (view_of follower.old) told (view_of follower.new)) }
-        ensures marks { IfErr result (λ _. MakesMarks (view_of follower.old) (view_of follower.new)) }
-        ensures halts { IfErr result (λ halt. Halts self.now (Write object value) halt follower.new) }
-    {
-        if object >= self.words.objects {
-            return Err(Halt::NoObject);
-        }
-        if follower.events == u64::MAX {
-            return Err(Halt::Amiss);
-        }
-        follower.events += 1;
-        follower.left -= 1;
-        let shows = is_awaited(follower.events, follower.awaited);
-        follower.shown = shown_after(shows, follower.events, follower.shown);
-        self.words.make_write(
-            &mut follower.seat,
-            follower.number,
-            follower.events,
-            shows,
-            object,
-            value,
-        );
-        Ok(value)
-    }
-
-    #[inline(always)]
-    fn update(&self, follower: &mut Follower, object: u16, change: Change) -> Result<u64, Halt>
-        requires own { IsFollowerOf self.now follower.old }
-        requires access { follower.old.left ≢ 0 }
-        ensures own { IsFollowerOf self.now follower.new }
-        ensures given { IsGivenSame follower.old follower.new }
-        ensures made { IfOk result (λ value. Makes (Update object change) (view_of follower.old) value (view_of follower.new)) }
-        ensures marks { IfErr result (λ _. MakesMarks (view_of follower.old) (view_of follower.new)) }
-        ensures halts { IfErr result (λ halt. Halts self.now (Update object change) halt follower.new) }
-    {
-        if object >= self.words.objects {
-            return Err(Halt::NoObject);
-        }
-        if follower.events == u64::MAX {
-            return Err(Halt::Amiss);
-        }
-        follower.events += 1;
-        follower.left -= 1;
-        let shows = is_awaited(follower.events, follower.awaited);
-        follower.shown = shown_after(shows, follower.events, follower.shown);
-        let before = self.words.make_update(
-            &mut follower.seat,
-            follower.number,
-            follower.events,
-            shows,
-            object,
-            change,
-        );
-        Ok(before)
-    }
-
     // Makes an access, before which no mark stands.
     #[inline(always)]
     fn make_access(&self, follower: &mut Follower, access: Access) -> Result<u64, Halt>
@@ -197,11 +103,24 @@ impl Course {
         ensures marks { IfErr result (λ _. MakesMarks (view_of follower.old) (view_of follower.new)) }
         ensures halts { IfErr result (λ halt. Halts self.now access halt follower.new) }
     {
-        match access {
-            Access::Read { object } => self.read(follower, object),
-            Access::Write { object, value } => self.write(follower, object, value),
-            Access::Update { object, change } => self.update(follower, object, change),
+        if access.object() >= self.words.objects {
+            return Err(Halt::NoObject);
         }
+        if follower.events == u64::MAX {
+            return Err(Halt::Amiss);
+        }
+        follower.events += 1;
+        follower.left -= 1;
+        let shows = is_awaited(follower.events, follower.awaited);
+        follower.shown = shown_after(shows, follower.events, follower.shown);
+        let value = self.words.make(
+            &mut follower.seat,
+            follower.number,
+            follower.events,
+            shows,
+            access,
+        );
+        Ok(value)
     }
 
     // Makes the marks that are due, and then the access.
