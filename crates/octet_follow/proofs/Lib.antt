@@ -1,3 +1,4 @@
+pub mod lemmas
 mod steps
 mod seats
 mod Following
@@ -5,5 +6,4 @@ mod Starting
 mod Recordings
 mod Closing
 mod Faithful
-mod Histories
 mod Demands

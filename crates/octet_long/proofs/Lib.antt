@@ -1,3 +1,4 @@
 pub mod lemmas
 mod Programs
 mod Recorded
+mod Followed

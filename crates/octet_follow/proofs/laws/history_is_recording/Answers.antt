@@ -1,4 +1,4 @@
-use Rattle.octet_follow.proofs.Histories.{history_is_recording}
+use Rattle.octet_follow.proofs.lemmas.Histories.{history_is_recording}
 use Rattle.octet_follow.proofs.laws.history_is_recording.Goals as goal
 
 pub returns : goal.returns

@@ -3,7 +3,7 @@ use Rattle.octet_follow.specs.declared.follower.Follower.{Follower}
 use Rattle.octet_follow.specs.Calls.{starts_in, ClosesTo}
 use Rattle.octet_follow.proofs.Closing.{each_seat, closes_to, keeps, repeats}
 use Rattle.octet_follow.proofs.Faithful.{repeats_plan}
-use Rattle.octet_follow.proofs.Histories.{repeats_history}
+use Rattle.octet_follow.proofs.lemmas.Histories.{repeats_history}
 use Rattle.octet_follow.proofs.course.Course.close.Goals.{After-from_vec}
 use Rattle.octet_follow.proofs.course.Course.close.Goals as goal
 
