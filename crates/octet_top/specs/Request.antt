@@ -19,13 +19,15 @@ use Rattle.octet_top.specs.declared.request.Request.TheVariants.{Tidy, Show, OfP
 abbrev pub texts : List (String Global) → List (List ℕ)
 texts words = map (λ word. string_bytes word) words
 
--- a way to run a script, what a hunt looks for, and a request, with their texts as lists of bytes
+-- the program's ways to run a script, with their texts as lists of bytes
 abbrev pub Way : Type 0
 Way = way.Way (List ℕ)
 
+-- what a hunt looks for, with its texts as lists of bytes
 abbrev pub Quarry : Type 0
 Quarry = quarry.Quarry (List ℕ)
 
+-- the program's requests, with their texts as lists of bytes
 abbrev pub Request : Type 0
 Request = request.Request (List ℕ)
 
@@ -122,16 +124,18 @@ outputs_in (Some request) = outputs_of request
 abbrev pub name_in : Option (Bor (List ℕ)) → Option (List ℕ)
 name_in name = option_map (λ (shown : Bor (List ℕ)). shown.now) name
 
--- the way, the quarry and the request that the program holds, by the bytes of their texts
+-- the way of a run that the program holds, by the bytes of its texts
 abbrev pub shown_way : way.Way (Bor (List ℕ)) → Way
 shown_way AsTheyCome = AsTheyCome
 shown_way BehindLock = BehindLock
 shown_way (ByPicks picks) = ByPicks picks.now
 
+-- the quarry of a hunt that the program holds, by the bytes of its texts
 abbrev pub shown_quarry : quarry.Quarry (Bor (List ℕ)) → Quarry
 shown_quarry (OtherEnd name number) = OtherEnd name.now number
 shown_quarry AnyCycle = AnyCycle
 
+-- the request that the program holds, by the bytes of its texts
 abbrev pub shown : request.Request (Bor (List ℕ)) → Request
 shown (Tidy script) = Tidy script.now
 shown (Show log) = Show log.now

@@ -20,8 +20,8 @@ pub(crate) fn convert(alloc: Global, pair: &Pair, out: &str) -> Result<Reply, Re
     let script = pair.source.script.threads.len() as u32;
     let log = pair.loaded.log.threads.len() as u32;
     if script != log {
-        let line = does_not_fit(alloc, &ReplayFault::ThreadsDiffer { script, log })?;
-        return Err(Refused::Because(line));
+        let reply = does_not_fit(alloc, &ReplayFault::ThreadsDiffer { script, log })?;
+        return Err(Refused::Because(reply));
     }
     let digest = digest(pair.source.text.as_slice());
     let bytes = encode_v2(alloc, &pair.loaded.log, &digest)?;

@@ -4,7 +4,7 @@ ghost use Rattle.octet_model.specs.Orders.{journals_after, lowest_order};
 ghost use Rattle.octet_replay.specs.Judged.{HasCause, IsLawful};
 ghost use Rattle.octet_replay.specs.ReplayState.{plain_state, HasHalted};
 ghost use Rattle.octet_top.specs.declared.request.PairTask.TheVariants.{Profile};
-ghost use Rattle.octet_top.specs.Answer.{answer_of, IsAnswered};
+ghost use Rattle.octet_top.specs.Answer.{IsAnswered};
 ghost use Rattle.octet_top.specs.Profile.{class_of, class_count, counts, counts_text};
 ghost use Rattle.octet_top.specs.Commands.{PairReplays};
 

@@ -4,7 +4,7 @@ ghost use Rattle.octet_model.specs.Traces.{trace_of};
 ghost use Rattle.octet_replay.specs.Judged.{HasCause, IsLawful};
 ghost use Rattle.octet_slice.specs.FirstMatch.{IsFound};
 ghost use Rattle.octet_top.specs.declared.request.PairTask.TheVariants as task;
-ghost use Rattle.octet_top.specs.Answer.{answer_of, IsAnswered};
+ghost use Rattle.octet_top.specs.Answer.{IsAnswered};
 ghost use Rattle.octet_top.specs.Commands.{PairReplays};
 ghost use Rattle.octet_top.specs.Slices.{is_match, stop_text};
 

@@ -1,5 +1,5 @@
 //! Requests that need no runtime: from the files to a reply, before any of it is written or said.
-ghost use Rattle.std.specs.Prelude.{◌≡◌, Some};
+ghost use Rattle.std.specs.Prelude.{Some};
 ghost use Rattle.std.specs.Option.{option_map};
 ghost use Rattle.octet_top.specs.Request.{shown, if_alone, shown_quarry, alone_in, name_in};
 ghost use Rattle.octet_top.specs.declared.request.Request.TheVariants.{Tidy, Show, OfPair, Convert, Hunt};
