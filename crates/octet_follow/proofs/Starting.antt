@@ -54,6 +54,7 @@ module _ (course : Course) (room : ℕ) where
         unbegun = here.1;
         given_none = λ i. gapped_marks 0 (journal i) ++ none i;
         open_ = at.ended;
+        awaited = at.awaited;
         buffer = at.buffer;
       }
 

@@ -148,13 +148,15 @@ pub record IsComplete (follower : Follower) : Type 0 where
   pub marks : given follower ≡ gapped_marks 0 (journal_in follower)
   pub accesses : follower.total ≡ access_count (journal_in follower)
 
--- the follower of this number, which has made nothing and was given nothing, with room for so many marks
+-- the follower of this number, which has made nothing and was given nothing, and shows each access.
+-- It has room for so many marks
 pub record IsAtStart (course : Course) (room number : ℕ) (follower : Follower) : Type 0 where
   pub own : IsFollowerOf course follower
   pub numbered : (view_of follower).number ≡ number
   pub unbegun : (view_of follower).follower ≡ unbegun
   pub given_none : given follower ≡ []
   pub open_ : follower.ended ≡ false
+  pub awaited : follower.awaited ≡ 0
   pub buffer : room_of follower ≡ room
 
 -- each follower is at its start
@@ -174,6 +176,7 @@ pub record IsFollowerAt (room number : ℕ) (seat : Seat) (follower : Follower) 
   pub events : follower.events ≡ 0
   pub marked : follower.marked ≡ 0
   pub shown : follower.shown ≡ 0
+  pub awaited : follower.awaited ≡ 0
   pub next : follower.next ≡ 0
   pub marks : follower.marks.items ≡ []
   pub buffer : room_of follower ≡ room
