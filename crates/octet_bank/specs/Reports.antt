@@ -4,6 +4,11 @@ use Rattle.std.specs.Fmt.{decimal}
 use Rattle.std.specs.FinMap.{insert}
 use Rattle.octet_base.specs.Desk.{Contents}
 use Rattle.octet_model.specs.declared.outcome.Outcome.{Outcome}
+use Rattle.octet_model.specs.declared.log.Log.{Log}
+use Rattle.octet_model.specs.declared.script.Script.{Script}
+use Rattle.octet_model.specs.Orders.{IsFaithful}
+use Rattle.octet_script.specs.Spelling.{canonical_text}
+use Rattle.octet_model.specs.Texts.{log_bytes}
 use Rattle.octet_bank.specs.declared.teller.TheConstants.{ACCOUNT}
 
 -- a desk that tells its contents has this file besides those before, and has said no more
@@ -21,3 +26,14 @@ balance_line whose balance total = whose ++ (codes "balance " ++ (decimal balanc
 -- a desk that tells its contents has said this besides, and has the same files
 abbrev pub Tells : List ℕ → Option Contents → Option Contents → Type 0
 Tells line before after = IfSome before (λ b. IsSomeAnd after (λ a. (a.files ≡ b.files) × (a.said ≡ b.said ++ line)))
+
+-- the tellers have paid twice: the files are the script and the log of a faithful recording, and the balance that it left is
+-- said of both runs
+pub record Serves (before after : Contents) : Type 0 where
+  pub script : Script
+  pub log : Log
+  pub outcome : Outcome
+  pub total : ℕ
+  pub faithful : IsFaithful script log.threads outcome
+  pub files : after.files ≡ insert (insert before.files (codes "bank.octet") (canonical_text script)) (codes "bank.log") (log_bytes log.threads)
+  pub said : after.said ≡ (before.said ++ balance_line (codes "") (balance_of outcome) total) ++ balance_line (codes "again: ") (balance_of outcome) total

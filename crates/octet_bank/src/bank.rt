@@ -1,10 +1,11 @@
 //! Two tellers and an account, recorded and run again.
-ghost use Rattle.std.specs.Prelude.{◌≡◌, None, length, IfOk};
+ghost use Rattle.std.specs.Prelude.{◌≡◌, None, length, IfOk, OnOk, IfSome, IsSomeAnd};
 ghost use Rattle.octet_model.specs.Orders.{IsFaithful};
 ghost use Rattle.octet_model.specs.declared.outcome.Outcome.{Outcome};
 ghost use Rattle.octet_parallel.specs.Calls.{script_in, log_in, players_in};
 ghost use Rattle.octet_recorder.specs.Tracks.{RestsAs};
 ghost use Rattle.octet_rerun.specs.Reruns.{IsAtStart, IsAtEnd};
+ghost use Rattle.octet_bank.specs.Reports.{Serves};
 ghost use Rattle.octet_bank.specs.Tellers.{IsOfBank};
 
 use crate::beside::{pay_both, pay_both_again};
@@ -158,6 +159,7 @@ pub(crate) fn serve<R: Threads + Wait + Sync, D: Desk>(
     desk: &mut D,
 ) -> Result<(), Fault>
     requires { (D.state desk.old).begun ≡ None }
+    ensures { OnOk result (IfSome (D.state desk.old).contents (λ before. IsSomeAnd (D.state desk.new).contents (Serves before))) }
 {
     let payments = payments_of(words).ok_or(Fault::Words)?;
     let recording = recorded(rt, alloc, payments)?;
