@@ -216,7 +216,6 @@ def blocks(page, language, heading=None):
 # Of which file a page, or what stands below one heading of it, prints all but the first line, in order. Other pages print parts
 # of files.
 PRINTED = [
-    ("HEAP.md", "The code", "octet_tests_run/src/tool_tests.rt"),
     ("REPLAY.md", None, "octet_tests_replay/src/atomicity_tests.rt"),
     ("THREADS.md", "A loop of your own", "octet_tests_run/src/loop_tests.rt"),
 ]
