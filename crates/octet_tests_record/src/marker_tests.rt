@@ -43,7 +43,7 @@ fn close_both(
     let mut markers = List::new(alloc);
     markers.push(first)?;
     markers.push(second)?;
-    heap.close_markers(alloc, markers)
+    octet_long::close(heap, alloc, markers)
 }
 
 fn join(from: u8, upto: u64) -> Gapped {
