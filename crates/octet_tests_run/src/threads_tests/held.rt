@@ -4,14 +4,14 @@ use std::sync::Wait;
 use std::sync::atomic::{AtomicBool, Ordering};
 use std::thread::{Threads, yield_now};
 
-/// How often thread 0 looks whether thread 1 has come, before it gives up.
+/// How often thread 1 looks whether thread 0 has come, before it gives up.
 const MOST_LOOKS: u32 = 10_000_000;
 
-/// How often thread 1 looks whether thread 0 went on, while it is held.
+/// How often thread 0 looks whether thread 1 went on, while it is held.
 const LOOKS_WHILE_HELD: u32 = 20_000;
 
-/// Thread 0 waits before its first access until thread 1 has come to its second one, and thread 1 is
-/// held there for a while. Notes whether thread 0 has come to its second access meanwhile.
+/// Thread 1 waits before its first access until thread 0 has come to its second one, and thread 0 is
+/// held there for a while. Notes whether thread 1 has come to its second access meanwhile.
 #[derive(Drop)]
 pub(super) struct Held {
     has_come: AtomicBool,
@@ -28,7 +28,7 @@ impl Held {
         }
     }
 
-    /// Whether thread 1 came to its second access, and whether thread 0 made its first one while that one
+    /// Whether thread 0 came to its second access, and whether thread 1 made its first one while that one
     /// was held.
     pub(super) fn seen(&self) -> (bool, bool) {
         (
@@ -51,17 +51,17 @@ fn wait_for(flag: &AtomicBool, looks: u32) {
 impl Gate for Held {
     fn pass<R: Threads + Wait + Sync>(&self, _rt: &R, thread: u8, access: u32) {
         match (thread, access) {
-            (0, 0) => wait_for(&self.has_come, MOST_LOOKS),
+            (0, 0) => {}
             (0, _) => {
-                if !self.is_let_go.load(Ordering::SeqCst) {
-                    self.went_on.store(true, Ordering::SeqCst);
-                }
-            }
-            (_, 0) => {}
-            (_, _) => {
                 self.has_come.store(true, Ordering::SeqCst);
                 wait_for(&self.went_on, LOOKS_WHILE_HELD);
                 self.is_let_go.store(true, Ordering::SeqCst);
+            }
+            (_, 0) => wait_for(&self.has_come, MOST_LOOKS),
+            (_, _) => {
+                if !self.is_let_go.load(Ordering::SeqCst) {
+                    self.went_on.store(true, Ordering::SeqCst);
+                }
             }
         }
     }

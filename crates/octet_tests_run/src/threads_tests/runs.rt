@@ -90,7 +90,7 @@ fn each_access_passes_the_gate_once(rt: HostRuntime) -> Result<(), Fail> {
 }
 
 /// Under the lock a worker takes turns of a thread for which its own one waits, but never past the gate
-/// of that one: so thread 0 does not go on as long as thread 1 is held.
+/// of that one: so thread 1 does not go on as long as thread 0 is held.
 #[test]
 fn no_worker_takes_another_thread_past_its_gate(rt: HostRuntime) -> Result<(), Fail> {
     let alloc = rt.alloc();

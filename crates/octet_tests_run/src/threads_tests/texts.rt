@@ -7,9 +7,9 @@ pub(super) const WRITES_IN_CONTENTION: &[u8] =
 /// Thread 1 reads what nobody has touched.
 pub(super) const READS_UNTOUCHED: &[u8] = b"object x 0\nobject y 3\nthread\nthread\nread r0 y\n";
 
-/// Thread 1 writes x, which thread 0 reads, and then once more.
+/// Thread 0 writes x, which thread 1 reads, and then once more.
 pub(super) const READS_WRITTEN: &[u8] =
-    b"object x 0\nthread\nread r0 x\nread r0 x\nthread\nset r0 5\nwrite x r0\nwrite x r0\n";
+    b"object x 0\nthread\nset r0 5\nwrite x r0\nwrite x r0\nthread\nread r0 x\nread r0 x\n";
 
 /// Both threads add to x, and thread 0 takes y past the end of a u64.
 pub(super) const ADDS_TO_BOTH: &[u8] =
