@@ -10,6 +10,7 @@ use Rattle.octet_model.specs.Orders.{IsFaithful}
 use Rattle.octet_script.specs.Spelling.{canonical_text}
 use Rattle.octet_model.specs.Texts.{log_bytes}
 use Rattle.octet_bank.specs.declared.teller.TheConstants.{ACCOUNT}
+use Rattle.octet_bank.specs.Tellers.{IsLogOfPayments}
 
 -- a desk that tells its contents has this file besides those before, and has said no more
 abbrev pub Saves : List ℕ → List ℕ → Option Contents → Option Contents → Type 0
@@ -27,13 +28,16 @@ balance_line whose balance total = whose ++ (codes "balance " ++ (decimal balanc
 abbrev pub Tells : List ℕ → Option Contents → Option Contents → Type 0
 Tells line before after = IfSome before (λ b. IsSomeAnd after (λ a. (a.files ≡ b.files) × (a.said ≡ b.said ++ line)))
 
--- the tellers have paid twice: the files are the script and the log of a faithful recording, and the balance that it left is
+-- both tellers have paid, and paid again: the files are the script and the log of a faithful recording, and the balance that it left is
 -- said of both runs
 pub record Serves (before after : Contents) : Type 0 where
   pub script : Script
   pub log : Log
   pub outcome : Outcome
+  pub first : ℕ
+  pub second : ℕ
   pub total : ℕ
+  pub paid : IsLogOfPayments first second log.threads
   pub faithful : IsFaithful script log.threads outcome
   pub files : after.files ≡ insert (insert before.files (codes "bank.octet") (canonical_text script)) (codes "bank.log") (log_bytes log.threads)
   pub said : after.said ≡ (before.said ++ balance_line (codes "") (balance_of outcome) total) ++ balance_line (codes "again: ") (balance_of outcome) total

@@ -1,9 +1,11 @@
 -- What tellers do.
-use Rattle.std.specs.Prelude.{◌≡◌, ℕ, ◌*◌, ◌≤◌, List, ◌∷◌, ◌++◌, map, length, Option, None}
+use Rattle.std.specs.Prelude.{◌≡◌, ℕ, ◌*◌, ◌≤◌, List, [], ◌∷◌, ◌++◌, map, length, Option, None}
 use Rattle.octet_model.specs.declared.event.Event.{Event}
 use Rattle.octet_model.specs.declared.event.Event.TheVariants.{Read, Write, Marked}
 use Rattle.octet_model.specs.declared.event.Mark.{Mark}
+use Rattle.octet_model.specs.declared.log.ThreadLog.{ThreadLog}
 use Rattle.octet_model.specs.declared.script.Script.{Script}
+use Rattle.octet_model.specs.Journals.{log_of}
 use Rattle.octet_model.specs.Thread.{added}
 use Rattle.octet_recorder.specs.declared.access.Access.{Access}
 use Rattle.octet_recorder.specs.declared.track.TheConstants.{LINES_OF_ACCESS}
@@ -26,6 +28,14 @@ pub record Pays (amount : ℕ) (before after : List Event) : Type 0 where
   pub between : List Mark
   pub last : List Mark
   pub grown : after ≡ before ++ (marked first ++ Read ACCOUNT balance ∷ (marked between ++ Write ACCOUNT (added amount balance) ∷ marked last))
+
+-- a log is that of two tellers who have paid these amounts, and done nothing else
+pub record IsLogOfPayments (first second : ℕ) (log : List ThreadLog) : Type 0 where
+  pub first_journal : List Event
+  pub second_journal : List Event
+  pub first_paid : Pays first [] first_journal
+  pub second_paid : Pays second [] second_journal
+  pub is : log ≡ log_of (first_journal ∷ second_journal ∷ [])
 
 -- a thread has left its recording, for a reason of its session
 pub record HasLeft {T : Type 0} (IsReason : Option Access → T → T → NotMade → Type 0) (after : T) (why : NotMade) : Type 0 where

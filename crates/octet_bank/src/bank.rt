@@ -1,12 +1,14 @@
 //! Two tellers and an account, recorded and run again.
-ghost use Rattle.std.specs.Prelude.{◌≡◌, None, length, IfOk, OnOk, IfSome, IsSomeAnd};
+ghost use Rattle.std.specs.Prelude.{◌≡◌, [], ◌∷◌, None, length, IfOk, OnOk, IfSome, IsSomeAnd};
+ghost use Rattle.octet_heap.specs.Workers.{seat_of};
+ghost use Rattle.octet_model.specs.Journals.{log_of};
 ghost use Rattle.octet_model.specs.Orders.{IsFaithful};
 ghost use Rattle.octet_model.specs.declared.outcome.Outcome.{Outcome};
 ghost use Rattle.octet_parallel.specs.Calls.{script_in, log_in, players_in};
 ghost use Rattle.octet_recorder.specs.Tracks.{RestsAs};
 ghost use Rattle.octet_rerun.specs.Reruns.{IsAtStart, IsAtEnd};
 ghost use Rattle.octet_bank.specs.Reports.{Serves};
-ghost use Rattle.octet_bank.specs.Tellers.{IsOfBank};
+ghost use Rattle.octet_bank.specs.Tellers.{IsOfBank, IsLogOfPayments};
 
 use crate::beside::{pay_both, pay_both_again};
 use crate::fault::Fault;
@@ -58,6 +60,7 @@ fn closed(
     ensures faithful { IfOk result (λ r. IsFaithful r.script r.log.threads r.outcome) }
     ensures bank { IfOk result (λ r. IsOfBank r.script) }
     ensures tellers { IfOk result (λ r. length r.log.threads ≡ 2) }
+    ensures log { IfOk result (λ r. r.log.threads ≡ log_of ((seat_of first.worker).journal ∷ (seat_of second.worker).journal ∷ [])) }
 {
     let mut tracks = List::new(alloc);
     tracks.push(first)?;
@@ -74,6 +77,7 @@ fn recorded<R: Threads + Wait + Sync>(
     ensures faithful { IfOk result (λ r. IsFaithful r.script r.log.threads r.outcome) }
     ensures bank { IfOk result (λ r. IsOfBank r.script) }
     ensures tellers { IfOk result (λ r. length r.log.threads ≡ 2) }
+    ensures paid { IfOk result (λ r. IsLogOfPayments payments.first payments.second r.log.threads) }
 {
     let (recorder, tracks) = Recorder::new(alloc, bank(alloc)?)?;
     let mut tracks = tracks.into_vec();

@@ -46,16 +46,20 @@ pub(crate) fn pay_both<R: Threads + Wait + Sync>(
     requires second { IsNew recorder.now 1 second.old }
     ensures first { RestsAs recorder.now 0 first.new }
     ensures second { RestsAs recorder.now 1 second.new }
+    ensures first_paid { Pays payments.first [] (seat_of first.new.worker).journal }
+    ensures second_paid { Pays payments.second [] (seat_of second.new.worker).journal }
 {
     join_mut(
         rt,
         &mut || -> ()
             requires { IsSync R.row × IsOfBank recorder.now.opening × IsNew recorder.now 0 first.now }
-            ensures { RestsAs recorder.entry.now 0 first.exit.now }
+            ensures rests { RestsAs recorder.entry.now 0 first.exit.now }
+            ensures paid { Pays payments.first [] (seat_of first.exit.now.worker).journal }
         { pay_recorded(rt, recorder, first, payments.first) },
         &mut || -> ()
             requires { IsSync R.row × IsOfBank recorder.now.opening × IsNew recorder.now 1 second.now }
-            ensures { RestsAs recorder.entry.now 1 second.exit.now }
+            ensures rests { RestsAs recorder.entry.now 1 second.exit.now }
+            ensures paid { Pays payments.second [] (seat_of second.exit.now.worker).journal }
         { pay_recorded(rt, recorder, second, payments.second) },
     );
 }
