@@ -1,4 +1,4 @@
-//! The tool of `docs/HEAP.md`, to the letter.
+//! A tool on the heap alone, over the clauses of models: what each thread made after which events of the other.
 ghost use Rattle.std.specs.Prelude.{◌≡◌, ◌<◌, ◌+◌, [], length, IfOk};
 ghost use Rattle.std.specs.Thread.{IsSync};
 ghost use Rattle.octet_heap.specs.Builders.{accesses_of};
