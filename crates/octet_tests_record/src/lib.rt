@@ -6,6 +6,12 @@ mod beside;
 #[cfg(test)]
 mod divergence_tests;
 #[cfg(test)]
+mod long_again;
+#[cfg(test)]
+mod long_races;
+#[cfg(test)]
+mod long_tests;
+#[cfg(test)]
 mod marker_tests;
 #[cfg(test)]
 mod race_tests;

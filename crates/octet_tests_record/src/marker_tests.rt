@@ -11,10 +11,10 @@ use std::process::Abort;
 use std::test::*;
 
 /// As few marks as serve.
-const ROOM: usize = 15;
+pub(crate) const ROOM: usize = 15;
 
 /// The heap of two markers and two objects.
-fn two_markers(alloc: Global) -> Result<(Heap, Marker, Marker), OutOfMemory>
+pub(crate) fn two_markers(alloc: Global) -> Result<(Heap, Marker, Marker), OutOfMemory>
     ensures heap { IfOk result (λ new. (threads_of new.0.words ≡ 2) × (objects_of new.0.words ≡ 2)) }
     ensures first { IfOk result (λ new. IsNew new.0 ROOM 0 new.1) }
     ensures second { IfOk result (λ new. IsNew new.0 ROOM 1 new.2) }
@@ -30,7 +30,7 @@ fn two_markers(alloc: Global) -> Result<(Heap, Marker, Marker), OutOfMemory>
 }
 
 /// Ends the run of both.
-fn close_both(
+pub(crate) fn close_both(
     heap: Heap,
     alloc: Global,
     first: Marker,

@@ -12,7 +12,7 @@ const ROUNDS: u64 = 14;
 pub(crate) const OBJECTS: u16 = 3;
 
 /// A number that is far from the one for the next value, or the next round.
-fn mixed(told: u64, round: u64) -> u64 {
+pub(crate) fn mixed(told: u64, round: u64) -> u64 {
     let near = told.wrapping_add(round).wrapping_mul(0x9E37_79B9_7F4A_7C15);
     (near ^ (near >> 31)).wrapping_mul(0xBF58_476D_1CE4_E5B9) >> 3
 }
