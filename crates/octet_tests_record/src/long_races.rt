@@ -11,7 +11,7 @@ use octet_state::Mode;
 use std::alloc::Global;
 use std::sync::Wait;
 use std::test::Fail;
-use std::thread::{Threads, join_mut};
+use std::thread::{Threads, join_mut, yield_now};
 
 /// How many accesses each thread makes.
 pub(crate) const ROUNDS: u64 = 2_000;
@@ -70,6 +70,7 @@ fn made<R: Wait>(rt: &R, heap: &Heap, marker: &mut Marker, number: u64) -> Optio
         if let Poll::Ready { value } = marker.poll(heap) {
             return Some(value);
         }
+        yield_now();
     }
     unreachable!()
 }
