@@ -1,5 +1,5 @@
 -- What is left of a file that is begun, filled and finished.
-use Rattle.std.proofs.Common.{◌≡◌, ◌∙◌, ◌++◌, ℕ, List, [], length, Option, None, Some, Result, Ok, Err, OnOk, IfSome, IsSomeAnd, codes, Bool, true, false, cond, refl, sym, subst, ap, nat_cmp}
+use Rattle.std.proofs.Common.{◌≡◌, ◌∙◌, ◌+◌, ◌++◌, ℕ, List, [], length, Option, None, Some, Result, Ok, Err, OnOk, IfSome, IsSomeAnd, codes, Bool, true, false, cond, refl, sym, subst, ap, nat_cmp}
 use Rattle.std.specs.Option.{unwrap_or}
 use Rattle.std.specs.Ordering.{eq_by_cmp}
 use Rattle.std.specs.Cmp.{eq_by_cmp_equiv}
@@ -14,6 +14,7 @@ use Rattle.octet_model.specs.Orders.{IsFaithful}
 use Rattle.octet_model.specs.Texts.{log_bytes}
 use Rattle.octet_script.specs.Spelling.{canonical_text}
 use Rattle.octet_bank.specs.declared.fault.Fault.{Fault}
+use Rattle.octet_bank.specs.declared.bank.TheConstants.{START}
 use Rattle.octet_bank.specs.Tellers.{IsLogOfPayments}
 use Rattle.octet_bank.specs.Reports.{Saves, Tells, Serves, balance_of, balance_line}
 
@@ -53,21 +54,22 @@ on_ok : {A E : Type 0} (result : Result A E) (P Q : Type 0) → (P → Q) → On
 on_ok (Ok x) P Q then p = then p
 on_ok (Err e) P Q then p = tt
 
-told_both : (a b c d e : Option Contents) (script : Script) (log : Log) (outcome again : Outcome) (total first second : ℕ) → IsLogOfPayments first second log.threads → IsFaithful script log.threads outcome → again ≡ outcome → Saves (codes "bank.octet") (canonical_text script) a b
+told_both : (a b c d e : Option Contents) (script : Script) (log : Log) (outcome again : Outcome) (total first second : ℕ) → total ≡ START + first + second → IsLogOfPayments first second log.threads → IsFaithful script log.threads outcome → again ≡ outcome → Saves (codes "bank.octet") (canonical_text script) a b
     → Saves (codes "bank.log") (log_bytes log.threads) b c → Tells (balance_line (codes "") (balance_of outcome) total) c d → Tells (balance_line (codes "again: ") (balance_of again) total) d e
     → IfSome a (λ before. IsSomeAnd e (Serves before))
-told_both None b c d e script log outcome again total first second paid faithful is ab bc cd de = tt
-told_both (Some x) None c d e script log outcome again total first second paid faithful is ab bc cd de = absurd ab
-told_both (Some x) (Some y) None d e script log outcome again total first second paid faithful is ab bc cd de = absurd bc
-told_both (Some x) (Some y) (Some z) None e script log outcome again total first second paid faithful is ab bc cd de = absurd cd
-told_both (Some x) (Some y) (Some z) (Some u) None script log outcome again total first second paid faithful is ab bc cd de = absurd de
-told_both (Some x) (Some y) (Some z) (Some u) (Some w) script log outcome again total first second paid faithful is ab bc cd de = record {
+told_both None b c d e script log outcome again total first second sum paid faithful is ab bc cd de = tt
+told_both (Some x) None c d e script log outcome again total first second sum paid faithful is ab bc cd de = absurd ab
+told_both (Some x) (Some y) None d e script log outcome again total first second sum paid faithful is ab bc cd de = absurd bc
+told_both (Some x) (Some y) (Some z) None e script log outcome again total first second sum paid faithful is ab bc cd de = absurd cd
+told_both (Some x) (Some y) (Some z) (Some u) None script log outcome again total first second sum paid faithful is ab bc cd de = absurd de
+told_both (Some x) (Some y) (Some z) (Some u) (Some w) script log outcome again total first second sum paid faithful is ab bc cd de = record {
   script = script;
   log = log;
   outcome = outcome;
   first = first;
   second = second;
   total = total;
+  sum = sum;
   paid = paid;
   faithful = faithful;
   files = de.0 ∙ (cd.0 ∙ (bc.0 ∙ ap (λ (fs : Files). insert fs (codes "bank.log") (log_bytes log.threads)) ab.0));
@@ -79,7 +81,7 @@ told_both (Some x) (Some y) (Some z) (Some u) (Some w) script log outcome again 
 }
 
 -- and where the last line is said, all is done
-pub served : (result : Result (Unit {0}) Fault) (a b c d e : Option Contents) (script : Script) (log : Log) (outcome again : Outcome) (total first second : ℕ) → IsLogOfPayments first second log.threads → IsFaithful script log.threads outcome → again ≡ outcome
+pub served : (result : Result (Unit {0}) Fault) (a b c d e : Option Contents) (script : Script) (log : Log) (outcome again : Outcome) (total first second : ℕ) → total ≡ START + first + second → IsLogOfPayments first second log.threads → IsFaithful script log.threads outcome → again ≡ outcome
     → Saves (codes "bank.octet") (canonical_text script) a b → Saves (codes "bank.log") (log_bytes log.threads) b c → Tells (balance_line (codes "") (balance_of outcome) total) c d
     → OnOk result (Tells (balance_line (codes "again: ") (balance_of again) total) d e) → OnOk result (IfSome a (λ before. IsSomeAnd e (Serves before)))
-served result a b c d e script log outcome again total first second paid faithful is ab bc cd de = on_ok result _ _ (told_both a b c d e script log outcome again total first second paid faithful is ab bc cd) de
+served result a b c d e script log outcome again total first second sum paid faithful is ab bc cd de = on_ok result _ _ (told_both a b c d e script log outcome again total first second sum paid faithful is ab bc cd) de

@@ -1,5 +1,5 @@
 -- What the program leaves.
-use Rattle.std.specs.Prelude.{◌≡◌, ℕ, List, ◌++◌, Option, IsSomeAnd, IfSome, codes, get_or}
+use Rattle.std.specs.Prelude.{◌≡◌, ℕ, ◌+◌, List, ◌++◌, Option, IsSomeAnd, IfSome, codes, get_or}
 use Rattle.std.specs.Fmt.{decimal}
 use Rattle.std.specs.FinMap.{insert}
 use Rattle.octet_base.specs.Desk.{Contents}
@@ -9,6 +9,7 @@ use Rattle.octet_model.specs.declared.script.Script.{Script}
 use Rattle.octet_model.specs.Orders.{IsFaithful}
 use Rattle.octet_script.specs.Spelling.{canonical_text}
 use Rattle.octet_model.specs.Texts.{log_bytes}
+use Rattle.octet_bank.specs.declared.bank.TheConstants.{START}
 use Rattle.octet_bank.specs.declared.teller.TheConstants.{ACCOUNT}
 use Rattle.octet_bank.specs.Tellers.{IsLogOfPayments}
 
@@ -29,7 +30,7 @@ abbrev pub Tells : List ℕ → Option Contents → Option Contents → Type 0
 Tells line before after = IfSome before (λ b. IsSomeAnd after (λ a. (a.files ≡ b.files) × (a.said ≡ b.said ++ line)))
 
 -- both tellers have paid, and paid again: the files are the script and the log of a faithful recording, and the balance that it left is
--- said of both runs
+-- said of both runs, beside the one at which no payment is lost
 pub record Serves (before after : Contents) : Type 0 where
   pub script : Script
   pub log : Log
@@ -37,6 +38,7 @@ pub record Serves (before after : Contents) : Type 0 where
   pub first : ℕ
   pub second : ℕ
   pub total : ℕ
+  pub sum : total ≡ START + first + second
   pub paid : IsLogOfPayments first second log.threads
   pub faithful : IsFaithful script log.threads outcome
   pub files : after.files ≡ insert (insert before.files (codes "bank.octet") (canonical_text script)) (codes "bank.log") (log_bytes log.threads)
