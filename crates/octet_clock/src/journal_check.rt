@@ -1,8 +1,10 @@
 //! The check of journals alone, along their lowest play.
-ghost use Rattle.std.specs.Prelude.{◌≡◌, ◌<◌, ◌↔◌, suc, [], length, IfOk, OnOk, IsTrue};
-ghost use Rattle.octet_model.specs.HappensBefore.{event_at, IsOrdered};
+ghost use Rattle.std.specs.Prelude.{◌≡◌, ◌<◌, ◌↔◌, suc, true, Some, [], length, slice_get, slice_index, IfOk, OnOk, IsTrue};
+ghost use Rattle.octet_model.specs.HappensBefore.{event_at, is_access, IsOrdered};
 ghost use Rattle.octet_model.specs.Plays.{next_in, lowest_play};
-ghost use Rattle.octet_replay.specs.Needs.{IsLowestReady};
+ghost use Rattle.octet_replay.specs.declared.need.Need.TheVariants.{Free};
+ghost use Rattle.octet_replay.specs.Needs.{after_step, is_ready, IsLowestReady, NamesThread};
+ghost use Rattle.octet_replay.specs.Replayed.{is_draw};
 ghost use Rattle.octet_replay.specs.Threads.{need_of};
 ghost use Rattle.octet_clock.specs.declared.verdict.Verdict.TheVariants.{Ordered};
 ghost use Rattle.octet_clock.specs.Following.{counted};
@@ -79,8 +81,24 @@ impl JournalCheck {
         };
         self.checker.take_in(thread as usize, event)?;
         let next = need_of(event_at(journals, thread as usize, place + 1));
-        self.waits.step(thread, is_draw(event), next);
+        count_event(&mut self.waits, thread, event, next);
         Ok(())
+    }
+}
+
+// Counts an event of a thread and gives the thread its next need. Mostly it has none before and after.
+#[inline(always)]
+fn count_event(waits: &mut Waits, thread: u8, event: Event, next: Need)
+    requires met { is_ready waits.old thread ≡ true }
+    requires names { NamesThread (length waits.old.needs) next }
+    requires events { slice_index waits.old.events thread < u64.MAX }
+    requires draws { is_draw event ≡ true → waits.old.draws < u64.MAX }
+    requires free { is_access event ≡ true → slice_get waits.old.needs thread ≡ Some Free }
+    ensures { waits.new ≡ after_step waits.old thread (is_draw event) next }
+{
+    match next {
+        Need::Free if event.is_access() => waits.count(thread, 1),
+        _ => waits.step(thread, is_draw(event), next),
     }
 }
 

@@ -60,6 +60,12 @@ impl Bell {
 pub(crate) struct Crew {
     begun: AtomicU64,
     called_off: AtomicU64,
+    /// How many workers sleep, or have come to an end.
+    idle: AtomicU64,
+    /// How many events workers have waited for while one player alone made events.
+    lone: AtomicU64,
+    /// How many players made all events of the round that is played on one thread.
+    full_rounds: AtomicU64,
     bells: Vec<CachePadded<Bell>>,
 }
 
@@ -73,6 +79,9 @@ impl Crew {
         Ok(Crew {
             begun: AtomicU64::new(0),
             called_off: AtomicU64::new(0),
+            idle: AtomicU64::new(0),
+            lone: AtomicU64::new(0),
+            full_rounds: AtomicU64::new(0),
             bells,
         })
     }
@@ -81,6 +90,8 @@ impl Crew {
     pub(crate) fn gather(&self) {
         self.begun.store(0, Ordering::SeqCst);
         self.called_off.store(0, Ordering::SeqCst);
+        self.idle.store(0, Ordering::SeqCst);
+        self.lone.store(0, Ordering::SeqCst);
     }
 
     /// A worker begins.
@@ -92,6 +103,34 @@ impl Crew {
     /// have come to an end.
     pub(crate) fn is_complete(&self) -> bool {
         self.begun.load(Ordering::SeqCst) >= self.bells.len() as u64
+    }
+
+    /// A worker has come to its end.
+    pub(crate) fn leave(&self) {
+        self.idle.fetch_add(1, Ordering::SeqCst);
+    }
+
+    /// Whether at most one other worker still plays.
+    pub(crate) fn has_one_player(&self) -> bool {
+        self.idle.load(Ordering::SeqCst).saturating_add(2) >= self.bells.len() as u64
+    }
+
+    /// Notes that a worker waits for so many events of the only player that makes any. Tells for how
+    /// many such events workers have waited.
+    pub(crate) fn note_lone(&self, events: u64) -> u64 {
+        self.lone
+            .fetch_add(events, Ordering::SeqCst)
+            .saturating_add(events)
+    }
+
+    /// A player made all events of a round.
+    pub(crate) fn note_full_round(&self) {
+        self.full_rounds.fetch_add(1, Ordering::SeqCst);
+    }
+
+    /// Whether several players made all events of a round, since this was asked last.
+    pub(crate) fn is_busy(&self) -> bool {
+        self.full_rounds.swap(0, Ordering::SeqCst) > 1
     }
 
     // Each worker stops where it next has to wait.
@@ -144,7 +183,9 @@ impl Crew {
     pub(crate) fn sleep<R: Wait>(&self, rt: &R, player: u8, rung: u32) {
         if let Some(bell) = self.bells.get(player as usize) {
             let time = Duration::from_micros(LONGEST_SLEEP);
+            self.idle.fetch_add(1, Ordering::SeqCst);
             bell.rung.park_timeout(rt, rung, time);
+            self.idle.fetch_sub(1, Ordering::SeqCst);
         }
     }
 }

@@ -25,6 +25,7 @@ pub struct Player {
 }
 
 /// Takes an event that was made into the journal.
+#[inline(always)]
 pub(crate) fn note(replay: &mut ThreadReplay, journal: &mut Vec<Event>, event: Event)
     requires stands { StandsFor event replay.old }
     requires room { HasRoomFor event replay.old }

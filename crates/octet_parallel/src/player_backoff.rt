@@ -1,5 +1,6 @@
 //! How a worker waits for another player, and when threads are of no use.
 use crate::crew::Crew;
+use octet_model::Log;
 use std::hint;
 use std::sync::Wait;
 
@@ -11,17 +12,50 @@ const LOOKS_BEFORE_SLEEP: u32 = 40;
 const MOST_SLEEPS: u32 = 100;
 
 /// After so many waits it is judged whether threads are of use: they are where a worker made at
-/// least so many events for each wait.
+/// least so many events for each wait. A wait may take as long as that many events.
 const WAITS_BEFORE_JUDGED: u32 = 32;
 
-const EVENTS_FOR_A_WAIT: usize = 64;
+const EVENTS_FOR_A_WAIT: usize = 512;
+
+/// Threads are of no use either where workers slept while one player alone made events, until it had
+/// made as many as one of them, and so many more.
+const LONE_EVENTS: u64 = 1 << 14;
+
+/// A log of so many marks, with fewer events for each of them than this, begins on one thread: most of
+/// its players would wait.
+const MANY_MARKS: u64 = 1024;
+
+const EVENTS_FOR_A_MARK: u64 = 256;
+
+/// How many rounds of such a log are played on one thread before the players have threads of their own.
+const ROUNDS_OF_MANY_MARKS: u32 = 1 << 16;
+
+/// How many rounds of a log are played on one thread before the players have threads of their own.
+/// None where they have to pass a gate, which some of them may wait at.
+pub(crate) fn rounds_at_first(log: &Log, is_gated: bool) -> u32 {
+    if is_gated {
+        return 0;
+    }
+    let mut events: u64 = 0;
+    let mut marks: u64 = 0;
+    for thread in log.threads.as_slice() {
+        let own = thread.marks.len() as u64;
+        marks = marks.saturating_add(own);
+        events = events.saturating_add(own.saturating_add(u64::from(thread.accesses)));
+    }
+    if marks < MANY_MARKS || marks.saturating_mul(EVENTS_FOR_A_MARK) < events {
+        0
+    } else {
+        ROUNDS_OF_MANY_MARKS
+    }
+}
 
 /// How long a worker has waited for its next event, and how much its last events had to.
 ///
 /// A player that runs is likely to make soon what is needed: so at first the worker looks again and
 /// again. One that has no processor gets none sooner by looks: so then it sleeps. Until it is woken
-/// and runs, many events could be made on one thread: so where nearly every event waits, all players
-/// are played on one thread for some rounds, unless they have to pass a gate.
+/// and runs, many events could be made on one thread: so where players wait a lot, or one plays while
+/// all others wait, they are played on one thread for some rounds, unless they have to pass a gate.
 #[derive(Drop)]
 pub(crate) struct PlayerBackoff {
     is_gated: bool,
@@ -30,6 +64,7 @@ pub(crate) struct PlayerBackoff {
     sleeps: u32,
     waits: u32,
     events: usize,
+    all_events: u64,
 }
 
 impl PlayerBackoff {
@@ -41,6 +76,7 @@ impl PlayerBackoff {
             sleeps: 0,
             waits: 0,
             events: 0,
+            all_events: 0,
         }
     }
 
@@ -50,6 +86,7 @@ impl PlayerBackoff {
             self.looks = 0;
             self.rung = None;
             self.events = self.events.saturating_add(events);
+            self.all_events = self.all_events.saturating_add(events as u64);
         }
     }
 
@@ -63,6 +100,15 @@ impl PlayerBackoff {
         self.waits = 0;
         self.events = 0;
         is_worn
+    }
+
+    // Whether the workers wait for one player at a time, so that threads are of no use. The worker is
+    // about to sleep, and lacks so many events of another player.
+    fn is_lonely(&self, crew: &Crew, lacks: u64) -> bool {
+        if self.is_gated || self.rung.is_none() || !crew.has_one_player() {
+            return false;
+        }
+        crew.note_lone(lacks) >= self.all_events.saturating_add(LONE_EVENTS)
     }
 
     // Sleeps, once it has looked again after it asked to be woken. Tells whether all workers have
@@ -82,10 +128,17 @@ impl PlayerBackoff {
     }
 
     /// Lets some time pass before the worker looks again, which needs so many events of another
-    /// player. Tells whether it is to go on.
+    /// player and found fewer. Tells whether it is to go on.
     #[cold]
     #[inline(never)]
-    pub(crate) fn wait<R: Wait>(&mut self, rt: &R, crew: &Crew, whom: u8, needs: u64) -> bool {
+    pub(crate) fn wait<R: Wait>(
+        &mut self,
+        rt: &R,
+        crew: &Crew,
+        whom: u8,
+        needs: u64,
+        found: u64,
+    ) -> bool {
         if crew.is_called_off() {
             return false;
         }
@@ -97,6 +150,10 @@ impl PlayerBackoff {
             self.looks += 1;
             hint::spin_loop();
             return true;
+        }
+        if self.is_lonely(crew, needs.saturating_sub(found)) {
+            crew.call_off();
+            return false;
         }
         if self.sleep(rt, crew, whom, needs) {
             return true;

@@ -11,7 +11,7 @@ use crate::field::Field;
 use crate::passing::pass_before;
 use crate::played::Played;
 use crate::player::Player;
-use crate::player_backoff::PlayerBackoff;
+use crate::player_backoff::{PlayerBackoff, rounds_at_first};
 use crate::words::STOP_NUMBER;
 use octet_base::Gate;
 use std::sync::Wait;
@@ -24,6 +24,10 @@ const FIRST_ROUNDS: u32 = 4096;
 
 /// How many events a player makes at most in a round.
 const EVENTS_OF_A_ROUND: u32 = 1024;
+
+/// Players have threads again, too, after this part of the rounds in a row in which several made all of
+/// these events.
+const ROUNDS_FOR_A_BUSY_ONE: u32 = 2048;
 
 // Takes the player's next step. Passes the gate before an access.
 #[inline(always)]
@@ -89,12 +93,13 @@ fn work<R: Threads + Wait + Sync, G: Gate>(
         backoff.restart(player.journal.len().saturating_sub(before));
         match played {
             Played::Made => {}
-            Played::Waits { whom, needs, .. } => {
-                if !backoff.wait(rt, crew, whom, needs) {
+            Played::Waits { whom, needs, found } => {
+                if !backoff.wait(rt, crew, whom, needs, found) {
                     return;
                 }
             }
             Played::Through | Played::Amiss | Played::Stopped { .. } => {
+                crew.leave();
                 crew.tell(number, STOP_NUMBER);
                 return;
             }
@@ -144,7 +149,11 @@ fn play_on<R: Threads + Wait + Sync, G: Gate>(
     ensures ended { result ≡ true → HasPlayed field.now player.new }
 {
     match play_events(rt, field, gate, crew, player) {
-        Played::Made | Played::Waits { .. } => false,
+        Played::Made => {
+            crew.note_full_round();
+            false
+        }
+        Played::Waits { .. } => false,
         Played::Through | Played::Amiss | Played::Stopped { .. } => true,
     }
 }
@@ -170,7 +179,8 @@ pub(crate) fn play_round<R: Threads + Wait + Sync, G: Gate>(
     has_ended && have_ended
 }
 
-// Plays so many rounds at most. Tells whether all players have ended.
+// Plays so many rounds at most, and fewer where several players need not wait, since threads are of use
+// then. Tells whether all players have ended.
 fn play_rounds<R: Threads + Wait + Sync, G: Gate>(
     rt: &R,
     field: &Field,
@@ -184,9 +194,18 @@ fn play_rounds<R: Threads + Wait + Sync, G: Gate>(
     ensures same { AllZip IsSamePlayer players.old players.new }
     ensures ended { result ≡ true → All (HasPlayed field.now) players.new }
 {
+    let mut busy: u32 = 0;
     for _ in 0..rounds {
         if play_round(rt, field, gate, crew, players) {
             return true;
+        }
+        busy = if crew.is_busy() {
+            busy.saturating_add(1)
+        } else {
+            0
+        };
+        if busy > rounds / ROUNDS_FOR_A_BUSY_ONE {
+            return false;
         }
     }
     false
@@ -205,6 +224,10 @@ pub(crate) fn play_all<R: Threads + Wait + Sync, G: Gate>(
     ensures played { All (HasPlayed field.now) players.new }
     ensures same { AllZip IsSamePlayer players.old players.new }
 {
+    let at_first = rounds_at_first(&field.log, !gate.is_open());
+    if play_rounds(rt, field, gate, crew, players, at_first) {
+        return;
+    }
     let mut rounds = FIRST_ROUNDS;
     for _ in rt.forever() {
         crew.gather();

@@ -12,7 +12,7 @@ use Rattle.octet_model.specs.declared.event.Place.{Place}
 use Rattle.octet_model.specs.declared.log.Gapped.{Gapped}
 use Rattle.octet_model.specs.declared.log.ThreadLog.{ThreadLog}
 use Rattle.octet_model.specs.Machine.{Journals, journal_of, PlainState, starting_state, Operation, Wants, Behavior, is_enabled, draws_after, next_of, step, after}
-use Rattle.octet_model.specs.HappensBefore.{event_at, IsOrdered}
+use Rattle.octet_model.specs.HappensBefore.{event_at, is_access, IsOrdered}
 use Rattle.octet_model.specs.Journals.{gapped_marks, log_of_journal, log_of}
 use Rattle.octet_model.specs.Orders.{thread_log_of}
 use Rattle.octet_model.specs.Plays.{operation_of, next_in, by_journals, lowest_play}
@@ -23,6 +23,7 @@ use Rattle.octet_model.proofs.lemmas.LogsOfJournals.{as_many_after}
 use Rattle.octet_model.proofs.lemmas.LowestFronts.{lowest_play_is_lowest}
 use Rattle.octet_model.proofs.lemmas.Validity.{valid_log}
 use Rattle.octet_replay.specs.declared.need.Need.{Need}
+use Rattle.octet_replay.specs.declared.need.Need.TheVariants.{Free}
 use Rattle.octet_replay.specs.Needs.{NeedsAndCounts, after_step, no_counts, is_ready, IsLowestReady, NamesThread}
 use Rattle.octet_replay.specs.Places.{FitInPlaces}
 use Rattle.octet_replay.specs.Replayed.{is_draw, AwaitsNext}
@@ -199,6 +200,18 @@ module _ (js : Journals) (of : AreOfLawfulOrder js) (check : JournalCheck) (at :
         go (Marked (Join from upto)) is enabled draw = absurd cc
         go (Marked (Fence number)) is enabled draw = absurd cc
         go (Marked (Draw number)) is enabled draw = omega (arith, eqb-true number (suc s.draws) enabled, at.follows.awaits.draws, draw_is_small js of t k number is)
+
+    -- before an access the thread waits for nothing
+    pub waits_for_nothing : is_access event ≡ true → slice_get check.waits.needs t ≡ Some Free
+    waits_for_nothing access =
+        let there' = slice_get-get_or check.waits.needs t Free (omega (arith, thread_within, as_many_needs)) in
+        there' ∙ ap Some (at.follows.awaits.needs t (get_or check.waits.needs t Free) there' ∙ ap need_of (made.1.wanted ∙ ap Wants by_event) ∙ go event access)
+      where
+        go : (e : Event) → is_access e ≡ true → need_of (Wants (operation_of e)) ≡ Free
+        go (Read object value) access = refl
+        go (Write object value) access = refl
+        go (Update object old new) access = refl
+        go (Marked mark) access = absurd cc
 
     drawn : (draws : ℕ) → (if is_draw event then suc draws else draws) ≡ draws_after made.0 draws
     drawn draws = draws_counted event draws ∙ ap (λ (o : Operation). draws_after o draws) (sym by_event)

@@ -9,3 +9,6 @@ returns-then-play_round-clause-same g c = still_same _ _ _ c.loop.invariant.1 c.
 
 pub loop-preserved : goal.loop-preserved
 loop-preserved g c = (c.play_round.ensures.own, still_same _ _ _ c.loop.invariant.1 c.play_round.ensures.same)
+
+pub returns-then-busy-rounds-clause-same : goal.returns-then-busy-rounds-clause-same
+returns-then-busy-rounds-clause-same g c = still_same _ _ _ c.loop.invariant.1 c.play_round.ensures.same

@@ -4,11 +4,12 @@ use Rattle.octet_model.specs.HappensBefore.{event_at}
 use Rattle.octet_model.specs.Plays.{next_in, lowest_play}
 use Rattle.octet_replay.specs.declared.need.Need.{Need}
 use Rattle.octet_replay.specs.Needs.{after_step, NamesThread}
+use Rattle.octet_replay.specs.Replayed.{is_draw}
 use Rattle.octet_replay.specs.Threads.{need_of}
 use Rattle.octet_clock.specs.declared.journal_check.JournalCheck.{JournalCheck}
 use Rattle.octet_clock.specs.Following.{counted}
 use Rattle.octet_clock.specs.Play.{made_by}
-use Rattle.octet_clock.proofs.checks.JournalsAlone.{as_many_needs, checks_on, fit_in_places, made_is, more_counted, need_names, play_within, room, room_for_draw, room_for_event, some_event, thread_within}
+use Rattle.octet_clock.proofs.checks.JournalsAlone.{as_many_needs, checks_on, fit_in_places, made_is, more_counted, need_names, play_within, room, room_for_draw, room_for_event, some_event, thread_within, waits_for_nothing}
 use Rattle.octet_clock.proofs.journal_check.JournalCheck.step.Goals as goal
 
 pub unreachable-requires : goal.unreachable-requires
@@ -49,30 +50,34 @@ overflow_add-place c =
     omega (arith, room js c.requires.lawful c.args.self.now c.requires.at c.args.thread c.requires.lowest c.in-Some.event there, count_is, c.count-place.ensures)
 
 -- the same, once it is taken in
-event_taken : (c : goal.After-is_draw) → event_at c.args.journals.now (record { thread = c.args.thread; event = made_by (lowest_play [] c.args.journals.now) (counted c.args.self.now.waits) c.args.thread }) ≡ Some c.in-Some.event
+event_taken : (c : goal.After-count_event-arg-1) → event_at c.args.journals.now (record { thread = c.args.thread; event = made_by (lowest_play [] c.args.journals.now) (counted c.args.self.now.waits) c.args.thread }) ≡ Some c.in-Some.event
 event_taken c =
     ap (λ (n : ℕ). event_at c.args.journals.now (record { thread = c.args.thread; event = n }))
     (sym (made_is c.args.journals.now c.requires.lawful c.args.self.now c.requires.at c.args.thread c.requires.lowest) ∙ sym c.count-place.ensures)
     ∙ sym c.event_at.ensures ∙ c.in-Some.is
 
-next_need : (c : goal.After-is_draw) → c.need_of-next.result ≡ need_of (next_in (event_at c.args.journals.now (record { thread = c.args.thread; event = c.count-place.result + 1 })))
+next_need : (c : goal.After-count_event-arg-1) → c.need_of-next.result ≡ need_of (next_in (event_at c.args.journals.now (record { thread = c.args.thread; event = c.count-place.result + 1 })))
 next_need c = c.need_of-next.ensures ∙ ap (λ (o : Option Event). need_of (next_in o)) c.event_at-2.ensures
 
-pub step-requires-clause-names : goal.step-requires-clause-names
-step-requires-clause-names c =
+pub count_event-requires-clause-names : goal.count_event-requires-clause-names
+count_event-requires-clause-names c =
     let js = c.args.journals.now in
     let many = as_many_needs js c.requires.lawful c.args.self.now c.requires.at c.args.thread c.requires.lowest in
     subst (λ (need : Need). NamesThread (length c.args.self.now.waits.needs) need) (sym (next_need c))
     (subst (λ (n : ℕ). NamesThread n (need_of (next_in (event_at js (record { thread = c.args.thread; event = c.count-place.result + 1 }))))) (sym many)
     (need_names js c.requires.lawful c.args.thread (c.count-place.result + 1)))
 
-pub step-requires-clause-events : goal.step-requires-clause-events
-step-requires-clause-events c =
+pub count_event-requires-clause-events : goal.count_event-requires-clause-events
+count_event-requires-clause-events c =
     omega (arith, room_for_event c.args.journals.now c.requires.lawful c.args.self.now c.requires.at c.args.thread c.requires.lowest c.in-Some.event (event_taken c))
 
-pub step-requires-clause-draws : goal.step-requires-clause-draws
-step-requires-clause-draws c draw =
-    omega (arith, room_for_draw c.args.journals.now c.requires.lawful c.args.self.now c.requires.at c.args.thread c.requires.lowest c.in-Some.event (event_taken c) (sym c.is_draw.ensures ∙ draw))
+pub count_event-requires-clause-draws : goal.count_event-requires-clause-draws
+count_event-requires-clause-draws c draw =
+    omega (arith, room_for_draw c.args.journals.now c.requires.lawful c.args.self.now c.requires.at c.args.thread c.requires.lowest c.in-Some.event (event_taken c) draw)
+
+pub count_event-requires-clause-free : goal.count_event-requires-clause-free
+count_event-requires-clause-free c =
+    waits_for_nothing c.args.journals.now c.requires.lawful c.args.self.now c.requires.at c.args.thread c.requires.lowest c.in-Some.event (event_taken c)
 
 pub returns : goal.returns
 returns c =
@@ -90,8 +95,8 @@ returns c =
     let place : ℕ = c.count-place.result + 1 in
     let place_is : place ≡ suc k = omega (arith, c.count-place.ensures, count_is) in
     let need_is = c.need_of-next.ensures ∙ ap (λ (o : Option Event). need_of (next_in o)) c.event_at-2.ensures in
-    let check' : JournalCheck = record { checker = c.take_in.new.self; waits = c.step.new.self } in
-    let waits_are = c.step.ensures ∙ (λ i. after_step check.waits t (c.is_draw.ensures i) (need_is i)) in
+    let check' : JournalCheck = record { checker = c.take_in.new.self; waits = c.count_event.new.waits } in
+    let waits_are = c.count_event.ensures ∙ (λ i. after_step check.waits t (is_draw event) (need_is i)) in
     record {
       at = checks_on js of check at t lowest event there place place_is check' c.in_ok-take_in.ensures.many c.in_ok-take_in.ensures.taken waits_are;
       within = play_within js of check at t lowest;
