@@ -1,5 +1,5 @@
 -- What a closed course gives.
-use Rattle.std.proofs.Common.{◌≡◌, ℕ, zero, suc, ◌+◌, ◌<◌, ◌≤◌, Bool, true, false, List, [], ◌∷◌, ◌++◌, map, length, get_or, refl, sym, ap, ◌∙◌, subst, subst₂, arith, append-nil, append_assoc, sum_by}
+use Rattle.std.proofs.Common.{◌≡◌, ℕ, zero, suc, ◌+◌, ◌<◌, ◌≤◌, List, [], ◌∷◌, ◌++◌, map, length, get_or, refl, sym, ap, ◌∙◌, subst, arith, append-nil, append_assoc, sum_by}
 use Rattle.std.proofs.lemmas.List.{length-map}
 use Rattle.std.proofs.lemmas.List.Sums.{sum_by-cons}
 use Rattle.octet_model.specs.declared.event.Event.{Event}
@@ -17,7 +17,7 @@ use Rattle.octet_follow.specs.State.{FollowerState, CourseState, journals_of, pl
 use Rattle.octet_follow.specs.Rule.{IsSeenBy}
 use Rattle.octet_follow.specs.Seats.{view, IsSeatOf, Closes}
 use Rattle.octet_follow.specs.Seats as seats
-use Rattle.octet_follow.specs.Calls.{view_of, journal_in, journals_in, pending, followers_in, IsLeft, IsUpTo, EachOf, ClosesTo}
+use Rattle.octet_follow.specs.Calls.{view_of, journal_in, journals_in, pending, with_first_gap, gap_to_next, after_last, given, accesses_given, followers_in, EachOf, ClosesTo}
 use Rattle.octet_follow.specs.Recordings.{Threads, by_marks, IsRecording, Ahead, IsOnTrack, IsDemandedBy, AllFollow}
 use Rattle.octet_follow.specs.Repeats.{KeepsIn, IsRecordedSoFar, HasBegun, AllHaveBegun, KeepsToRecording, HasFollowed, AllHaveFollowed, RepeatsRecording}
 use Rattle.octet_follow.proofs.steps.Keeping.{journal_at}
@@ -61,7 +61,7 @@ closes_to starts followers those values are closes = record {
 }
 
 -- accesses are those of the gaps, and those after the last mark
-gaps_made : (before : ℕ) (journal : List Event) → before + access_count journal ≡ sum_by (λ (m : Gapped). m.gap) (gapped_marks before journal) + gap_after before journal
+pub gaps_made : (before : ℕ) (journal : List Event) → before + access_count journal ≡ sum_by (λ (m : Gapped). m.gap) (gapped_marks before journal) + gap_after before journal
 gaps_made before [] = omega arith
 gaps_made before (Read object value ∷ journal) = let a = gaps_made (suc before) journal in omega arith
 gaps_made before (Write object value ∷ journal) = let a = gaps_made (suc before) journal in omega arith
@@ -73,45 +73,37 @@ sum_both [] ys = omega arith
 sum_both (x ∷ xs) ys = let a = sum_both xs ys in let b = sum_by-cons (λ (m : Gapped). m.gap) x (xs ++ ys) in let c = sum_by-cons (λ (m : Gapped). m.gap) x xs in omega arith
 
 -- a follower that has begun is on track
-track_begun : (threads : Threads) (log : List ThreadLog) (t : ℕ) (f : Follower) → IsUpTo f → HasBegun threads log t f → IsOnTrack (thread_log_of log t) (journal_in f)
-track_begun threads log t f up has = record {
-  accesses = few (pending f) refl f.ended refl;
-  rest = pending f ++ has.more;
-  marks = has.marks ∙ append_assoc (gapped_marks 0 (journal_in f)) (pending f) has.more;
-  ahead = ahead (pending f) refl f.ended refl;
+track_begun : (threads : Threads) (log : List ThreadLog) (t : ℕ) (f : Follower) → HasBegun threads log t f → IsOnTrack (thread_log_of log t) (journal_in f)
+track_begun threads log t f has = record {
+  accesses = let a = few (pending f) refl in let b = has.accesses in omega arith;
+  rest = with_first_gap (gap_to_next f) (pending f) ++ has.more;
+  marks = has.marks ∙ append_assoc (gapped_marks 0 (journal_in f)) (with_first_gap (gap_to_next f) (pending f)) has.more;
+  ahead = ahead (pending f) refl;
 }
   where
-    left_is : (l : List Gapped) → pending f ≡ l → (b : Bool) → f.ended ≡ b → IsLeft l b f.total f.left (journal_in f)
-    left_is l is b ended = subst₂ (λ (m : List Gapped) (c : Bool). IsLeft m c f.total f.left (journal_in f)) is ended up.left
-
     made : access_count (journal_in f) ≡ sum_by (λ (m : Gapped). m.gap) (gapped_marks 0 (journal_in f)) + gap_after 0 (journal_in f)
     made = let a = gaps_made 0 (journal_in f) in omega arith
 
-    all : sum_by (λ (m : Gapped). m.gap) (thread_log_of log t).marks ≡ sum_by (λ (m : Gapped). m.gap) (gapped_marks 0 (journal_in f)) + sum_by (λ (m : Gapped). m.gap) (pending f ++ has.more)
-    all = ap (λ (l : List Gapped). sum_by (λ (m : Gapped). m.gap) l) (has.marks ∙ append_assoc (gapped_marks 0 (journal_in f)) (pending f) has.more) ∙ sum_both (gapped_marks 0 (journal_in f)) (pending f ++ has.more)
+    told : sum_by (λ (m : Gapped). m.gap) (given f) ≡ sum_by (λ (m : Gapped). m.gap) (gapped_marks 0 (journal_in f)) + sum_by (λ (m : Gapped). m.gap) (with_first_gap (gap_to_next f) (pending f))
+    told = sum_both (gapped_marks 0 (journal_in f)) (with_first_gap (gap_to_next f) (pending f))
 
-    few : (l : List Gapped) → pending f ≡ l → (b : Bool) → f.ended ≡ b → access_count (journal_in f) ≤ (thread_log_of log t).accesses
-    few (mark ∷ l) is b ended =
-        let at : mark.gap ≡ f.left + gap_after 0 (journal_in f) = (left_is (mark ∷ l) is b ended).0 in
-        let first = sum_by-cons (λ (m : Gapped). m.gap) mark (l ++ has.more) in
-        let there = ap (λ (m : List Gapped). sum_by (λ (n : Gapped). n.gap) (m ++ has.more)) is in
-        let enough = has.gaps in let a = made in let b = all in omega arith
-    few [] is false ended =
-        let at : gap_after 0 (journal_in f) ≡ 0 = (left_is [] is false ended).1 in
-        let enough = has.gaps in let a = made in let b = all in omega arith
-    few [] is true ended =
-        let at : f.total ≡ f.left + access_count (journal_in f) = left_is [] is true ended in
-        let total = (has.ended ended).1 in omega arith
+    few : (l : List Gapped) → pending f ≡ l → access_count (journal_in f) ≤ accesses_given f
+    few (mark ∷ l) is =
+        let first = sum_by-cons (λ (m : Gapped). m.gap) (record { gap = gap_to_next f; mark = mark.mark }) l in
+        let there = ap (λ (m : List Gapped). sum_by (λ (n : Gapped). n.gap) (with_first_gap (gap_to_next f) m)) is in
+        let a = made in let b = told in omega arith
+    few [] is =
+        let there = ap (λ (m : List Gapped). sum_by (λ (n : Gapped). n.gap) (with_first_gap (gap_to_next f) m)) is in
+        let after = ap (λ (m : List Gapped). after_last m (gap_to_next f) f.after) is in
+        let a = made in let b = told in omega arith
 
-    ahead : (l : List Gapped) → pending f ≡ l → (b : Bool) → f.ended ≡ b → Ahead (pending f ++ has.more) (gap_after 0 (journal_in f))
-    ahead (mark ∷ l) is b ended =
-        let at : mark.gap ≡ f.left + gap_after 0 (journal_in f) = (left_is (mark ∷ l) is b ended).0 in
-        subst (λ (m : List Gapped). Ahead (m ++ has.more) (gap_after 0 (journal_in f))) (sym is) (λ next first. let e : mark ≡ next = cc in let g = ap (λ (m : Gapped). m.gap) e in omega arith)
-    ahead [] is false ended =
-        let at : gap_after 0 (journal_in f) ≡ 0 = (left_is [] is false ended).1 in
-        λ next first. omega arith
-    ahead [] is true ended =
-        subst (λ (m : List Gapped). Ahead m (gap_after 0 (journal_in f))) (sym ((λ i. is i ++ (has.ended ended).0 i))) (λ next first. absurd cc)
+    ahead : (l : List Gapped) → pending f ≡ l → Ahead (with_first_gap (gap_to_next f) (pending f) ++ has.more) (gap_after 0 (journal_in f))
+    ahead (mark ∷ l) is =
+        subst (λ (m : List Gapped). Ahead (with_first_gap (gap_to_next f) m ++ has.more) (gap_after 0 (journal_in f))) (sym is)
+        (λ next first. let e : record { gap = gap_to_next f; mark = mark.mark } ≡ next = cc in let g = ap (λ (m : Gapped). m.gap) e in omega arith)
+    ahead [] is =
+        subst (λ (m : List Gapped). Ahead (with_first_gap (gap_to_next f) m ++ has.more) (gap_after 0 (journal_in f))) (sym is)
+        (λ next first. let a = has.ahead next first in let after = ap (λ (m : List Gapped). after_last m (gap_to_next f) f.after) is in omega arith)
 
 -- what is seen in a sound state is recorded, if all follow
 pub recorded_so_far : (f : Follower) (s : CourseState) → IsSeenBy (view_of f) s → IsRecordedSoFar f
@@ -143,14 +135,14 @@ module _ (starts : List ℕ) (followers : List Follower) (heap : List ℕ) (clos
   keeps_in threads log end recording follow = begins threads log (journals_in followers) follow starts last.play (plain last) plays.0 plays.1 journals_are end recording
 
   -- a follower that has begun
-  module _ (each : (t : ℕ) (none : Follower) → t < length followers → IsUpTo (get_or followers t none)) where
+  module _ where
     begun : (threads : Threads) (log : List ThreadLog) → AllHaveBegun threads log followers → AllFollow threads log (journals_in followers)
     begun threads log have = record {
       many = length-map followers journal_in ∙ have.many;
       track = λ t h.
           let inside : t < length followers = let e = length-map followers journal_in in omega arith in
           let d = some_follower followers t inside in
-          subst (λ (j : List Event). IsOnTrack (thread_log_of log t) j) (sym (get_mapped journal_in followers t [] d inside)) (track_begun threads log t (get_or followers t d) (each t d inside) (have.each t d inside));
+          subst (λ (j : List Event). IsOnTrack (thread_log_of log t) j) (sym (get_mapped journal_in followers t [] d inside)) (track_begun threads log t (get_or followers t d) (have.each t d inside));
       demanded = λ t h.
           let inside : t < length followers = let e = length-map followers journal_in in omega arith in
           let d = some_follower followers t inside in
@@ -178,7 +170,13 @@ module _ (starts : List ℕ) (followers : List Follower) (heap : List ℕ) (clos
     marks_are t f has = sym has.marks ∙ has.complete.marks
 
     accesses_are : (t : ℕ) (f : Follower) → HasFollowed threads log t f → (thread_log_of log t).accesses ≡ access_count (journal_in f)
-    accesses_are t f has = sym has.accesses ∙ has.complete.accesses
+    accesses_are t f has =
+        let complete = has.complete in
+        let a = has.accesses in
+        let b = ap (λ (l : List Gapped). sum_by (λ (m : Gapped). m.gap) l) complete.marks in
+        let c = complete.after in
+        let d = gaps_made 0 (journal_in f) in
+        omega arith
 
     on_track : (t : ℕ) (f : Follower) → HasFollowed threads log t f → IsOnTrack (thread_log_of log t) (journal_in f)
     on_track t f has = record {

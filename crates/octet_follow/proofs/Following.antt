@@ -1,13 +1,15 @@
 -- What becomes of a follower that makes an event.
-use Rattle.std.proofs.Common.{◌≡◌, ◌≢◌, ◌∙◌, ℕ, zero, suc, ◌+◌, ◌-◌, ◌<◌, ◌≤◌, Bool, true, false, if◌then◌else◌, List, [], ◌∷◌, ◌++◌, map, drop, length, get_or, refl, sym, ap, subst, subst₂, arith, append-nil, append_assoc, length-append}
+use Rattle.std.proofs.Common.{◌≡◌, ◌≢◌, ◌∙◌, ℕ, zero, suc, ◌+◌, ◌-◌, ◌<◌, ◌≤◌, Bool, true, false, if◌then◌else◌, List, [], ◌∷◌, ◌++◌, map, take, drop, length, get_or, refl, sym, ap, subst, arith, append-nil, append_assoc, length-append}
 use Rattle.std.proofs.lemmas.List.{map-append}
 use Rattle.std.specs.Vec.{vec_capacity}
 use Rattle.octet_model.specs.declared.event.Event.{Event}
 use Rattle.octet_model.specs.declared.event.Event.TheVariants.{Marked}
 use Rattle.octet_model.specs.declared.event.Mark.{Mark}
 use Rattle.octet_model.specs.declared.log.Gapped.{Gapped}
+use Rattle.octet_digest.specs.Digests.{bits_of, digest_with, digest_of}
+use Rattle.octet_digest.proofs.lemmas.Digests.{journals_join}
 use Rattle.octet_model.specs.Journals.{access_count, mark_count, gap_after, gapped_marks}
-use Rattle.octet_model.proofs.lemmas.Splits.{length_parts, accesses_split, marks_split, gap_split, gapped_marks_split}
+use Rattle.octet_model.proofs.lemmas.Splits.{length_parts, marks_split, gap_split, gapped_marks_split}
 use Rattle.octet_follow.specs.declared.access.Access.{Access}
 use Rattle.octet_follow.specs.declared.course.Course.{Course}
 use Rattle.octet_follow.specs.declared.follower.Follower.{Follower}
@@ -15,7 +17,8 @@ use Rattle.octet_follow.specs.Views.{FollowerView}
 use Rattle.octet_follow.specs.Seats.{IsSeatOf, Goes}
 use Rattle.octet_follow.specs.declared.access.Access.TheVariants.{Read, Write, Update}
 use Rattle.octet_follow.specs.Accesses.{event_of, GoesBy}
-use Rattle.octet_follow.specs.Calls.{view_of, journal_in, pending, given, IsLeft, IsUpTo, IsFollowerOf, IsGivenSame, IsOut, IsDue, CountsMark, MakesMarks, Makes}
+use Rattle.octet_follow.specs.Blocks.{lengthened, carried, after_taken, TakesBlock}
+use Rattle.octet_follow.specs.Calls.{view_of, journal_in, pending, with_first_gap, gap_to_next, after_last, given, given_after, IsUpTo, IsFollowerOf, IsGivenSame, IsThrough, IsOut, IsDue, CountsMark, MakesMarks, Makes}
 
 longer : (j : List Event) (e : Event) → length (j ++ e ∷ []) ≡ length j + 1
 longer j e = length-append j (e ∷ [])
@@ -32,16 +35,9 @@ is_access (Read object) found = record { one = refl; no_mark = refl; gap = λ be
 is_access (Write object value) found = record { one = refl; no_mark = refl; gap = λ before. refl; none = λ before. refl }
 is_access (Update object change) found = record { one = refl; no_mark = refl; gap = λ before. refl; none = λ before. refl }
 
--- one access more, one fewer left
-left_on : (j : List Event) (e : Event) → IsAccess e → (marks : List Gapped) (ended : Bool) (total left : ℕ) → IsLeft marks ended total (suc left) j → IsLeft marks ended total left (j ++ e ∷ [])
-left_on j e is (mark ∷ marks) ended total left before =
-    let g : gap_after 0 (j ++ e ∷ []) ≡ suc (gap_after 0 j) = gap_split 0 j (e ∷ []) ∙ is.gap (gap_after 0 j) in
-    let b : mark.gap ≡ suc left + gap_after 0 j = before.0 in
-    ((omega arith), before.1)
-left_on j e is [] false total left before = absurd (let b : suc left ≡ 0 = before.0 in omega arith)
-left_on j e is [] true total left before =
-    let b : total ≡ suc left + access_count j = before in
-    omega (arith, accesses_split j (e ∷ []), is.one)
+-- the digest of one event more
+digest_more : (journal : List Event) (e : Event) → digest_of (journal ++ e ∷ []) ≡ digest_with e (digest_of journal)
+digest_more journal e = journals_join 0 journal (e ∷ [])
 
 -- what it shows, by whether it shows the event
 shown_is : (b : Bool) (events before : ℕ) (g : Follower) → g.events ≡ length (journal_in g) → g.shown ≡ (if b then g.events else before) → before ≡ events
@@ -55,10 +51,10 @@ shows_all true before g made shows awaits h = shows ∙ made
 shows_all false before g made shows awaits h = absurd (let a = awaits refl in omega arith)
 
 pub accessed : (course : Course) (f g : Follower) (e : Event) (shows : Bool) → IsAccess e → IsFollowerOf course f → IsSeatOf course.words g.seat → Goes (view_of f) (e ∷ []) shows (view_of g)
-    → (shows ≡ false → g.events < g.awaited) → g.shown ≡ (if shows then g.events else f.shown)
-    → g.number ≡ f.number → g.ended ≡ f.ended → g.total ≡ f.total → g.awaited ≡ f.awaited → g.marked ≡ f.marked → g.next ≡ f.next → g.marks ≡ f.marks → g.events ≡ f.events + 1 → suc g.left ≡ f.left
+    → (shows ≡ false → g.events < g.awaited) → g.shown ≡ (if shows then g.events else f.shown) → bits_of g.digest ≡ digest_with e (bits_of f.digest)
+    → g.number ≡ f.number → g.ending ≡ f.ending → g.after ≡ f.after → g.awaited ≡ f.awaited → g.marked ≡ f.marked → g.next ≡ f.next → g.marks ≡ f.marks → g.events ≡ f.events + 1 → suc g.left ≡ f.left
     → IsFollowerOf course g × IsGivenSame f g
-accessed course f g e shows is own seat goes awaits shown number ended total awaited marked next marks events left = (
+accessed course f g e shows is own seat goes awaits shown digest number ending after awaited marked next marks events left = (
   record {
     own = seat;
     number = goes.number ∙ own.number ∙ sym number;
@@ -69,18 +65,14 @@ accessed course f g e shows is own seat goes awaits shown number ended total awa
       shown = shown_is shows (view_of f).follower.shown f.shown g made shown own.up.shown goes.shown;
       shows = shows_all shows f.shown g made shown awaits;
       next = let a = own.up.next in let b = ap (λ (l : List Gapped). length l) items in omega arith;
-      left = subst (λ (j : List Event). IsLeft (pending g) g.ended g.total g.left j) (sym goes.journal)
-          (left_on (journal_in f) e is (pending g) g.ended g.total g.left
-          (subst (λ z. z) (λ i. IsLeft (sym same_pending i) (sym ended i) (sym total i) (sym left i) (journal_in f)) own.up.left));
+      digest = digest ∙ (ap (digest_with e) own.up.digest ∙ (sym (digest_more (journal_in f) e) ∙ ap digest_of (sym goes.journal)));
     };
   },
   record {
     same = record { number = goes.number; room = ap (λ v. vec_capacity v) marks; awaited = awaited };
-    marks =
-        (λ i. gapped_marks 0 (goes.journal i) ++ same_pending i)
-        ∙ ap (λ (l : List Gapped). l ++ pending f) (gapped_marks_split 0 (journal_in f) (e ∷ []) ∙ ap (λ (l : List Gapped). gapped_marks 0 (journal_in f) ++ l) (is.none (gap_after 0 (journal_in f))) ∙ append-nil (gapped_marks 0 (journal_in f)));
-    ended = ended;
-    total = total;
+    marks = λ i. same_marks i ++ with_first_gap (same_gap i) (same_pending i);
+    after = λ i. after_last (same_pending i) (same_gap i) (after i);
+    ending = ending;
   },
 )
   where
@@ -89,6 +81,16 @@ accessed course f g e shows is own seat goes awaits shown number ended total awa
 
     same_pending : pending g ≡ pending f
     same_pending = λ i. drop (next i) (items i)
+
+    same_marks : gapped_marks 0 (journal_in g) ≡ gapped_marks 0 (journal_in f)
+    same_marks =
+        ap (λ (j : List Event). gapped_marks 0 j) goes.journal
+        ∙ (gapped_marks_split 0 (journal_in f) (e ∷ []) ∙ (ap (λ (l : List Gapped). gapped_marks 0 (journal_in f) ++ l) (is.none (gap_after 0 (journal_in f))) ∙ append-nil (gapped_marks 0 (journal_in f))))
+
+    same_gap : gap_to_next g ≡ gap_to_next f
+    same_gap =
+        let longer_gap : gap_after 0 (journal_in g) ≡ suc (gap_after 0 (journal_in f)) = ap (λ (j : List Event). gap_after 0 j) goes.journal ∙ (gap_split 0 (journal_in f) (e ∷ []) ∙ is.gap (gap_after 0 (journal_in f))) in
+        omega arith
 
     made : g.events ≡ length (journal_in g)
     made = events ∙ (ap (λ (n : ℕ). n + 1) own.up.events ∙ sym (longer (journal_in f) e)) ∙ ap (λ (j : List Event). length j) (sym goes.journal)
@@ -105,9 +107,9 @@ drop_none (x ∷ xs) (suc k) is = let a = drop_none xs k is in omega arith
 
 -- the first mark of the buffer is made and counted: `h` is the follower with its seat after the mark
 pub marked_one : (course : Course) (f h g : Follower) (d : Gapped) → IsDue f → IsFollowerOf course f → IsSeatOf course.words h.seat → Goes (view_of f) (Marked (get_or f.marks.items f.next d).mark ∷ []) true (view_of h)
-    → h.number ≡ f.number → h.ended ≡ f.ended → h.total ≡ f.total → h.awaited ≡ f.awaited → h.marked ≡ f.marked → h.next ≡ f.next → h.marks ≡ f.marks → h.events ≡ f.events → h.left ≡ f.left → CountsMark h g
+    → h.number ≡ f.number → h.ending ≡ f.ending → h.after ≡ f.after → h.digest ≡ f.digest → h.awaited ≡ f.awaited → h.marked ≡ f.marked → h.next ≡ f.next → h.marks ≡ f.marks → h.events ≡ f.events → h.left ≡ f.left → CountsMark h g
     → IsFollowerOf course g × IsGivenSame f g
-marked_one course f h g d due own seat goes number ended total awaited marked next marks events left counts = (
+marked_one course f h g d due own seat goes number ending after digest awaited marked next marks events left counts = (
   record {
     own = subst (IsSeatOf course.words) (sym counts.seat) seat;
     number = ap (λ (v : FollowerView). v.number) same_view ∙ goes.number ∙ own.number ∙ sym (counts.number ∙ number);
@@ -118,19 +120,19 @@ marked_one course f h g d due own seat goes number ended total awaited marked ne
       shows = λ h. shown_all ∙ made;
       marked = counts.marked ∙ ap (λ (n : ℕ). n + 1) (marked ∙ own.up.marked) ∙ (let a = marks_split (journal_in f) (e ∷ []) in let c : mark_count (journal_in f) + 1 ≡ mark_count (journal_in f ++ e ∷ []) = omega arith in c) ∙ ap mark_count (sym journal);
       next = let a = due.1 in let b = ap (λ (l : List Gapped). length l) items in let c = counts.on in omega arith;
-      left = subst₂ (λ (j : List Event) (b : Bool). IsLeft (pending g) b g.total g.left j) (sym journal) (sym (counts.ended ∙ ended ∙ first_left.1)) (go (pending g) refl);
+      digest = ap bits_of (counts.digest ∙ digest) ∙ (own.up.digest ∙ (sym (digest_more (journal_in f) e) ∙ ap digest_of (sym journal)));
     };
   },
   record {
     same = record { number = ap (λ (v : FollowerView). v.number) same_view ∙ goes.number; room = ap (λ v. vec_capacity v) (counts.marks ∙ marks); awaited = counts.awaited ∙ awaited };
     marks =
-        (λ i. gapped_marks 0 (journal i) ++ rest_is i)
-        ∙ ap (λ (l : List Gapped). l ++ rest) (gapped_marks_split 0 (journal_in f) (e ∷ []))
-        ∙ append_assoc (gapped_marks 0 (journal_in f)) (record { gap = gap_after 0 (journal_in f); mark = first.mark } ∷ []) rest
-        ∙ ap (λ (n : ℕ). gapped_marks 0 (journal_in f) ++ record { gap = n; mark = first.mark } ∷ rest) (let a : first.gap ≡ f.left + gap_after 0 (journal_in f) = first_left.0 in let b = due.0 in let c : gap_after 0 (journal_in f) ≡ first.gap = omega arith in c)
-        ∙ ap (λ (l : List Gapped). gapped_marks 0 (journal_in f) ++ l) (sym is_pending);
-    ended = counts.ended ∙ ended;
-    total = counts.total ∙ total;
+        (λ i. gapped_marks 0 (journal i) ++ to_come i)
+        ∙ (ap (λ (l : List Gapped). l ++ rest) (gapped_marks_split 0 (journal_in f) (e ∷ []))
+        ∙ (append_assoc (gapped_marks 0 (journal_in f)) (record { gap = gap_after 0 (journal_in f); mark = first.mark } ∷ []) rest
+        ∙ (ap (λ (n : ℕ). gapped_marks 0 (journal_in f) ++ record { gap = n; mark = first.mark } ∷ rest) (let b = due.0 in let c : gap_after 0 (journal_in f) ≡ gap_to_next f = omega arith in c)
+        ∙ ap (λ (l : List Gapped). gapped_marks 0 (journal_in f) ++ with_first_gap (gap_to_next f) l) (sym is_pending))));
+    after = came_after (pending g) refl ∙ ap (λ (l : List Gapped). after_last l (gap_to_next f) f.after) (sym is_pending);
+    ending = counts.ending ∙ ending;
   },
 )
   where
@@ -161,9 +163,6 @@ marked_one course f h g d due own seat goes number ended total awaited marked ne
     is_pending : pending f ≡ first ∷ rest
     is_pending = drop_at f.marks.items f.next d due.1
 
-    first_left : IsLeft (first ∷ rest) f.ended f.total f.left (journal_in f)
-    first_left = subst (λ (l : List Gapped). IsLeft l f.ended f.total f.left (journal_in f)) is_pending own.up.left
-
     on : g.next ≡ suc f.next
     on = let a = counts.on in omega arith
 
@@ -173,9 +172,22 @@ marked_one course f h g d due own seat goes number ended total awaited marked ne
     gap_is : gap_after 0 (journal_in f ++ e ∷ []) ≡ 0
     gap_is = gap_split 0 (journal_in f) (e ∷ [])
 
-    go : (l : List Gapped) → pending g ≡ l → IsLeft l false g.total g.left (journal_in f ++ e ∷ [])
-    go (mark ∷ l) is = (sym (counts.left mark l is) ∙ (let a = gap_is in let b : g.left ≡ g.left + gap_after 0 (journal_in f ++ e ∷ []) = omega arith in b), refl)
-    go [] is = ((counts.last (let a = drop_none g.marks.items g.next is in let b = due.1 in let c = ap (λ (l : List Gapped). length l) items in let z = ap (λ v. length v.items) counts.marks in omega arith) ∙ left ∙ due.0), gap_is)
+    -- no access came since the mark
+    gap_there : gap_to_next g ≡ g.left
+    gap_there = let a = ap (λ (j : List Event). gap_after 0 j) journal ∙ gap_is in omega arith
+
+    unchanged : (l : List Gapped) → pending g ≡ l → with_first_gap (gap_to_next g) l ≡ l
+    unchanged [] is = refl
+    unchanged (mark ∷ l) is = ap (λ (n : ℕ). record { gap = n; mark = mark.mark } ∷ l) (gap_there ∙ counts.left mark l is)
+
+    to_come : with_first_gap (gap_to_next g) (pending g) ≡ rest
+    to_come = unchanged (pending g) refl ∙ rest_is
+
+    came_after : (l : List Gapped) → pending g ≡ l → after_last l (gap_to_next g) g.after ≡ f.after
+    came_after (mark ∷ l) is = counts.after ∙ after
+    came_after [] is =
+        gap_there
+        ∙ (counts.last (let a = drop_none g.marks.items g.next is in let b = due.1 in let c = ap (λ (l : List Gapped). length l) items in let z = ap (λ v. length v.items) counts.marks in let n = counts.on in let m = next in omega arith) ∙ after)
 
 -- what is made
 one_mark : (v w : FollowerView) (mark : Mark) → w.follower.journal ≡ v.follower.journal ++ Marked mark ∷ [] → MakesMarks v w
@@ -194,7 +206,7 @@ marks_both v u w before after = record {
 }
 
 pub given_both : (f g h : Follower) → IsGivenSame f g → IsGivenSame g h → IsGivenSame f h
-given_both f g h a b = record { same = record { number = b.same.number ∙ a.same.number; room = b.same.room ∙ a.same.room; awaited = b.same.awaited ∙ a.same.awaited }; marks = b.marks ∙ a.marks; ended = b.ended ∙ a.ended; total = b.total ∙ a.total }
+given_both f g h a b = record { same = record { number = b.same.number ∙ a.same.number; room = b.same.room ∙ a.same.room; awaited = b.same.awaited ∙ a.same.awaited }; marks = b.marks ∙ a.marks; after = b.after ∙ a.after; ending = b.ending ∙ a.ending }
 
 pub makes_access : (access : Access) (value : ℕ) (v w : FollowerView) (shows : Bool) → GoesBy access v value shows w → Makes access v value w
 makes_access access value v w shows by = record { marks = []; found = by.found; grown = by.goes.journal; told = by.told; state = by.goes.state; seen = by.goes.seen }
@@ -225,60 +237,62 @@ pub few_marked : (f : Follower) → IsUpTo f → f.marked ≤ f.events
 few_marked f up = let a = up.events in let b = up.marked in let c = length_parts (journal_in f) in omega arith
 
 -- a buffer that has a mark left
-pub not_last : (follower : Follower) → follower.next < length follower.marks.items → IsOut follower → ⊥
+pub not_last : (follower : Follower) → follower.next < length follower.marks.items → IsThrough follower → ⊥
 not_last follower more out = let a = drop_none follower.marks.items follower.next out.1 in omega arith
 
--- what it is given
-module _ (f : Follower) (up : IsUpTo f) (out : IsOut f) where
-  none_left : (f.left ≡ 0) × (gap_after 0 (journal_in f) ≡ 0)
-  none_left = subst₂ (λ (l : List Gapped) (b : Bool). IsLeft l b f.total f.left (journal_in f)) out.1 out.0 up.left
-
-  -- the next ones
-  pub refilled : (items : List Gapped) (left : ℕ) → ((first : Gapped) (rest : List Gapped) → items ≡ first ∷ rest → left ≡ first.gap) → (items ≡ [] → left ≡ 0) → IsLeft items f.ended f.total left (journal_in f)
-  refilled (first ∷ rest) left some none = (sym (some first rest refl) ∙ (let a = none_left.1 in let b : left ≡ left + gap_after 0 (journal_in f) = omega arith in b), out.0)
-  refilled [] left some none = subst (λ (b : Bool). IsLeft [] b f.total left (journal_in f)) (sym out.0) (none refl, none_left.1)
-
-  -- the end
-  pub ended : (accesses : ℕ) → f.events - f.marked ≤ accesses → IsLeft (pending f) true accesses (accesses - (f.events - f.marked)) (journal_in f)
-  ended accesses enough = subst (λ (l : List Gapped). IsLeft l true accesses (accesses - (f.events - f.marked)) (journal_in f)) (sym out.1)
-      (let a = up.events in let b = up.marked in let c = length_parts (journal_in f) in let is : accesses ≡ (accesses - (f.events - f.marked)) + access_count (journal_in f) = omega arith in is)
-
 -- as it is after its buffer was filled again
-pub is_refilled : (f g : Follower) → IsUpTo f → IsOut f → g.seat ≡ f.seat → g.ended ≡ f.ended → g.total ≡ f.total → g.awaited ≡ f.awaited → g.shown ≡ f.shown → g.marked ≡ f.marked → g.events ≡ f.events → g.next ≡ 0
-    → ((first : Gapped) (rest : List Gapped) → g.marks.items ≡ first ∷ rest → g.left ≡ first.gap) → (g.marks.items ≡ [] → g.left ≡ 0)
-    → IsUpTo g × (given g ≡ given f ++ g.marks.items)
-is_refilled f g up out seat ended_ total awaited shown marked events next some none = (
+pub is_refilled : (f g : Follower) → IsUpTo f → IsOut f → g.seat ≡ f.seat → g.awaited ≡ f.awaited → g.shown ≡ f.shown → g.marked ≡ f.marked → g.events ≡ f.events → g.digest ≡ f.digest → g.next ≡ 0
+    → ((first : Gapped) (rest : List Gapped) → g.marks.items ≡ first ∷ rest → g.left ≡ first.gap) → (g.marks.items ≡ [] → g.left ≡ g.after)
+    → IsUpTo g × (given g ≡ given f ++ lengthened (given_after f) g.marks.items) × (given_after g ≡ carried (given_after f) g.marks.items g.after)
+is_refilled f g up out seat awaited shown marked events digest next some none = (
   record {
     shown = shown ∙ up.shown ∙ ap (λ s. s.inner.me.0.follower.shown) (sym seat);
     shows = λ h. shown ∙ up.shows (let a = ap (λ (j : List Event). length j) journal in omega arith) ∙ ap (λ (j : List Event). length j) (sym journal);
     events = events ∙ up.events ∙ ap (λ (j : List Event). length j) (sym journal);
     marked = marked ∙ up.marked ∙ ap mark_count (sym journal);
     next = omega (arith, next);
-    left = subst (λ z. z) (λ i. IsLeft (sym all i) (sym ended_ i) (sym total i) g.left (sym journal i)) (refilled f up out g.marks.items g.left some none);
+    digest = ap bits_of digest ∙ (up.digest ∙ ap digest_of (sym journal));
   },
-  (λ i. gapped_marks 0 (journal i) ++ all i)
-      ∙ ap (λ (l : List Gapped). l ++ g.marks.items) (sym (ap (λ (l : List Gapped). gapped_marks 0 (journal_in f) ++ l) out.1 ∙ append-nil (gapped_marks 0 (journal_in f)))),
+  (λ i. gapped_marks 0 (journal i) ++ to_come i) ∙ ap (λ (l : List Gapped). l ++ lengthened (given_after f) g.marks.items) (sym (ap (λ (l : List Gapped). gapped_marks 0 (journal_in f) ++ with_first_gap (gap_to_next f) l) none_left ∙ append-nil (gapped_marks 0 (journal_in f)))),
+  ap (λ (l : List Gapped). after_last l (gap_to_next g) g.after) all ∙ comes_after g.marks.items refl,
 )
   where
     journal : journal_in g ≡ journal_in f
     journal = ap (λ s. s.inner.me.0.follower.journal) seat
 
+    none_left : pending f ≡ []
+    none_left = out.1.1
+
     all : pending g ≡ g.marks.items
     all = ap (λ (n : ℕ). drop n g.marks.items) next
 
-pub is_ended : (f g : Follower) → IsUpTo f → IsOut f → g.seat ≡ f.seat → g.awaited ≡ f.awaited → g.shown ≡ f.shown → g.ended ≡ true → g.marks.items ≡ f.marks.items → g.next ≡ f.next → g.marked ≡ f.marked → g.events ≡ f.events
-    → f.events - f.marked ≤ g.total → g.left ≡ g.total - (f.events - f.marked) → IsUpTo g
-is_ended f g up out seat awaited shown ended_ marks next marked events enough left = record {
-  shown = shown ∙ up.shown ∙ ap (λ s. s.inner.me.0.follower.shown) (sym seat);
-  shows = λ h. shown ∙ up.shows (let a = ap (λ (j : List Event). length j) journal in omega arith) ∙ ap (λ (j : List Event). length j) (sym journal);
-  events = events ∙ up.events ∙ ap (λ (j : List Event). length j) (sym journal);
-  marked = marked ∙ up.marked ∙ ap mark_count (sym journal);
-  next = let a = up.next in let b = ap (λ (l : List Gapped). length l) marks in omega arith;
-  left = subst (λ z. z) (λ i. IsLeft (drop (sym next i) (sym marks i)) (sym ended_ i) g.total (sym left i) (sym journal i)) (ended f up out g.total enough);
-}
-  where
-    journal : journal_in g ≡ journal_in f
-    journal = ap (λ s. s.inner.me.0.follower.journal) seat
+    -- the accesses that are carried over
+    before : given_after f ≡ gap_after 0 (journal_in f)
+    before = ap (λ (l : List Gapped). after_last l (gap_to_next f) f.after) none_left ∙ (let a = out.1.0 in let b : gap_to_next f ≡ gap_after 0 (journal_in f) = omega arith in b)
+
+    gap_there : gap_to_next g ≡ g.left + given_after f
+    gap_there = let a = ap (λ (j : List Event). gap_after 0 j) journal in let b = before in omega arith
+
+    first_longer : (l : List Gapped) → g.marks.items ≡ l → with_first_gap (gap_to_next g) l ≡ lengthened (given_after f) l
+    first_longer [] is = refl
+    first_longer (first ∷ rest) is =
+        ap (λ (n : ℕ). record { gap = n; mark = first.mark } ∷ rest) (let a = some first rest is in let b = gap_there in let c : gap_to_next g ≡ given_after f + first.gap = omega arith in c)
+
+    to_come : with_first_gap (gap_to_next g) (pending g) ≡ lengthened (given_after f) g.marks.items
+    to_come = ap (with_first_gap (gap_to_next g)) all ∙ first_longer g.marks.items refl
+
+    comes_after : (l : List Gapped) → g.marks.items ≡ l → after_last l (gap_to_next g) g.after ≡ carried (given_after f) l g.after
+    comes_after [] is = let a = none is in let b = gap_there in omega arith
+    comes_after (first ∷ rest) is = refl
+
+-- and after a block of which so many marks were taken
+pub is_taken : (f g : Follower) (marks : List Gapped) (after taken count : ℕ) → taken ≡ count → g.marks.items ≡ take taken marks → g.after ≡ after_taken taken (length marks) after
+    → given g ≡ given f ++ lengthened (given_after f) g.marks.items → given_after g ≡ carried (given_after f) g.marks.items g.after → TakesBlock count marks after f g
+is_taken f g marks after taken count same items left there beyond =
+    subst (λ (n : ℕ). TakesBlock n marks after f g) same (record {
+      told_marks = there ∙ ap (λ (l : List Gapped). given f ++ lengthened (given_after f) l) items;
+      told_after = beyond ∙ (λ i. carried (given_after f) (items i) (left i));
+    })
 
 -- it stays the course's where its seat does
 pub still_own : (course : Course) (f g : Follower) → IsFollowerOf course f → g.seat ≡ f.seat → g.number ≡ f.number → IsUpTo g → IsFollowerOf course g

@@ -7,3 +7,4 @@ mod Recordings
 mod Closing
 mod Faithful
 mod Demands
+mod Blocks

@@ -1,13 +1,14 @@
 -- The followers of a course at first.
 use Rattle.std.proofs.Common.{◌≡◌, ℕ, zero, suc, ◌+◌, ◌<◌, List, [], ◌∷◌, ◌++◌, drop, length, get_or, refl, sym, ap, ◌∙◌, subst, arith, add-zero}
+use Rattle.octet_digest.specs.Digests.{digest_of}
 use Rattle.octet_model.specs.declared.event.Event.{Event}
-use Rattle.octet_model.specs.Journals.{mark_count, gapped_marks}
+use Rattle.octet_model.specs.Journals.{mark_count, gap_after, gapped_marks}
 use Rattle.octet_follow.specs.declared.course.Course.{Course}
 use Rattle.octet_follow.specs.declared.follower.Follower.{Follower}
 use Rattle.octet_follow.specs.declared.words.Seat.{Seat}
 use Rattle.octet_follow.specs.State.{FollowerState}
 use Rattle.octet_follow.specs.Seats.{IsSeatOf, IsFresh, EachFresh}
-use Rattle.octet_follow.specs.Calls.{journal_in, pending, IsLeft, followers_in, IsAtStart, EachAtStart, IsFollowerAt, AreFollowersAt}
+use Rattle.octet_follow.specs.Calls.{journal_in, pending, after_last, with_first_gap, followers_in, IsAtStart, EachAtStart, IsFollowerAt, AreFollowersAt}
 
 -- one follower more
 pub followers_more : (room n k : ℕ) (seats : List Seat) (followers : List Follower) (seat : Seat) (follower : Follower) → AreFollowersAt room n seats followers → n + length seats ≡ k → IsFollowerAt room k seat follower
@@ -47,13 +48,13 @@ module _ (course : Course) (room : ℕ) where
             events = at.events ∙ ap (λ (j : List Event). length j) (sym journal);
             marked = at.marked ∙ ap mark_count (sym journal);
             next = let e = at.next in omega arith;
-            left = subst (λ z. z) (λ i. IsLeft (sym none i) (sym at.ended i) follower.total (sym at.left i) (sym journal i)) (refl, refl);
+            digest = at.digest ∙ ap digest_of (sym journal);
           };
         };
         numbered = here.0;
         unbegun = here.1;
-        given_none = λ i. gapped_marks 0 (journal i) ++ none i;
-        open_ = at.ended;
+        given_none = ((λ i. gapped_marks 0 (journal i) ++ with_first_gap (at.left i + gap_after 0 (journal i)) (none i)), λ i. after_last (none i) (at.left i + gap_after 0 (journal i)) follower.after);
+        open_ = at.ending;
         awaited = at.awaited;
         buffer = at.buffer;
       }

@@ -1,18 +1,20 @@
 -- What the calls of a course and of a follower say.
-use Rattle.std.specs.Prelude.{◌≡◌, ◌≢◌, ℕ, suc, ◌+◌, ◌^◌, ◌<◌, ◌≤◌, ◌⊎◌, Bool, true, false, List, [], ◌∷◌, ◌++◌, map, drop, length, slice_index_or}
+use Rattle.std.specs.Prelude.{◌≡◌, ◌≢◌, ℕ, suc, ◌+◌, ◌^◌, ◌<◌, ◌≤◌, ◌⊎◌, Bool, true, false, List, [], ◌∷◌, ◌++◌, map, drop, length, sum_by, slice_index_or}
 use Rattle.std.specs.Vec.{vec_capacity}
+use Rattle.octet_digest.specs.Digests.{bits_of, digest_of}
 use Rattle.octet_model.specs.declared.event.Event.{Event}
 use Rattle.octet_model.specs.declared.event.Event.TheVariants as event
 use Rattle.octet_model.specs.declared.event.Mark.{Mark}
 use Rattle.octet_model.specs.declared.log.Gapped.{Gapped}
-use Rattle.octet_model.specs.Journals.{access_count, mark_count, gap_after, gapped_marks}
+use Rattle.octet_model.specs.Journals.{mark_count, gap_after, gapped_marks}
 use Rattle.octet_model.specs.Machine.{Journals}
 use Rattle.octet_follow.specs.declared.access.Access.{Access}
 use Rattle.octet_follow.specs.declared.course.Course.{Course}
+use Rattle.octet_follow.specs.declared.ending.Ending.TheVariants.{Open, ThreadEnds, BreaksOff}
 use Rattle.octet_follow.specs.declared.follower.Follower.{Follower}
 use Rattle.octet_follow.specs.Accesses.{object_in, event_of, found_in}
 use Rattle.octet_follow.specs.declared.halt.Halt.{Halt}
-use Rattle.octet_follow.specs.declared.halt.Halt.TheVariants.{NeedsMarks, OverEnd, NoObject, EndsEarly, Amiss}
+use Rattle.octet_follow.specs.declared.halt.Halt.TheVariants.{NeedsMarks, RecordingEnds, OverEnd, NoObject, EndsEarly, Amiss}
 use Rattle.octet_follow.specs.Halts.{HaltsMark}
 use Rattle.octet_follow.specs.State.{CourseState, unbegun}
 use Rattle.octet_follow.specs.Views.{FollowerView}
@@ -41,7 +43,7 @@ starts_in course = starts_of course.words
 abbrev pub followers_in : Course → ℕ
 followers_in course = course.words.followers
 
--- the marks in the follower's buffer that it has not made
+-- the marks in the follower's buffer that it has not made. The first gap of a block counts from where the block begins
 abbrev pub pending : Follower → List Gapped
 pending follower = drop follower.next follower.marks.items
 
@@ -49,15 +51,31 @@ pending follower = drop follower.next follower.marks.items
 abbrev pub room_of : Follower → ℕ
 room_of follower = vec_capacity follower.marks
 
--- all marks that the follower was given
-abbrev pub given : Follower → List Gapped
-given follower = gapped_marks 0 (journal_in follower) ++ pending follower
+-- these marks, with so many accesses before the first one
+abbrev pub with_first_gap : ℕ → List Gapped → List Gapped
+with_first_gap gap [] = []
+with_first_gap gap (mark ∷ marks) = record { gap = gap; mark = mark.mark } ∷ marks
 
--- so many accesses come before the next mark, or before the end where this is told
-abbrev pub IsLeft : List Gapped → Bool → ℕ → ℕ → List Event → Type 0
-IsLeft (mark ∷ marks) ended total left journal = (mark.gap ≡ left + gap_after 0 journal) × (ended ≡ false)
-IsLeft [] false total left journal = (left ≡ 0) × (gap_after 0 journal ≡ 0)
-IsLeft [] true total left journal = total ≡ left + access_count journal
+-- the accesses from the last mark that the follower has made up to the next one, or to the end of what it was told
+abbrev pub gap_to_next : Follower → ℕ
+gap_to_next follower = follower.left + gap_after 0 (journal_in follower)
+
+-- all marks that the follower was given, each with the accesses since the mark before it
+abbrev pub given : Follower → List Gapped
+given follower = gapped_marks 0 (journal_in follower) ++ with_first_gap (gap_to_next follower) (pending follower)
+
+-- the accesses after the last of some marks: those up to the next mark, where these are none
+abbrev pub after_last : List Gapped → ℕ → ℕ → ℕ
+after_last [] next after = next
+after_last (mark ∷ marks) next after = after
+
+-- the accesses after the last of these marks, of which it was told
+abbrev pub given_after : Follower → ℕ
+given_after follower = after_last (pending follower) (gap_to_next follower) follower.after
+
+-- all accesses of which it was told
+abbrev pub accesses_given : Follower → ℕ
+accesses_given follower = sum_by (λ mark. mark.gap) (given follower) + given_after follower
 
 -- the follower's counts are those of what it has made and was given.
 -- Its progress word shows all of it, once it has made as many events as another one awaits
@@ -67,7 +85,7 @@ pub record IsUpTo (follower : Follower) : Type 0 where
   pub shown : follower.shown ≡ (view_of follower).follower.shown
   pub shows : follower.awaited ≤ length (journal_in follower) → follower.shown ≡ length (journal_in follower)
   pub next : follower.next ≤ length follower.marks.items
-  pub left : IsLeft (pending follower) follower.ended follower.total follower.left (journal_in follower)
+  pub digest : bits_of follower.digest ≡ digest_of (journal_in follower)
 
 -- the follower is one of the course's, between two calls
 pub record IsFollowerOf (course : Course) (follower : Follower) : Type 0 where
@@ -82,12 +100,12 @@ pub record IsSame (follower next : Follower) : Type 0 where
   pub room : room_of next ≡ room_of follower
   pub awaited : next.awaited ≡ follower.awaited
 
--- the follower was given the same marks, and told the same end
+-- the follower was told the same marks and accesses, and the same end
 pub record IsGivenSame (follower next : Follower) : Type 0 where
   pub same : IsSame follower next
   pub marks : given next ≡ given follower
-  pub ended : next.ended ≡ follower.ended
-  pub total : next.total ≡ follower.total
+  pub after : given_after next ≡ given_after follower
+  pub ending : next.ending ≡ follower.ending
 
 -- the follower has made marks alone
 pub record MakesMarks (v w : FollowerView) : Type 0 where
@@ -103,10 +121,14 @@ pub record Makes (access : Access) (v : FollowerView) (value : ℕ) (w : Followe
   pub state : CourseState
   pub seen : IsSeenBy w state
 
+-- the follower has made all that it was told of
+abbrev pub IsThrough : Follower → Type 0
+IsThrough follower = (follower.left ≡ 0) × (pending follower ≡ [])
+
 -- what is next for the follower: an access, or its end
 abbrev pub IsNextFor : Bool → Follower → Type 0
 IsNextFor true follower = follower.left ≢ 0
-IsNextFor false follower = (follower.ended ≡ true) × (follower.left ≡ 0) × (pending follower ≡ [])
+IsNextFor false follower = (follower.ending ≡ ThreadEnds) × IsThrough follower
 
 -- the next mark of the follower is due
 abbrev pub IsDue : Follower → Type 0
@@ -116,37 +138,27 @@ IsDue follower = (follower.left ≡ 0) × (follower.next < length follower.marks
 pub record CountsMark (follower next : Follower) : Type 0 where
   pub seat : next.seat ≡ follower.seat
   pub number : next.number ≡ follower.number
-  pub ended : next.ended ≡ follower.ended
-  pub total : next.total ≡ follower.total
+  pub ending : next.ending ≡ follower.ending
+  pub after : next.after ≡ follower.after
+  pub digest : next.digest ≡ follower.digest
   pub awaited : next.awaited ≡ follower.awaited
   pub marks : next.marks ≡ follower.marks
   pub events : next.events ≡ follower.events + 1
   pub marked : next.marked ≡ follower.marked + 1
   pub shown : next.shown ≡ follower.events + 1
   pub on : next.next ≡ follower.next + 1
-  pub last : length follower.marks.items ≡ next.next → next.left ≡ follower.left
+  pub last : length follower.marks.items ≡ next.next → next.left ≡ follower.after
   pub left : (mark : Gapped) (marks : List Gapped) → pending next ≡ mark ∷ marks → next.left ≡ mark.gap
 
--- the follower has no mark left, and was not told its end
+-- the follower has made all that it was told of, and more comes
 abbrev pub IsOut : Follower → Type 0
-IsOut follower = (follower.ended ≡ false) × (pending follower ≡ [])
-
--- the follower was told its end, at which it has made so many accesses
-pub record IsToldEnd (accesses : ℕ) (follower next : Follower) : Type 0 where
-  pub out : IsOut follower
-  pub enough : access_count (journal_in follower) ≤ accesses
-  pub ended : next.ended ≡ true
-  pub total : next.total ≡ accesses
-
--- the reason why a follower takes no such end
-abbrev pub IsNoEnd : ℕ → Follower → Type 0
-IsNoEnd accesses follower = (IsOut follower → ⊥) ⊎ (accesses < access_count (journal_in follower))
+IsOut follower = (follower.ending ≡ Open) × IsThrough follower
 
 -- the follower's recording is at its end, and so is the follower
 pub record IsComplete (follower : Follower) : Type 0 where
-  pub ended : follower.ended ≡ true
+  pub ends : follower.ending ≡ ThreadEnds
   pub marks : given follower ≡ gapped_marks 0 (journal_in follower)
-  pub accesses : follower.total ≡ access_count (journal_in follower)
+  pub after : given_after follower ≡ gap_after 0 (journal_in follower)
 
 -- the follower of this number, which has made nothing and was given nothing, and shows each access.
 -- It has room for so many marks
@@ -154,8 +166,8 @@ pub record IsAtStart (course : Course) (room number : ℕ) (follower : Follower)
   pub own : IsFollowerOf course follower
   pub numbered : (view_of follower).number ≡ number
   pub unbegun : (view_of follower).follower ≡ unbegun
-  pub given_none : given follower ≡ []
-  pub open_ : follower.ended ≡ false
+  pub given_none : (given follower ≡ []) × (given_after follower ≡ 0)
+  pub open_ : follower.ending ≡ Open
   pub awaited : follower.awaited ≡ 0
   pub buffer : room_of follower ≡ room
 
@@ -171,8 +183,9 @@ EachOf course followers = (number : ℕ) (none : Follower) → number < length f
 pub record IsFollowerAt (room number : ℕ) (seat : Seat) (follower : Follower) : Type 0 where
   pub seated : follower.seat ≡ seat
   pub numbered : follower.number ≡ number
-  pub ended : follower.ended ≡ false
+  pub ending : follower.ending ≡ Open
   pub left : follower.left ≡ 0
+  pub digest : bits_of follower.digest ≡ digest_of []
   pub events : follower.events ≡ 0
   pub marked : follower.marked ≡ 0
   pub shown : follower.shown ≡ 0
@@ -209,7 +222,8 @@ pub record HaltsAtMark (halt : Halt) (follower : Follower) : Type 0 where
 
 -- the reason why the marks that are due were not all made
 abbrev pub HaltsMarks : Halt → Follower → Type 0
-HaltsMarks NeedsMarks follower = IsOut follower × (follower.left ≡ 0)
+HaltsMarks NeedsMarks follower = IsOut follower
+HaltsMarks RecordingEnds follower = (follower.ending ≡ BreaksOff) × IsThrough follower
 HaltsMarks Amiss follower = IsFull follower ⊎ HaltsAtMark Amiss follower
 HaltsMarks halt follower = HaltsAtMark halt follower
 

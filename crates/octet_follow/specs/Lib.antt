@@ -13,3 +13,4 @@ pub mod Repeats
 pub mod Faithful
 pub mod Histories
 pub mod Demands
+pub mod Blocks

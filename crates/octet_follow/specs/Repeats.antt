@@ -1,5 +1,5 @@
 -- What a course by the marks of a recording comes to.
-use Rattle.std.specs.Prelude.{◌≡◌, ℕ, ◌<◌, ◌≤◌, true, List, [], ◌++◌, length, sum_by, slice_index_or}
+use Rattle.std.specs.Prelude.{◌≡◌, ℕ, ◌<◌, ◌≤◌, List, ◌++◌, length, slice_index_or}
 use Rattle.octet_model.specs.declared.log.Gapped.{Gapped}
 use Rattle.octet_model.specs.declared.log.ThreadLog.{ThreadLog}
 use Rattle.octet_model.specs.Machine.{Journals, journal_of, PlainState}
@@ -7,8 +7,8 @@ use Rattle.octet_model.specs.Plans.{thread_log_of}
 use Rattle.octet_follow.specs.declared.follower.Follower.{Follower}
 use Rattle.octet_follow.specs.State.{CourseState, journals_of}
 use Rattle.octet_follow.specs.Rule.{IsSeenBy}
-use Rattle.octet_follow.specs.Calls.{view_of, journal_in, journals_in, given, IsComplete}
-use Rattle.octet_follow.specs.Recordings.{Threads, IsRecording, IsDemandedBy, AllFollow, IsDemandedToEnd, Begins}
+use Rattle.octet_follow.specs.Calls.{view_of, journal_in, journals_in, given, given_after, accesses_given, IsComplete}
+use Rattle.octet_follow.specs.Recordings.{Threads, IsRecording, IsDemandedBy, Ahead, AllFollow, IsDemandedToEnd, Begins}
 
 -- where each thread has made accesses that it demands, and the marks that a recording has before them,
 -- what it has made is the beginning of what it made in the recording
@@ -24,13 +24,12 @@ pub record IsRecordedSoFar (follower : Follower) : Type 0 where
   pub own : journal_of (journals_of state) (view_of follower).number ≡ journal_in follower
   pub keeps : KeepsIn (view_of follower).starts (journals_of state)
 
--- a follower was given marks of its thread in a log, and its accesses are what its thread demands.
--- Where it was told the end, it was given all marks
+-- a follower was told of the first marks and accesses of its thread in a log, and its accesses are what its thread demands
 pub record HasBegun (threads : Threads) (log : List ThreadLog) (t : ℕ) (follower : Follower) : Type 0 where
-  pub gaps : sum_by (λ mark. mark.gap) (thread_log_of log t).marks ≤ (thread_log_of log t).accesses
+  pub accesses : accesses_given follower ≤ (thread_log_of log t).accesses
   pub more : List Gapped
   pub marks : (thread_log_of log t).marks ≡ given follower ++ more
-  pub ended : follower.ended ≡ true → (more ≡ []) × (follower.total ≡ (thread_log_of log t).accesses)
+  pub ahead : Ahead more (given_after follower)
   pub demanded : IsDemandedBy (threads t) (journal_in follower)
 
 -- all followers have begun so
@@ -47,7 +46,7 @@ KeepsToRecording starts followers = (threads : Threads) (log : List ThreadLog) (
 -- a follower has come to its end, of the marks of its thread in a log and of what its thread demands
 pub record HasFollowed (threads : Threads) (log : List ThreadLog) (t : ℕ) (follower : Follower) : Type 0 where
   pub marks : given follower ≡ (thread_log_of log t).marks
-  pub accesses : follower.total ≡ (thread_log_of log t).accesses
+  pub accesses : accesses_given follower ≡ (thread_log_of log t).accesses
   pub complete : IsComplete follower
   pub demanded : IsDemandedToEnd (threads t) (journal_in follower)
 

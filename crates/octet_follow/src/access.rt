@@ -1,7 +1,9 @@
 //! An access that a thread is about to make.
-ghost use Rattle.std.specs.Prelude.{◌≡◌};
-ghost use Rattle.octet_follow.specs.Accesses.{object_in};
+ghost use Rattle.std.specs.Prelude.{◌≡◌, ℕ};
+ghost use Rattle.octet_digest.specs.Digests.{bits_of, digest_with};
+ghost use Rattle.octet_follow.specs.Accesses.{object_in, event_of, found_in};
 
+use octet_digest::Digest;
 use octet_rule::Change;
 
 /// An access that a thread is about to make.
@@ -25,6 +27,17 @@ impl Access {
             Access::Read { object }
             | Access::Write { object, .. }
             | Access::Update { object, .. } => object,
+        }
+    }
+    /// The digest with this access, which told its thread this value.
+    #[inline(always)]
+    pub(crate) fn digested(self, digest: Digest, told: u64) -> Digest
+        ensures { (found : ℕ) → told ≡ found_in (event_of self found) → bits_of result ≡ digest_with (event_of self found) (bits_of digest) }
+    {
+        match self {
+            Access::Read { object } => digest.read(object, told),
+            Access::Write { object, value } => digest.write(object, value),
+            Access::Update { object, change } => digest.update(object, told, change.changed(told)),
         }
     }
 }

@@ -1,10 +1,15 @@
 //! A follower: one thread as far as it has run again, with its seat on the words.
-ghost use Rattle.std.specs.Prelude.{◌≡◌, ◌≤◌, ◌++◌, ◌∷◌, [], List, take, length, min, true, false};
+ghost use Rattle.std.specs.Prelude.{◌≡◌, ◌∷◌, [], List, take, length, min, true, false, Some, None};
 ghost use Rattle.std.specs.Vec.{vec_capacity};
+ghost use Rattle.octet_digest.specs.Digests.{bits_of, digest_of};
+ghost use Rattle.octet_model.specs.Journals.{access_count};
 ghost use Rattle.octet_model.specs.declared.log.Gapped.{Gapped as AGapped};
-ghost use Rattle.octet_follow.specs.Calls.{given, room_of, journal_in, IsUpTo, IsOut, IsToldEnd, IsNoEnd};
+ghost use Rattle.octet_follow.specs.Blocks.{after_taken, TakesBlock};
+ghost use Rattle.octet_follow.specs.Calls.{given, given_after, room_of, journal_in, IsUpTo, IsThrough, IsOut};
 
+use crate::ending::Ending;
 use crate::words::Seat;
+use octet_digest::Digest;
 use octet_model::Gapped;
 
 /// As many words as two lines of memory hold, which a processor may take in together.
@@ -15,10 +20,12 @@ pub(crate) const WORDS_APART: usize = 16;
 pub struct Follower {
     pub(crate) seat: Seat,
     pub(crate) number: u8,
-    /// Whether it is told that no further mark comes.
-    pub(crate) ended: bool,
-    /// How many accesses come before the next mark, or before the end.
+    /// What comes after all that it was told.
+    pub(crate) ending: Ending,
+    /// How many accesses come before the next mark, or before the end of its block.
     pub(crate) left: u64,
+    /// How many accesses come after the last mark of its block.
+    pub(crate) after: u64,
     /// How many events it has made.
     pub(crate) events: u64,
     /// How many of them are marks.
@@ -27,8 +34,7 @@ pub struct Follower {
     pub(crate) shown: u64,
     /// How many it makes before it shows the next accesses.
     pub(crate) awaited: u64,
-    /// How many accesses it makes in all, once it is told.
-    pub(crate) total: u64,
+    pub(crate) digest: Digest,
     pub(crate) marks: Vec<Gapped>,
     pub(crate) next: usize,
     /// Keeps followers apart, so that no two threads write to one line of memory.
@@ -50,15 +56,22 @@ fn copy(buffer: &mut Vec<Gapped>, marks: &[Gapped]) -> usize
     taken
 }
 
-// How many accesses come before the first mark.
-fn first_gap(marks: &[Gapped]) -> u64
+// How many accesses come before the first of these marks. Where there is none, it is all that come after them.
+fn first_gap(marks: &[Gapped], after: u64) -> u64
     ensures some { (first : AGapped) (rest : List AGapped) → marks.now ≡ first ∷ rest → result ≡ first.gap }
-    ensures none { marks.now ≡ [] → result ≡ 0 }
+    ensures none { marks.now ≡ [] → result ≡ after }
 {
     match marks.first() {
         Some(first) => first.gap as u64,
-        None => 0,
+        None => after,
     }
+}
+
+// How many accesses come after the marks that were taken, of a block with so many marks.
+fn left_after(taken: usize, marks: usize, after: u64) -> u64
+    ensures { result ≡ after_taken taken marks after }
+{
+    if taken == marks { after } else { 0 }
 }
 
 impl Follower {
@@ -77,58 +90,73 @@ impl Follower {
         self.events
     }
 
-    // Whether it has no mark left, and was not told its end.
-    fn is_out(&self) -> bool
+    /// How many accesses it has made.
+    pub fn accesses(&self) -> u64
+        requires up { IsUpTo self.now }
+        ensures { result ≡ access_count (journal_in self.now) }
+    {
+        self.events - self.marked
+    }
+
+    /// The digest of the accesses that it has made.
+    pub fn digest(&self) -> Digest
+        requires up { IsUpTo self.now }
+        ensures { bits_of result ≡ digest_of (journal_in self.now) }
+    {
+        self.digest
+    }
+
+    /// Whether it has made all that it was told of, and more comes.
+    pub fn is_out(&self) -> bool
         ensures out { result ≡ true → IsOut self.now }
         ensures not_out { result ≡ false → IsOut self.now → ⊥ }
     {
-        if self.ended {
+        match self.ending {
+            Ending::Open => self.is_through(),
+            Ending::ThreadEnds | Ending::BreaksOff => false,
+        }
+    }
+
+    // Whether it has made all that it was told of.
+    fn is_through(&self) -> bool
+        ensures through { result ≡ true → IsThrough self.now }
+        ensures not_through { result ≡ false → IsThrough self.now → ⊥ }
+    {
+        if self.left != 0 {
             return false;
         }
         self.next >= self.marks.len()
     }
 
-    /// Takes the marks that come next, as many as there is room for, where it has none left. Answers
-    /// how many it took.
-    pub(crate) fn refill(&mut self, marks: &[Gapped]) -> usize
+    /// Takes the block that comes next, as many of its marks as there is room for, where it has made all
+    /// that it was told of. Answers how many it took.
+    pub(crate) fn refill(&mut self, marks: &[Gapped], after: u64) -> Option<usize>
         requires up { IsUpTo self.old }
         ensures up { IsUpTo self.new }
         ensures seat { (self.new.seat ≡ self.old.seat) × (self.new.number ≡ self.old.number) }
-        ensures same { (room_of self.new ≡ room_of self.old) × (self.new.awaited ≡ self.old.awaited) × (self.new.ended ≡ self.old.ended) × (self.new.total ≡ self.old.total) }
-        ensures taken { (result ≤ length marks.now) × (given self.new ≡ given self.old ++ take result marks.now) }
-        ensures fills { IsOut self.old → result ≡ min (length marks.now) (room_of self.old) }
-        ensures leaves { (IsOut self.old → ⊥) → result ≡ 0 }
+        ensures same { (room_of self.new ≡ room_of self.old) × (self.new.awaited ≡ self.old.awaited) × (self.new.ending ≡ self.old.ending) }
+        ensures takes { IsOut self.old → (result ≡ Some (min (length marks.now) (room_of self.old))) × TakesBlock (min (length marks.now) (room_of self.old)) marks.now after self.old self.new }
+        ensures leaves { (IsOut self.old → ⊥) → (result ≡ None) × (self.new ≡ self.old) }
     {
         if !self.is_out() {
-            return 0;
+            return None;
         }
         let taken = copy(&mut self.marks, marks);
         self.next = 0;
-        self.left = first_gap(self.marks.as_slice());
-        taken
+        self.after = left_after(taken, marks.len(), after);
+        self.left = first_gap(self.marks.as_slice(), self.after);
+        Some(taken)
     }
 
-    /// Takes it that no further mark comes, and how many accesses the thread makes in all. It has no
-    /// mark left then, and has made no more than these.
-    pub(crate) fn end(&mut self, accesses: u64) -> bool
+    /// Takes it that nothing comes after what it was told.
+    pub(crate) fn end(&mut self, ending: Ending)
         requires up { IsUpTo self.old }
         ensures up { IsUpTo self.new }
         ensures seat { (self.new.seat ≡ self.old.seat) × (self.new.number ≡ self.old.number) }
         ensures same { (room_of self.new ≡ room_of self.old) × (self.new.awaited ≡ self.old.awaited) }
-        ensures given { given self.new ≡ given self.old }
-        ensures told { result ≡ true → IsToldEnd accesses self.old self.new }
-        ensures refused { result ≡ false → IsNoEnd accesses self.old × (self.new ≡ self.old) }
+        ensures given { (given self.new ≡ given self.old) × (given_after self.new ≡ given_after self.old) }
+        ensures told { self.new.ending ≡ ending }
     {
-        if !self.is_out() {
-            return false;
-        }
-        let made = self.events - self.marked;
-        if accesses < made {
-            return false;
-        }
-        self.ended = true;
-        self.total = accesses;
-        self.left = accesses - made;
-        true
+        self.ending = ending;
     }
 }

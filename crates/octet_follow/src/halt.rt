@@ -7,11 +7,13 @@ pub enum Halt {
     Waits { whom: u8, needs: u64, found: u64 },
     /// So many draws come first, and fewer are made. The thread asks again.
     WaitsForDraws { needs: u64, found: u64 },
-    /// No mark is left in the buffer, and the end was not told.
+    /// It has made all that it was told of, and more comes. The next block, or the end, is to be given.
     NeedsMarks,
+    /// It has made all that is recorded of its thread: the recording breaks off here. That is no divergence.
+    RecordingEnds,
     /// The recording has no further access of the thread.
     OverEnd,
-    /// The thread wants to end, and has so many accesses before its next mark or its end.
+    /// The thread wants to end, and has so many accesses before its next mark or the end of its block.
     EndsEarly { left: u64 },
     /// There is no such object.
     NoObject,

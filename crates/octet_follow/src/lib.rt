@@ -5,6 +5,7 @@
 
 mod access;
 mod course;
+mod ending;
 mod follower;
 mod halt;
 pub mod laws;
@@ -13,6 +14,8 @@ mod words;
 
 pub use access::Access;
 pub use course::Course;
+pub use ending::Ending;
 pub use follower::Follower;
 pub use halt::Halt;
+pub use octet_digest::Digest;
 pub use octet_rule::Change;

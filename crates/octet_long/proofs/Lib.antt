@@ -2,3 +2,5 @@ pub mod lemmas
 mod Programs
 mod Recorded
 mod Followed
+mod Tracks
+mod TracksAtEnds

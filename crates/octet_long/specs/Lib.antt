@@ -1,3 +1,4 @@
 pub mod Recordings
 pub mod Pieces
 pub mod Followed
+pub mod Tracks

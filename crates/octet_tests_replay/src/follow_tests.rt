@@ -2,7 +2,7 @@
 ghost use Rattle.std.specs.Prelude.{◌≡◌, ◌∷◌, [], length, IfOk};
 ghost use Rattle.octet_follow.specs.Calls.{view_of, followers_in, IsFollowerOf};
 
-use octet_follow::{Access, Change, Course, Follower, Halt};
+use octet_follow::{Access, Change, Course, Ending, Follower, Halt};
 use octet_model::{Gapped, List, Mark, OutOfMemory};
 use std::alloc::Global;
 use std::process::Abort;
@@ -33,6 +33,9 @@ const FENCE: Gapped = Gapped {
     gap: 0,
     mark: Mark::Fence { number: 1 },
 };
+
+/// The digest of an update of object 1 from 5 to 10, and a read of 7 from object 0.
+const DIGEST: u64 = 0xa7b7_9ad9_2cde_5196;
 
 fn join(gap: u32, from: u8, upto: u64) -> Gapped {
     Gapped {
@@ -72,11 +75,10 @@ fn give<R: Abort>(rt: &R, course: &Course, first: &mut Follower, second: &mut Fo
     ensures second { IsFollowerOf course.now second.new × ((view_of second.new).number ≡ (view_of second.old).number) }
 {
     assert!(rt; course.ask(first, READ) == Err(Halt::NeedsMarks));
-    assert!(rt; course.refill(first, &[DRAW]) == 1);
+    assert!(rt; course.refill(first, &[DRAW], 0) == Some(1));
     course.await_events(first, 2);
-    assert!(rt; course.refill(second, &[join(1, 0, 2), FENCE, FENCE]) == 2);
-    assert!(rt; course.refill(second, &[FENCE]) == 0);
-    assert!(rt; !course.end(second, 3));
+    assert!(rt; course.refill(second, &[join(1, 0, 2), FENCE, FENCE], 1) == Some(2));
+    assert!(rt; course.refill(second, &[FENCE], 1).is_none());
 }
 
 /// The second one waits until the first one has made two events.
@@ -93,7 +95,7 @@ fn begin<R: Abort>(rt: &R, course: &Course, first: &mut Follower, second: &mut F
     assert!(rt; course.ask(first, WRITE_7) == Ok(7));
 }
 
-/// And then until the first one has drawn, which comes to its end.
+/// And then until the first one has drawn, whose recording breaks off there, and is then found to end.
 fn go_on<R: Abort>(rt: &R, course: &Course, first: &mut Follower, second: &mut Follower)
     requires first { IsFollowerOf course.now first.old }
     requires second { IsFollowerOf course.now second.old }
@@ -103,20 +105,33 @@ fn go_on<R: Abort>(rt: &R, course: &Course, first: &mut Follower, second: &mut F
     let early = Halt::WaitsForDraws { needs: 1, found: 0 };
     assert!(rt; course.ask(second, READ) == Err(early));
     assert!(rt; course.finish(first) == Err(Halt::NeedsMarks));
-    assert!(rt; course.end(first, 2));
+    course.end(first, Ending::BreaksOff);
+    assert!(rt; course.finish(first) == Err(Halt::RecordingEnds));
+    course.end(first, Ending::ThreadEnds);
     assert!(rt; course.finish(first) == Ok(()));
     assert!(rt; course.ask(first, READ) == Err(Halt::OverEnd));
 }
 
-/// The second one reads what was written. Its last mark names no thread.
-fn end<R: Abort>(rt: &R, course: &Course, second: &mut Follower)
+/// The second one reads what was written: its next block has one access after its mark.
+fn read_on<R: Abort>(rt: &R, course: &Course, second: &mut Follower)
     requires second { IsFollowerOf course.now second.old }
     ensures second { IsFollowerOf course.now second.new × ((view_of second.new).number ≡ (view_of second.old).number) }
 {
     assert!(rt; course.ask(second, READ) == Err(Halt::NeedsMarks));
-    assert!(rt; course.refill(second, &[join(1, 0, 3), join(0, 2, 0)]) == 2);
+    assert!(rt; course.refill(second, &[FENCE], 1) == Some(1));
     assert!(rt; course.ask(second, READ_NOTHING) == Err(Halt::NoObject));
     assert!(rt; course.ask(second, READ) == Ok(7));
+    assert!(rt; course.ask(second, READ) == Err(Halt::NeedsMarks));
+}
+
+/// It has updated object 1 from 5 to 10 and read 7 from object 0. Its last mark names no thread.
+fn end<R: Abort>(rt: &R, course: &Course, second: &mut Follower)
+    requires second { IsFollowerOf course.now second.old }
+    ensures second { IsFollowerOf course.now second.new × ((view_of second.new).number ≡ (view_of second.old).number) }
+{
+    assert!(rt; second.accesses() == 2);
+    assert!(rt; second.digest().bits() == DIGEST);
+    assert!(rt; course.refill(second, &[join(0, 0, 3), join(0, 2, 0)], 0) == Some(2));
     assert!(rt; course.finish(second) == Err(Halt::Amiss));
 }
 
@@ -127,6 +142,7 @@ fn followers_wait_for_marks(rt: HostRuntime) -> Result<(), Fail> {
     give(&rt, &course, &mut first, &mut second);
     begin(&rt, &course, &mut first, &mut second);
     go_on(&rt, &course, &mut first, &mut second);
+    read_on(&rt, &course, &mut second);
     end(&rt, &course, &mut second);
     let mut followers = List::new(alloc);
     followers.push(first)?;

@@ -1,10 +1,11 @@
 //! What a thread asks of its follower. No call takes memory, and none waits.
 ghost use Rattle.std.specs.Prelude.{◌≡◌, ◌≢◌, ◌<◌, ◌≤◌, ◌^◌, ◌+◌, length, false, if◌then◌else◌, IfOk, IfErr, OnOk};
-ghost use Rattle.octet_follow.specs.Calls.{view_of, IsFollowerOf, IsGivenSame, MakesMarks, Makes, IsComplete, IsDue, IsNextFor, CountsMark, HaltsMarks, Halts, IsNotEnded};
+ghost use Rattle.octet_follow.specs.Calls.{view_of, IsFollowerOf, IsGivenSame, MakesMarks, Makes, IsComplete, IsDue, IsThrough, IsNextFor, CountsMark, HaltsMarks, Halts, IsNotEnded};
 ghost use Rattle.octet_follow.specs.Repeats.{IsRecordedSoFar};
 
 use crate::access::Access;
 use crate::course::Course;
+use crate::ending::Ending;
 use crate::follower::Follower;
 use crate::halt::Halt;
 
@@ -19,9 +20,11 @@ fn count_mark(follower: &mut Follower)
     follower.marked += 1;
     follower.shown = follower.events;
     follower.next += 1;
-    if follower.next < follower.marks.len() {
-        follower.left = follower.marks[follower.next].gap as u64;
-    }
+    follower.left = if follower.next < follower.marks.len() {
+        follower.marks[follower.next].gap as u64
+    } else {
+        follower.after
+    };
 }
 
 // Whether another thread may wait for a follower that has made so many events.
@@ -69,6 +72,19 @@ impl Course {
         Ok(())
     }
 
+    // What comes after all that a follower was told, which has made it.
+    fn after_all(&self, follower: &Follower) -> Result<bool, Halt>
+        requires all { IsThrough follower.now }
+        ensures next { IfOk result (λ access. IsNextFor access follower.now) }
+        ensures halts { IfErr result (λ halt. HaltsMarks halt follower.now) }
+    {
+        match follower.ending {
+            Ending::Open => Err(Halt::NeedsMarks),
+            Ending::ThreadEnds => Ok(false),
+            Ending::BreaksOff => Err(Halt::RecordingEnds),
+        }
+    }
+
     // Makes the marks that are due. Whether an access is next, or the end.
     fn make_marks(&self, follower: &mut Follower) -> Result<bool, Halt>
         requires own { IsFollowerOf self.now follower.old }
@@ -80,10 +96,7 @@ impl Course {
     {
         while follower.left == 0 {
             if follower.next >= follower.marks.len() {
-                if follower.ended {
-                    return Ok(false);
-                }
-                return Err(Halt::NeedsMarks);
+                return self.after_all(follower);
             }
             if let Err(halt) = self.take_mark(follower) {
                 return Err(halt);
@@ -120,6 +133,7 @@ impl Course {
             shows,
             access,
         );
+        follower.digest = access.digested(follower.digest, value);
         Ok(value)
     }
 

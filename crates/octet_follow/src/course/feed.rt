@@ -1,36 +1,41 @@
 //! What a follower is told of its recording.
-ghost use Rattle.std.specs.Prelude.{◌≡◌, ◌≤◌, ◌++◌, take, length, min, true, false};
-ghost use Rattle.octet_follow.specs.Calls.{view_of, journal_in, given, room_of, IsFollowerOf, IsSame, IsOut, IsToldEnd, IsNoEnd};
+ghost use Rattle.std.specs.Prelude.{◌≡◌, length, min, Some, None};
+ghost use Rattle.octet_follow.specs.Blocks.{TakesBlock};
+ghost use Rattle.octet_follow.specs.Calls.{view_of, journal_in, given, given_after, room_of, IsFollowerOf, IsSame, IsOut};
 
 use crate::course::Course;
+use crate::ending::Ending;
 use crate::follower::Follower;
 use octet_model::Gapped;
 
 impl Course {
-    /// Gives the follower the marks that come next. It takes as many as there is room for, where it has
-    /// none left, and answers how many it took.
-    pub fn refill(&self, follower: &mut Follower, marks: &[Gapped]) -> usize
+    /// Gives the follower the block that comes next: its marks, the first of which counts its accesses from
+    /// where the block begins, and how many accesses come after the last of them. The follower takes it where it
+    /// has made all that it was told of, and as many marks as there is room for. Answers how many it took: the
+    /// other ones, with the accesses after them, are its next block. None where it has something left to make, or
+    /// was told the end.
+    pub fn refill(&self, follower: &mut Follower, marks: &[Gapped], after: u64) -> Option<usize>
         requires own { IsFollowerOf self.now follower.old }
         ensures own { IsFollowerOf self.now follower.new }
-        ensures same { IsSame follower.old follower.new × (follower.new.ended ≡ follower.old.ended) × (follower.new.total ≡ follower.old.total) }
-        ensures taken { (result ≤ length marks.now) × (given follower.new ≡ given follower.old ++ take result marks.now) }
-        ensures fills { IsOut follower.old → result ≡ min (length marks.now) (room_of follower.old) }
-        ensures leaves { (IsOut follower.old → ⊥) → result ≡ 0 }
+        ensures same { IsSame follower.old follower.new × (follower.new.ending ≡ follower.old.ending) }
+        ensures made { journal_in follower.new ≡ journal_in follower.old }
+        ensures takes { IsOut follower.old → (result ≡ Some (min (length marks.now) (room_of follower.old))) × TakesBlock (min (length marks.now) (room_of follower.old)) marks.now after follower.old follower.new }
+        ensures leaves { (IsOut follower.old → ⊥) → (result ≡ None) × (follower.new ≡ follower.old) }
     {
-        follower.refill(marks)
+        follower.refill(marks, after)
     }
 
-    /// Tells the follower that no further mark comes, and how many accesses its thread makes in all. It
-    /// takes that where it has no mark left, and has made no more accesses.
-    pub fn end(&self, follower: &mut Follower, accesses: u64) -> bool
+    /// Tells the follower what comes after all that it was told: its thread's end, or the end of a recording
+    /// that breaks off. It need not have made all yet.
+    pub fn end(&self, follower: &mut Follower, ending: Ending)
         requires own { IsFollowerOf self.now follower.old }
         ensures own { IsFollowerOf self.now follower.new }
         ensures same { IsSame follower.old follower.new }
-        ensures given { given follower.new ≡ given follower.old }
-        ensures told { result ≡ true → IsToldEnd accesses follower.old follower.new }
-        ensures refused { result ≡ false → IsNoEnd accesses follower.old × (follower.new ≡ follower.old) }
+        ensures made { journal_in follower.new ≡ journal_in follower.old }
+        ensures given { (given follower.new ≡ given follower.old) × (given_after follower.new ≡ given_after follower.old) }
+        ensures told { follower.new.ending ≡ ending }
     {
-        follower.end(accesses)
+        follower.end(ending);
     }
 
     /// Tells the follower that no thread waits for its accesses before it has made so many events. Until
@@ -42,7 +47,7 @@ impl Course {
         ensures number { (view_of follower.new).number ≡ (view_of follower.old).number }
         ensures room { room_of follower.new ≡ room_of follower.old }
         ensures made { journal_in follower.new ≡ journal_in follower.old }
-        ensures given { (given follower.new ≡ given follower.old) × (follower.new.ended ≡ follower.old.ended) × (follower.new.total ≡ follower.old.total) }
+        ensures given { (given follower.new ≡ given follower.old) × (given_after follower.new ≡ given_after follower.old) × (follower.new.ending ≡ follower.old.ending) }
     {
         follower.awaited = events;
         if follower.events < events {

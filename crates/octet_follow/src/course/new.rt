@@ -3,8 +3,10 @@ ghost use Rattle.std.specs.Prelude.{◌≡◌, ◌<◌, ◌^◌, length, IfOk};
 ghost use Rattle.octet_follow.specs.Calls.{starts_in, followers_in, EachAtStart, AreFollowersAt, IsFollowerAt};
 
 use crate::course::Course;
+use crate::ending::Ending;
 use crate::follower::{Follower, WORDS_APART};
 use crate::words::{Seat, Words};
+use octet_digest::Digest;
 use octet_model::{List, OutOfMemory};
 use std::alloc::Global;
 
@@ -49,13 +51,14 @@ fn follower(alloc: Global, number: u8, seat: Seat, room: usize) -> Result<Follow
     Ok(Follower {
         seat,
         number,
-        ended: false,
+        ending: Ending::Open,
         left: 0,
+        after: 0,
         events: 0,
         marked: 0,
         shown: 0,
         awaited: 0,
-        total: 0,
+        digest: Digest::new(),
         marks: Vec::with_capacity(alloc, room)?,
         next: 0,
         padding: [0; WORDS_APART],

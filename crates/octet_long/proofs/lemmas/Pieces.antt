@@ -1,26 +1,6 @@
 -- Pieces of marks join.
-use Rattle.std.proofs.Common.{◌≡◌, ◌∙◌, ℕ, suc, ◌+◌, List, [], ◌∷◌, ◌++◌, refl, ap, arith}
-use Rattle.octet_model.specs.declared.event.Event.{Event}
-use Rattle.octet_model.specs.declared.event.Event.TheVariants.{Marked}
-use Rattle.octet_model.specs.declared.log.Gapped.{Gapped}
-use Rattle.octet_model.specs.Journals.{gap_after, gapped_marks}
-use Rattle.octet_model.proofs.lemmas.Splits.{gap_split, gapped_marks_split}
-use Rattle.octet_long.specs.Pieces.{lengthened, carried, PiecesJoin}
-
-marks_from : (more before : ℕ) (piece : List Event) → gapped_marks (more + before) piece ≡ lengthened more (gapped_marks before piece)
-marks_from more before [] = refl
-marks_from more before (Marked mark ∷ piece) = refl
-marks_from more before (access ∷ piece) = let next : suc (more + before) ≡ more + suc before = omega arith in ap (λ (n : ℕ). gapped_marks n piece) next ∙ marks_from more (suc before) piece
-
-gap_from : (more before : ℕ) (piece : List Event) → gap_after (more + before) piece ≡ carried more (gapped_marks before piece) (gap_after before piece)
-gap_from more before [] = refl
-gap_from more before (Marked mark ∷ piece) = refl
-gap_from more before (access ∷ piece) = let next : suc (more + before) ≡ more + suc before = omega arith in ap (λ (n : ℕ). gap_after n piece) next ∙ gap_from more (suc before) piece
+use Rattle.octet_follow.proofs.lemmas.Pieces.{pieces_marks, pieces_gap}
+use Rattle.octet_long.specs.Pieces.{PiecesJoin}
 
 pub pieces_join : PiecesJoin
-pieces_join earlier piece =
-    let more = gap_after 0 earlier in
-    let here : more ≡ more + 0 = omega arith in (
-      gapped_marks_split 0 earlier piece ∙ ap (λ (l : List Gapped). gapped_marks 0 earlier ++ l) (ap (λ (n : ℕ). gapped_marks n piece) here ∙ marks_from more 0 piece),
-      gap_split 0 earlier piece ∙ (ap (λ (n : ℕ). gap_after n piece) here ∙ gap_from more 0 piece),
-    )
+pieces_join earlier piece = (pieces_marks earlier piece, pieces_gap earlier piece)

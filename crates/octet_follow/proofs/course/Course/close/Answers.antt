@@ -18,7 +18,7 @@ pub returns-clause-closes : goal.returns-clause-closes
 returns-clause-closes c = closes c
 
 pub returns-clause-keeps : goal.returns-clause-keeps
-returns-clause-keeps c = keeps (starts_in c.args.self) c.args.followers c.from_vec.result (closes c) (λ t none h. (c.requires.each t none h).0.up)
+returns-clause-keeps c = keeps (starts_in c.args.self) c.args.followers c.from_vec.result (closes c)
 
 pub returns-clause-repeats : goal.returns-clause-repeats
 returns-clause-repeats c = repeats (starts_in c.args.self) c.args.followers c.from_vec.result (closes c)
