@@ -9,7 +9,6 @@ use Rattle.octet_model.specs.Journals.{log_of}
 use Rattle.octet_model.specs.Thread.{added}
 use Rattle.octet_recorder.specs.declared.access.Access.{Access}
 use Rattle.octet_recorder.specs.declared.track.TheConstants.{LINES_OF_ACCESS}
-use Rattle.octet_rerun.specs.declared.halt.Halt.{Halt}
 use Rattle.octet_rerun.specs.declared.rerun.Rerun.{Rerun}
 use Rattle.octet_rerun.specs.Reruns.{IsAtStart}
 use Rattle.octet_session.specs.declared.not_made.NotMade.{NotMade}
@@ -38,8 +37,8 @@ pub record IsLogOfPayments (first second : ℕ) (log : List ThreadLog) : Type 0 
   pub is : log ≡ log_of (first_journal ∷ second_journal ∷ [])
 
 -- a thread has left its recording, for a reason of its session
-pub record HasLeft {T : Type 0} (IsReason : Option Access → T → T → NotMade → Type 0) (after : T) (why : NotMade) : Type 0 where
-  pub halt : Halt
+pub record HasLeft {T H : Type 0} (IsReason : Option Access → T → T → NotMade H → Type 0) (after : T) (why : NotMade H) : Type 0 where
+  pub halt : H
   pub left : why ≡ Left halt
   pub wanted : Option Access
   pub before : T

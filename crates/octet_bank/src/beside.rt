@@ -12,7 +12,7 @@ ghost use Rattle.octet_bank.specs.Tellers.{Pays, IsOfBank, IsReady};
 use crate::teller::{Payments, pay};
 use octet_recorder::{Recorder, Track};
 use octet_rerun::Rerun;
-use octet_session::{NotMade, SecondThread};
+use octet_session::{Halt, NotMade, SecondThread};
 use std::sync::Wait;
 use std::thread::{Threads, join_mut};
 
@@ -65,7 +65,7 @@ pub(crate) fn pay_both<R: Threads + Wait + Sync>(
 }
 
 /// What a teller of a second run came to.
-type Answer = Result<(), NotMade>;
+type Answer = Result<(), NotMade<Halt>>;
 
 /// Both tellers, run again. Each pays, or has left its recording.
 pub(crate) fn pay_both_again<R: Threads + Wait + Sync>(

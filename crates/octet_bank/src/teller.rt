@@ -1,5 +1,8 @@
 //! What a teller does, in a run that is recorded or made again.
-ghost use Rattle.std.specs.Prelude.{◌≡◌, ◌≤◌, None, IfOk, IfErr};
+#![tactic(auto, using(octet_session::proofs::lemmas::Room::room_after, octet_session::proofs::lemmas::Room::room_is_there))]
+
+ghost use Rattle.std.specs.Prelude.{◌≡◌, None, IfOk, IfErr};
+ghost use Rattle.octet_session.specs.Asking.{HasRoomFor};
 ghost use Rattle.octet_bank.specs.Tellers.{lines_of_payment, Pays, HasLeft};
 
 use octet_session::{Access, NotMade, Session, end, make};
@@ -22,12 +25,12 @@ pub(crate) fn pay<R: Wait, S: Session>(
     session: &S,
     teller: &mut S::Thread,
     amount: u32,
-) -> Result<(), NotMade>
+) -> Result<(), NotMade<S::Halt>>
     requires own { S.IsThreadOf session.now teller.old }
     requires rests { S.Rests teller.old }
     requires idle { (S.standing session.now teller.old).begun ≡ None }
     requires account { S.objects session.now ≡ 1 }
-    requires room { lines_of_payment ≤ (S.standing session.now teller.old).left }
+    requires room { HasRoomFor lines_of_payment (S.standing session.now teller.old).left }
     ensures own { S.IsThreadOf session.now teller.new }
     ensures number { (S.standing session.now teller.new).number ≡ (S.standing session.now teller.old).number }
     ensures paid { IfOk result (λ _. Pays amount (S.standing session.now teller.old).journal (S.standing session.now teller.new).journal) }

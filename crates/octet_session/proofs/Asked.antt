@@ -19,7 +19,7 @@ use Rattle.octet_recorder.specs.declared.track.Track.{Track}
 use Rattle.octet_recorder.specs.declared.track.TheConstants.{LINES_OF_ACCESS}
 use Rattle.octet_recorder.specs.Polls.{NotesUpdate, NotesPoll}
 use Rattle.octet_recorder.specs.Tracks.{lines_in, lines_noted, number_of, lines_of, Notes}
-use Rattle.octet_session.specs.Asking.{lines_of_region, Asks}
+use Rattle.octet_session.specs.Asking.{lines_of_region, Takes, Asks}
 use Rattle.octet_session.specs.Recording.{poll_answer, update_answer, track_standing, IsTrackReason}
 
 -- a poll that is pending is the reason of an access that waits
@@ -52,11 +52,11 @@ update_length false object amount = refl
 
 module _ (recorder : Recorder) (before after : Track) where
   left_made : (lines : List Command) (taken : ℕ) → after.commands.items ≡ before.commands.items ++ lines → length lines ≡ taken → lines_noted before + LINES_OF_ACCESS ≤ lines_in recorder → taken ≤ LINES_OF_ACCESS
-      → (lines_in recorder - lines_noted after) + taken ≡ lines_in recorder - lines_noted before
-  left_made lines taken grown is more few = omega (arith, ap (λ (l : List Command). length l) grown, length-append before.commands.items lines, is, more, few)
+      → Takes (Some (lines_in recorder - lines_noted before)) taken (Some (lines_in recorder - lines_noted after))
+  left_made lines taken grown is more few = ap (λ (n : ℕ). Some n) (omega (arith, ap (λ (l : List Command). length l) grown, length-append before.commands.items lines, is, more, few))
 
-  left_same : after.commands.items ≡ before.commands.items ++ [] → (lines_in recorder - lines_noted after) + 0 ≡ lines_in recorder - lines_noted before
-  left_same grown = omega (arith, ap (λ (l : List Command). length l) (grown ∙ append-nil before.commands.items))
+  left_same : after.commands.items ≡ before.commands.items ++ [] → Takes (Some (lines_in recorder - lines_noted before)) 0 (Some (lines_in recorder - lines_noted after))
+  left_same grown = ap (λ (n : ℕ). Some n) (omega (arith, ap (λ (l : List Command). length l) (grown ∙ append-nil before.commands.items)))
 
   module _ (more : lines_noted before + LINES_OF_ACCESS ≤ lines_in recorder) (number : number_of after ≡ number_of before) where
     -- a read, as far as a poll has come

@@ -1,6 +1,7 @@
 -- What a journal gains adds up.
-use Rattle.std.proofs.Common.{◌≡◌, ◌∙◌, ℕ, ◌+◌, Bool, List, ◌∷◌, [], ◌++◌, map, Result, Ok, Err, sym, ap, subst, append_assoc, append-nil}
+use Rattle.std.proofs.Common.{◌≡◌, ◌∙◌, ℕ, ◌+◌, Bool, List, ◌∷◌, [], ◌++◌, map, Option, Result, Ok, Err, sym, ap, subst, append_assoc, append-nil}
 use Rattle.std.proofs.lemmas.List.{map-append}
+use Rattle.std.specs.Option.{option_map}
 use Rattle.octet_model.specs.declared.event.Event.{Event}
 use Rattle.octet_model.specs.declared.event.Event.TheVariants.{Marked}
 use Rattle.octet_model.specs.declared.event.Mark.{Mark}
@@ -40,18 +41,18 @@ makes_after wanted v u value w before made = record {
 }
 
 -- what an answer adds to marks
-gains_after : (wanted : Access) (v u : List Event) (answer : Result ℕ NotMade) (w : List Event) → GainsMarks v u → Gains wanted u answer w → Gains wanted v answer w
+gains_after : {H : Type 0} (wanted : Access) (v u : List Event) (answer : Result ℕ (NotMade H)) (w : List Event) → GainsMarks v u → Gains wanted u answer w → Gains wanted v answer w
 gains_after wanted v u (Ok value) w before gained = makes_after wanted v u value w before gained
 gains_after wanted v u (Err why) w before gained = gains_more v u w before gained
 
 -- an answer after marks is one to the thread as it stood before them
-pub asked_after : (wanted : Access) (v u : Standing) (answer : Result ℕ NotMade) (w : Standing) → u.number ≡ v.number → GainsMarks v.journal u.journal → u.region ≡ v.region → u.left ≡ v.left
+pub asked_after : {H : Type 0} (wanted : Access) (v u : Standing) (answer : Result ℕ (NotMade H)) (w : Standing) → u.number ≡ v.number → GainsMarks v.journal u.journal → u.region ≡ v.region → u.left ≡ v.left
     → Asks wanted u answer w → Asks wanted v answer w
 asked_after wanted v u answer w number journal region left asks = record {
   number = asks.number ∙ number;
   journal = gains_after wanted v.journal u.journal answer w.journal journal asks.journal;
   begun = asks.begun;
   region = asks.region ∙ ap (λ (r : Bool). region_after r answer) region;
-  left = ap (λ (r : Bool). w.left + lines_taken wanted r answer) (sym region) ∙ (asks.left ∙ left);
-  cause = subst (λ (n : ℕ). HasCause n answer) left asks.cause;
+  left = ap (λ (r : Bool). option_map (λ lines. lines + lines_taken wanted r answer) w.left) (sym region) ∙ (asks.left ∙ left);
+  cause = subst (λ (n : Option ℕ). HasCause n answer) left asks.cause;
 }

@@ -18,7 +18,7 @@ second_standing thread = record {
   journal = made_by thread.follower;
   begun = thread.begun;
   region = thread.region;
-  left = thread.left;
+  left = Some thread.left;
 }
 
 -- the thread has made all that was recorded of it
@@ -32,7 +32,7 @@ IsNoWait _ = Unit {0}
 
 -- why a thread of a second run has not made this access, or has not ended: it looked at another thread, which has made too
 -- few events; or there is no room, of which `HasCause` says when; or it has left its recording, as its follower says
-abbrev pub IsSecondReason : Rerun → Option Access → SecondThread → NotMade → Type 0
+abbrev pub IsSecondReason : Rerun → Option Access → SecondThread → NotMade Halt → Type 0
 IsSecondReason rerun wanted after Waits = AwaitsSome (view_of after.follower.player)
 IsSecondReason rerun (Some wanted) after NoRoom = Unit {0}
 IsSecondReason rerun None after NoRoom = ⊥

@@ -1,5 +1,6 @@
 -- What a thread is answered that asks for an access.
 use Rattle.std.specs.Prelude.{◌≡◌, ◌⊎◌, ℕ, ◌+◌, ◌<◌, ◌≤◌, Bool, true, false, List, [], ◌∷◌, ◌++◌, map, Option, Some, None, Result, Ok, Err}
+use Rattle.std.specs.Option.{option_map}
 use Rattle.octet_model.specs.declared.event.Event.{Event}
 use Rattle.octet_model.specs.declared.event.Event.TheVariants.{Marked}
 use Rattle.octet_model.specs.declared.event.Mark.{Mark}
@@ -40,39 +41,53 @@ pub record Makes (wanted : Access) (before : List Event) (value : ℕ) (after : 
   pub told : value ≡ found_in (event_of wanted found)
 
 -- what the journal gains: marks, and after them the access, once it is made
-abbrev pub Gains : Access → List Event → Result ℕ NotMade → List Event → Type 0
+abbrev pub Gains : {H : Type 0} → Access → List Event → Result ℕ (NotMade H) → List Event → Type 0
 Gains wanted before (Ok value) after = Makes wanted before value after
 Gains wanted before (Err why) after = GainsMarks before after
 
 -- the access that is begun after an answer: one that waits
-abbrev pub begun_after : Access → Result ℕ NotMade → Option Access
+abbrev pub begun_after : {H : Type 0} → Access → Result ℕ (NotMade H) → Option Access
 begun_after wanted (Ok value) = None
 begun_after wanted (Err Waits) = Some wanted
 begun_after wanted (Err NoRoom) = None
 begun_after wanted (Err (Left halt)) = None
 
 -- a region that was to begin has begun with the access, once it is made
-abbrev pub region_after : Bool → Result ℕ NotMade → Bool
+abbrev pub region_after : {H : Type 0} → Bool → Result ℕ (NotMade H) → Bool
 region_after region (Ok value) = false
 region_after region (Err why) = region
 
 -- the lines that an answer takes: those of the access, once it is made
-abbrev pub lines_taken : Access → Bool → Result ℕ NotMade → ℕ
+abbrev pub lines_taken : {H : Type 0} → Access → Bool → Result ℕ (NotMade H) → ℕ
 lines_taken wanted region (Ok value) = lines_of_region region + lines_of wanted
 lines_taken wanted region (Err why) = 0
 
+-- there is room for so many lines: as many are left, or there is no bound
+abbrev pub HasRoomFor : ℕ → Option ℕ → Type 0
+HasRoomFor lines None = Unit {0}
+HasRoomFor lines (Some left) = lines ≤ left
+
+-- there is no room for so many lines
+abbrev pub LacksRoomFor : ℕ → Option ℕ → Type 0
+LacksRoomFor lines None = ⊥
+LacksRoomFor lines (Some left) = left < lines
+
 -- there is no room exactly where fewer lines are left than an access may take
-abbrev pub HasCause : ℕ → Result ℕ NotMade → Type 0
-HasCause left (Ok value) = LINES_OF_ACCESS ≤ left
-HasCause left (Err Waits) = LINES_OF_ACCESS ≤ left
-HasCause left (Err NoRoom) = left < LINES_OF_ACCESS
-HasCause left (Err (Left halt)) = LINES_OF_ACCESS ≤ left
+abbrev pub HasCause : {H : Type 0} → Option ℕ → Result ℕ (NotMade H) → Type 0
+HasCause left (Ok value) = HasRoomFor LINES_OF_ACCESS left
+HasCause left (Err Waits) = HasRoomFor LINES_OF_ACCESS left
+HasCause left (Err NoRoom) = LacksRoomFor LINES_OF_ACCESS left
+HasCause left (Err (Left halt)) = HasRoomFor LINES_OF_ACCESS left
+
+-- so many lines are taken of those that are left. Where there is no bound, there is none afterwards
+abbrev pub Takes : Option ℕ → ℕ → Option ℕ → Type 0
+Takes before lines after = option_map (λ left. left + lines) after ≡ before
 
 -- a thread asks for an access: what it has made and begun after the answer, and how many lines are left
-pub record Asks (wanted : Access) (v : Standing) (answer : Result ℕ NotMade) (w : Standing) : Type 0 where
+pub record Asks {H : Type 0} (wanted : Access) (v : Standing) (answer : Result ℕ (NotMade H)) (w : Standing) : Type 0 where
   pub number : w.number ≡ v.number
   pub journal : Gains wanted v.journal answer w.journal
   pub begun : w.begun ≡ begun_after wanted answer
   pub region : w.region ≡ region_after v.region answer
-  pub left : w.left + lines_taken wanted v.region answer ≡ v.left
+  pub left : Takes v.left (lines_taken wanted v.region answer) w.left
   pub cause : HasCause v.left answer

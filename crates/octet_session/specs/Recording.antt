@@ -1,5 +1,6 @@
 -- A recorder and its tracks as a session.
 use Rattle.std.specs.Prelude.{◌≡◌, ℕ, ◌-◌, Option, Some, None, Result, Ok, Err}
+use Rattle.std.specs.declared.convert.Infallible.{Infallible}
 use Rattle.octet_state.specs.declared.phase.Phase.TheVariants.{Idle}
 use Rattle.octet_state.specs.declared.why.Why.{Why}
 use Rattle.octet_heap.specs.declared.poll.Poll.{Poll}
@@ -18,12 +19,12 @@ use Rattle.octet_session.specs.declared.not_made.NotMade.TheVariants.{Waits, NoR
 use Rattle.octet_session.specs.Standing.{Standing}
 
 -- a poll as the answer of a session
-abbrev pub poll_answer : Poll → Result ℕ NotMade
+abbrev pub poll_answer : Poll → Result ℕ (NotMade Infallible)
 poll_answer (poll.Ready value) = Ok value
 poll_answer (poll.Pending why) = Err Waits
 
 -- an update as the answer of a session: the value that it found
-abbrev pub update_answer : Updated → Result ℕ NotMade
+abbrev pub update_answer : Updated → Result ℕ (NotMade Infallible)
 update_answer (updated.Made before) = Ok before
 update_answer (updated.Pending why) = Err Waits
 
@@ -34,7 +35,7 @@ track_standing recorder track = record {
   journal = (seat_of track.worker).journal;
   begun = track.begun;
   region = track.region;
-  left = lines_in recorder - lines_noted track;
+  left = Some (lines_in recorder - lines_noted track);
 }
 
 -- a track that has begun nothing runs
@@ -47,7 +48,7 @@ TrackRests track = IsResting (seat_of track.worker).thread.phase
 
 -- why a track's access is not made: a poll of it was pending, or there is no room, of which `HasCause` says when.
 -- A track has no recording to leave, and its end is never refused
-abbrev pub IsTrackReason : Option Access → Track → Track → NotMade → Type 0
+abbrev pub IsTrackReason : Option Access → Track → Track → NotMade Infallible → Type 0
 IsTrackReason (Some wanted) before after Waits = (why : Why) × NotesPoll wanted before (poll.Pending why) after
 IsTrackReason (Some wanted) before after NoRoom = Unit {0}
 IsTrackReason _ before after why = ⊥

@@ -7,13 +7,13 @@ use Rattle.octet_recorder.specs.declared.access.Access.{Access}
 use Rattle.octet_rerun.specs.Reruns.{Begins}
 
 -- how a thread stands: its number, the marks and accesses that it has made, the access that it has begun,
--- whether a region begins with the next one, and how many more lines its recording may have
+-- whether a region begins with the next one, and how many more lines its recording may have, if there is a bound
 pub record Standing : Type 0 where
   pub number : ℕ
   pub journal : List Event
   pub begun : Option Access
   pub region : Bool
-  pub left : ℕ
+  pub left : Option ℕ
 
 -- the thread has made nothing and noted nothing
 pub record Keeps (v w : Standing) : Type 0 where

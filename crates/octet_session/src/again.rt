@@ -25,6 +25,8 @@ fn lines_taken(wanted: Access, region: bool) -> u32
 impl Session for Rerun {
     type Thread = SecondThread;
 
+    type Halt = Halt;
+
     ghost IsThreadOf = { λ rerun thread. IsFollowerOf rerun thread.follower };
 
     ghost standing = { λ _ thread. second_standing thread };
@@ -41,7 +43,7 @@ impl Session for Rerun {
 
     ghost IsReason = { λ rerun wanted _ after. IsSecondReason rerun wanted after };
 
-    fn ask(&self, thread: &mut SecondThread, wanted: Access) -> Result<u64, NotMade> {
+    fn ask(&self, thread: &mut SecondThread, wanted: Access) -> Result<u64, NotMade<Halt>> {
         thread.begun = None;
         if thread.left < LINES_OF_ACCESS {
             return Err(NotMade::NoRoom);
@@ -71,7 +73,7 @@ impl Session for Rerun {
 
     fn unblock(&self, _thread: &mut SecondThread) {}
 
-    fn finish(&self, thread: &mut SecondThread) -> Result<(), NotMade> {
+    fn finish(&self, thread: &mut SecondThread) -> Result<(), NotMade<Halt>> {
         match self.finish(&mut thread.follower) {
             Ok(()) => Ok(()),
             Err(Halt::Waits { .. }) => Err(NotMade::Waits),

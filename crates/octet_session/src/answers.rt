@@ -4,9 +4,10 @@ ghost use Rattle.octet_session.specs.Recording.{poll_answer, update_answer};
 
 use crate::not_made::NotMade;
 use octet_recorder::{Poll, Updated};
+use std::convert::Infallible;
 
 /// A read or a write.
-pub(crate) fn poll_answer(poll: Poll) -> Result<u64, NotMade>
+pub(crate) fn poll_answer(poll: Poll) -> Result<u64, NotMade<Infallible>>
     ensures { result ≡ poll_answer poll }
 {
     match poll {
@@ -16,7 +17,7 @@ pub(crate) fn poll_answer(poll: Poll) -> Result<u64, NotMade>
 }
 
 /// An update.
-pub(crate) fn update_answer(updated: Updated) -> Result<u64, NotMade>
+pub(crate) fn update_answer(updated: Updated) -> Result<u64, NotMade<Infallible>>
     ensures { result ≡ update_answer updated }
 {
     match updated {

@@ -12,6 +12,7 @@ use crate::answers::{poll_answer, update_answer};
 use crate::not_made::NotMade;
 use crate::session::Session;
 use octet_recorder::{Access, LINES_OF_ACCESS, Poll, Recorder, Track};
+use std::convert::Infallible;
 
 // Begins a read, or goes on with it.
 fn read_on(recorder: &Recorder, track: &mut Track, object: u16) -> Poll
@@ -52,7 +53,11 @@ fn write_on(recorder: &Recorder, track: &mut Track, object: u16, value: u64) -> 
 }
 
 // Begins an access, or goes on with it.
-fn access_on(recorder: &Recorder, track: &mut Track, wanted: Access) -> Result<u64, NotMade>
+fn access_on(
+    recorder: &Recorder,
+    track: &mut Track,
+    wanted: Access,
+) -> Result<u64, NotMade<Infallible>>
     requires own { IsTrackOf recorder.now track.old }
     requires runs { TrackRuns track.old }
     requires may { MayAsk wanted track.old.begun }
@@ -73,6 +78,9 @@ fn access_on(recorder: &Recorder, track: &mut Track, wanted: Access) -> Result<u
 impl Session for Recorder {
     type Thread = Track;
 
+    // It has no recording to leave.
+    type Halt = Infallible;
+
     ghost IsThreadOf = { IsTrackOf };
 
     ghost standing = { track_standing };
@@ -89,7 +97,7 @@ impl Session for Recorder {
 
     ghost IsReason = { λ _. IsTrackReason };
 
-    fn ask(&self, thread: &mut Track, wanted: Access) -> Result<u64, NotMade> {
+    fn ask(&self, thread: &mut Track, wanted: Access) -> Result<u64, NotMade<Infallible>> {
         if self.lines_left(thread) < LINES_OF_ACCESS {
             return Err(NotMade::NoRoom);
         }
@@ -112,7 +120,7 @@ impl Session for Recorder {
         self.unblock(thread);
     }
 
-    fn finish(&self, thread: &mut Track) -> Result<(), NotMade> {
+    fn finish(&self, thread: &mut Track) -> Result<(), NotMade<Infallible>> {
         self.block(thread);
         Ok(())
     }

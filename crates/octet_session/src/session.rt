@@ -16,6 +16,9 @@ pub trait Session: Sync {
     /// What is kept of one thread.
     type Thread: Send;
 
+    /// Why a thread goes on no more.
+    type Halt: Copy;
+
     ghost IsThreadOf: { Self → Self.Thread → Type 0 };
 
     ghost standing: { Self → Self.Thread → Standing };
@@ -32,11 +35,11 @@ pub trait Session: Sync {
 
     // Why a call, from one state of the thread to the next, has not made this access: or has not ended the thread, where no
     // access is wanted.
-    ghost IsReason: { Self → Option Access → Self.Thread → Self.Thread → NotMade → Type 0 };
+    ghost IsReason: { Self → Option Access → Self.Thread → Self.Thread → NotMade Self.Halt → Type 0 };
 
     /// Asks for an access. Answers the value that a read or an update found, or that a write wrote: in a second run the
     /// one that was recorded. After `Waits` the same call goes on with it; after any other error the thread ends.
-    fn ask(&self, thread: &mut Self::Thread, wanted: Access) -> Result<u64, NotMade>
+    fn ask(&self, thread: &mut Self::Thread, wanted: Access) -> Result<u64, NotMade<Self::Halt>>
         requires own { IsThreadOf self.now thread.old }
         requires runs { Runs thread.old }
         requires may { MayAsk wanted (standing self.now thread.old).begun }
@@ -85,7 +88,7 @@ pub trait Session: Sync {
 
     /// Ends the thread: it is blocked, and in a second run the marks are made that are left. Refused there while one of them
     /// waits, or where an access is left.
-    fn finish(&self, thread: &mut Self::Thread) -> Result<(), NotMade>
+    fn finish(&self, thread: &mut Self::Thread) -> Result<(), NotMade<Self::Halt>>
         requires own { IsThreadOf self.now thread.old }
         requires runs { Runs thread.old }
         requires idle { (standing self.now thread.old).begun ≡ None }
@@ -99,7 +102,7 @@ pub trait Session: Sync {
         ensures follows { Follows (recorded self.now thread.new) (standing self.now thread.new).journal };
 
     /// Reads an object.
-    final fn read(&self, thread: &mut Self::Thread, object: u16) -> Result<u64, NotMade>
+    final fn read(&self, thread: &mut Self::Thread, object: u16) -> Result<u64, NotMade<Self::Halt>>
         requires own { IsThreadOf self.now thread.old }
         requires runs { Runs thread.old }
         requires may { MayAsk (want.Read object) (standing self.now thread.old).begun }
@@ -119,7 +122,7 @@ pub trait Session: Sync {
         thread: &mut Self::Thread,
         object: u16,
         value: u64,
-    ) -> Result<u64, NotMade>
+    ) -> Result<u64, NotMade<Self::Halt>>
         requires own { IsThreadOf self.now thread.old }
         requires runs { Runs thread.old }
         requires may { MayAsk (want.Write object value) (standing self.now thread.old).begun }
@@ -139,7 +142,7 @@ pub trait Session: Sync {
         thread: &mut Self::Thread,
         object: u16,
         change: Change,
-    ) -> Result<u64, NotMade>
+    ) -> Result<u64, NotMade<Self::Halt>>
         requires own { IsThreadOf self.now thread.old }
         requires runs { Runs thread.old }
         requires may { MayAsk (want.Update object change) (standing self.now thread.old).begun }

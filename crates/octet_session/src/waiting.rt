@@ -16,7 +16,7 @@ pub fn make<R: Wait, S: Session>(
     session: &S,
     thread: &mut S::Thread,
     wanted: Access,
-) -> Result<u64, NotMade>
+) -> Result<u64, NotMade<S::Halt>>
     requires own { S.IsThreadOf session.now thread.old }
     requires runs { S.Runs thread.old }
     requires may { MayAsk wanted (S.standing session.now thread.old).begun }
@@ -41,7 +41,11 @@ pub fn make<R: Wait, S: Session>(
 }
 
 /// Ends the thread, as `Session::finish` does, once no mark waits that is left.
-pub fn end<R: Wait, S: Session>(rt: &R, session: &S, thread: &mut S::Thread) -> Result<(), NotMade>
+pub fn end<R: Wait, S: Session>(
+    rt: &R,
+    session: &S,
+    thread: &mut S::Thread,
+) -> Result<(), NotMade<S::Halt>>
     requires own { S.IsThreadOf session.now thread.old }
     requires runs { S.Runs thread.old }
     requires idle { (S.standing session.now thread.old).begun ≡ None }

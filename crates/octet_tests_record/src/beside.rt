@@ -8,15 +8,16 @@ ghost use Rattle.octet_rerun.specs.Reruns.{IsAtStart, IsAtEnd};
 use crate::races::{OBJECTS, work};
 use octet_recorder::{Recorder, Track};
 use octet_rerun::Rerun;
-use octet_session::{NotMade, SecondThread};
+use octet_session::{Halt, NotMade, SecondThread};
+use std::convert::Infallible;
 use std::sync::Wait;
 use std::thread::{Threads, join_mut};
 
 /// What a thread came to.
-pub(crate) type Answer = Result<u64, NotMade>;
+pub(crate) type Answer<H> = Result<u64, NotMade<H>>;
 
 /// What each of three threads came to.
-pub(crate) type Answers = (Answer, (Answer, Answer));
+pub(crate) type Answers<H> = (Answer<H>, (Answer<H>, Answer<H>));
 
 /// The second and the third thread, recorded.
 fn pair<R: Threads + Wait + Sync>(
@@ -26,7 +27,7 @@ fn pair<R: Threads + Wait + Sync>(
     c: &mut Track,
     second: u64,
     third: u64,
-) -> (Answer, Answer)
+) -> (Answer<Infallible>, Answer<Infallible>)
     requires objects { objects_in recorder.now ≡ OBJECTS }
     requires second { IsNew recorder.now 1 b.old }
     requires third { IsNew recorder.now 2 c.old }
@@ -35,11 +36,11 @@ fn pair<R: Threads + Wait + Sync>(
 {
     join_mut(
         rt,
-        &mut || -> Answer
+        &mut || -> Answer<Infallible>
             requires { IsSync R.row × (objects_in recorder.now ≡ OBJECTS) × IsNew recorder.now 1 b.now }
             ensures { IfOk result (λ _. RestsAs recorder.entry.now 1 b.exit.now) }
         { work(rt, recorder, b, second) },
-        &mut || -> Answer
+        &mut || -> Answer<Infallible>
             requires { IsSync R.row × (objects_in recorder.now ≡ OBJECTS) × IsNew recorder.now 2 c.now }
             ensures { IfOk result (λ _. RestsAs recorder.entry.now 2 c.exit.now) }
         { work(rt, recorder, c, third) },
@@ -54,7 +55,7 @@ pub(crate) fn race<R: Threads + Wait + Sync>(
     b: &mut Track,
     c: &mut Track,
     seed: u64,
-) -> Answers
+) -> Answers<Infallible>
     requires objects { objects_in recorder.now ≡ OBJECTS }
     requires first { IsNew recorder.now 0 a.old }
     requires second { IsNew recorder.now 1 b.old }
@@ -67,11 +68,11 @@ pub(crate) fn race<R: Threads + Wait + Sync>(
     let third = seed.wrapping_add(2);
     join_mut(
         rt,
-        &mut || -> Answer
+        &mut || -> Answer<Infallible>
             requires { IsSync R.row × (objects_in recorder.now ≡ OBJECTS) × IsNew recorder.now 0 a.now }
             ensures { IfOk result (λ _. RestsAs recorder.entry.now 0 a.exit.now) }
         { work(rt, recorder, a, seed) },
-        &mut || -> (Answer, Answer)
+        &mut || -> (Answer<Infallible>, Answer<Infallible>)
             requires { IsSync R.row × (objects_in recorder.now ≡ OBJECTS) × (IsNew recorder.now 1 b.now) × (IsNew recorder.now 2 c.now) }
             ensures second { IfOk result.0 (λ _. RestsAs recorder.entry.now 1 b.exit.now) }
             ensures third { IfOk result.1 (λ _. RestsAs recorder.entry.now 2 c.exit.now) }
@@ -87,7 +88,7 @@ fn pair_again<R: Threads + Wait + Sync>(
     c: &mut SecondThread,
     second: u64,
     third: u64,
-) -> (Answer, Answer)
+) -> (Answer<Halt>, Answer<Halt>)
     requires objects { length (script_in rerun.now.field).objects ≡ OBJECTS }
     requires second { IsAtStart rerun.now 1 b.old.follower × (b.old.begun ≡ None) }
     requires third { IsAtStart rerun.now 2 c.old.follower × (c.old.begun ≡ None) }
@@ -96,11 +97,11 @@ fn pair_again<R: Threads + Wait + Sync>(
 {
     join_mut(
         rt,
-        &mut || -> Answer
+        &mut || -> Answer<Halt>
             requires { IsSync R.row × (length (script_in rerun.now.field).objects ≡ OBJECTS) × IsAtStart rerun.now 1 b.now.follower × (b.now.begun ≡ None) }
             ensures { IfOk result (λ _. IsAtEnd rerun.entry.now 1 b.exit.now.follower) }
         { work(rt, rerun, b, second) },
-        &mut || -> Answer
+        &mut || -> Answer<Halt>
             requires { IsSync R.row × (length (script_in rerun.now.field).objects ≡ OBJECTS) × IsAtStart rerun.now 2 c.now.follower × (c.now.begun ≡ None) }
             ensures { IfOk result (λ _. IsAtEnd rerun.entry.now 2 c.exit.now.follower) }
         { work(rt, rerun, c, third) },
@@ -116,7 +117,7 @@ pub(crate) fn race_again<R: Threads + Wait + Sync>(
     c: &mut SecondThread,
     first: u64,
     seed: u64,
-) -> Answers
+) -> Answers<Halt>
     requires objects { length (script_in rerun.now.field).objects ≡ OBJECTS }
     requires first { IsAtStart rerun.now 0 a.old.follower × (a.old.begun ≡ None) }
     requires second { IsAtStart rerun.now 1 b.old.follower × (b.old.begun ≡ None) }
@@ -129,11 +130,11 @@ pub(crate) fn race_again<R: Threads + Wait + Sync>(
     let third = seed.wrapping_add(2);
     join_mut(
         rt,
-        &mut || -> Answer
+        &mut || -> Answer<Halt>
             requires { IsSync R.row × (length (script_in rerun.now.field).objects ≡ OBJECTS) × IsAtStart rerun.now 0 a.now.follower × (a.now.begun ≡ None) }
             ensures { IfOk result (λ _. IsAtEnd rerun.entry.now 0 a.exit.now.follower) }
         { work(rt, rerun, a, first) },
-        &mut || -> (Answer, Answer)
+        &mut || -> (Answer<Halt>, Answer<Halt>)
             requires { IsSync R.row × (length (script_in rerun.now.field).objects ≡ OBJECTS) × (IsAtStart rerun.now 1 b.now.follower × (b.now.begun ≡ None)) × (IsAtStart rerun.now 2 c.now.follower × (c.now.begun ≡ None)) }
             ensures second { IfOk result.0 (λ _. IsAtEnd rerun.entry.now 1 b.exit.now.follower) }
             ensures third { IfOk result.1 (λ _. IsAtEnd rerun.entry.now 2 c.exit.now.follower) }

@@ -9,7 +9,7 @@ use std::test::*;
 const TEXT: &[u8] = b"object x 9\nobject y 3\nobject z 0\nthread\nthread\nthread\n";
 
 /// The divergence that a thread was told to be its own.
-fn diverged(answer: Result<u64, NotMade>) -> Option<Divergence> {
+fn diverged(answer: Result<u64, NotMade<Halt>>) -> Option<Divergence> {
     match answer {
         Err(
             NotMade::Left {
@@ -21,7 +21,7 @@ fn diverged(answer: Result<u64, NotMade>) -> Option<Divergence> {
 }
 
 /// A thread came to its end, or was told the divergence of another one.
-fn ended_or_told(answer: Result<u64, NotMade>, wanted: Divergence) -> bool {
+fn ended_or_told(answer: Result<u64, NotMade<Halt>>, wanted: Divergence) -> bool {
     match answer {
         Ok(_) => true,
         Err(
@@ -43,7 +43,7 @@ fn both_accesses_are_named(rt: HostRuntime) -> Result<(), Fail> {
             continue;
         }
         let (recording, _) = recorded(&rt, alloc, TEXT, seed)?;
-        let ((first, (second, third)), _): (Answers, _) = run_again(
+        let ((first, (second, third)), _): (Answers<Halt>, _) = run_again(
             &rt, alloc, &recording, other, seed,
         )?;
         let divergence = diverged(first).expect(&rt, "the first thread leaves its recording");

@@ -10,6 +10,10 @@ mod long_again;
 #[cfg(test)]
 mod long_races;
 #[cfg(test)]
+mod long_session_tests;
+#[cfg(test)]
+mod long_sessions;
+#[cfg(test)]
 mod long_tests;
 #[cfg(test)]
 mod marker_tests;

@@ -1,12 +1,12 @@
-//! The two threads of a race, run again by their marks.
+//! The two threads of a race, run again by their blocks: each has the digest that was recorded with it.
 ghost use Rattle.std.specs.Prelude.{◌≡◌, IfOk};
 ghost use Rattle.octet_follow.specs.Calls.{view_of, followers_in, IsFollowerOf};
 
-use crate::long_races::{Kept, ROUNDS, Raced, mode_of};
+use crate::long_races::{Kept, ROUNDS, Raced, access_of};
 use crate::races::mixed;
-use octet_follow::{Access, Change, Course, Follower, Halt};
+use octet_follow::{Access, Course, Ending, Follower, Halt};
+use octet_long::Access as Recorded;
 use octet_model::{List, OutOfMemory};
-use octet_state::Mode;
 use std::alloc::Global;
 use std::sync::Wait;
 use std::test::Fail;
@@ -31,19 +31,42 @@ fn two(alloc: Global) -> Result<(Course, Follower, Follower), OutOfMemory>
     Ok((course, first, second))
 }
 
-/// Gives the follower its next marks, or tells it the end. Tells whether it took them.
-fn feed(course: &Course, follower: &mut Follower, kept: &Kept, given: &mut usize) -> bool
+/// How far a follower was given its blocks: the block, how many of its marks, and whether all of it.
+#[derive(Drop)]
+struct Given {
+    block: usize,
+    marks: usize,
+    whole: bool,
+}
+
+/// Gives the follower its next marks, or tells it the end. A block that it has made has to have its digest.
+/// Tells whether the follower goes on.
+fn feed(course: &Course, follower: &mut Follower, kept: &Kept, given: &mut Given) -> bool
     requires own { IsFollowerOf course.now follower.old }
     ensures own { IsFollowerOf course.now follower.new }
     ensures number { (view_of follower.new).number ≡ (view_of follower.old).number }
 {
-    let marks = kept.marks.as_slice();
-    if *given >= marks.len() {
-        return course.end(follower, ROUNDS);
+    let Some(block) = kept.blocks.get(given.block) else {
+        course.end(follower, Ending::ThreadEnds);
+        return true;
+    };
+    if given.whole {
+        given.block = given.block.saturating_add(1);
+        given.marks = 0;
+        given.whole = false;
+        return follower.digest().bits() == block.digest;
     }
-    let taken = course.refill(follower, &marks[*given..]);
-    *given = given.saturating_add(taken);
-    taken > 0
+    let marks = block.marks.as_slice();
+    if given.marks > marks.len() {
+        return false;
+    }
+    let rest = &marks[given.marks..];
+    let Some(taken) = course.refill(follower, rest, block.after as u64) else {
+        return false;
+    };
+    given.marks = given.marks.saturating_add(taken);
+    given.whole = taken == rest.len();
+    true
 }
 
 /// What comes of a halt: more marks, or a moment for the other thread. Tells whether to ask again.
@@ -51,7 +74,7 @@ fn goes_on(
     course: &Course,
     follower: &mut Follower,
     kept: &Kept,
-    given: &mut usize,
+    given: &mut Given,
     halt: Halt,
 ) -> bool
     requires own { IsFollowerOf course.now follower.old }
@@ -74,26 +97,21 @@ fn made<R: Wait>(
     course: &Course,
     follower: &mut Follower,
     kept: &Kept,
-    given: &mut usize,
+    given: &mut Given,
     number: u64,
 ) -> Option<u64>
     requires own { IsFollowerOf course.now follower.old }
     ensures own { IsFollowerOf course.now follower.new }
     ensures number { (view_of follower.new).number ≡ (view_of follower.old).number }
 {
-    let object = (number % 2) as u16;
-    let value = number >> 32;
-    let (access, more) = match mode_of(number) {
-        Mode::Read => (Access::Read { object }, 0),
-        Mode::Write => (Access::Write { object, value }, 0),
-        Mode::Update => {
-            let change = Change::Add(value);
-            (Access::Update { object, change }, value)
-        }
+    let access = match access_of(number) {
+        Recorded::Read { object } => Access::Read { object },
+        Recorded::Write { object, value } => Access::Write { object, value },
+        Recorded::Update { object, change } => Access::Update { object, change },
     };
     for _ in rt.forever() {
         match course.ask(follower, access) {
-            Ok(value) => return Some(value.wrapping_add(more)),
+            Ok(value) => return Some(value),
             Err(halt) => {
                 if !goes_on(course, follower, kept, given, halt) {
                     return None;
@@ -110,7 +128,7 @@ fn end<R: Wait>(
     course: &Course,
     follower: &mut Follower,
     kept: &Kept,
-    given: &mut usize,
+    given: &mut Given,
 ) -> Option<()>
     requires own { IsFollowerOf course.now follower.old }
     ensures own { IsFollowerOf course.now follower.new }
@@ -141,7 +159,11 @@ fn work<R: Wait>(
     ensures own { IsFollowerOf course.now follower.new }
     ensures number { (view_of follower.new).number ≡ (view_of follower.old).number }
 {
-    let mut given = 0;
+    let mut given = Given {
+        block: 0,
+        marks: 0,
+        whole: false,
+    };
     let mut told = seed;
     for round in 0..ROUNDS {
         let number = mixed(told, round);

@@ -1,6 +1,5 @@
 //! Recorded races are verified, replayed, and run again with equal values.
-use crate::beside::Answers;
-use crate::runs::{recorded, run_again};
+use crate::runs::{Told, recorded, run_again};
 use octet_clock::{Verdict, verify};
 use octet_model::Outcome;
 use octet_recorder::Recording;
@@ -38,11 +37,14 @@ fn run_equally<R: Threads + Wait + Sync + Abort>(
     rt: &R,
     alloc: Global,
     recording: &Recording,
-    told: Answers,
+    told: Told,
     seed: u64,
 ) -> Result<(), Fail> {
-    let (told_again, left) = run_again(rt, alloc, recording, seed, seed)?;
-    assert_eq!(rt; told_again, told);
+    let (answers, left) = run_again(rt, alloc, recording, seed, seed)?;
+    let (Ok(a), (Ok(b), Ok(c))) = answers else {
+        return Err(Fail::new("each thread ends again"));
+    };
+    assert_eq!(rt; [a, b, c], told);
     let left = left.expect(rt, "each thread ends");
     are_same(rt, &left.outcome, &recording.outcome);
     Ok(())

@@ -85,7 +85,7 @@ pub(crate) fn work<R: Wait, S: Session>(
     session: &S,
     thread: &mut S::Thread,
     seed: u64,
-) -> Result<u64, NotMade>
+) -> Result<u64, NotMade<S::Halt>>
     requires own { S.IsThreadOf session.now thread.old }
     requires rests { S.Rests thread.old }
     requires idle { (S.standing session.now thread.old).begun ≡ None }

@@ -12,7 +12,7 @@ use octet_model::{List, OutOfMemory};
 use octet_parallel::Finished;
 use octet_recorder::{Recorder, Recording, Track};
 use octet_rerun::{Follower, Rerun};
-use octet_session::SecondThread;
+use octet_session::{Halt, SecondThread};
 use std::alloc::Global;
 use std::sync::Wait;
 use std::test::Fail;
@@ -58,19 +58,22 @@ fn closed(
     recorder.close(alloc, tracks)
 }
 
-/// A race that is recorded, and what its threads came to.
+/// What each of three threads was told.
+pub(crate) type Told = [u64; 3];
+
+/// A race that is recorded, and what its threads were told.
 pub(crate) fn recorded<R: Threads + Wait + Sync>(
     rt: &R,
     alloc: Global,
     text: &[u8],
     seed: u64,
-) -> Result<(Recording, Answers), Fail> {
+) -> Result<(Recording, Told), Fail> {
     let (recorder, mut first, mut second, mut third) = opened(alloc, text)?;
     let answers = race(rt, &recorder, &mut first, &mut second, &mut third, seed);
-    let (Ok(_), (Ok(_), Ok(_))) = answers else {
+    let (Ok(a), (Ok(b), Ok(c))) = answers else {
         return Err(Fail::new("each thread that is recorded ends"));
     };
-    Ok((closed(recorder, alloc, first, second, third)?, answers))
+    Ok((closed(recorder, alloc, first, second, third)?, [a, b, c]))
 }
 
 /// The second run of a recording of three threads and three objects, and its followers.
@@ -122,7 +125,7 @@ pub(crate) fn run_again<R: Threads + Wait + Sync>(
     recording: &Recording,
     first_seed: u64,
     seed: u64,
-) -> Result<(Answers, Option<Finished>), Fail> {
+) -> Result<(Answers<Halt>, Option<Finished>), Fail> {
     let (rerun, first, second, third) = followed(alloc, recording)?;
     let fuel = recording.script.fuel;
     let mut first = SecondThread::new(first, fuel);

@@ -29,4 +29,4 @@ returns-in-Err-clause-marks g c =
 pub returns-in-Err-clause-reason : goal.returns-in-Err-clause-reason
 returns-in-Err-clause-reason g c =
     let reason = g.S.Session.IsReason c.args.session.now None c.loop.thread c.finish.new.thread in
-    (c.loop.thread, subst (λ (r : Result Unit NotMade). IfErr r reason) c.in-Err.is c.finish.ensures.reason)
+    (c.loop.thread, subst (λ (r : Result Unit (NotMade _)). IfErr r reason) c.in-Err.is c.finish.ensures.reason)

@@ -1,0 +1,20 @@
+//! The laws of what is handed on and received, each the contract of a function that does nothing else.
+ghost use Rattle.octet_stream.specs.Laws.{MarksJoin, FedIsTold, DivergenceIsReal};
+
+/// The marks that are handed on block by block are those of the whole journal, with its gaps.
+pub fn marks_join()
+    ensures { MarksJoin }
+{}
+
+/// A thread that was fed the blocks of a journal was told that journal. So what `octet_follow` says of one that was told a
+/// recording holds of it.
+pub fn fed_is_told()
+    ensures { FedIsTold }
+{}
+
+/// A divergence that a digest tells is real.
+pub fn divergence_is_real()
+    ensures { DivergenceIsReal }
+{
+    octet_follow::laws::digests_tell();
+}

@@ -1,0 +1,36 @@
+//! One thread of a long run that is made again.
+ghost use Rattle.std.specs.Prelude.{◌≡◌};
+ghost use Rattle.octet_follow.specs.Calls.{IsUpTo};
+
+use crate::item::Item;
+use crate::quiet::Watch;
+use octet_follow::Follower;
+use octet_model::Gapped;
+use octet_recorder::Access;
+use rtrb::Consumer;
+
+/// One thread of a long run that is made again, with the end of the ring from which it is fed.
+#[derive(Drop)]
+pub struct LongFollower {
+    pub(crate) follower: Follower,
+    pub(crate) feed: Consumer<Item>,
+    // The marks of its next block that have come so far.
+    pub(crate) marks: Vec<Gapped>,
+    // The digest that it has to have where it has made its block, if that block is whole.
+    pub(crate) expected: Option<u64>,
+    // How many accesses it had made where its digest was compared last.
+    pub(crate) from: u64,
+    // The access that it has asked for and that waits.
+    pub(crate) begun: Option<Access>,
+    pub(crate) region: bool,
+    pub(crate) watch: Watch,
+}
+
+impl LongFollower {
+    /// The number of its thread.
+    pub fn thread(&self) -> u8
+        ensures { result ≡ self.now.follower.number }
+    {
+        self.follower.thread()
+    }
+}
