@@ -81,6 +81,27 @@ def short(number):
     return out + bytes([number])
 
 
+def frame(kind, body):
+    """A frame of a marks file, with its checksum."""
+    front = bytes([kind]) + len(body).to_bytes(4, "big") * 2 + body
+    return front + sha256(front).digest()[:8]
+
+
+def marks_head(threads, declared, *starts):
+    """The head of a marks file, behind the magic and the version."""
+    return b"OCTM\x01" + frame(0, bytes([threads]) + declared + b"".join(start.to_bytes(8, "big") for start in starts))
+
+
+def block(thread, first, gap, digest, *marks):
+    """A block of a thread. Each mark is its source, its gap, and how far its number is from the last of that source."""
+    body = bytes([thread]) + first.to_bytes(8, "big") + gap.to_bytes(4, "big") + digest.to_bytes(8, "big")
+    return frame(1, body + b"".join(bytes([source]) + short(since) + short(number) for source, since, number in marks))
+
+
+def end(thread, events):
+    return frame(2, bytes([thread]) + events.to_bytes(8, "big"))
+
+
 def join(gap, thread, upto):
     return (1, gap, thread, upto)
 

@@ -6,7 +6,7 @@ Expected values come from docs/FORMATS.md or are worked out by hand, never from 
 import pathlib
 from hashlib import sha256
 
-from case import Case, draw, fence, join, log, piece, script, second, short, tail, text, told
+from case import Case, block, draw, end, fence, frame, join, log, marks_head, piece, script, second, short, tail, text, told
 
 EXAMPLES = pathlib.Path(__file__).resolve().parent.parent / "examples"
 
@@ -721,6 +721,93 @@ SECOND = [
 ]  # fmt: skip
 
 NO_COMMAND = text("words: not a command")
+# Two threads and an object that starts with 7. Thread 1 makes two accesses, a join after the first; thread 0 makes three,
+# and then a join and a draw.
+MARKS_PIECES = [
+    (marks_head(2, bytes(range(32)), 7), text("threads 2", "declared " + bytes(range(32)).hex(), "object 0 7")),
+    (block(1, 0, 1, 0x1234, (0, 1, 3)), text("block 1 first 0", "gap 1 join 0 3", "gap 1 digest 0000000000001234")),
+    (
+        block(0, 0, 0, 2**64 - 1, (1, 3, 1), (16, 0, 300)),
+        text("block 0 first 0", "gap 3 join 1 1", "gap 0 draw 300", "gap 0 digest " + 16 * "f"),
+    ),
+    (end(1, 3), text("end 1 events 3")),
+    (end(0, 5), text("end 0 events 5")),
+]
+MARKS_BYTES = b"".join(each for each, _ in MARKS_PIECES)
+MARKS_TEXT = b"".join(lines for _, lines in MARKS_PIECES)
+
+
+def marks_told(name, content, said, status=0):
+    return Case(f"marks: {name}", ["marks", "M"], {"M": content}, said, status)
+
+
+def front_of_marks(size):
+    """The text of the pieces that are whole in so many first bytes, and where they end."""
+    at, said = 0, b""
+    for each, lines in MARKS_PIECES:
+        if at + len(each) > size:
+            break
+        at, said = at + len(each), said + lines
+    return at, said
+
+
+def marks_cut(size):
+    at, said = front_of_marks(size)
+    return marks_told(f"the first {size} bytes", MARKS_BYTES[:size], said + text(f"cut at {at}, {size - at} bytes left aside"))
+
+
+def cause_of_change(place):
+    """What a changed byte at a place of its piece breaks: the magic, the version, a length, or else the checksum."""
+    at, _ = front_of_marks(place)
+    inner = place - at
+    if at == 0:
+        if inner < 5:
+            return "1 no magic" if inner < 4 else "2 bad version"
+        inner -= 5
+    return "3 bad length" if 1 <= inner < 9 else "4 bad checksum"
+
+
+def marks_changed(place):
+    at, said = front_of_marks(place)
+    content = MARKS_BYTES[:place] + bytes([MARKS_BYTES[place] ^ 1]) + MARKS_BYTES[place + 1 :]
+    return marks_told(f"byte {place} changed", content, said + text(f"marks: {cause_of_change(place)} at {at}"), 3)
+
+
+def marks_broken(name, content, cause):
+    """What stands behind the head is refused."""
+    head, lines = MARKS_PIECES[0]
+    return marks_told(name, head + content, lines + text(f"marks: {cause} at {len(head)}"), 3)
+
+
+# A block of 30,000 draws: more than is taken of a file at once, and more than is said at once.
+MANY_BYTES = marks_head(1, bytes(32)) + block(0, 0, 0, 0, *[(16, 0, 1)] * 30_000) + end(0, 30_000)
+MANY_TEXT = text(
+    "threads 1", "declared " + 64 * "0", "block 0 first 0", *[f"gap 0 draw {number}" for number in range(1, 30_001)],
+    "gap 0 digest " + 16 * "0", "end 0 events 30000",
+)  # fmt: skip
+
+MARKS = [
+    marks_told("whole", MARKS_BYTES, MARKS_TEXT + text("whole")),
+    marks_told("a byte behind the end", MARKS_BYTES + b"\x00", MARKS_TEXT + text(f"cut at {len(MARKS_BYTES)}, 1 bytes left aside")),
+    *[marks_cut(size) for size in range(len(MARKS_BYTES))],
+    *[marks_changed(place) for place in range(len(MARKS_BYTES))],
+    marks_broken("a second head", MARKS_PIECES[0][0][5:], "5 bad kind"),
+    marks_broken("another kind", frame(3, b""), "5 bad kind"),
+    marks_broken("a body that is cut", frame(2, b"\x00"), "6 bad body"),
+    marks_broken("no such thread", end(2, 0), "7 bad thread"),
+    marks_told(
+        "an end twice", MARKS_BYTES + end(0, 5), MARKS_TEXT + text(f"marks: 8 after the end at {len(MARKS_BYTES)}"), 3
+    ),
+    marks_broken("a block that is missing", block(0, 1, 1, 0), "9 out of order"),
+    marks_broken("a join of its own thread", block(0, 0, 0, 0, (0, 0, 1)), "10 bad mark"),
+    marks_told("a log", HANDOVER_SECOND, text("marks: 1 no magic at 0"), 3),
+    marks_told("many marks", MANY_BYTES, MANY_TEXT + text("whole")),
+    Case("marks: no file", ["marks", "M"], {}, text("read: failed"), 5),
+    Case("marks: a folder", ["marks", "."], {}, text("read: failed"), 5),
+    Case("marks: two files", ["marks", "M", "M"], {"M": MARKS_BYTES}, NO_COMMAND, 1),
+    Case("marks: shown as a log", ["show", "M"], {"M": MARKS_BYTES}, text("log: 1 no magic"), 3),
+]  # fmt: skip
+
 FAULTS = [
     *[
         Case(f"words: {name}", words, {"S": ONE}, NO_COMMAND, 1)
@@ -759,4 +846,4 @@ FAULTS = [
     Case("read: no such file", ["tidy", "S"], {}, text("read: failed"), 5),
 ]  # fmt: skip
 
-CASES = RUNS + TIDY + REFUSED + PREFIXES + LOGS + STORY + PROFILES + MISFITS + EVENTS + LOG_REFUSALS + SECOND + FAULTS
+CASES = RUNS + TIDY + REFUSED + PREFIXES + LOGS + STORY + PROFILES + MISFITS + EVENTS + LOG_REFUSALS + SECOND + MARKS + FAULTS

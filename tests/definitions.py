@@ -45,6 +45,10 @@ OTHERS = {
     "octet_log/specs/v2/Refusals.antt": {32},
     "octet_log/src/loader.rt": {32},
     "octet_log/src/v2/encoder.rt": {32},
+    "octet_marks/specs/Bodies.antt": {32},  # Bytes of a digest.
+    "octet_marks/specs/Spellings.antt": {32},
+    "octet_marks/src/bodies.rt": {32},
+    "octet_marks/src/writer.rt": {32},
     "octet_script/specs/Spelling.antt": {32},  # A blank.
     "octet_script/specs/Words.antt": {32},
     "octet_state/specs/Words.antt": {32, 65536},  # Fields of a word.

@@ -16,7 +16,7 @@ import tempfile
 import time
 
 from case import text
-from cases import BANK, LOST_LOG
+from cases import BANK, LOST_LOG, MARKS_BYTES
 from files import LAUNCHER, ONE, SECONDS, TOP, called, differs, first, folder_with
 
 BUILD = TOP / "tools" / "build"
@@ -54,9 +54,12 @@ WRONG_WORDS = [
     (["gen", "1", "G"], NO_COMMAND, "gen wants NUMBER SCRIPT LOG"),
     (["convert", "S", "L"], NO_COMMAND, "convert wants SCRIPT LOG OUT"),
     (["show"], NO_COMMAND, "show wants LOG"),
+    (["marks"], NO_COMMAND, "marks wants FILE"),
     (["tidy", "S", "T"], NO_COMMAND, "tidy wants SCRIPT"),
     ([b"tidy", b"\xff"], NO_COMMAND, "a word is not UTF-8"),
 ]
+# What standard error says of a marks file where a log is wanted.
+IS_MARKS = "N is a marks file, of a run of any length: `octet marks N` shows it"
 # Words that name no file that can be read: each ends with status 5.
 UNREAD = [
     (["tidy", "none"], "none is not there"),
@@ -68,6 +71,7 @@ UNREAD = [
     (["replay", "none", "nor"], "none is not there"),
     (["replay", "S", "F"], "F is a folder"),
     (["show", "none"], "none is not there"),
+    (["marks", "none"], "none is not there"),
     (["slice", "S", "none", "0", "0"], "none is not there"),
     (["run", "none", "L"], "none is not there"),
 ]
@@ -100,7 +104,7 @@ def lines(*told):
 
 def answers():
     """After what the program says and its status, one line says which word or file was wrong."""
-    with folder_with(S=BANK, L=LOST_LOG, M=LOST_LOG, T=ONE, U=ONE) as folder:
+    with folder_with(S=BANK, L=LOST_LOG, M=LOST_LOG, T=ONE, U=ONE, N=MARKS_BYTES) as folder:
         os.mkdir(pathlib.Path(folder, "F"))
 
         def answer(words, status, said, *told):
@@ -110,6 +114,8 @@ def answers():
             *(answer(words, 1, said, told) for words, said, told in WRONG_WORDS),
             *(answer(words, 5, FAILED, told) for words, told in UNREAD),
             *(answer(words, 6, b"", told) for words, told in UNWRITTEN),
+            *(answer(words, 3, text("log: 1 no magic"), IS_MARKS) for words in [["show", "N"], ["replay", "S", "N"], ["convert", "S", "N", "O"]]),
+            differs("no word of what a log is", called([LAUNCHER, "marks", "L"], folder), (3, text("marks: 1 no magic at 0"))),
             *(lost(folder, *row) for row in LOST),
             differs("no warning", called([LAUNCHER, "run", "S", "O"], folder)[0], 0),
             differs("no word more", len(called([LAUNCHER, "run", "S", "O"], folder)), 2),

@@ -11,6 +11,8 @@ mod interp_tests;
 #[cfg(test)]
 mod log_tests;
 #[cfg(test)]
+mod marks_tests;
+#[cfg(test)]
 mod model_tests;
 #[cfg(test)]
 mod ring_tests;

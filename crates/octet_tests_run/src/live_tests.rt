@@ -1,7 +1,7 @@
 //! A run writes its log while its threads run: one of them goes on only once a piece of another was
 //! added.
 ghost use Rattle.std.specs.Prelude.{◌≡◌, None, IsSome};
-ghost use Rattle.octet_base.specs.Desk.{Takes, Begins, Adds, Finishes, Says};
+ghost use Rattle.octet_base.specs.Desk.{Takes, TakesPiece, Begins, Adds, Finishes, Says};
 
 use crate::desks::{desk_with, words_of};
 use crate::gates::Counted;
@@ -37,6 +37,18 @@ impl<'a> Desk for Counting<'a> {
         ensures { Takes name.now limit (state_in self.old.desk) result (state_in self.new.desk) }
     {
         self.desk.take(alloc, name, limit)
+    }
+
+    fn take_piece(
+        &mut self,
+        alloc: Global,
+        name: &str,
+        from: u64,
+        limit: u32,
+    ) -> Result<Vec<u8>, DeskFault>
+        ensures { TakesPiece name.now from limit (state_in self.old.desk) result (state_in self.new.desk) }
+    {
+        self.desk.take_piece(alloc, name, from, limit)
     }
 
     fn begin(&mut self, alloc: Global, name: &str) -> Result<(), DeskFault>

@@ -1,4 +1,4 @@
-//! The loop of `docs/THREADS.md`, to the letter.
+//! A loop over `carry`, to copy. It tells which accesses made their thread's log longer: another thread had a part in them.
 ghost use Rattle.std.specs.Prelude.{◌≡◌, [], false};
 ghost use Rattle.octet_model.specs.Thread.{starting_configuration};
 ghost use Rattle.octet_rule.specs.Conditions.{IsResting};

@@ -22,18 +22,34 @@ const LOG: &[u8] =
 const SECOND: &[u8] =
     b"OCTL\x02\x02\x8b\x05\x7c\x43\xda\xdd\x83\xde\x73\x7b\x4c\xd3\x9f\xd1\x51\x08\x57\xb7\x55\x36\x9c\x76\x4f\x16\x5f\xb4\x63\xa6\x03\x1c\x53\x6e\x01\x01\x01\x00\x00\x00\xff\x00\x01";
 
+/// A marks file of one thread, which has made nothing, and of an object that starts with 7.
+const MARKS: &[u8] =
+    b"\x4f\x43\x54\x4d\x01\x00\x00\x00\x00\x29\x00\x00\x00\x29\x01\x41\x42\x43\x44\x45\x46\x47\x48\x49\x4a\x4b\x4c\x4d\x4e\x4f\x50\x51\x52\x53\x54\x55\x56\x57\x58\x59\x5a\x5b\x5c\x5d\x5e\x5f\x60\x00\x00\x00\x00\x00\x00\x00\x07\x3d\x21\x2e\x93\x0b\x6d\x97\x63\x02\x00\x00\x00\x09\x00\x00\x00\x09\x00\x00\x00\x00\x00\x00\x00\x00\x00\x60\x67\xd3\xec\x15\x7c\x6c\xe9";
+
+const MARKS_SAID: &[u8] =
+    b"threads 1\ndeclared 4142434445464748494a4b4c4d4e4f505152535455565758595a5b5c5d5e5f60\nobject 0 7\nend 0 events 0\nwhole\n";
+
+/// The file is taken and its lines are said, and then nothing more can be taken.
+const MARKS_UNREAD: &[u8] =
+    b"threads 1\ndeclared 4142434445464748494a4b4c4d4e4f505152535455565758595a5b5c5d5e5f60\nobject 0 7\nend 0 events 0\nread: failed\n";
+
+/// All its lines are said, and some first bytes of the last one.
+const MARKS_CUT: &[u8] =
+    b"threads 1\ndeclared 4142434445464748494a4b4c4d4e4f505152535455565758595a5b5c5d5e5f60\nobject 0 7\nend 0 events 0\nwh";
+
 /// The status, what is said, the file `L`, and how many takes and other calls failed.
 type Left = (Status, &'static [u8], Option<&'static [u8]>, (u64, u64));
 
-/// Over a desk with the script as `S` and its log as `K`, whose calls fail so, the words leave this.
+/// Over a desk with the script as `S` and these bytes as `K`, whose calls fail so, the words leave this.
 fn leaves<R: Threads + Wait + Sync + Abort>(
     rt: &R,
     alloc: Global,
+    log: &[u8],
     fails: &[(u64, u32)],
     line: &str,
     left: Left,
 ) -> Result<(), Failed> {
-    let mut desk = desk_with(alloc, SCRIPT, LOG, fails)?;
+    let mut desk = desk_with(alloc, SCRIPT, log, fails)?;
     let answer = serve(rt, alloc, &words_of(alloc, line)?, &mut desk, &OpenGate);
     let (status, said, file, faults) = left;
     assert_eq!(rt; answer, status.code(), "{line}");
@@ -69,6 +85,7 @@ const COMMANDS: &[(&str, Status, &[u8], Option<&[u8]>)] = &[
     ("tidy S L", Status::Words, NO_COMMAND, None),
     ("", Status::Words, NO_COMMAND, None),
     ("show K", Status::Done, SHOWN, None),
+    ("marks K", Status::Log, b"marks: 1 no magic at 0\n", None),
     ("replay S K", Status::Done, SAID, None),
     ("parallel S K", Status::Done, SAID, None),
     ("verify S K", Status::Done, b"ordered\n", None),
@@ -99,7 +116,14 @@ const COMMANDS: &[(&str, Status, &[u8], Option<&[u8]>)] = &[
 #[test]
 fn commands_answer(rt: HostRuntime) -> Result<(), Failed> {
     for &(line, status, said, file) in COMMANDS {
-        leaves(&rt, rt.alloc(), &[], line, (status, said, file, (0, 0)))?;
+        leaves(
+            &rt,
+            rt.alloc(),
+            LOG,
+            &[],
+            line,
+            (status, said, file, (0, 0)),
+        )?;
     }
     Ok(())
 }
@@ -142,6 +166,16 @@ const LIVE_FAILURES: &[Failure] = &[
     ([(7, 3), (8, 0)], Status::Write, Some(WHOLE), b"thr", (0, 1)),
 ];
 
+/// The calls are a take of the file and a say of its lines, and then a take of no bytes and a say.
+const MARKS_FAILURES: &[Failure] = &[
+    ([(5, 0), (6, 0)], Status::Done, None, MARKS_SAID, (0, 0)),
+    ([(1, 9), (3, 0)], Status::Read, None, READ_FAILED, (1, 0)),
+    ([(1, 9), (2, 0)], Status::Write, None, b"", (1, 1)),
+    ([(2, 3), (3, 0)], Status::Write, None, b"thr", (0, 1)),
+    ([(3, 9), (5, 0)], Status::Read, None, MARKS_UNREAD, (1, 0)),
+    ([(4, 2), (5, 0)], Status::Write, None, MARKS_CUT, (0, 1)),
+];
+
 fn front(whole: &'static [u8], length: Option<usize>) -> Option<&'static [u8]> {
     let length = length?;
     Some(&whole[..length.min(whole.len())])
@@ -152,7 +186,7 @@ fn front(whole: &'static [u8], length: Option<usize>) -> Option<&'static [u8]> {
 fn failed_calls_leave_prefixes(rt: HostRuntime) -> Result<(), Failed> {
     for &(fails, status, written, said, faults) in FAILURES {
         let left = (status, said, front(LOG, written), faults);
-        leaves(&rt, rt.alloc(), &fails, "locked S L", left)?;
+        leaves(&rt, rt.alloc(), LOG, &fails, "locked S L", left)?;
     }
     Ok(())
 }
@@ -161,7 +195,16 @@ fn failed_calls_leave_prefixes(rt: HostRuntime) -> Result<(), Failed> {
 fn failed_calls_of_a_live_run_leave_prefixes(rt: HostRuntime) -> Result<(), Failed> {
     for &(fails, status, written, said, faults) in LIVE_FAILURES {
         let left = (status, said, front(SECOND, written), faults);
-        leaves(&rt, rt.alloc(), &fails, "run S L", left)?;
+        leaves(&rt, rt.alloc(), LOG, &fails, "run S L", left)?;
+    }
+    Ok(())
+}
+
+#[test]
+fn failed_calls_of_marks_leave_lines(rt: HostRuntime) -> Result<(), Failed> {
+    for &(fails, status, _, said, faults) in MARKS_FAILURES {
+        let left = (status, said, None, faults);
+        leaves(&rt, rt.alloc(), MARKS, &fails, "marks K", left)?;
     }
     Ok(())
 }

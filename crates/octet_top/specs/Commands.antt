@@ -44,9 +44,10 @@ use Rattle.octet_top.specs.Answer.{Answer, says, writes_file, writes_both, not_a
 use Rattle.octet_machine.specs.Turns.{IsPlayed}
 use Rattle.octet_top.specs.Headline.{digest_kept}
 use Rattle.octet_top.specs.Request.{Way, Quarry, named_by, Request, request_in}
-use Rattle.octet_top.specs.declared.request.Request.TheVariants.{Tidy, Show, OfPair, Parallel, Convert, Run, Gen, Hunt}
+use Rattle.octet_top.specs.declared.request.Request.TheVariants.{Tidy, Show, Marks, OfPair, Parallel, Convert, Run, Gen, Hunt}
 use Rattle.octet_top.specs.declared.request.Way.TheVariants.{AsTheyCome, BehindLock, ByPicks}
 use Rattle.octet_top.specs.declared.request.Quarry.TheVariants.{OtherEnd, AnyCycle}
+use Rattle.octet_top.specs.Marks.{FileAnswers}
 use Rattle.octet_top.specs.TraceTexts.{trace_text}
 use Rattle.octet_top.specs.Profile.{profile_text}
 use Rattle.octet_top.specs.Slices.{SliceSays, StopSays}
@@ -215,6 +216,7 @@ Answering Reading Answers answer = Reading (Err answer) ⊎ ((input : _) × Read
 abbrev pub RequestAnswers : Request → Option Contents → Answer → Type 0
 RequestAnswers (Tidy script) contents answer = Answering (IsScriptRead script contents) TidyAnswers answer
 RequestAnswers (Show log) contents answer = Answering (IsLogRead log contents) ShowAnswers answer
+RequestAnswers (Marks file) contents answer = FileAnswers file contents answer
 RequestAnswers (OfPair task script log object) contents answer = Answering (IsPairRead script log object contents) (PairAnswers task) answer
 RequestAnswers (Parallel script log) contents answer = Answering (IsPairRead script log None contents) ParallelAnswers answer
 RequestAnswers (Convert script log out) contents answer = Answering (IsPairRead script log None contents) (ConvertAnswers out) answer

@@ -18,10 +18,11 @@ use Rattle.octet_top.specs.declared.request.PairTask.{PairTask}
 use Rattle.octet_top.specs.declared.request.PairTask.TheVariants.{Regions, Slice}
 use Rattle.octet_top.specs.Answer.{Answer, code_of, read_failed}
 use Rattle.octet_top.specs.Request.{Request, named_by, request_in, outputs_in}
-use Rattle.octet_top.specs.declared.request.Request.TheVariants.{Tidy, Show, OfPair, Parallel, Convert, Run, Gen, Hunt}
+use Rattle.octet_top.specs.declared.request.Request.TheVariants.{Tidy, Show, Marks, OfPair, Parallel, Convert, Run, Gen, Hunt}
 use Rattle.octet_top.specs.declared.request.Way.TheVariants.{AsTheyCome}
 use Rattle.octet_top.specs.Inputs.{IsScriptRead, IsLogRead, IsScriptChosen, IsPairRead}
 use Rattle.octet_top.specs.Commands.{IsAnswer}
+use Rattle.octet_top.specs.Marks.{IsMarksRead, FileFails}
 use Rattle.octet_top.specs.Outputs.{IsWhole, IsCutShort, IsPartlyWritten}
 
 -- the number is one of the thirteen statuses
@@ -38,9 +39,14 @@ pub record CountsFailures (words : List (List ℕ)) (before after : DeskState) (
   pub writes : code ≢ code_of Write → (after.write_faults ≡ before.write_faults) ⊎ (AsksRun words × (code ≡ code_of Memory))
   pub takes : code ≢ code_of Read → code ≢ code_of Write → code ≢ code_of Memory → after.take_faults ≡ before.take_faults
 
+-- the answer says that reading failed. `marks` has said the text of first pieces before
+abbrev pub SaysFailed : Option Request → Option Contents → Answer → Type 0
+SaysFailed (Some (Marks file)) contents answer = FileFails file contents answer
+SaysFailed request contents answer = answer ≡ read_failed
+
 -- the answer is that of the words, or it says that reading failed, where a take did
 abbrev pub IsGivenAnswer : List (List ℕ) → Contents → ℕ → ℕ → Answer → Type 0
-IsGivenAnswer words contents before after answer = IsAnswer words (Some contents) answer ⊎ ((answer ≡ read_failed) × Rose before after)
+IsGivenAnswer words contents before after answer = IsAnswer words (Some contents) answer ⊎ (SaysFailed (request_in words) (Some contents) answer × Rose before after)
 
 -- the status says that a call failed, or that memory was refused
 abbrev pub IsCut : ℕ → Type 0
@@ -131,6 +137,7 @@ HasPair script log object contents =
 abbrev pub HasFiles : Request → Contents → Type 0
 HasFiles (Tidy script) contents = (source : Source) × IsScriptRead script (Some contents) (Ok source)
 HasFiles (Show log) contents = (read : Loaded) × IsLogRead log (Some contents) (Ok read)
+HasFiles (Marks file) contents = IsMarksRead file contents
 HasFiles (OfPair task script log object) contents = HasPair script log object contents
 HasFiles (Parallel script log) contents = HasPair script log None contents
 HasFiles (Convert script log out) contents = HasPair script log None contents

@@ -6,7 +6,7 @@ use Rattle.octet_top.specs.declared.reply.Reply.{Reply}
 use Rattle.octet_top.specs.declared.reply.Status.TheVariants.{Done}
 use Rattle.octet_top.specs.Answer.{Answer, answer_of, read_failed}
 use Rattle.octet_top.specs.Request.{Request}
-use Rattle.octet_top.specs.declared.request.Request.TheVariants.{Tidy, Show, OfPair, Parallel, Convert, Run, Gen, Hunt}
+use Rattle.octet_top.specs.declared.request.Request.TheVariants.{Tidy, Show, Marks, OfPair, Parallel, Convert, Run, Gen, Hunt}
 use Rattle.octet_top.specs.Inputs.{TakesOne, TakesBoth}
 use Rattle.octet_top.specs.Commands.{Answers}
 
@@ -22,11 +22,12 @@ IsNoSuccess (Some reply) = reply.status ≢ Done
 IsNoSuccess None = Unit {0}
 
 -- the files of a request are taken, each once, in order, with its own limit.
--- The second is asked for only after a first that was taken and passes
+-- The second is asked for only after a first that was taken and passes. A marks file is not taken so, but piece by piece
 abbrev pub TakesFiles : Option Request → Type 0 → DeskState → DeskState → Type 0
 TakesFiles None Short before after = after ≡ before
 TakesFiles (Some (Tidy script)) Short before after = TakesOne script MAX_SCRIPT_FILE Short before after
 TakesFiles (Some (Show log)) Short before after = TakesOne log MAX_LOG_FILE Short before after
+TakesFiles (Some (Marks file)) Short before after = ⊥
 TakesFiles (Some (OfPair task script log object)) Short before after = TakesBoth script log object Short before after
 TakesFiles (Some (Parallel script log)) Short before after = TakesBoth script log None Short before after
 TakesFiles (Some (Convert script log out)) Short before after = TakesBoth script log None Short before after

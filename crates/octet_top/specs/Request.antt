@@ -13,7 +13,7 @@ use Rattle.octet_top.specs.declared.request.Way.TheVariants.{AsTheyCome, BehindL
 use Rattle.octet_top.specs.declared.request.Quarry as quarry
 use Rattle.octet_top.specs.declared.request.Quarry.TheVariants.{OtherEnd, AnyCycle}
 use Rattle.octet_top.specs.declared.request.Request as request
-use Rattle.octet_top.specs.declared.request.Request.TheVariants.{Tidy, Show, OfPair, Parallel, Convert, Run, Gen, Hunt}
+use Rattle.octet_top.specs.declared.request.Request.TheVariants.{Tidy, Show, Marks, OfPair, Parallel, Convert, Run, Gen, Hunt}
 
 -- the bytes of each word
 abbrev pub texts : List (String Global) → List (List ℕ)
@@ -44,7 +44,8 @@ tries_of word = elim (number_of word) [ None ↦ None | Some n ↦ if nat_le 1 n
 abbrev pub asked_by_two : List ℕ → List ℕ → Option Request
 asked_by_two word file =
     if bytes_eq word (codes "tidy") then Some (Tidy file)
-    else (if bytes_eq word (codes "show") then Some (Show file) else None)
+    else (if bytes_eq word (codes "show") then Some (Show file)
+    else (if bytes_eq word (codes "marks") then Some (Marks file) else None))
 
 -- what three words ask for
 abbrev pub asked_by_three : List ℕ → List ℕ → List ℕ → Option Request
@@ -87,8 +88,9 @@ request_in (word ∷ script ∷ log ∷ third ∷ last ∷ []) = asked_by_five w
 request_in (word ∷ script ∷ log ∷ name ∷ number ∷ last ∷ []) = asked_by_six word script log name number last
 request_in _ = None
 
--- the test whether a request starts threads or runs a script
+-- the test whether a request starts threads or runs a script, or is served while its file is read
 abbrev pub needs_runtime : Request → Bool
+needs_runtime (Marks file) = true
 needs_runtime (Parallel script log) = true
 needs_runtime (Run way script log) = true
 needs_runtime (Gen number script log) = true
@@ -103,7 +105,7 @@ abbrev pub alone_in : Option Request → Option Request
 alone_in None = None
 alone_in (Some request) = if_alone request
 
--- what words ask for that starts no thread and runs no script
+-- what words ask for that starts no thread, runs no script, and is served once its files are read
 abbrev pub reading_in : List (List ℕ) → Option Request
 reading_in words = alone_in (request_in words)
 
@@ -139,6 +141,7 @@ shown_quarry AnyCycle = AnyCycle
 abbrev pub shown : request.Request (Bor (List ℕ)) → Request
 shown (Tidy script) = Tidy script.now
 shown (Show log) = Show log.now
+shown (Marks file) = Marks file.now
 shown (OfPair task script log object) = OfPair task script.now log.now (name_in object)
 shown (Parallel script log) = Parallel script.now log.now
 shown (Convert script log out) = Convert script.now log.now out.now

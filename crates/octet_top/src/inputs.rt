@@ -45,7 +45,7 @@ fn take_file<D: Desk>(
     match desk.take(alloc, name, limit) {
         Ok(bytes) => Ok(List::from_vec(bytes)),
         Err(DeskFault::OutOfMemory) => Err(Refused::OutOfMemory),
-        Err(DeskFault::TooLong) => Err(Refused::Because(too_long(alloc, name, limit)?)),
+        Err(DeskFault::TooLong) => Err(Refused::Because(too_long(alloc, name, u64::from(limit))?)),
         Err(DeskFault::Failed) => Err(Refused::Because(read_failed(alloc)?)),
         Err(DeskFault::Absent) => Err(Refused::Because(read_failed(alloc)?)),
     }

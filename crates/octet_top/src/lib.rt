@@ -8,6 +8,7 @@ mod event_text;
 mod hunt;
 mod inputs;
 mod live;
+mod marks;
 mod parallel;
 mod picks;
 mod profile;

@@ -67,6 +67,10 @@ pub(crate) enum Request<Text> {
     Show {
         log: Text,
     },
+    /// A marks file's text.
+    Marks {
+        file: Text,
+    },
     /// Of a script and a log, and of one object where it is named.
     OfPair {
         task: PairTask,
@@ -126,6 +130,7 @@ fn of_two<'a>(word: &str, file: &'a str) -> Option<Request<&'a str>>
     match word {
         "tidy" => Some(Request::Tidy { script: file }),
         "show" => Some(Request::Show { log: file }),
+        "marks" => Some(Request::Marks { file }),
         _ => None,
     }
 }

@@ -1,5 +1,5 @@
 //! Requests served with the runtime, which some of them need: `run SCRIPT LOG`, `locked SCRIPT LOG`,
-//! `turns SCRIPT LOG PICKS`, `gen NUMBER SCRIPT LOG` and `parallel SCRIPT LOG`.
+//! `turns SCRIPT LOG PICKS`, `gen NUMBER SCRIPT LOG` and `parallel SCRIPT LOG`; and all others.
 ghost use Rattle.std.specs.Prelude.{◌≡◌, IfOk, None, Some};
 ghost use Rattle.octet_top.specs.Answer.{answer_of, file_of, IsAnswered, given_reply, writes_file};
 ghost use Rattle.octet_top.specs.Request.{shown};
@@ -14,6 +14,7 @@ ghost use Rattle.octet_top.specs.Serving.{IsServed};
 use crate::deliver::deliver;
 use crate::inputs::read_script;
 use crate::live::serve_live;
+use crate::marks::serve_marks;
 use crate::parallel::replay_on_threads;
 use crate::picks::picks_of;
 use crate::refusal::Refused;
@@ -65,6 +66,7 @@ pub(crate) fn serve_request<R: Threads + Wait + Sync, D: Desk, G: HeapGate>(
             let reply = generate(rt, alloc, gate, number, script, log);
             deliver(alloc, desk, reply)
         }
+        Request::Marks { file } => serve_marks(alloc, desk, file),
         Request::Parallel { script, log } => {
             let reply = replay_on_threads(rt, alloc, desk, gate, script, log);
             deliver(alloc, desk, reply)

@@ -25,9 +25,10 @@ use Rattle.octet_top.specs.declared.reply.Status.TheVariants as exit
 use Rattle.octet_log.specs.declared.loader.Loaded.{Loaded}
 use Rattle.octet_top.specs.Answer.{Answer, verdict_said}
 use Rattle.octet_top.specs.Request.{Way, Request, Quarry, named_by, outputs_of, outputs_in}
-use Rattle.octet_top.specs.declared.request.Request.TheVariants.{Tidy, Show, OfPair, Parallel, Convert, Run, Gen, Hunt}
+use Rattle.octet_top.specs.declared.request.Request.TheVariants.{Tidy, Show, Marks, OfPair, Parallel, Convert, Run, Gen, Hunt}
 use Rattle.octet_top.specs.declared.request.Quarry.TheVariants.{OtherEnd, AnyCycle}
 use Rattle.octet_top.specs.Inputs.{IsTaken, IsScriptRead, IsLogRead, IsScriptChosen, IsPairRead}
+use Rattle.octet_top.specs.Marks.{FileAnswers}
 use Rattle.octet_top.specs.Commands.{Answers, RequestAnswers, TidyAnswers, ShowAnswers, OutcomeSays, WhereOrdered, PairSays, RunAnswers, none_found}
 
 -- a status that comes with a refusal
@@ -140,6 +141,13 @@ show_row loaded answer is = done [] answer _ is refl refl
 pub run_row : (way : Way) (log : List ℕ) (source : Source) (answer : Answer) → RunAnswers way log source answer → IsDone (log ∷ []) answer
 run_row way log source answer (recorded, outcome, bytes, records, file, is) = done (log ∷ []) answer _ is refl refl
 
+-- a marks file is told whole, or up to where it is cut, or it is refused
+pub file_row : (name : List ℕ) (contents : Option Contents) (answer : Answer) → FileAnswers name contents answer → IsDone [] answer ⊎ Refuses answer
+file_row name contents answer (inl (absent, is)) = inr (refuses answer _ is refl refl)
+file_row name contents answer (inr (bytes, there, (pieces, stands, reads, inl (cut, inl (short, is))))) = inl (done [] answer _ is refl refl)
+file_row name contents answer (inr (bytes, there, (pieces, stands, reads, inl (cut, inr (long, is))))) = inr (refuses answer _ is refl refl)
+file_row name contents answer (inr (bytes, there, (pieces, stands, reads, inr (cause, bad, is)))) = inr (refuses answer _ is refl refl)
+
 -- the journals of the lowest order are ordered
 abbrev pub HasOrderedJournals : Pair → Type 0
 HasOrderedJournals pair = IsOrdered (journals_after pair.source.script pair.loaded.log.threads (lowest_order pair.source.script pair.loaded.log.threads))
@@ -247,6 +255,7 @@ request_row (Tidy script) contents answer (inl read) = inr (script_refused scrip
 request_row (Tidy script) contents answer (inr (source, read, is)) = inl (tidy_row source answer is)
 request_row (Show log) contents answer (inl read) = inr (log_refused log contents answer read)
 request_row (Show log) contents answer (inr (read, is-read, is)) = inl (show_row read answer is)
+request_row (Marks file) contents answer answers = file_row file contents answer answers
 request_row (OfPair task script log object) contents answer (inl read) = inr (pair_refused script log object contents answer read)
 request_row (OfPair task script log object) contents answer (inr (pair, read, inl (fault, other, is))) = inr (refuses answer _ is refl refl)
 request_row (OfPair task script log object) contents answer (inr (pair, read, inr (own, inl (fault, memory, cause, is)))) = inr (refuses answer _ is refl refl)

@@ -12,16 +12,17 @@ use Rattle.octet_top.specs.declared.reply.Status.{Status}
 use Rattle.octet_top.specs.declared.reply.Status.TheVariants as exit
 use Rattle.octet_top.specs.Answer.{Answer, answer_of, code_of, read_failed, writes_file}
 use Rattle.octet_top.specs.Request.{Request, request_in}
-use Rattle.octet_top.specs.declared.request.Request.TheVariants.{Tidy, Show, OfPair, Parallel, Convert, Run, Gen, Hunt}
+use Rattle.octet_top.specs.declared.request.Request.TheVariants.{Tidy, Show, Marks, OfPair, Parallel, Convert, Run, Gen, Hunt}
 use Rattle.octet_top.specs.declared.request.Way.TheVariants.{AsTheyCome, BehindLock, ByPicks}
 use Rattle.octet_top.specs.Commands.{Answers, IsAnswer}
-use Rattle.octet_top.specs.Replies.{Replies}
+use Rattle.octet_top.specs.Replies.{Replies, TakesFiles}
 use Rattle.octet_top.specs.Delivery.{Act, Begin, Add, Finish, Say, Does, Makes, IsRefused, acts_of, code_given, IsGiven}
 use Rattle.octet_top.specs.Live.{MakesSome, IsToldLive, IsWrittenLive, IsRunLive}
 use Rattle.octet_top.proofs.writing.Parts.{log_parts, parts_acts}
 use Rattle.octet_top.proofs.writing.LiveMade.{log_some, refused_log}
 use Rattle.octet_top.specs.Serving.{IsReplied, IsServed}
-use Rattle.octet_top.specs.Effects.{AsksRun, LeavesLog}
+use Rattle.octet_top.specs.Effects.{AsksRun, LeavesLog, SaysFailed}
+use Rattle.octet_top.specs.Marks.{IsFileFound, IsFileCut, WhereTold, MarksEnding, SaidWhole, SayFailed, MemoryRefused}
 use Rattle.octet_top.specs.Inputs.{IsScriptRead}
 use Rattle.octet_top.specs.Causes.{IsCause}
 use Rattle.octet_top.specs.Outputs.{IsPartlyWritten, IsWhole, IsCutShort}
@@ -87,14 +88,10 @@ some_count (act ∷ acts) before result after (inr (inr (mid, does, makes))) =
 makes_count : (acts : List Act) (before : DeskState) (result : Result (Unit {0}) DeskFault) (after : DeskState) → Makes acts before result after → Counts result before after
 makes_count acts before result after makes = some_count acts before result after (some_of acts before result after makes)
 
--- what is told before and after is related so
-abbrev pub WhereTold : DeskState → DeskState → (Contents → Contents → Type 0) → Type 0
-WhereTold before after Left = (t t' : Contents) → before.contents ≡ Some t → after.contents ≡ Some t' → Left t t'
-
 -- the words' answer, and no take failed; or a take failed, and that is the answer
 abbrev pub IsFound : List (List ℕ) → DeskState → DeskState → Answer → Type 0
 IsFound words before after answer =
-    (IsAnswer words before.contents answer × (after.take_faults ≡ before.take_faults)) ⊎ ((answer ≡ read_failed) × Rose before.take_faults after.take_faults)
+    (IsAnswer words before.contents answer × (after.take_faults ≡ before.take_faults)) ⊎ (SaysFailed (request_in words) before.contents answer × Rose before.take_faults after.take_faults)
 
 -- so much is left of what was begun: of an answer, or of the log of a run
 abbrev pub IsShort : List (List ℕ) → DeskState → DeskState → Contents → Contents → Type 0
@@ -124,6 +121,40 @@ cut_ends words before mid after code (Err fault.Failed) refused kept counts left
 cut_ends words before mid after code (Err fault.Absent) refused kept counts left is = absurd (counts.answer.not_absent refl)
 cut_ends words before mid after code (Err fault.TooLong) refused kept counts left is = absurd (counts.answer.not_too_long refl)
 
+-- a reply says that reading failed, and nothing before
+replied_failed : (request : Option Request) (Short : Type 0) (before mid : DeskState) (answer : Answer) → TakesFiles request Short before mid → answer ≡ read_failed → SaysFailed request before.contents answer
+replied_failed None Short before mid answer takes is = is
+replied_failed (Some (Tidy script)) Short before mid answer takes is = is
+replied_failed (Some (Show log)) Short before mid answer takes is = is
+replied_failed (Some (Marks file)) Short before mid answer never is = absurd never
+replied_failed (Some (OfPair task script log object)) Short before mid answer takes is = is
+replied_failed (Some (Parallel script log)) Short before mid answer takes is = is
+replied_failed (Some (Convert script log out)) Short before mid answer takes is = is
+replied_failed (Some (Run task script log)) Short before mid answer takes is = is
+replied_failed (Some (Gen number script log)) Short before mid answer takes is = is
+replied_failed (Some (Hunt quarry script log tries)) Short before mid answer takes is = is
+
+-- an answer that says so has the status of it, and writes nothing
+pub record Failed (answer : Answer) : Type 0 where
+  pub status : answer.status ≡ exit.Read
+  pub files : answer.files ≡ []
+
+failed_by : (answer said : Answer) → answer ≡ said → said.status ≡ exit.Read → said.files ≡ [] → Failed answer
+failed_by answer said is status files = record { status = ap (λ (a : Answer). a.status) is ∙ status; files = ap (λ (a : Answer). a.files) is ∙ files }
+
+pub says_failed : (request : Option Request) (contents : Option Contents) (answer : Answer) → SaysFailed request contents answer → Failed answer
+says_failed None contents answer is = failed_by answer read_failed is refl refl
+says_failed (Some (Tidy script)) contents answer is = failed_by answer read_failed is refl refl
+says_failed (Some (Show log)) contents answer is = failed_by answer read_failed is refl refl
+says_failed (Some (Marks file)) contents answer (inl is) = failed_by answer read_failed is refl refl
+says_failed (Some (Marks file)) contents answer (inr (bytes, pieces, stands, there, reads, is)) = failed_by answer _ is refl refl
+says_failed (Some (OfPair task script log object)) contents answer is = failed_by answer read_failed is refl refl
+says_failed (Some (Parallel script log)) contents answer is = failed_by answer read_failed is refl refl
+says_failed (Some (Convert script log out)) contents answer is = failed_by answer read_failed is refl refl
+says_failed (Some (Run task script log)) contents answer is = failed_by answer read_failed is refl refl
+says_failed (Some (Gen number script log)) contents answer is = failed_by answer read_failed is refl refl
+says_failed (Some (Hunt quarry script log tries)) contents answer is = failed_by answer read_failed is refl refl
+
 module _ (words : List (List ℕ)) (before after : DeskState) (code : ℕ) where
   replied_ends : IsReplied (request_in words) before after code → Ending words before after code
   replied_ends served = by served.reply served.found served.given
@@ -132,7 +163,10 @@ module _ (words : List (List ℕ)) (before after : DeskState) (code : ℕ) where
       held reply t replies tells = taken_held (request_in words) _ t.files t.said before served.mid (record { contents = t; tells = tells; files_are = refl; said_is = refl }) replies.calls
 
       found : (reply : Reply) → Replies (request_in words) before (Some reply) served.mid → after.take_faults ≡ served.mid.take_faults → IsFound words before after (answer_of reply)
-      found reply replies kept = elim replies.found [ inl (answers, same) ↦ inl (answers, kept ∙ same) | inr (said, rose) ↦ inr (said, rw kept rose) ]
+      found reply replies kept = elim replies.found [
+        | inl (answers, same) ↦ inl (answers, kept ∙ same)
+        | inr (said, rose) ↦ inr (replied_failed (request_in words) _ before served.mid (answer_of reply) replies.calls said, rw kept rose)
+      ]
 
       by : (reply : Option Reply) → Replies (request_in words) before reply served.mid → IsGiven reply served.mid after code → Ending words before after code
       by (Some reply) replies (made, makes, is) =
@@ -207,6 +241,20 @@ module _ (words : List (List ℕ)) (before after : DeskState) (code : ℕ) where
           (λ t t' tells tells'. inr (inr (left_log why (refused_log log (sha256 live.source.text) wrote.pieces wrote.log.threads live.mid opened after why opens refused) t t' tells tells')))
     ]
 
+  -- the text of a marks file
+  module _ (file : List ℕ) (asked : request_in words ≡ Some (Marks file)) where
+    file_found : (answer : Answer) → IsFileFound file before after answer → IsFound words before after answer
+    file_found answer (inl (answers, same)) = inl (subst (λ (request : Option Request). Answers request before.contents answer) (sym asked) answers, same)
+    file_found answer (inr (failed, rose)) = inr (subst (λ (request : Option Request). SaysFailed request before.contents answer) (sym asked) failed, rose)
+
+    file_short : (t t' : Contents) → IsFileCut file before after t t' → IsShort words before after t t'
+    file_short t t' (answer, found, short) = inl (answer, file_found answer found, short)
+
+    marks_end : MarksEnding file before after code → Ending words before after code
+    marks_end (SaidWhole answer found is same left) = Whole answer (file_found answer found) is same left
+    marks_end (SayFailed is rose left) = CutShort is rose (λ t t' tells tells'. file_short t t' (left t t' tells tells'))
+    marks_end (MemoryRefused is same left) = Lacking is (inl same) (λ t t' tells tells'. inr (file_short t t' (left t t' tells tells')))
+
   ends_by : (request : Option Request) → request_in words ≡ request → IsServed request before after code → Ending words before after code
   ends_by (Some (Run AsTheyCome script log)) asked (inl (replied, short)) = replied_ends (subst (λ (r : Option Request). IsReplied r before after code) (sym asked) replied)
   ends_by (Some (Run AsTheyCome script log)) asked (inr live) = live_ends script log asked live
@@ -214,6 +262,7 @@ module _ (words : List (List ℕ)) (before after : DeskState) (code : ℕ) where
   ends_by (Some (Run (ByPicks picks) script log)) asked served = replied_ends (subst (λ (r : Option Request). IsReplied r before after code) (sym asked) served)
   ends_by (Some (Tidy script)) asked served = replied_ends (subst (λ (r : Option Request). IsReplied r before after code) (sym asked) served)
   ends_by (Some (Show log)) asked served = replied_ends (subst (λ (r : Option Request). IsReplied r before after code) (sym asked) served)
+  ends_by (Some (Marks file)) asked served = marks_end file asked served.ends
   ends_by (Some (OfPair task script log object)) asked served = replied_ends (subst (λ (r : Option Request). IsReplied r before after code) (sym asked) served)
   ends_by (Some (Parallel script log)) asked served = replied_ends (subst (λ (r : Option Request). IsReplied r before after code) (sym asked) served)
   ends_by (Some (Convert script log out)) asked served = replied_ends (subst (λ (r : Option Request). IsReplied r before after code) (sym asked) served)
@@ -250,6 +299,6 @@ has_cause words before after code served status is = by (ended words before afte
     by : Ending words before after code → IsCause words before after status
     by (Whole answer (inl (answers, same)) is' counts left) = comes answer.status is' (own_cause words before after answer answer.status answers refl
         (elim (answers_row (request_in words) before.contents answer answers) [ inl row ↦ inl row.status | inr row ↦ inr row.status ]))
-    by (Whole answer (inr (said, rose)) is' counts left) = comes exit.Read (is' ∙ ap (λ (a : Answer). code_of a.status) said) (inl rose)
+    by (Whole answer (inr (said, rose)) is' counts left) = comes exit.Read (is' ∙ ap code_of (says_failed (request_in words) before.contents answer said).status) (inl rose)
     by (CutShort is' rose left) = comes exit.Write is' rose
     by (Lacking is' counts left) = comes exit.Memory is' tt

@@ -13,6 +13,8 @@ use Rattle.std.specs.Option.{option_map}
 use Rattle.octet_log.specs.declared.loader.Digest.{Digest}
 use Rattle.octet_log.specs.Readings.{reading_of}
 use Rattle.octet_log.proofs.lemmas.Readings.{spelling_read, one_reading}
+use Rattle.octet_marks.specs.declared.piece.Piece.{Piece}
+use Rattle.octet_marks.specs.Files.{Unread}
 use Rattle.octet_replay.specs.declared.fitting.FitFault.{FitFault}
 use Rattle.octet_replay.specs.declared.fitting.FitFault.TheVariants.{WrongScript}
 use Rattle.octet_replay.specs.Fit.{IsOfScript, IsOfAnother}
@@ -24,10 +26,12 @@ use Rattle.octet_top.specs.declared.reply.Status.{Status}
 use Rattle.octet_top.specs.declared.reply.Status.TheVariants as exit
 use Rattle.octet_top.specs.Answer.{Answer, code_of, not_a_command, read_failed, too_long, script_refused, log_refused}
 use Rattle.octet_top.specs.Request.{Request, Quarry, named_by, request_in}
-use Rattle.octet_top.specs.declared.request.Request.TheVariants.{Tidy, Show, OfPair, Parallel, Convert, Run, Gen, Hunt}
+use Rattle.octet_top.specs.declared.request.Request.TheVariants.{Tidy, Show, Marks, OfPair, Parallel, Convert, Run, Gen, Hunt}
 use Rattle.octet_top.specs.Inputs.{◌>>=◌, IsTaken, IsParsed, IsDecoded, IsChosen, IsScriptRead, IsLogRead, IsScriptChosen, IsPairRead}
+use Rattle.octet_top.specs.Marks.{ReadsTo, fed, judged, pieces_text, SaysRest, MarksAnswers, FileAnswers}
 use Rattle.octet_top.specs.Serving.{IsServed}
 use Rattle.octet_top.specs.Causes.{IsDue, FindsOrNot, NoneFailed}
+use Rattle.octet_top.proofs.reading.Chains.{Stands, has_none, one_reading as reads_once}
 use Rattle.octet_top.proofs.serving.Causes.{Ending, Whole, CutShort, Lacking, ended}
 use Rattle.octet_top.proofs.answering.Rows.{PairRow, AllDone, NotOrdered, NotSerial, NotThere, ParallelRow, Replayed, Apart, has_event, tidy_row, show_row, pair_row, parallel_row, run_row, none_status}
 use Rattle.octet_top.specs.Commands.{Answering, Answers, RequestAnswers, IsAnswer, TidyAnswers, ShowAnswers, Matching, PairReplays, PairAnswers, ParallelReplays, ParallelAnswers, Converts, ConvertAnswers, RunAnswers, HuntAnswers}
@@ -199,6 +203,40 @@ matching_status pair Next same a b (inl p) (inr q) = absurd (not_of_another pair
 matching_status pair Next same a b (inr p) (inl q) = absurd (not_of_another pair.source.text pair.loaded.digest q.0 p.0 q.1)
 matching_status pair Next same a b (inr p) (inr q) = same a b p.1 q.1
 
+-- so have two of a marks file
+pub some_file : (one other : List ℕ) (file : Option (List ℕ)) → file ≡ Some one → file ≡ Some other → one ≡ other
+some_file one other file is is' = let both : Some one ≡ Some other = sym is ∙ is' in cc
+
+rest_status : (name bytes : List ℕ) (stands : Unread) (text : List ℕ) (a b : Answer) → SaysRest name bytes stands text a → SaysRest name bytes stands text b → a.status ≡ b.status
+rest_status name bytes stands text a b (inl (cut, inl (short, is))) (inl (cut', inl (short', is'))) = as_said a b _ _ is is' refl
+rest_status name bytes stands text a b (inl (cut, inl (short, is))) (inl (cut', inr (long, is'))) = absurd (omega (arith, short, long))
+rest_status name bytes stands text a b (inl (cut, inr (long, is))) (inl (cut', inl (short, is'))) = absurd (omega (arith, short, long))
+rest_status name bytes stands text a b (inl (cut, inr (long, is))) (inl (cut', inr (long', is'))) = as_said a b _ _ is is' refl
+rest_status name bytes stands text a b (inl (cut, says)) (inr (cause, bad, is)) = let both : Ok None ≡ Err cause = sym cut ∙ bad in absurd cc
+rest_status name bytes stands text a b (inr (cause, bad, is)) (inl (cut, says)) = let both : Ok None ≡ Err cause = sym cut ∙ bad in absurd cc
+rest_status name bytes stands text a b (inr (cause, bad, is)) (inr (cause', bad', is')) = as_said a b _ _ is is' refl
+
+stands_so : (name bytes : List ℕ) (stands : Unread) (text : List ℕ) (a : Answer) → SaysRest name bytes stands text a → Stands stands
+stands_so name bytes stands text a (inl (cut, says)) = inl cut
+stands_so name bytes stands text a (inr (cause, bad, is)) = inr (cause, bad)
+
+-- the bytes of a file are read in one way
+pub marks_once : (name bytes : List ℕ) (a : Answer) (pieces : List Piece) (stands : Unread) → ReadsTo (fed (judged bytes)) pieces stands → Stands stands → MarksAnswers name bytes a → SaysRest name bytes stands (pieces_text pieces) a
+marks_once name bytes a pieces stands reads ends (others, stands', reads', says) =
+    let same = reads_once others pieces (fed (judged bytes)) stands' stands reads' (has_none stands' (stands_so name bytes stands' (pieces_text others) a says)) reads (has_none stands ends) in
+    subst (λ (p : List Piece). SaysRest name bytes stands (pieces_text p) a) same.0 (subst (λ (s : Unread). SaysRest name bytes s (pieces_text others) a) same.1 says)
+
+marks_status : (name bytes : List ℕ) (a b : Answer) → MarksAnswers name bytes a → MarksAnswers name bytes b → a.status ≡ b.status
+marks_status name bytes a b (pieces, stands, reads, says) answers =
+    rest_status name bytes stands (pieces_text pieces) a b says (marks_once name bytes b pieces stands reads (stands_so name bytes stands (pieces_text pieces) a says) answers)
+
+file_status : (name : List ℕ) (t : Contents) (a b : Answer) → FileAnswers name (Some t) a → FileAnswers name (Some t) b → a.status ≡ b.status
+file_status name t a b (inl (absent, is)) (inl (absent', is')) = as_said a b read_failed read_failed is is' refl
+file_status name t a b (inl (absent, is)) (inr (bytes, there, answers)) = let both : None ≡ Some bytes = sym absent ∙ there in absurd cc
+file_status name t a b (inr (bytes, there, answers)) (inl (absent, is)) = let both : None ≡ Some bytes = sym absent ∙ there in absurd cc
+file_status name t a b (inr (bytes, there, answers)) (inr (bytes', there', answers')) =
+    marks_status name bytes a b answers (subst (λ (x : List ℕ). MarksAnswers name x b) (some_file bytes' bytes (get t.files name) there' there) answers')
+
 -- those of a hunt have one status too, or one says that a run was found and the other that none was
 abbrev Differ : Status → Status → Type 0
 Differ status other = ((status ≡ exit.Done) × (other ≡ exit.NotFound)) ⊎ ((status ≡ exit.NotFound) × (other ≡ exit.Done))
@@ -226,6 +264,7 @@ answers_status words t (Some (Tidy script)) a b asked p q =
     inl (one_status (IsScriptRead script (Some t)) TidyAnswers (script_single t script) (λ source x y p q. (tidy_row source x p).status ∙ sym (tidy_row source y q).status) a b p q)
 answers_status words t (Some (Show log)) a b asked p q =
     inl (one_status (IsLogRead log (Some t)) ShowAnswers (log_single t log) (λ read x y p q. (show_row read x p).status ∙ sym (show_row read y q).status) a b p q)
+answers_status words t (Some (Marks file)) a b asked p q = inl (file_status file t a b p q)
 answers_status words t (Some (OfPair task script log object)) a b asked p q =
     inl (one_status (IsPairRead script log object (Some t)) (PairAnswers task) (pair_single t script log object) (λ pair. matching_status pair (PairReplays task pair) (replays_status task pair)) a b p q)
 answers_status words t (Some (Parallel script log)) a b asked p q =

@@ -1,6 +1,7 @@
 -- From what is served to what the top call leaves.
-use Rattle.std.proofs.Common.{◌≡◌, ◌∙◌, ◌⊎◌, ℕ, List, [], ◌∷◌, map, take, Some, inl, inr, ap, sym, refl, subst, Option, None}
+use Rattle.std.proofs.Common.{◌≡◌, ◌∙◌, ◌⊎◌, ℕ, List, [], ◌∷◌, map, take, Some, Ok, Err, arith, inl, inr, ap, sym, refl, subst, Option, None}
 use Rattle.std.specs.FinMap.{get, insert}
+use Rattle.std.proofs.lemmas.List.{take_all}
 use Rattle.octet_base.specs.Desk.{Files, Contents, DeskState}
 use Rattle.octet_model.specs.Orders.{lowest_order}
 use Rattle.octet_replay.proofs.lemmas.OneAnswer.{faithful, not_refused}
@@ -11,15 +12,17 @@ use Rattle.octet_top.specs.declared.reply.Status.{Status}
 use Rattle.octet_top.specs.declared.reply.Status.TheVariants as exit
 use Rattle.octet_top.specs.Answer.{Answer, code_of}
 use Rattle.octet_top.specs.Request.{Request, named_by, request_in, outputs_in}
-use Rattle.octet_top.specs.declared.request.Request.TheVariants.{Tidy, Show, OfPair, Parallel, Convert, Run, Gen, Hunt}
+use Rattle.octet_top.specs.declared.request.Request.TheVariants.{Tidy, Show, Marks, OfPair, Parallel, Convert, Run, Gen, Hunt}
 use Rattle.octet_top.specs.Commands.{Answers, RequestAnswers, PairAnswers, ParallelAnswers, ConvertAnswers, IsAnswer}
 use Rattle.octet_top.specs.Serving.{IsServed}
 use Rattle.octet_top.specs.Outputs.{written, ArePartlyWritten}
 use Rattle.octet_top.specs.Causes.{NoneFailed}
-use Rattle.octet_top.specs.Effects.{IsStatus, CountsFailures, IsUntouched, IsCut, IsDelivered, IsGivenAnswer, Leaves, LeavesLog, IsOneOf, KeepsOthers, KeepsFiles, HasFiles, MayLack, MayEndWith, IsCompleted, IsWellMet}
-use Rattle.octet_top.proofs.serving.Causes.{Ending, Whole, CutShort, Lacking, IsFound, IsShort, ended}
+use Rattle.octet_top.specs.Effects.{IsStatus, CountsFailures, IsUntouched, IsCut, IsDelivered, IsGivenAnswer, Leaves, LeavesLog, IsOneOf, KeepsOthers, KeepsFiles, SaysFailed, HasFiles, MayLack, MayEndWith, IsCompleted, IsWellMet}
+use Rattle.octet_top.proofs.serving.Causes.{Ending, Whole, CutShort, Lacking, IsFound, IsShort, ended, says_failed}
 use Rattle.octet_top.proofs.answering.Rows.{AllDone, NotOrdered, NotSerial, NotThere, Replayed, Apart, HasItsEvent, JudgesRegions, IsDone, Refuses, is_refusal, answers_row, request_row, tidy_row, show_row, pair_row, parallel_row, run_row, none_status}
-use Rattle.octet_top.proofs.serving.Due.{script_single, log_single, script_chosen_single, pair_single, not_of_another, comes}
+use Rattle.octet_top.specs.declared.marks.TheConstants.{TOO_MANY_BYTES}
+use Rattle.octet_top.specs.Marks.{ReadsTo, fed, pieces_text, SaysRest, MarksAnswers}
+use Rattle.octet_top.proofs.serving.Due.{some_file, marks_once, script_single, log_single, script_chosen_single, pair_single, not_of_another, comes}
 use Rattle.octet_top.proofs.writing.Left.{get-other}
 
 -- files of other names stay
@@ -41,7 +44,7 @@ other_of_left answer contents contents' code name other (inr (inr (files, said),
 -- a given answer writes the files of the request, or none
 pub names_given : (words : List (List ℕ)) (contents : Contents) (before after : ℕ) (answer : Answer) → IsGivenAnswer words contents before after answer → IsDone (outputs_in (request_in words)) answer ⊎ Refuses answer
 names_given words contents before after answer (inl answers) = answers_row (request_in words) (Some contents) answer answers
-names_given words contents before after answer (inr (is, rose)) = inr (record { status = ap (λ (a : Answer). is_refusal a.status) is; files = ap (λ (a : Answer). a.files) is })
+names_given words contents before after answer (inr (says, rose)) = let failed = says_failed (request_in words) (Some contents) answer says in inr (record { status = ap is_refusal failed.status; files = failed.files })
 
 module _ (words : List (List ℕ)) (before after : DeskState) (code : ℕ) (served : IsServed (request_in words) before after code) where
   pub status : IsStatus code
@@ -57,7 +60,7 @@ module _ (words : List (List ℕ)) (before after : DeskState) (code : ℕ) (serv
     where
       by : Ending words before after code → CountsFailures words before after code
       by (Whole answer (inl (answers, kept)) is same left) = record { writes = λ write. inl same; takes = λ read write memory. kept }
-      by (Whole answer (inr (said, rose)) is same left) = record { writes = λ write. inl same; takes = λ read write memory. absurd (read (is ∙ ap (λ (a : Answer). code_of a.status) said)) }
+      by (Whole answer (inr (said, rose)) is same left) = record { writes = λ write. inl same; takes = λ read write memory. absurd (read (is ∙ ap code_of (says_failed (request_in words) before.contents answer said).status)) }
       by (CutShort is rose left) = record { writes = λ write. absurd (write is); takes = λ read write memory. absurd (write is) }
       by (Lacking is kept left) = record { writes = λ write. elim kept [ inl same ↦ inl same | inr asks ↦ inr (asks, is) ]; takes = λ read write memory. absurd (memory is) }
 
@@ -66,7 +69,7 @@ module _ (words : List (List ℕ)) (before after : DeskState) (code : ℕ) (serv
     where
       given : (answer : Answer) → IsFound words before after answer → IsGivenAnswer words contents before.take_faults after.take_faults answer
       given answer (inl (answers, same)) = inl (subst (λ t. IsAnswer words t answer) tells answers)
-      given answer (inr failed) = inr failed
+      given answer (inr (says, rose)) = inr (subst (λ t. SaysFailed (request_in words) t answer) tells says, rose)
 
       cut : IsCut code → IsShort words before after contents contents'
           → ((answer : Answer) × IsGivenAnswer words contents before.take_faults after.take_faults answer × IsDelivered answer contents contents' code) ⊎ (LeavesLog words contents contents' × IsCut code)
@@ -135,6 +138,15 @@ met_done (Tidy script) contents answer (source, read) (inl refused) = absurd ((s
 met_done (Tidy script) contents answer (source, read) (inr (other, is, answers)) = inl (tidy_row other answer answers).status
 met_done (Show log) contents answer (read, there) (inl refused) = absurd ((log_single contents log).never read answer there refused)
 met_done (Show log) contents answer (read, there) (inr (other, is, answers)) = inl (show_row other answer answers).status
+met_done (Marks file) contents answer met (inl (absent, is)) = let both : None ≡ Some met.bytes = sym absent ∙ met.there in absurd cc
+met_done (Marks file) contents answer met (inr (bytes, there, answers)) =
+    by (marks_once file met.bytes answer met.pieces met.stands (subst (λ (b : List ℕ). ReadsTo (fed b) met.pieces met.stands) (sym (take_all TOO_MANY_BYTES met.bytes (omega (arith, met.short)))) met.reads) (inl met.ends)
+    (subst (λ (b : List ℕ). MarksAnswers file b answer) (some_file bytes met.bytes (get contents.files file) there met.there) answers))
+  where
+    by : SaysRest file met.bytes met.stands (pieces_text met.pieces) answer → IsMet (Marks file) answer
+    by (inl (cut, inl (short, is))) = inl (ap (λ (a : Answer). a.status) is)
+    by (inl (cut, inr (long, is))) = absurd (omega (arith, met.short, long))
+    by (inr (cause, bad, is)) = let both : Ok None ≡ Err cause = sym met.ends ∙ bad in absurd cc
 met_done (OfPair task script log object) contents answer (pair, outcome, read, own, recording) (inl refused) = absurd ((pair_single contents script log object).never pair answer read refused)
 met_done (OfPair task script log object) contents answer (pair, outcome, read, own, recording) (inr (other, is, answers)) =
     fits (subst (λ (p : Pair). PairAnswers task p answer) ((pair_single contents script log object).one other pair is read) answers)

@@ -18,7 +18,7 @@ use Rattle.octet_top.specs.Serving.{IsServed}
 use Rattle.octet_top.specs.Outputs.{IsWhole}
 use Rattle.octet_top.specs.Promises.{RunsAsPicked, RunsWithExactTotals, IsConversion, ConvertsLogs, IsGeneratedRun, GeneratesFaithfully, IsHuntedRun, HuntsFaithfully}
 use Rattle.octet_top.proofs.answering.Recorded.{recorded_faithfully}
-use Rattle.octet_top.proofs.serving.Causes.{same_status}
+use Rattle.octet_top.proofs.serving.Causes.{same_status, says_failed}
 use Rattle.octet_top.proofs.serving.Effects.{leaves}
 use Rattle.octet_top.specs.Effects.{Leaves}
 use Rattle.octet_model.specs.declared.outcome.Outcome.{Outcome}
@@ -51,7 +51,7 @@ at_status status words before after code contents contents' not_memory not_write
   | inr (inr (log, inr is)) ↦ absurd (not_memory (sym done ∙ is))
   | inr (inl (answer, given, inr (short, inl is))) ↦ absurd (not_write (sym done ∙ is))
   | inr (inl (answer, given, inr (short, inr is))) ↦ absurd (not_memory (sym done ∙ is))
-  | inr (inl (answer, inr (said, rose), inl (whole, is))) ↦ absurd (not_read (sym done ∙ is ∙ ap (λ (a : Answer). code_of a.status) said))
+  | inr (inl (answer, inr (said, rose), inl (whole, is))) ↦ absurd (not_read (sym done ∙ is ∙ ap code_of (says_failed (request_in words) (Some contents) answer said).status))
   | inr (inl (answer, inl answers, inl (whole, is))) ↦ record { answer = answer; answers = answers; done = same_status answer.status status (sym is ∙ done); given = whole }
 ]
 

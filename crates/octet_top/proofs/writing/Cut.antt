@@ -12,7 +12,7 @@ use Rattle.octet_top.specs.Commands.{Answers, RequestAnswers}
 use Rattle.octet_top.specs.Effects.{IsGivenAnswer, LeavesLog, LeavesText, LeavesLine, CutsRun}
 use Rattle.octet_top.specs.Outputs.{written, IsCutShort, ArePartlyWritten}
 use Rattle.octet_top.specs.Serving.{IsServed}
-use Rattle.octet_top.proofs.serving.Causes.{same_status}
+use Rattle.octet_top.proofs.serving.Causes.{same_status, says_failed}
 use Rattle.octet_top.proofs.serving.Effects.{leaves, names_given}
 use Rattle.octet_top.proofs.answering.Rows.{Refuses, is_refusal, not_done, script_refused}
 
@@ -64,7 +64,7 @@ module _ (words : List (List ℕ)) (script log : List ℕ) (asked : request_in w
 
   answer_cut : (answer : Answer) → IsGivenAnswer words t faults after_faults answer → IsCutShort answer t t' → LeftByRun
   answer_cut answer (inl answers) short = run_cut answer (inl answers) (subst (λ (request : Option Request). Answers request (Some t) answer) asked answers) short
-  answer_cut answer (inr (is, rose)) short = line_cut answer (inr (is, rose)) (record { status = ap (λ (a : Answer). is_refusal a.status) is; files = ap (λ (a : Answer). a.files) is }) short
+  answer_cut answer (inr (says, rose)) short = (let failed = says_failed (request_in words) (Some t) answer says in line_cut answer (inr (says, rose)) (record { status = ap is_refusal failed.status; files = failed.files }) short)
 
 pub cuts : (words : List (List ℕ)) (before after : DeskState) (code : ℕ) → IsServed (request_in words) before after code → CutsRun words before after code
 cuts words before after code served script log t t' asked cut tells tells' = elim (leaves words before after code served t t' tells tells') [

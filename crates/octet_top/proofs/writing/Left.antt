@@ -18,7 +18,7 @@ use Rattle.octet_base.specs.declared.fault.DeskFault.{DeskFault}
 use Rattle.octet_base.specs.declared.call.Call.TheVariants as call
 use Rattle.octet_top.specs.Answer.{Answer, writes_file}
 use Rattle.octet_top.specs.Request.{Request}
-use Rattle.octet_top.specs.declared.request.Request.TheVariants.{Tidy, Show, OfPair, Parallel, Convert, Run, Gen, Hunt}
+use Rattle.octet_top.specs.declared.request.Request.TheVariants.{Tidy, Show, Marks, OfPair, Parallel, Convert, Run, Gen, Hunt}
 use Rattle.octet_top.specs.Inputs.{TakesOne, TakesBoth}
 use Rattle.octet_top.specs.Replies.{TakesFiles}
 use Rattle.octet_top.specs.Delivery.{Act, Add, Finish, Say, Makes, IsRefused, pieces, pieces_within, file_acts, acts_of}
@@ -101,6 +101,7 @@ pub taken_held : (request : Option Request) (Short : Type 0) (files : Files) (sa
 taken_held None Short files said before after holds same = rw same holds
 taken_held (Some (Tidy script)) Short files said before after holds takes = one_held script MAX_SCRIPT_FILE Short files said before after holds takes
 taken_held (Some (Show log)) Short files said before after holds takes = one_held log MAX_LOG_FILE Short files said before after holds takes
+taken_held (Some (Marks file)) Short files said before after holds never = absurd never
 taken_held (Some (OfPair task script log object)) Short files said before after holds takes = both_held script log object Short files said before after holds takes
 taken_held (Some (Parallel script log)) Short files said before after holds takes = both_held script log None Short files said before after holds takes
 taken_held (Some (Convert script log out)) Short files said before after holds takes = both_held script log None Short files said before after holds takes

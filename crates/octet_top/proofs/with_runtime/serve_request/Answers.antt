@@ -27,3 +27,8 @@ returns-in-Gen g c =
       found = generated_reply c.in-Gen.number c.in-Gen.script.now c.in-Gen.log.now (state c.args.desk.now) c.generate-reply.result c.generate-reply.ensures;
       given = c.deliver-in-Gen.ensures;
     })
+
+pub returns-in-Marks : goal.returns-in-Marks
+returns-in-Marks g c =
+    let state = g.D.Desk.state in
+    subst (λ (request : Request (Bor (List ℕ))). IsServed (Some (shown request)) (state c.args.desk.now) (state c.serve_marks.new.desk) c.serve_marks.result) (sym c.in-Marks.is) c.serve_marks.ensures

@@ -1,0 +1,12 @@
+pub mod Lists
+pub mod Loops
+pub mod Parts
+pub mod Again
+pub mod Framed
+pub mod Takes
+pub mod Whole
+pub mod Pieces
+pub mod Runs
+pub mod Counts
+pub mod Fed
+pub mod lemmas

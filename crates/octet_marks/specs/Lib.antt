@@ -1,0 +1,12 @@
+pub mod Judging
+pub mod Fields
+pub mod Marks
+pub mod Bodies
+pub mod Frames
+pub mod Standing
+pub mod Reading
+pub mod Files
+pub mod Texts
+pub mod Spellings
+pub mod Laws
+pub mod Counts

@@ -1,0 +1,4 @@
+pub mod Chains
+pub mod Judged
+pub mod Ended
+pub mod Told
