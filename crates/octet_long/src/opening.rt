@@ -1,6 +1,7 @@
 //! The heap and its tracks at first.
 ghost use Rattle.std.specs.Prelude.{◌≡◌, ◌<◌, ◌≤◌, length, IfOk};
-ghost use Rattle.octet_model.specs.declared.limits.TheConstants.{MAX_OBJECTS, MAX_THREADS};
+ghost use Rattle.octet_model.specs.declared.limits.TheConstants.{MAX_THREADS};
+ghost use Rattle.octet_rule.specs.declared.limits.TheConstants.{MAX_OBJECTS_OF_HEAP};
 ghost use Rattle.octet_heap.specs.Models.{heap_model};
 ghost use Rattle.octet_long.specs.Tracks.{AreTracksOf, EachNew};
 
@@ -19,7 +20,7 @@ pub fn open(
     marks: usize,
 ) -> Result<(Heap, List<Track>), OutOfMemory>
     requires threads { (0 < threads) × (threads ≤ MAX_THREADS) }
-    requires objects { length starts.now ≤ MAX_OBJECTS }
+    requires objects { length starts.now ≤ MAX_OBJECTS_OF_HEAP }
     ensures model { IfOk result (λ new. heap_model new.0 ≡ record { threads = threads; objects = length starts.now; starts = starts.now; fuel = 0 }) }
     ensures tracks { IfOk result (λ new. (length new.1 ≡ threads) × EachNew new.0 marks new.1) }
 {

@@ -5,6 +5,7 @@
 mod change;
 mod entered;
 pub mod laws;
+mod limits;
 mod plays;
 mod states;
 mod tried;
@@ -13,5 +14,6 @@ mod words;
 
 pub use change::Change;
 pub use entered::Entered;
+pub use limits::MAX_OBJECTS_OF_HEAP;
 pub use tried::Tried;
 pub use words::{Seat, Words};

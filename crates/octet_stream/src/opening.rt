@@ -1,6 +1,7 @@
 //! A long run at first.
 ghost use Rattle.std.specs.Prelude.{◌≡◌, ◌<◌, ◌≤◌, length, IfOk};
-ghost use Rattle.octet_model.specs.declared.limits.TheConstants.{MAX_MARKS_BEFORE_ACCESS, MAX_OBJECTS, MAX_THREADS};
+ghost use Rattle.octet_model.specs.declared.limits.TheConstants.{MAX_MARKS_BEFORE_ACCESS, MAX_THREADS};
+ghost use Rattle.octet_rule.specs.declared.limits.TheConstants.{MAX_OBJECTS_OF_HEAP};
 ghost use Rattle.octet_heap.specs.Markers as marker_of;
 ghost use Rattle.octet_heap.specs.Models.{heap_model};
 ghost use Rattle.octet_stream.specs.Runs.{IsNew, EachNew};
@@ -35,7 +36,7 @@ impl LongRun {
         room: Room,
     ) -> Result<(LongRun, List<Track>, List<Receiver>), OutOfMemory>
         requires threads { (0 < threads) × (threads ≤ MAX_THREADS) }
-        requires objects { length starts.now ≤ MAX_OBJECTS }
+        requires objects { length starts.now ≤ MAX_OBJECTS_OF_HEAP }
         requires marks { MAX_MARKS_BEFORE_ACCESS ≤ room.marks }
         requires blocks { 0 < room.blocks }
         ensures run { IfOk result (λ new. heap_model new.0.heap ≡ record { threads = threads; objects = length starts.now; starts = starts.now; fuel = 0 }) }

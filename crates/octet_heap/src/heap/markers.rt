@@ -1,6 +1,7 @@
 //! The heap and its markers at first, and what a run of markers leaves.
 ghost use Rattle.std.specs.Prelude.{◌≡◌, ◌<◌, ◌≤◌, length, IfOk};
-ghost use Rattle.octet_model.specs.declared.limits.TheConstants.{MAX_OBJECTS, MAX_THREADS};
+ghost use Rattle.octet_model.specs.declared.limits.TheConstants.{MAX_THREADS};
+ghost use Rattle.octet_rule.specs.declared.limits.TheConstants.{MAX_OBJECTS_OF_HEAP};
 ghost use Rattle.octet_rule.specs.Seats.{threads_of, starts_of, EachFresh, Closes};
 ghost use Rattle.octet_heap.specs.Builders.{IsExplained};
 ghost use Rattle.octet_heap.specs.Models.{heap_model, marker_journals};
@@ -22,7 +23,7 @@ impl Heap {
         marks: usize,
     ) -> Result<(Heap, List<Marker>), OutOfMemory>
         requires threads { (0 < threads) × (threads ≤ MAX_THREADS) }
-        requires objects { length starts.now ≤ MAX_OBJECTS }
+        requires objects { length starts.now ≤ MAX_OBJECTS_OF_HEAP }
         ensures model { IfOk result (λ new. heap_model new.0 ≡ record { threads = threads; objects = length starts.now; starts = starts.now; fuel = 0 }) }
         ensures threads { IfOk result (λ new. (length new.1 ≡ threads) × EachStarts new.0 new.1) }
         // In the words of seats:

@@ -4,11 +4,12 @@ ghost use Rattle.octet_state.specs.State.{laid_out, words as words_of, opening};
 ghost use Rattle.octet_rule.specs.Views.{after_split, split_off};
 ghost use Rattle.octet_rule.specs.Seats.{view, threads_of, starts_of, BelongsTo, IsFresh, EachFresh};
 
+use crate::limits::MAX_OBJECTS_OF_HEAP;
 use crate::plays;
 use crate::view::Key;
 use crate::words::{Seat, Words};
 use atomic_table::Table;
-use octet_model::{List, MAX_OBJECTS, MAX_THREADS, OutOfMemory};
+use octet_model::{List, MAX_THREADS, OutOfMemory};
 use octet_state::{Due, Phase};
 use std::alloc::{AllocError, Global};
 use std::snapshot::Snapshot;
@@ -21,7 +22,7 @@ impl Words {
         starts: &List<u64>,
     ) -> Result<(Words, List<Seat>), OutOfMemory>
         requires threads { (0 < threads) × (threads ≤ MAX_THREADS) }
-        requires objects { length starts.now ≤ MAX_OBJECTS }
+        requires objects { length starts.now ≤ MAX_OBJECTS_OF_HEAP }
         ensures { IfOk result (λ new. (threads_of new.0 ≡ threads) × (starts_of new.0 ≡ starts.now) × (length new.1 ≡ threads) × EachFresh new.0 new.1) }
     {
         let words = lay_out(alloc, threads, starts.as_slice())?;
