@@ -17,4 +17,4 @@ mod verified;
 pub use journal_check::ordered;
 pub use log_walk::untied;
 pub use verdict::Verdict;
-pub use verified::verify;
+pub use verified::{Verified, verify, verify_and_replay};

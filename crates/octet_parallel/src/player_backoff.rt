@@ -21,21 +21,13 @@ const EVENTS_FOR_A_WAIT: usize = 512;
 /// made as many as one of them, and so many more.
 const LONE_EVENTS: u64 = 1 << 14;
 
-/// A log of so many marks, with fewer events for each of them than this, begins on one thread: most of
-/// its players would wait.
+/// A log has many marks from so many on, where it has fewer events for each of them than this.
 const MANY_MARKS: u64 = 1024;
 
 const EVENTS_FOR_A_MARK: u64 = 256;
 
-/// How many rounds of such a log are played on one thread before the players have threads of their own.
-const ROUNDS_OF_MANY_MARKS: u32 = 1 << 16;
-
-/// How many rounds of a log are played on one thread before the players have threads of their own.
-/// None where they have to pass a gate, which some of them may wait at.
-pub(crate) fn rounds_at_first(log: &Log, is_gated: bool) -> u32 {
-    if is_gated {
-        return 0;
-    }
+/// Whether most players of a log would wait for others most of the time.
+pub(crate) fn has_many_marks(log: &Log) -> bool {
     let mut events: u64 = 0;
     let mut marks: u64 = 0;
     for thread in log.threads.as_slice() {
@@ -43,11 +35,7 @@ pub(crate) fn rounds_at_first(log: &Log, is_gated: bool) -> u32 {
         marks = marks.saturating_add(own);
         events = events.saturating_add(own.saturating_add(u64::from(thread.accesses)));
     }
-    if marks < MANY_MARKS || marks.saturating_mul(EVENTS_FOR_A_MARK) < events {
-        0
-    } else {
-        ROUNDS_OF_MANY_MARKS
-    }
+    marks >= MANY_MARKS && events <= marks.saturating_mul(EVENTS_FOR_A_MARK)
 }
 
 /// How long a worker has waited for its next event, and how much its last events had to.

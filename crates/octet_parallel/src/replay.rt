@@ -10,10 +10,12 @@ use crate::apart::are_apart;
 use crate::crew::Crew;
 use crate::field::Field;
 use crate::finished::Finished;
+use crate::player_backoff::has_many_marks;
 use crate::worker::play_all;
 use octet_base::Gate;
-use octet_clock::ordered;
+use octet_clock::{Verdict, Verified, ordered, verify_and_replay};
 use octet_model::{List, Log, OutOfMemory, Outcome, Script};
+use octet_replay::ReplayFault;
 use std::alloc::Global;
 use std::sync::Wait;
 use std::thread::Threads;
@@ -24,7 +26,8 @@ use std::thread::Threads;
 /// are of use; some rounds, or all that is left, may be played on one thread. A player that has to
 /// wait for another looks again for a while, and then sleeps. Where no thread of the script writes
 /// what another one names, each is replayed by itself. Either way each thread passes the gate before
-/// each access. May wait: nothing says that the players come to an end.
+/// each access. Where the gate is open, and most players would wait most of the time, there are none:
+/// the log is verified on this thread. May wait: nothing says that the players come to an end.
 pub fn parallel<R: Threads + Wait + Sync, G: Gate>(
     rt: &R,
     alloc: Global,
@@ -38,6 +41,9 @@ pub fn parallel<R: Threads + Wait + Sync, G: Gate>(
 {
     if are_apart(alloc, script)? {
         return replay_apart(rt, alloc, script, log, gate);
+    }
+    if gate.is_open() && has_many_marks(log) {
+        return replay_here(alloc, script, log);
     }
     replay_together(rt, alloc, script, log, gate)
 }
@@ -61,6 +67,25 @@ fn replay_apart<R: Threads + Wait + Sync, G: Gate>(
     }
     let outcome = outcome_of(alloc, script, threads)?;
     Ok(Some(outcome))
+}
+
+// On this thread, in the lowest order.
+fn replay_here(
+    alloc: Global,
+    script: &Script,
+    log: &Log,
+) -> Result<Option<Outcome>, OutOfMemory>
+    ensures { IfOk result (λ outcome. IsJudged script.now log.now.threads outcome) }
+{
+    match verify_and_replay(alloc, script, log) {
+        Ok(Verified {
+            verdict: Verdict::Ordered,
+            outcome,
+        }) => Ok(Some(outcome)),
+        Ok(_) => Ok(None),
+        Err(ReplayFault::OutOfMemory) => Err(OutOfMemory),
+        Err(_) => Ok(None),
+    }
 }
 
 // By players that wait for each other.

@@ -11,7 +11,7 @@ use crate::field::Field;
 use crate::passing::pass_before;
 use crate::played::Played;
 use crate::player::Player;
-use crate::player_backoff::{PlayerBackoff, rounds_at_first};
+use crate::player_backoff::PlayerBackoff;
 use crate::words::STOP_NUMBER;
 use octet_base::Gate;
 use std::sync::Wait;
@@ -224,10 +224,6 @@ pub(crate) fn play_all<R: Threads + Wait + Sync, G: Gate>(
     ensures played { All (HasPlayed field.now) players.new }
     ensures same { AllZip IsSamePlayer players.old players.new }
 {
-    let at_first = rounds_at_first(&field.log, !gate.is_open());
-    if play_rounds(rt, field, gate, crew, players, at_first) {
-        return;
-    }
     let mut rounds = FIRST_ROUNDS;
     for _ in rt.forever() {
         crew.gather();
