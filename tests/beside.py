@@ -13,7 +13,7 @@ import tempfile
 import time
 
 from case import text
-from files import OCTET, SECONDS, TOP, differs, first, folder_with, octet
+from files import OCTET, SECONDS, TOP, called, differs, first, folder_with, octet
 
 RESTS = re.compile(r"\nvoluntary_ctxt_switches:\s+(\d+)")
 # Each thread is busy with an object of its own, and then both bump x, so they are not apart. An access of x before
@@ -114,6 +114,23 @@ def beside_each_other():
         )
 
 
+def many_marks():
+    """`parallel` starts no thread where two threads hand one object on at each access, and judges the log all the same."""
+    counting = ["thread", "set r0 2000", "set r1 1", "while r0", "bump n r1", "safe", "sub r0 r0 r1", "end"]
+    done = text("thread 0 done", "thread 1 done", "object n 4000")
+    with folder_with(S=text("fuel 131072", "object n 0", *counting, *counting)) as folder:
+        turned = octet(["turns", "S", "L", "0"], folder)
+        pathlib.Path(folder, "T").write_bytes(octet(["show", "L"], folder)[1])
+        called([TOP / "tools" / "log", "--without", "1", "5", "T", "M"], folder)
+        return first(
+            differs("turns", turned, (0, done)),
+            differs("looks with more than one thread", seen(["parallel", "S", "L"], folder, 3), []),
+            differs("parallel", octet(["parallel", "S", "L"], folder), (0, done)),
+            # Each bump of a thread, but the first one of all, has a mark right before it.
+            differs("without a mark", octet(["parallel", "S", "M"], folder), (9, text("unordered 0:10 1:10"))),
+        )
+
+
 def in_turn():
     """A script of one thread is told apart from that."""
     with folder_with(S=b"thread\n".join(TOGETHER.split(b"thread\n")[:2])) as folder:
@@ -161,6 +178,7 @@ def allocations():
 
 TESTS = {
     "run, gen, parallel: threads beside each other": beside_each_other,
+    "parallel: a log of many marks": many_marks,
     "run: a thread alone": in_turn,
     "run: twice the accesses, as many allocations": allocations,
 }
