@@ -1,5 +1,7 @@
 //! A log that is replayed on threads, and judged by what they made.
-ghost use Rattle.std.specs.Prelude.{◌≡◌, length, IfOk};
+ghost use Rattle.std.specs.Prelude.{◌≡◌, ◌≢◌, None, length, IfOk, IfSome, IfNone};
+ghost use Rattle.octet_replay.specs.declared.fault.ReplayFault.TheVariants.{OutOfMemory as NoMemory};
+ghost use Rattle.octet_clock.specs.declared.verdict.Verdict.TheVariants.{Ordered};
 ghost use Rattle.octet_clock.specs.Untied.{IsUntied};
 ghost use Rattle.octet_parallel.specs.Apart.{AreApart};
 ghost use Rattle.octet_parallel.specs.Judging.{IsJudged};
@@ -70,21 +72,31 @@ fn replay_apart<R: Threads + Wait + Sync, G: Gate>(
 }
 
 // On this thread, in the lowest order.
-fn replay_here(
-    alloc: Global,
-    script: &Script,
-    log: &Log,
-) -> Result<Option<Outcome>, OutOfMemory>
+fn replay_here(alloc: Global, script: &Script, log: &Log) -> Result<Option<Outcome>, OutOfMemory>
     ensures { IfOk result (λ outcome. IsJudged script.now log.now.threads outcome) }
 {
     match verify_and_replay(alloc, script, log) {
-        Ok(Verified {
-            verdict: Verdict::Ordered,
-            outcome,
-        }) => Ok(Some(outcome)),
-        Ok(_) => Ok(None),
-        Err(ReplayFault::OutOfMemory) => Err(OutOfMemory),
-        Err(_) => Ok(None),
+        Ok(verified) => Ok(outcome_if_ordered(verified)),
+        Err(fault) => none_unless_no_memory(&fault),
+    }
+}
+
+fn outcome_if_ordered(verified: Verified) -> Option<Outcome>
+    ensures some { IfSome result (λ outcome. (verified.verdict ≡ Ordered) × (outcome ≡ verified.outcome)) }
+    ensures none { IfNone result (verified.verdict ≢ Ordered) }
+{
+    match verified.verdict {
+        Verdict::Ordered => Some(verified.outcome),
+        Verdict::Unordered { .. } => None,
+    }
+}
+
+fn none_unless_no_memory(fault: &ReplayFault) -> Result<Option<Outcome>, OutOfMemory>
+    ensures { IfOk result (λ outcome. (outcome ≡ None) × (fault.now ≢ NoMemory)) }
+{
+    match fault {
+        ReplayFault::OutOfMemory => Err(OutOfMemory),
+        _ => Ok(None),
     }
 }
 
