@@ -19,9 +19,7 @@ impl Rerun {
         match hold {
             Hold::Amiss => Halt::Amiss,
             Hold::Waits { whom, needs, found } => match self.diverged.get() {
-                Some(divergence) => Halt::Stopped {
-                    divergence: *divergence,
-                },
+                Some(divergence) => Halt::Stopped { divergence },
                 None => Halt::Waits { whom, needs, found },
             },
         }
@@ -41,7 +39,7 @@ impl Rerun {
             wanted,
             recorded,
         };
-        let _ = self.diverged.try_set(divergence);
+        self.diverged.note(divergence);
         Halt::Diverges { divergence }
     }
 

@@ -8,6 +8,7 @@ mod asking;
 mod closing;
 mod events;
 mod fault;
+mod first;
 mod follower;
 mod halt;
 mod making;
@@ -15,6 +16,7 @@ mod opening;
 mod rerun;
 
 pub use fault::RerunFault;
+pub use first::First;
 pub use follower::Follower;
 pub use halt::{Divergence, Halt};
 pub use octet_recorder::Access;

@@ -6,6 +6,7 @@ ghost use Rattle.octet_parallel.specs.Calls.{script_in, log_in, players_in, Each
 ghost use Rattle.octet_rerun.specs.Reruns.{players_of, EachAtStart, ArePlain, Refuses};
 
 use crate::fault::RerunFault;
+use crate::first::First;
 use crate::follower::Follower;
 use crate::rerun::Rerun;
 use octet_clock::{Verdict, verify};
@@ -13,7 +14,6 @@ use octet_model::{List, Log, OutOfMemory, Script};
 use octet_parallel::{Field, Player};
 use octet_replay::journals;
 use std::alloc::Global;
-use std::sync::OnceLock;
 
 impl Rerun {
     /// What the threads of a second run share, and a follower for each of them, in order. The script and the
@@ -50,7 +50,7 @@ fn open(alloc: Global, script: &Script, log: &Log) -> Result<(Rerun, List<Follow
     let rerun = Rerun {
         field,
         recorded,
-        diverged: OnceLock::new(),
+        diverged: First::new(),
     };
     Ok((rerun, List::from_vec(followers)))
 }

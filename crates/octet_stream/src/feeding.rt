@@ -100,7 +100,7 @@ impl LongRerun {
     pub(crate) fn diverge(&self, divergence: Divergence) -> Halt
         ensures { result ≡ Diverges divergence }
     {
-        let _ = self.diverged.try_set(divergence);
+        self.diverged.note(divergence);
         Halt::Diverges { divergence }
     }
 

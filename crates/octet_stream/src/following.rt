@@ -41,7 +41,6 @@ impl LongRerun {
         ensures told { AnswersWait result }
     {
         if let Some(divergence) = self.diverged.get() {
-            let divergence = *divergence;
             return self.leave(thread, Halt::Stopped { divergence });
         }
         if self.quiet.wait(thread.follower.thread(), &mut thread.watch) {

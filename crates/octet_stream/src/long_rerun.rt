@@ -1,7 +1,7 @@
 //! A long run that is made again.
 use crate::quiet::Quiet;
 use octet_follow::Course;
-use std::sync::OnceLock;
+use octet_rerun::First;
 
 /// Between which accesses a thread has left its recording.
 #[derive(Clone, Copy, Debug, PartialEq, Eq)]
@@ -31,6 +31,6 @@ pub enum Halt {
 #[derive(Drop)]
 pub struct LongRerun {
     pub(crate) course: Course,
-    pub(crate) diverged: OnceLock<Divergence>,
+    pub(crate) diverged: First<Divergence>,
     pub(crate) quiet: Quiet,
 }

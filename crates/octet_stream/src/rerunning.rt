@@ -13,9 +13,9 @@ use crate::opening::Room;
 use crate::quiet::{Quiet, Watch};
 use octet_follow::{Course, Follower};
 use octet_model::{List, OutOfMemory};
+use octet_rerun::First;
 use rtrb::RingBuffer;
 use std::alloc::Global;
-use std::sync::OnceLock;
 
 impl LongRerun {
     /// Objects with these starting values, and a thread for each of so many, in order, with the end by which it is fed. The
@@ -37,7 +37,7 @@ impl LongRerun {
         let (course, followers) = Course::new(alloc, starts, threads, room.marks as usize)?;
         let rerun = LongRerun {
             course,
-            diverged: OnceLock::new(),
+            diverged: First::new(),
             quiet: Quiet::new(alloc, threads)?,
         };
         let (all, feeders) = rerun.threads(alloc, followers.into_vec(), room)?;
