@@ -37,13 +37,18 @@ impl LongRerun {
 
     // A thread would wait for others. It is told where one has diverged, or that nothing can be made any more.
     fn wait(&self, thread: &mut LongFollower) -> NotMade<Halt>
+        requires own { IsLongFollowerOf self.now thread.old }
         ensures stays { thread.new ≡ record thread.old { watch = thread.new.watch } }
         ensures told { AnswersWait result }
     {
         if let Some(divergence) = self.diverged.get() {
             return self.leave(thread, Halt::Stopped { divergence });
         }
-        if self.quiet.wait(thread.follower.thread(), &mut thread.watch) {
+        let made = thread.follower.events();
+        if self
+            .quiet
+            .wait(thread.follower.thread(), made, &mut thread.watch)
+        {
             return self.leave(thread, Halt::RecordingEnds);
         }
         NotMade::Waits

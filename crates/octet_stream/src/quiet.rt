@@ -36,6 +36,8 @@ struct Sight {
 pub(crate) struct Watch {
     seen: Vec<Sight>,
     waits: u64,
+    // How many events the thread itself had made where it waited last.
+    made: u64,
 }
 
 impl Quiet {
@@ -52,13 +54,15 @@ impl Quiet {
         Ok(Quiet { posts })
     }
 
-    /// A thread has looked in vain. Whether all threads have looked in vain since it saw them all wait, or make nothing
-    /// any more: then nothing can be made any more.
-    pub(crate) fn wait(&self, thread: u8, watch: &mut Watch) -> bool {
+    /// A thread that has made so many events has looked in vain. Whether all threads have looked in vain since it saw them
+    /// all wait, or make nothing any more: then nothing can be made any more. A thread that has made a mark since its last
+    /// look begins to wait anew, since others may have waited for that mark.
+    pub(crate) fn wait(&self, thread: u8, made: u64, watch: &mut Watch) -> bool {
         let Some(post) = self.posts.get(thread as usize) else {
             return false;
         };
-        if post.looks.load(Ordering::SeqCst) == 0 {
+        if post.looks.load(Ordering::SeqCst) == 0 || watch.made != made {
+            watch.made = made;
             post.turns.fetch_add(1, Ordering::SeqCst);
         }
         post.looks.fetch_add(1, Ordering::SeqCst);
@@ -121,6 +125,10 @@ impl Watch {
         for _ in 0..threads {
             seen.push(Sight { turns: 0, looks: 0 })?;
         }
-        Ok(Watch { seen, waits: 0 })
+        Ok(Watch {
+            seen,
+            waits: 0,
+            made: 0,
+        })
     }
 }
