@@ -1,0 +1,11 @@
+pub mod Rest
+pub mod Longer
+pub mod Joining
+pub mod Accessing
+pub mod Noting
+pub mod Recorded
+pub mod Names
+pub mod Beginning
+pub mod Steps
+pub mod Valid
+pub mod Windows

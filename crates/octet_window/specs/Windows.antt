@@ -1,0 +1,65 @@
+-- A window of a run as a script, with its log and its outcome.
+use Rattle.std.specs.Prelude.{◌≡◌, ℕ, ◌*◌, ◌<◌, ◌≤◌, true, false, List, [], ◌∷◌, length, map, max, get_or, slice_index}
+use Rattle.octet_model.specs.declared.command.Command.{Command}
+use Rattle.octet_model.specs.declared.limits.TheConstants.{MAX_FUEL, MAX_OBJECTS}
+use Rattle.octet_model.specs.declared.log.ThreadLog.{ThreadLog}
+use Rattle.octet_model.specs.declared.script.Script.{Script}
+use Rattle.octet_model.specs.Machine.{journal_of}
+use Rattle.octet_model.specs.Orders.{journals_after, IsLawfulOrder}
+use Rattle.octet_model.specs.Script.{is_thread}
+use Rattle.octet_window.specs.declared.notes.Note.{Note}
+use Rattle.octet_window.specs.declared.notes.Notes.{Notes}
+use Rattle.octet_window.specs.declared.refusal.Refusal.{Refusal}
+use Rattle.octet_window.specs.declared.refusal.Refusal.TheVariants.{NoObject, ManyObjects, ManyLines}
+use Rattle.octet_window.specs.Noting.{has, program_of, renamed, events_of, notes_in, touched_in}
+use Rattle.octet_window.specs.Objects.{name_of}
+use Rattle.octet_window.specs.Ordering.{accesses_in}
+use Rattle.octet_window.specs.Playing.{all_renamed}
+
+-- the most lines that a program has
+abbrev pub most_lines : List (List Command) → ℕ
+most_lines [] = 0
+most_lines (program ∷ programs) = max (length program) (most_lines programs)
+
+-- no object stands twice
+abbrev pub AreDifferent : List ℕ → Type 0
+AreDifferent [] = Unit {0}
+AreDifferent (object ∷ objects) = (has objects object ≡ false) × AreDifferent objects
+
+-- the programs of all threads, with the places of their objects among these
+abbrev pub programs_of : List ℕ → List Notes → List (List Command)
+programs_of objects threads = map program_of (all_renamed objects threads)
+
+-- the script has these objects of the run, with these values, named by their numbers, and these programs
+pub record IsScriptWith (values objects : List ℕ) (programs : List (List Command)) (script : Script) : Type 0 where
+  pub names : map (λ object. object.name) script.objects ≡ map name_of objects
+  pub starts : map (λ object. object.start) script.objects ≡ map (slice_index values) objects
+  pub threads : script.threads ≡ programs
+  pub lines : most_lines programs ≤ script.fuel
+
+-- the objects are those that the threads access, each once, and the script has them and the threads' programs
+pub record IsWindowOf (values : List ℕ) (threads : List Notes) (objects : List ℕ) (script : Script) : Type 0 where
+  pub touched : objects ≡ touched_in [] threads
+  pub different : AreDifferent objects
+  pub script_ : IsScriptWith values objects (programs_of objects threads) script
+
+-- what is noted of a thread
+abbrev pub noted_by : List Notes → ℕ → List Note
+noted_by threads thread = get_or (map notes_in threads) thread []
+
+-- in each lawful order of the script and the log the threads make the accesses that are noted of them, with the same values
+abbrev pub MakesNoted : List Notes → List ℕ → Script → List ThreadLog → Type 0
+MakesNoted threads objects script log = (order : List ℕ) → IsLawfulOrder script log order → (thread : ℕ)
+    → accesses_in (journal_of (journals_after script log order) thread) ≡ map (renamed objects) (accesses_in (events_of (noted_by threads thread)))
+
+-- why there is no window
+abbrev pub IsRefused : List ℕ → List Notes → Refusal → Type 0
+IsRefused values threads (NoObject object) = (has (touched_in [] threads) object ≡ true) × (length values ≤ object)
+IsRefused values threads (ManyObjects objects) = (objects ≡ length (touched_in [] threads)) × (MAX_OBJECTS < objects)
+IsRefused values threads (ManyLines lines) = (lines ≡ most_lines (programs_of (touched_in [] threads) threads)) × (MAX_FUEL < length threads * lines)
+IsRefused values threads _ = Unit {0}
+
+-- each program is a valid thread, of a script with so many objects
+abbrev pub AreThreads : ℕ → List (List Command) → Type 0
+AreThreads objects [] = Unit {0}
+AreThreads objects (program ∷ programs) = (is_thread objects program ≡ true) × AreThreads objects programs
