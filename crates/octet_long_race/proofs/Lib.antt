@@ -1,0 +1,5 @@
+mod Walked
+mod Writes
+mod Taken
+mod Fours
+mod Recorded

@@ -1,0 +1,1 @@
+-- Files are taken, one call after another.

@@ -1,0 +1,20 @@
+use Rattle.std.proofs.Common.{rules, ◌≡◌, ◌∙◌, ap, List, ℕ, length, Some, [], sym, subst}
+use Rattle.octet_base.specs.Desk.{with_call, with_bytes, with_empty}
+use Rattle.octet_base.specs.declared.call.Call.TheVariants as call
+use Rattle.octet_marks.specs.declared.piece.Head.{Head}
+use Rattle.octet_marks.specs.declared.piece.Piece.TheVariants as pieces
+use Rattle.octet_marks.specs.Reading.{piece_bytes}
+use Rattle.octet_long_race.specs.Recorded.{head_of}
+use Rattle.octet_long_race.specs.Written.{Holds}
+use Rattle.octet_long_race.proofs.Writes.{begins, desk_adds}
+use Rattle.octet_long_race.proofs.recording.begin.Goals as goal
+
+pub returns-in-Ok : goal.returns-in-Ok
+returns-in-Ok g c =
+    let first = g.D.Desk.state c.args.desk.now in let mid = g.D.Desk.state c.begin.new.self in let last = g.D.Desk.state c.add.new.self in
+    let name = c.args.file.now in let bytes = c.in_ok-bytes.bytes.items in
+    let is : bytes ≡ piece_bytes (pieces.Head (head_of c.args.plan)) = c.in_ok-bytes.ensures ∙ ap (λ (h : Head). piece_bytes (pieces.Head h)) c.in_ok-head_of.ensures in
+    let named : mid.begun ≡ Some name = search rules in
+    let begun : mid.contents ≡ with_call (call.Begin name) (with_empty name first.contents) = search rules in
+    let added : last.contents ≡ with_call (call.Add (length bytes)) (with_bytes mid.begun bytes mid.contents) = search rules in
+    record { begun = subst (λ (l : List ℕ). Holds name l first.contents last) is (desk_adds bytes (call.Add (length bytes)) mid last c.add.ensures.begun added name [] first.contents (begins name (call.Begin name) first mid named begun)) }

@@ -1,0 +1,10 @@
+pub mod Plans
+pub mod Walks
+pub mod Beside
+pub mod BesideAgain
+pub mod Written
+pub mod Lines
+pub mod Recorded
+pub mod Reads
+pub mod Followed
+pub mod Serving
