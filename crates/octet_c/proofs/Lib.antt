@@ -1,0 +1,4 @@
+pub mod Handles
+pub mod Refused
+pub mod Rows
+pub mod Values

@@ -1,0 +1,12 @@
+pub mod Owned
+pub mod Spelled
+pub mod Faults
+pub mod Refusals
+pub mod Stages
+pub mod Records
+pub mod Sessions
+pub mod Opened
+pub mod Calls
+pub mod Statuses
+pub mod Names
+pub mod Keeping

@@ -1,0 +1,363 @@
+//! The shared heap for programs that are not Rattle: what the heap asks of its callers is tested at run time, and a status
+//! code answered. `include/octet.h` has the calls as C sees them.
+#![tactic(auto)]
+
+ghost use Rattle.octet_c.specs.declared.status.TheConstants.{READY};
+ghost use Rattle.std.specs.Prelude.{◌≡◌, ◌≢◌, All, Some, None, IfOk};
+ghost use Rattle.std.specs.Prelude.{length as list_length};
+ghost use Rattle.octet_c.specs.Calls.{Goes, BeginsNext, IsNoRest, IsNotIdle};
+ghost use Rattle.octet_c.specs.Names.{access_named, update_named};
+ghost use Rattle.octet_c.specs.Statuses.{Called, Accessed, Polled, IsEnded, NeverHalts, Halts, OnHandle, AsksHandle};
+ghost use Rattle.octet_c.specs.declared.stage.Stage.TheVariants as at;
+ghost use Rattle.octet_c.specs.Keeping.{copied, CopiesOf, IsRecord};
+ghost use Rattle.octet_c.specs.Records.{IsGood};
+ghost use Rattle.octet_c.specs.Opened.{Declares, Records, RefusesToOpen, GivesNone};
+ghost use Rattle.octet_c.specs.Refusals.{RefusesToFollow};
+ghost use Rattle.octet_c.specs.Sessions.{IsRecorded, IsRepeated};
+
+mod answer;
+mod calls;
+mod closing;
+mod desk;
+mod following;
+mod handing;
+mod handle;
+mod held;
+mod kept;
+mod loose;
+mod opening;
+mod recorded;
+mod repeated;
+mod stage;
+mod status;
+mod words;
+
+use handing::{put_all, take_all};
+pub use handle::Handle;
+pub use held::Held;
+pub use kept::Kept;
+use octet_recorder::Access;
+pub use recorded::{Heap, Recorded};
+pub use repeated::{Course, Repeated};
+use status::{Fault, NO_CHANGE, NO_MEMORY, NO_MODE, NO_RECORD, NO_SESSION, READY};
+use std::alloc::Global;
+use words::{access_of, update_of};
+
+/// Opens a heap as the text declares it, and puts a session behind each of the handles, one for each thread, in order. What
+/// a handle held is freed.
+#[unsafe(no_mangle)]
+pub extern "C" fn octet_open(alloc: Global, text: &[u8], sessions: &mut [Handle]) -> i32
+    ensures ready { result ≡ READY → Declares text.now (list_length sessions.new) }
+    ensures kept { result ≢ READY → sessions.new ≡ sessions.old }
+    ensures cause { result ≢ READY → GivesNone (RefusesToOpen text.now) (Declares text.now) (list_length sessions.old) result }
+{
+    match opening::open(alloc, text) {
+        Ok(opened) => put_all(alloc, sessions, opened),
+        Err(fault) => fault.status(),
+    }
+}
+
+/// Opens a recording, the text of a script and the bytes of its log, to run its threads again, and puts a session behind
+/// each of the handles, one for each thread, in order. Refused where the log does not fit the script, or leaves conflicts
+/// unordered. What a handle held is freed.
+#[unsafe(no_mangle)]
+pub extern "C" fn octet_follow(
+    alloc: Global,
+    script: &[u8],
+    log: &[u8],
+    sessions: &mut [Handle],
+) -> i32
+    ensures ready { result ≡ READY → Records script.now log.now (list_length sessions.new) }
+    ensures kept { result ≢ READY → sessions.new ≡ sessions.old }
+    ensures cause { result ≢ READY → GivesNone (RefusesToFollow script.now log.now) (Records script.now log.now) (list_length sessions.old) result }
+{
+    match following::follow(alloc, script, log) {
+        Ok(opened) => put_all(alloc, sessions, opened),
+        Err(fault) => fault.status(),
+    }
+}
+
+/// Marks the session's thread as running.
+#[unsafe(no_mangle)]
+pub extern "C" fn octet_start(alloc: Global, session: &mut Handle) -> i32
+    ensures { OnHandle (Called (Goes at.Resting at.Idle) IsNoRest) (Called (Goes at.Resting at.Idle) IsNoRest) session.old.held result session.new.held }
+{
+    match session.take(alloc) {
+        None => NO_SESSION,
+        Some(mut held) => {
+            let status = held.start();
+            session.put(held);
+            status
+        }
+    }
+}
+
+/// Marks the session's thread as blocked.
+#[unsafe(no_mangle)]
+pub extern "C" fn octet_stop(alloc: Global, session: &mut Handle) -> i32
+    ensures { OnHandle (Called (Goes at.Idle at.Resting) IsNotIdle) (Called (Goes at.Idle at.Resting) IsNotIdle) session.old.held result session.new.held }
+{
+    match session.take(alloc) {
+        None => NO_SESSION,
+        Some(mut held) => {
+            let status = held.stop();
+            session.put(held);
+            status
+        }
+    }
+}
+
+/// Ends the session's thread. In a recorded run it is blocked. In a second run it has diverged where its recording has more
+/// accesses, and `out` is how many it has made; it is pending while marks that are left wait for another thread.
+#[unsafe(no_mangle)]
+pub extern "C" fn octet_end(alloc: Global, session: &mut Handle, out: &mut u64) -> i32
+    ensures { OnHandle (Called (Goes at.Idle at.Resting) IsNotIdle) (IsEnded out.old out.new) session.old.held result session.new.held }
+{
+    match session.take(alloc) {
+        None => NO_SESSION,
+        Some(mut held) => {
+            let status = held.end(out);
+            session.put(held);
+            status
+        }
+    }
+}
+
+/// Begins a region with the session's next access.
+#[unsafe(no_mangle)]
+pub extern "C" fn octet_region(alloc: Global, session: &mut Handle) -> i32
+    ensures { OnHandle (Called BeginsNext IsNotIdle) (Called BeginsNext IsNotIdle) session.old.held result session.new.held }
+{
+    match session.take(alloc) {
+        None => NO_SESSION,
+        Some(mut held) => {
+            let status = held.region();
+            session.put(held);
+            status
+        }
+    }
+}
+
+/// Answers the threads that have asked this one: 1 if any has.
+#[unsafe(no_mangle)]
+pub extern "C" fn octet_safe_point(alloc: Global, session: &mut Handle) -> i32 {
+    match session.take(alloc) {
+        None => NO_SESSION,
+        Some(mut held) => {
+            let status = held.safe_point();
+            session.put(held);
+            status
+        }
+    }
+}
+
+// Begins an access of the thread behind the handle.
+fn access(alloc: Global, session: &mut Handle, wanted: Access, out: &mut u64) -> i32
+    ensures { AsksHandle (Some wanted) NO_MODE session.old.held result out.old out.new session.new.held }
+{
+    match session.take(alloc) {
+        None => NO_SESSION,
+        Some(mut held) => {
+            let status = held.access(wanted, out);
+            session.put(held);
+            status
+        }
+    }
+}
+
+/// Begins a read (mode 0) or a write of the value (mode 1): 0 with the value read or written, or 1 where it is pending.
+#[unsafe(no_mangle)]
+pub extern "C" fn octet_access(
+    alloc: Global,
+    session: &mut Handle,
+    mode: u8,
+    object: u16,
+    value: u64,
+    out: &mut u64,
+) -> i32
+    ensures { AsksHandle (access_named mode object value) NO_MODE session.old.held result out.old out.new session.new.held }
+{
+    match access_of(mode, object, value) {
+        Some(wanted) => access(alloc, session, wanted, out),
+        None => NO_MODE,
+    }
+}
+
+/// Begins one read-modify-write: 0 with the value that it found, or 1 where it is pending.
+#[unsafe(no_mangle)]
+pub extern "C" fn octet_update(
+    alloc: Global,
+    session: &mut Handle,
+    change: u8,
+    object: u16,
+    operand: u64,
+    expected: u64,
+    out: &mut u64,
+) -> i32
+    ensures { AsksHandle (update_named change object operand expected) NO_CHANGE session.old.held result out.old out.new session.new.held }
+{
+    match update_of(change, object, operand, expected) {
+        Some(wanted) => access(alloc, session, wanted, out),
+        None => NO_CHANGE,
+    }
+}
+
+/// Goes on with the access that was begun: 0 with its value, or 1 where it is pending.
+#[unsafe(no_mangle)]
+pub extern "C" fn octet_poll(alloc: Global, session: &mut Handle, out: &mut u64) -> i32
+    ensures { OnHandle (Polled NeverHalts out.old out.new) (Polled Halts out.old out.new) session.old.held result session.new.held }
+{
+    match session.take(alloc) {
+        None => NO_SESSION,
+        Some(mut held) => {
+            let status = held.poll(out);
+            session.put(held);
+            status
+        }
+    }
+}
+
+// The record of threads that were recorded, or of threads that were run again.
+fn close_all(alloc: Global, recorded: Vec<Recorded>, repeated: Vec<Repeated>) -> Result<Kept, Fault>
+    requires recorded { All IsRecorded recorded.items }
+    requires repeated { All IsRepeated repeated.items }
+    ensures { IfOk result IsGood }
+{
+    if repeated.is_empty() {
+        Ok(closing::close(alloc, recorded)?)
+    } else if recorded.is_empty() {
+        Ok(following::close(alloc, repeated)?)
+    } else {
+        Err(Fault::OtherSessions)
+    }
+}
+
+// Ends the run of the sessions behind the handles.
+fn closed(alloc: Global, sessions: &mut [Handle]) -> Result<Kept, Fault>
+    ensures gone { All (λ session. session.held ≡ None) sessions.new }
+    ensures good { IfOk result IsGood }
+{
+    let (recorded, repeated) = take_all(alloc, sessions)?;
+    close_all(alloc, recorded, repeated)
+}
+
+/// Ends the run, and puts its record behind `kept`; what that held is freed. The sessions are those that one call of
+/// `octet_open` or `octet_follow` gave, in order, each off or blocked; after `octet_follow` each has made all accesses of its
+/// recording. They are gone then, whatever is answered. Any others are refused.
+#[unsafe(no_mangle)]
+pub extern "C" fn octet_close(alloc: Global, sessions: &mut [Handle], kept: &mut Handle) -> i32
+    ensures gone { All (λ session. session.held ≡ None) sessions.new }
+    ensures kept { result ≡ READY → IsRecord kept.new.held }
+    ensures refused { result ≢ READY → kept.new ≡ kept.old }
+{
+    match closed(alloc, sessions) {
+        Ok(closed) => match Box::new(alloc, Held::Kept(closed)) {
+            Ok(held) => {
+                drop(kept.take(alloc));
+                kept.put(held);
+                READY
+            }
+            Err(_) => NO_MEMORY,
+        },
+        Err(fault) => fault.status(),
+    }
+}
+
+// Copies as many as there is room for, and says how many there are.
+fn copy<T: Copy>(all: &[T], out: &mut [T], length: &mut usize)
+    ensures length { length.new ≡ list_length all.now }
+    ensures out { out.new ≡ copied all.now out.old }
+{
+    *length = all.len();
+    let count = all.len().min(out.len());
+    out[..count].copy_from_slice(&all[..count]);
+}
+
+/// Copies as much of the script's text as there is room for, and says how long it is.
+#[unsafe(no_mangle)]
+pub extern "C" fn octet_script(
+    alloc: Global,
+    kept: &mut Handle,
+    out: &mut [u8],
+    length: &mut usize,
+) -> i32
+    ensures keeps { kept.new.held ≡ kept.old.held }
+    ensures copies { CopiesOf (λ kept. kept.script.items) kept.old.held result out.old out.new length.old length.new }
+{
+    match kept.take(alloc) {
+        None => NO_RECORD,
+        Some(held) => {
+            let status = match &*held {
+                Held::Kept(record) => {
+                    copy(record.script.as_slice(), out, length);
+                    READY
+                }
+                Held::Recorded(_) | Held::Repeated(_) => NO_RECORD,
+            };
+            kept.put(held);
+            status
+        }
+    }
+}
+
+/// Copies as much of the log as there is room for, and says how long it is.
+#[unsafe(no_mangle)]
+pub extern "C" fn octet_log(
+    alloc: Global,
+    kept: &mut Handle,
+    out: &mut [u8],
+    length: &mut usize,
+) -> i32
+    ensures keeps { kept.new.held ≡ kept.old.held }
+    ensures copies { CopiesOf (λ kept. kept.log.items) kept.old.held result out.old out.new length.old length.new }
+{
+    match kept.take(alloc) {
+        None => NO_RECORD,
+        Some(held) => {
+            let status = match &*held {
+                Held::Kept(record) => {
+                    copy(record.log.as_slice(), out, length);
+                    READY
+                }
+                Held::Recorded(_) | Held::Repeated(_) => NO_RECORD,
+            };
+            kept.put(held);
+            status
+        }
+    }
+}
+
+/// Copies as many of the objects' final values as there is room for, and says how many there are.
+#[unsafe(no_mangle)]
+pub extern "C" fn octet_values(
+    alloc: Global,
+    kept: &mut Handle,
+    out: &mut [u64],
+    length: &mut usize,
+) -> i32
+    ensures keeps { kept.new.held ≡ kept.old.held }
+    ensures copies { CopiesOf (λ kept. kept.values) kept.old.held result out.old out.new length.old length.new }
+{
+    match kept.take(alloc) {
+        None => NO_RECORD,
+        Some(held) => {
+            let status = match &*held {
+                Held::Kept(record) => {
+                    copy(record.values.as_slice(), out, length);
+                    READY
+                }
+                Held::Recorded(_) | Held::Repeated(_) => NO_RECORD,
+            };
+            kept.put(held);
+            status
+        }
+    }
+}
+
+/// Frees what a handle holds.
+#[unsafe(no_mangle)]
+pub extern "C" fn octet_free(alloc: Global, handle: &mut Handle)
+    ensures { handle.new.held ≡ None }
+{
+    drop(handle.take(alloc));
+}

@@ -1,0 +1,190 @@
+//! What may be wrong with a call.
+ghost use Rattle.std.specs.Prelude.{◌≡◌, ◌≢◌};
+ghost use Rattle.octet_c.specs.declared.status.TheConstants.{READY};
+ghost use Rattle.octet_c.specs.declared.status.Fault.TheVariants.{OutOfMemory as MemoryRefused};
+ghost use Rattle.octet_c.specs.Faults.{text_fault, log_fault, rerun_fault, fault_status};
+ghost use Rattle.octet_c.specs.Statuses.{status_of};
+
+use octet_log::LogFault;
+use octet_model::OutOfMemory;
+use octet_replay::ReplayFault;
+use octet_rerun::RerunFault;
+use octet_script::ScriptFault;
+use std::alloc::{AllocError, AllocFailed};
+
+/// A call that the state of its session does not allow.
+#[derive(Clone, Copy, Debug, PartialEq, Eq)]
+pub enum Misuse {
+    /// The thread is off or blocked, or over.
+    Resting,
+    /// The thread runs.
+    Running,
+    /// An access was begun, and is not made yet.
+    Begun,
+    /// No access was begun.
+    NotBegun,
+    NoSuchObject,
+    /// The thread has made all accesses that it may make.
+    Spent,
+}
+
+/// Why no heap was opened, or no record was made.
+#[derive(Clone, Copy, Debug, PartialEq, Eq)]
+pub enum Fault {
+    OutOfMemory,
+    /// The text is no script.
+    BadText,
+    /// Sessions are missing, in another order, or of two heaps.
+    OtherSessions,
+    /// A thread runs.
+    StillRunning,
+    /// The log is too long for its format.
+    TooLong,
+    /// The bytes are no log.
+    BadLog,
+    /// The log does not fit the script, or is another's.
+    Misfit,
+    /// The log leaves conflicts of the script unordered.
+    Unordered,
+    /// A thread that was run again has not made all of its recording.
+    NotWhole,
+}
+
+impl From<AllocError> for Fault {
+    ghost from_gives = { λ _ e. e ≡ MemoryRefused };
+
+    fn from(_: AllocError) -> Fault {
+        Fault::OutOfMemory
+    }
+}
+
+impl From<OutOfMemory> for Fault {
+    ghost from_gives = { λ _ e. e ≡ MemoryRefused };
+
+    fn from(_: OutOfMemory) -> Fault {
+        Fault::OutOfMemory
+    }
+}
+
+impl<T: Drop> From<AllocFailed<T>> for Fault {
+    ghost from_gives = { λ _ e. e ≡ MemoryRefused };
+
+    fn from(_: AllocFailed<T>) -> Fault {
+        Fault::OutOfMemory
+    }
+}
+
+impl From<ScriptFault> for Fault {
+    ghost from_gives = { λ fault e. e ≡ text_fault fault };
+
+    fn from(fault: ScriptFault) -> Fault {
+        match fault {
+            ScriptFault::OutOfMemory => Fault::OutOfMemory,
+            ScriptFault::Refused { .. } => Fault::BadText,
+        }
+    }
+}
+
+impl From<LogFault> for Fault {
+    ghost from_gives = { λ fault e. e ≡ log_fault fault };
+
+    fn from(fault: LogFault) -> Fault {
+        match fault {
+            LogFault::OutOfMemory => Fault::OutOfMemory,
+            LogFault::Refused { .. } => Fault::BadLog,
+        }
+    }
+}
+
+impl From<RerunFault> for Fault {
+    ghost from_gives = { λ fault e. e ≡ rerun_fault fault };
+
+    fn from(fault: RerunFault) -> Fault {
+        match fault {
+            RerunFault::Replay(ReplayFault::OutOfMemory) => Fault::OutOfMemory,
+            RerunFault::Replay(_) => Fault::Misfit,
+            RerunFault::Unordered { .. } => Fault::Unordered,
+        }
+    }
+}
+
+/// The statuses that the calls answer. They stand in `include/octet.h` too.
+pub const READY: i32 = 0;
+
+pub const PENDING: i32 = 1;
+
+pub const NO_SESSION: i32 = -1;
+
+pub const RESTING: i32 = -2;
+
+pub const RUNNING: i32 = -3;
+
+pub const BEGUN: i32 = -4;
+
+pub const NOT_BEGUN: i32 = -5;
+
+pub const NO_OBJECT: i32 = -6;
+
+pub const SPENT: i32 = -7;
+
+pub const NO_MODE: i32 = -8;
+
+pub const NO_MEMORY: i32 = -9;
+
+pub const BAD_TEXT: i32 = -10;
+
+pub const OTHER_SESSIONS: i32 = -11;
+
+pub const STILL_RUNNING: i32 = -12;
+
+pub const TOO_LONG: i32 = -13;
+
+pub const NO_RECORD: i32 = -14;
+
+pub const DIVERGED: i32 = -15;
+
+pub const HALTED: i32 = -16;
+
+pub const MISFIT: i32 = -17;
+
+pub const UNORDERED: i32 = -18;
+
+pub const NOT_WHOLE: i32 = -19;
+
+pub const BAD_LOG: i32 = -20;
+
+pub const NO_CHANGE: i32 = -21;
+
+impl Misuse {
+    pub(crate) fn status(self) -> i32
+        ensures { result ≡ status_of self }
+    {
+        match self {
+            Misuse::Resting => RESTING,
+            Misuse::Running => RUNNING,
+            Misuse::Begun => BEGUN,
+            Misuse::NotBegun => NOT_BEGUN,
+            Misuse::NoSuchObject => NO_OBJECT,
+            Misuse::Spent => SPENT,
+        }
+    }
+}
+
+impl Fault {
+    pub(crate) fn status(self) -> i32
+        ensures is { result ≡ fault_status self }
+        ensures fault { result ≢ READY }
+    {
+        match self {
+            Fault::OutOfMemory => NO_MEMORY,
+            Fault::BadText => BAD_TEXT,
+            Fault::OtherSessions => OTHER_SESSIONS,
+            Fault::StillRunning => STILL_RUNNING,
+            Fault::TooLong => TOO_LONG,
+            Fault::BadLog => BAD_LOG,
+            Fault::Misfit => MISFIT,
+            Fault::Unordered => UNORDERED,
+            Fault::NotWhole => NOT_WHOLE,
+        }
+    }
+}

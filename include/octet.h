@@ -1,0 +1,130 @@
+/* Octet for C and C++: the threads of a program make their accesses on a proved heap. Their run becomes a
+ * script and its log, which `octet` reads, and the same program can be run again by them.
+ *
+ * A session is one thread of a run. No call waits, takes a lock or starts a thread. Whatever a call needs of
+ * its session is tested, and a status says what was missing. Six things no call can test, and the caller owes:
+ *
+ *   1. A handle, an `octet_session` or an `octet_record`, is zeroed before its first use.
+ *   2. From then on only these calls write to it. It may be moved: then its old place is not used, or zeroed.
+ *   3. No pointer is null. Each points to as much as is said beside it, and no two to the same memory.
+ *   4. A handle is given to one call at a time. Different sessions may be in calls at once.
+ *   5. A handle goes to another thread by what orders memory: a lock, a thread's start or end, an atomic.
+ *   6. No call is made from a signal handler, or in a child after `fork`. */
+#ifndef OCTET_H
+#define OCTET_H
+
+#include <stddef.h>
+#include <stdint.h>
+
+#ifdef __cplusplus
+extern "C" {
+#endif
+
+/* One pointer. What it holds is freed by `octet_close`, by `octet_free`, or where a call puts another thing there. */
+typedef struct octet_handle {
+    void *at;
+} octet_session, octet_record;
+
+enum octet_mode {
+    OCTET_READ = 0,
+    OCTET_WRITE = 1
+};
+
+/* What an update makes of the value that it finds. All are modulo 2^64, and without a sign. */
+enum octet_change {
+    OCTET_ADD = 0,
+    OCTET_SUB = 1,
+    OCTET_SWAP = 2,
+    OCTET_COMPARE_EXCHANGE = 3,
+    OCTET_AND = 4,
+    OCTET_OR = 5,
+    OCTET_XOR = 6,
+    OCTET_MAX = 7,
+    OCTET_MIN = 8
+};
+
+enum octet_status {
+    OCTET_READY = 0,
+    OCTET_PENDING = 1,           /* the access waits for another thread: poll it */
+    OCTET_NO_SESSION = -1,       /* the handle has no session */
+    OCTET_RESTING = -2,          /* the thread is not started, or is stopped */
+    OCTET_RUNNING = -3,          /* the thread is started already */
+    OCTET_BEGUN = -4,            /* an access was begun: poll it first */
+    OCTET_NOT_BEGUN = -5,        /* no access was begun */
+    OCTET_NO_OBJECT = -6,        /* the heap has no object of this number */
+    OCTET_SPENT = -7,            /* the thread has less fuel left than an access may take, which is 3 */
+    OCTET_NO_MODE = -8,          /* the mode is none of octet_mode */
+    OCTET_NO_MEMORY = -9,
+    OCTET_BAD_TEXT = -10,        /* the text is no script */
+    OCTET_OTHER_SESSIONS = -11,  /* not all sessions of one heap, in order */
+    OCTET_STILL_RUNNING = -12,   /* a session is not stopped */
+    OCTET_TOO_LONG = -13,        /* the run is too long for its files */
+    OCTET_NO_RECORD = -14,       /* the handle has no record */
+    /* Of threads that are run again: */
+    OCTET_DIVERGED = -15,        /* the recording has another access here, or none */
+    OCTET_HALTED = -16,          /* the access would wait for a thread that has diverged */
+    OCTET_MISFIT = -17,          /* the log does not fit the script, or is of another script */
+    OCTET_UNORDERED = -18,       /* the log leaves conflicts of the script unordered */
+    OCTET_NOT_WHOLE = -19,       /* a thread has not made all that was recorded of it */
+    OCTET_BAD_LOG = -20,         /* the bytes are no log */
+    OCTET_NO_CHANGE = -21        /* the change is none of octet_change */
+};
+
+/* Opens a heap, and puts a session behind each handle: as many as the text has threads, in their order. The text is
+ * a script: `fuel N`, then `object NAME N` for each object, then `thread` for each thread. Its commands are left
+ * aside. An access takes one to three units of its thread's fuel, and needs three. What a handle held is freed. With
+ * any status but OCTET_READY the handles stay as they are, and so in `octet_follow`. */
+int32_t octet_open(const uint8_t *text, size_t length, octet_session *sessions, size_t count);
+
+/* Opens a recording to run its threads again. An access is pending until all that was recorded before it is made.
+ * Then it is ready, with the value that it had. */
+int32_t octet_follow(const uint8_t *script, size_t length, const uint8_t *log, size_t log_length,
+                     octet_session *sessions, size_t count);
+
+/* The thread runs from `octet_start` to `octet_stop`. While it is stopped no other thread waits for it: stop it
+ * before it sleeps, waits for a lock or reads a file. */
+int32_t octet_start(octet_session *session);
+int32_t octet_stop(octet_session *session);
+
+/* The thread is over: stops it. A thread that is run again must have made all that was recorded of it; else this
+ * answers OCTET_DIVERGED, and `out` is how many accesses it has made. OCTET_PENDING: call it again. After
+ * OCTET_READY the thread starts no more; after any other status it still runs. */
+int32_t octet_end(octet_session *session, uint64_t *out);
+
+/* Answers the threads that wait for this one: 1 where there was one. Call it in long stretches without accesses. */
+int32_t octet_safe_point(octet_session *session);
+
+/* A region begins with the next access, and the one before ends there. `octet regions` tells whether they could
+ * have run one after another. */
+int32_t octet_region(octet_session *session);
+
+/* Reads or writes an object, which counts from 0. `out` is the value read, or the one written. OCTET_PENDING: poll.
+ * OCTET_DIVERGED: `out` is how many accesses the thread has made. With any other status `out` stays. */
+int32_t octet_access(octet_session *session, uint8_t mode, uint16_t object, uint64_t value, uint64_t *out);
+
+/* Reads and writes an object in one access. `out` is the value found. OCTET_COMPARE_EXCHANGE stores `operand` where
+ * it finds `expected`, and has stored it exactly where `out` is `expected`. No other change reads `expected`. */
+int32_t octet_update(octet_session *session, uint8_t change, uint16_t object, uint64_t operand, uint64_t expected,
+                     uint64_t *out);
+
+/* Goes on with the access that was begun, and answers as the call that began it. */
+int32_t octet_poll(octet_session *session, uint64_t *out);
+
+/* Ends the run, and puts its record behind the handle. Give all sessions of one `octet_open` or `octet_follow`, in
+ * order, each stopped. They are gone afterwards, whatever is answered. With any status but OCTET_READY `record`
+ * stays as it is. */
+int32_t octet_close(octet_session *sessions, size_t count, octet_record *record);
+
+/* What the record has: the text of the script, the bytes of the log with the text's digest, the objects' values at
+ * the end. Each call copies as much as there is room for; `length` is how much there is. */
+int32_t octet_script(octet_record *record, uint8_t *out, size_t room, size_t *length);
+int32_t octet_log(octet_record *record, uint8_t *out, size_t room, size_t *length);
+int32_t octet_values(octet_record *record, uint64_t *out, size_t room, size_t *length);
+
+/* Frees what a handle holds. It may be used anew. */
+void octet_free(octet_session *handle);
+
+#ifdef __cplusplus
+}
+#endif
+#endif
