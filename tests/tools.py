@@ -13,7 +13,7 @@ from case import draw, fence, join, log, script, text
 from cases import BANK, CASES, EARLY, EARLY_UNMARKED, LOST_LOG, SHARED, SHARED_LOG
 from files import LAUNCHER, OCTET, TOP, called, differs, first, folder_with, octet
 
-LOG, DIAGRAM = TOP / "tools" / "log", TOP / "tools" / "diagram"
+LOG, DIAGRAM, PLACES = TOP / "tools" / "log", TOP / "tools" / "diagram", TOP / "tools" / "places"
 COMMANDS = re.compile(r"^\| `octet ([a-z]+)", re.MULTILINE)
 STATUSES = re.compile(r"^\| ([0-9]+) \|", re.MULTILINE)
 
@@ -161,6 +161,29 @@ def pictures():
         return first(*problems)
 
 
+def places_of_a_program():
+    """Beside each access of a trace, and in the picture, stands its line of a program."""
+    lines = [[f"src/bank.rs:{thread}{access}" for access in range(4)] for thread in range(2)]
+    places = "".join("thread\n" + "".join(f"{line}\n" for line in thread) for thread in lines).encode()
+    few = places[: places.index(b"thread", 1)]
+    with folder_with(**{"S.octet": BANK, "S.log": LOST_LOG, "S.places": places, "F": few}) as folder:
+        traced = octet(["trace", "S.octet", "S.log"], folder)[1].decode().splitlines()
+        left, wanted = [iter(thread) for thread in lines], ""
+        for line in traced:
+            is_access = line.split()[1] in ("read", "write", "update")
+            wanted += f"{line} at {next(left[int(line[0])])}\n" if is_access else f"{line}\n"
+        found = called([PLACES, "--octet", OCTET, "S"], folder)
+        picture = diagram(folder, "S.octet", "S.log", "--places", "S.places")[1].decode()
+        shutil.copy(pathlib.Path(folder, "F"), pathlib.Path(folder, "S.places"))
+        other = called([PLACES, "--octet", OCTET, "S"], folder)
+        return first(
+            differs("the trace", found, (0, wanted.encode())),
+            differs("the picture", re.findall(r"  bank.rs:(\d\d)<", picture).count("01"), 1),
+            differs("all accesses in it", len(re.findall(r"  bank.rs:\d\d<", picture)), wanted.count(" at ")),
+            differs("another run", (other[0], b"of another run" in other[2]), (1, True)),
+        )
+
+
 def refused_pictures():
     many = script("object x 0 / thread / set r0 500 / set r1 1 / while r0 / write x r0 / sub r0 r0 r1 / end")
     with folder_with(S=many, B=BANK, M=LOST_LOG, bad=b"OCTL") as folder:
@@ -233,6 +256,8 @@ def unprinted(page, heading, name):
 def code_of_the_documents():
     """What is printed stands in the crates, to the letter, so that it is proved and, where it is a test, run."""
     sources = [path.read_text() for path in (TOP / "crates").glob("*/src/**/*.rt")]
+    # The tests of bindings/ run these.
+    sources += [path.read_text() for path in (TOP / "bindings" / "rust" / "examples").glob("*.rs")]
     stated = [path.read_text() for folder in ["specs", "proofs"] for path in (TOP / "crates").glob(f"*/{folder}/**/*.antt")]
     printed = 0
     for path in sorted((TOP / "docs").glob("*.md")):
@@ -270,6 +295,7 @@ TESTS = {
     "tools/diagram: points, arrows, frames and what is pale": pictures,
     "tools/diagram: what is refused": refused_pictures,
     "tools/diagram: trace events": trace_events,
+    "tools/places, tools/diagram: the lines of a program": places_of_a_program,
     "the code of the documents": code_of_the_documents,
     "the files that the headline needs": what_the_headline_needs,
 }

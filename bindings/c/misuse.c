@@ -1,0 +1,290 @@
+/* What each call answers where it is misused. Says every answer that is not as it should be. */
+#include "octet.h"
+#include <inttypes.h>
+#include <stdio.h>
+#include <string.h>
+
+static int wrong;
+static const char TEXT[] = "fuel 5\nobject x 5\nthread\nthread\n";
+static uint8_t script[4096], journal[4096]; /* of the record */
+static size_t script_length, journal_length;
+
+static void check(int line, const char *call, uint64_t found, uint64_t wanted) {
+    if (found == wanted) return;
+    printf("line %d: %s is %" PRId64 ", not %" PRId64 "\n", line, call, (int64_t)found, (int64_t)wanted);
+    wrong = 1;
+}
+
+#define EXPECT(call, wanted) check(__LINE__, #call, (uint64_t)(int64_t)(call), (uint64_t)(int64_t)(wanted))
+
+static int32_t open_text(const char *text, octet_session *sessions, size_t count) {
+    return octet_open((const uint8_t *)text, strlen(text), sessions, count);
+}
+
+static int32_t follow(octet_session *sessions, size_t count) {
+    return octet_follow(script, script_length, journal, journal_length, sessions, count);
+}
+
+static void without_a_session(void) {
+    octet_session s[2] = {{0}, {0}};
+    octet_record r = {0};
+    uint64_t out = 7;
+    size_t length = 7;
+    EXPECT(octet_start(s), OCTET_NO_SESSION);
+    EXPECT(octet_stop(s), OCTET_NO_SESSION);
+    EXPECT(octet_end(s, &out), OCTET_NO_SESSION);
+    EXPECT(octet_region(s), OCTET_NO_SESSION);
+    EXPECT(octet_safe_point(s), OCTET_NO_SESSION);
+    EXPECT(octet_access(s, OCTET_READ, 0, 0, &out), OCTET_NO_SESSION);
+    EXPECT(octet_update(s, OCTET_ADD, 0, 0, 0, &out), OCTET_NO_SESSION);
+    EXPECT(octet_poll(s, &out), OCTET_NO_SESSION);
+    EXPECT(octet_script(&r, script, sizeof script, &length), OCTET_NO_RECORD);
+    EXPECT(octet_log(&r, journal, sizeof journal, &length), OCTET_NO_RECORD);
+    EXPECT(octet_values(&r, &out, 1, &length), OCTET_NO_RECORD);
+    EXPECT(octet_close(s, 2, &r), OCTET_OTHER_SESSIONS);
+    EXPECT(octet_close(s, 0, &r), OCTET_OTHER_SESSIONS);
+    octet_free(s);
+    EXPECT(out, 7);
+    EXPECT(length, 7);
+}
+
+static void at_open(void) {
+    octet_session s[3] = {{0}, {0}, {0}};
+    EXPECT(open_text("objekt", s, 2), OCTET_BAD_TEXT);
+    EXPECT(open_text("", s, 2), OCTET_BAD_TEXT);
+    EXPECT(open_text("fuel 1\nthread\nread r0 x\n", s, 1), OCTET_BAD_TEXT);
+    EXPECT(open_text(TEXT, s, 0), OCTET_OTHER_SESSIONS);
+    EXPECT(open_text(TEXT, s, 1), OCTET_OTHER_SESSIONS);
+    EXPECT(open_text(TEXT, s, 3), OCTET_OTHER_SESSIONS);
+    EXPECT(s[0].at == NULL, 1);
+    EXPECT(open_text(TEXT, s, 2), OCTET_READY);
+    EXPECT(octet_start(s), OCTET_READY);
+    EXPECT(open_text("objekt", s, 2), OCTET_BAD_TEXT);
+    EXPECT(octet_start(s), OCTET_RUNNING);
+    EXPECT(open_text(TEXT, s, 2), OCTET_READY);
+    EXPECT(octet_start(s), OCTET_READY);
+    octet_free(&s[0]), octet_free(&s[1]);
+}
+
+static void out_of_turn(void) {
+    octet_session s[2] = {{0}, {0}};
+    octet_record r = {0};
+    uint64_t out = 7;
+    EXPECT(open_text(TEXT, s, 2), OCTET_READY);
+    EXPECT(octet_access(s, OCTET_READ, 0, 0, &out), OCTET_RESTING);
+    EXPECT(octet_update(s, OCTET_ADD, 0, 0, 0, &out), OCTET_RESTING);
+    EXPECT(octet_region(s), OCTET_RESTING);
+    EXPECT(octet_safe_point(s), OCTET_RESTING);
+    EXPECT(octet_stop(s), OCTET_RESTING);
+    EXPECT(octet_end(s, &out), OCTET_RESTING);
+    EXPECT(octet_poll(s, &out), OCTET_NOT_BEGUN);
+    EXPECT(octet_start(s), OCTET_READY);
+    EXPECT(octet_start(s), OCTET_RUNNING);
+    EXPECT(octet_poll(s, &out), OCTET_NOT_BEGUN);
+    EXPECT(octet_access(s, OCTET_READ, 1, 0, &out), OCTET_NO_OBJECT);
+    EXPECT(octet_update(s, OCTET_MIN, 65535, 0, 0, &out), OCTET_NO_OBJECT);
+    EXPECT(octet_access(s, 2, 0, 0, &out), OCTET_NO_MODE);
+    EXPECT(octet_update(s, 9, 0, 0, 0, &out), OCTET_NO_CHANGE);
+    EXPECT(out, 7);
+    EXPECT(octet_close(s, 2, &r), OCTET_STILL_RUNNING);
+    EXPECT(s[0].at == NULL && s[1].at == NULL, 1);
+}
+
+/* Thread 0 owns the object, so thread 1 waits until it answers. */
+static void while_an_access_waits(void) {
+    octet_session s[2] = {{0}, {0}};
+    octet_record r = {0};
+    uint64_t out = 7;
+    size_t length = 7;
+    EXPECT(open_text(TEXT, s, 2), OCTET_READY);
+    EXPECT(octet_start(&s[0]), OCTET_READY);
+    EXPECT(octet_region(&s[0]), OCTET_READY);
+    EXPECT(octet_access(&s[0], OCTET_WRITE, 0, 9, &out), OCTET_READY);
+    EXPECT(out, 9);
+    EXPECT(octet_access(&s[0], OCTET_READ, 0, 0, &out), OCTET_SPENT);
+    EXPECT(octet_safe_point(&s[0]), 0);
+    EXPECT(octet_start(&s[1]), OCTET_READY);
+    EXPECT(octet_update(&s[1], OCTET_ADD, 0, 1, 0, &out), OCTET_PENDING);
+    EXPECT(octet_update(&s[1], OCTET_ADD, 0, 1, 0, &out), OCTET_BEGUN);
+    EXPECT(octet_access(&s[1], OCTET_READ, 0, 0, &out), OCTET_BEGUN);
+    EXPECT(octet_stop(&s[1]), OCTET_BEGUN);
+    EXPECT(octet_end(&s[1], &out), OCTET_BEGUN);
+    EXPECT(octet_region(&s[1]), OCTET_BEGUN);
+    EXPECT(octet_safe_point(&s[1]), OCTET_BEGUN);
+    EXPECT(octet_start(&s[1]), OCTET_RUNNING);
+    EXPECT(octet_log(&s[1], journal, sizeof journal, &length), OCTET_NO_RECORD);
+    EXPECT(octet_poll(&s[1], &out), OCTET_PENDING);
+    EXPECT(out, 9);
+    EXPECT(octet_safe_point(&s[0]), 1);
+    EXPECT(octet_poll(&s[1], &out), OCTET_READY);
+    EXPECT(out, 9);
+    EXPECT(octet_stop(&s[0]), OCTET_READY);
+    EXPECT(octet_update(&s[1], OCTET_ADD, 0, 1, 0, &out), OCTET_READY);
+    EXPECT(out, 10);
+    EXPECT(octet_end(&s[1], &out), OCTET_READY);
+    EXPECT(octet_close(s, 2, &r), OCTET_READY);
+    EXPECT(octet_values(&r, &out, 1, &length), OCTET_READY);
+    EXPECT(out, 11);
+    EXPECT(length, 1);
+    octet_free(&r);
+}
+
+/* Moves the sessions into a close that refuses them, and those that are left are freed before it or after it. */
+static void close_others(octet_session *a, octet_session *b, octet_session *c, octet_session *d, int before) {
+    octet_session given[2], left[2];
+    octet_record r = {0};
+    given[0] = *a, given[1] = *b, left[0] = *c, left[1] = *d;
+    a->at = b->at = c->at = d->at = NULL;
+    if (before) octet_free(&left[0]), octet_free(&left[1]);
+    EXPECT(octet_close(given, 2, &r), OCTET_OTHER_SESSIONS);
+    EXPECT(given[0].at == NULL && given[1].at == NULL && r.at == NULL, 1);
+    octet_free(&left[0]), octet_free(&left[1]);
+}
+
+static void at_close(void) {
+    octet_session s[2] = {{0}, {0}}, t[2] = {{0}, {0}}, none = {0};
+    for (int before = 0; before < 2; before++) {
+        EXPECT(open_text(TEXT, s, 2), OCTET_READY);
+        close_others(&s[1], &s[0], &none, &none, before);
+        EXPECT(open_text(TEXT, s, 2), OCTET_READY);
+        EXPECT(open_text(TEXT, t, 2), OCTET_READY);
+        close_others(&s[0], &t[1], &s[1], &t[0], before);
+        EXPECT(open_text(TEXT, s, 2), OCTET_READY);
+        close_others(&s[0], &none, &s[1], &none, before);
+    }
+}
+
+/* Thread 0 writes 9, then thread 1 adds 1. */
+static void keep_a_record(void) {
+    octet_session s[2] = {{0}, {0}};
+    octet_record r = {0};
+    uint64_t out = 0;
+    EXPECT(open_text(TEXT, s, 2), OCTET_READY);
+    EXPECT(octet_start(&s[0]), OCTET_READY);
+    EXPECT(octet_access(&s[0], OCTET_WRITE, 0, 9, &out), OCTET_READY);
+    EXPECT(octet_stop(&s[0]), OCTET_READY);
+    EXPECT(octet_start(&s[1]), OCTET_READY);
+    EXPECT(octet_update(&s[1], OCTET_ADD, 0, 1, 0, &out), OCTET_READY);
+    EXPECT(out, 9);
+    EXPECT(octet_end(&s[1], &out), OCTET_READY);
+    EXPECT(octet_close(s, 2, &r), OCTET_READY);
+    EXPECT(octet_start(&r), OCTET_NO_SESSION);
+    EXPECT(octet_access(&r, OCTET_READ, 0, 0, &out), OCTET_NO_SESSION);
+    EXPECT(octet_script(&r, script, 3, &script_length), OCTET_READY);
+    EXPECT(memcmp(script, "fue", 4), 0);
+    EXPECT(octet_script(&r, script, sizeof script, &script_length), OCTET_READY);
+    EXPECT(octet_log(&r, journal, sizeof journal, &journal_length), OCTET_READY);
+    octet_free(&r), octet_free(&r);
+    EXPECT(octet_log(&r, journal, sizeof journal, &journal_length), OCTET_NO_RECORD);
+}
+
+static void at_follow(void) {
+    static const uint8_t unordered[] = {'O', 'C', 'T', 'L', 1, 2, 0, 0, 0, 1, 0, 0, 0, 0, 0, 0, 0, 1, 0, 0, 0, 0};
+    static const uint8_t too_few[] = {'O', 'C', 'T', 'L', 1, 2, 0, 0, 0, 0, 0, 0, 0, 0, 0, 0, 0, 1, 0, 0, 0, 0};
+    const uint8_t *other = (const uint8_t *)TEXT;
+    octet_session t[2] = {{0}, {0}};
+    EXPECT(octet_follow(other, 6, journal, journal_length, t, 2), OCTET_BAD_TEXT);
+    EXPECT(octet_follow(script, script_length, other, 9, t, 2), OCTET_BAD_LOG);
+    EXPECT(octet_follow(script, script_length, journal, journal_length - 1, t, 2), OCTET_BAD_LOG);
+    EXPECT(octet_follow(other, strlen(TEXT), journal, journal_length, t, 2), OCTET_MISFIT);
+    EXPECT(octet_follow(script, script_length, too_few, sizeof too_few, t, 2), OCTET_MISFIT);
+    EXPECT(octet_follow(script, script_length, unordered, sizeof unordered, t, 2), OCTET_UNORDERED);
+    EXPECT(follow(t, 1), OCTET_OTHER_SESSIONS);
+    EXPECT(t[0].at == NULL, 1);
+}
+
+/* Thread 1 asks first. */
+static void run_again(void) {
+    octet_session t[2] = {{0}, {0}};
+    octet_record r = {0};
+    uint64_t out = 7;
+    size_t length = 0;
+    EXPECT(follow(t, 2), OCTET_READY);
+    EXPECT(octet_update(&t[1], OCTET_ADD, 0, 1, 0, &out), OCTET_RESTING);
+    EXPECT(octet_start(&t[1]), OCTET_READY);
+    EXPECT(octet_start(&t[1]), OCTET_RUNNING);
+    EXPECT(octet_poll(&t[1], &out), OCTET_NOT_BEGUN);
+    EXPECT(octet_access(&t[1], OCTET_READ, 1, 0, &out), OCTET_NO_OBJECT);
+    EXPECT(octet_update(&t[1], OCTET_ADD, 0, 1, 0, &out), OCTET_PENDING);
+    EXPECT(octet_stop(&t[1]), OCTET_BEGUN);
+    EXPECT(out, 7);
+    EXPECT(octet_start(&t[0]), OCTET_READY);
+    EXPECT(octet_access(&t[0], OCTET_WRITE, 0, 9, &out), OCTET_READY);
+    EXPECT(octet_end(&t[0], &out), OCTET_READY);
+    EXPECT(octet_start(&t[0]), OCTET_RESTING);
+    EXPECT(octet_poll(&t[1], &out), OCTET_READY);
+    EXPECT(out, 9);
+    EXPECT(octet_end(&t[1], &out), OCTET_READY);
+    EXPECT(octet_close(t, 2, &r), OCTET_READY);
+    EXPECT(octet_values(&r, &out, 1, &length), OCTET_READY);
+    EXPECT(out, 10);
+    octet_free(&r);
+    EXPECT(follow(t, 2), OCTET_READY);
+    EXPECT(octet_close(t, 2, &r), OCTET_NOT_WHOLE);
+}
+
+static void leave_the_recording(void) {
+    octet_session t[2] = {{0}, {0}};
+    octet_record r = {0};
+    uint64_t out = 7;
+    EXPECT(follow(t, 2), OCTET_READY);
+    EXPECT(octet_start(&t[0]), OCTET_READY);
+    EXPECT(octet_start(&t[1]), OCTET_READY);
+    EXPECT(octet_update(&t[1], OCTET_ADD, 0, 1, 0, &out), OCTET_PENDING);
+    EXPECT(octet_access(&t[0], OCTET_WRITE, 0, 8, &out), OCTET_DIVERGED);
+    EXPECT(out, 0);
+    EXPECT(octet_poll(&t[1], &out), OCTET_HALTED);
+    EXPECT(octet_close(t, 2, &r), OCTET_STILL_RUNNING);
+    out = 7;
+    EXPECT(follow(t, 2), OCTET_READY);
+    EXPECT(octet_start(&t[0]), OCTET_READY);
+    EXPECT(octet_start(&t[1]), OCTET_READY);
+    EXPECT(octet_end(&t[0], &out), OCTET_DIVERGED);
+    EXPECT(out, 0);
+    EXPECT(octet_update(&t[1], OCTET_ADD, 0, 1, 0, &out), OCTET_HALTED);
+    EXPECT(octet_stop(&t[0]), OCTET_READY);
+    EXPECT(octet_stop(&t[1]), OCTET_READY);
+    EXPECT(octet_close(t, 2, &r), OCTET_NOT_WHOLE);
+    EXPECT(r.at == NULL, 1);
+}
+
+/* Both threads of a second run have made all that was recorded. */
+static void follow_whole(octet_session *t) {
+    uint64_t out = 0;
+    EXPECT(follow(t, 2), OCTET_READY);
+    EXPECT(octet_start(&t[0]), OCTET_READY);
+    EXPECT(octet_access(&t[0], OCTET_WRITE, 0, 9, &out), OCTET_READY);
+    EXPECT(octet_end(&t[0], &out), OCTET_READY);
+    EXPECT(octet_start(&t[1]), OCTET_READY);
+    EXPECT(octet_update(&t[1], OCTET_ADD, 0, 1, 0, &out), OCTET_READY);
+    EXPECT(octet_end(&t[1], &out), OCTET_READY);
+}
+
+static void close_two_runs(void) {
+    octet_session s[2] = {{0}, {0}}, t[2] = {{0}, {0}};
+    for (int before = 0; before < 2; before++) {
+        EXPECT(open_text(TEXT, s, 2), OCTET_READY);
+        follow_whole(t);
+        close_others(&s[0], &t[1], &s[1], &t[0], before);
+        follow_whole(s);
+        follow_whole(t);
+        close_others(&s[0], &t[1], &s[1], &t[0], before);
+        follow_whole(s);
+        close_others(&s[1], &s[0], &t[0], &t[1], before);
+    }
+}
+
+int main(void) {
+    without_a_session();
+    at_open();
+    out_of_turn();
+    while_an_access_waits();
+    at_close();
+    keep_a_record();
+    at_follow();
+    run_again();
+    leave_the_recording();
+    close_two_runs();
+    if (!wrong) printf("misuse: all as expected\n");
+    return wrong;
+}

@@ -1,0 +1,155 @@
+//! Many schedules, until one fails.
+use crate::schedule::{Kept, Pick};
+use crate::shrink::with_fewer_preemptions;
+use crate::{Error, Recording, Schedule};
+use std::any::Any;
+use std::panic::{self, AssertUnwindSafe};
+use std::path::Path;
+use std::{error, fmt, mem};
+
+/// Why an exploration ended.
+#[derive(Debug)]
+pub enum Cause {
+    /// An assertion failed, in a thread or after the run, with this message.
+    Panic(String),
+    /// The run failed.
+    Error(Error),
+}
+
+/// A schedule that failed: its seed, why it failed, and its run, which is shrunk to few preemptions.
+#[derive(Debug)]
+pub struct Failure {
+    seed: u64,
+    cause: Cause,
+    picks: Vec<Pick>,
+    recording: Option<Recording>,
+}
+
+impl Failure {
+    /// The seed of the schedule, before it was shrunk.
+    pub fn seed(&self) -> u64 {
+        self.seed
+    }
+
+    /// Why it failed.
+    pub fn cause(&self) -> &Cause {
+        &self.cause
+    }
+
+    /// How often a thread was picked though the one before could have gone on.
+    pub fn preemptions(&self) -> usize {
+        self.picks.iter().filter(|pick| pick.preempts).count()
+    }
+
+    /// The run by the schedule, as far as it came. None where no run of it has ended.
+    pub fn recording(&self) -> Option<&Recording> {
+        self.recording.as_ref()
+    }
+
+    /// Saves the run under this stem. Fails with `NoRecording` where there is none, and as `Recording::save` does.
+    pub fn save(&self, stem: impl AsRef<Path>) -> Result<(), Error> {
+        self.recording.as_ref().ok_or(Error::NoRecording)?.save(stem)
+    }
+
+    pub(crate) fn picks(&self) -> &[Pick] {
+        &self.picks
+    }
+
+    /// Whether both fail by the same kind of error, or by panics whose messages differ in numbers alone.
+    pub(crate) fn is_like(&self, other: &Failure) -> bool {
+        match (&self.cause, &other.cause) {
+            (Cause::Panic(message), Cause::Panic(other)) => without_numbers(message).eq(without_numbers(other)),
+            (Cause::Error(error), Cause::Error(other)) => mem::discriminant(error) == mem::discriminant(other),
+            _ => false,
+        }
+    }
+
+    pub(crate) fn is_impatient(&self) -> bool {
+        matches!(self.cause, Cause::Error(Error::Patience { .. }))
+    }
+}
+
+impl fmt::Display for Failure {
+    fn fmt(&self, out: &mut fmt::Formatter<'_>) -> fmt::Result {
+        match &self.cause {
+            Cause::Panic(message) => write!(out, "seed {}: {message}", self.seed),
+            Cause::Error(error) => write!(out, "seed {}: {error}", self.seed),
+        }
+    }
+}
+
+impl error::Error for Failure {
+    fn source(&self) -> Option<&(dyn error::Error + 'static)> {
+        match &self.cause {
+            Cause::Panic(_) => None,
+            Cause::Error(error) => Some(error),
+        }
+    }
+}
+
+fn without_numbers(message: &str) -> impl Iterator<Item = char> {
+    message.chars().filter(|letter| !letter.is_ascii_digit())
+}
+
+fn message_of(panic: &(dyn Any + Send)) -> String {
+    let text = panic.downcast_ref::<&str>().map(|text| text.to_string());
+    text.or_else(|| panic.downcast_ref::<String>().cloned()).unwrap_or_else(|| "a panic".to_string())
+}
+
+/// Runs a program by this schedule.
+pub(crate) fn play(program: &mut dyn FnMut(Schedule) -> Result<(), Error>, schedule: Schedule) -> Result<(), Box<Failure>> {
+    let cause = match panic::catch_unwind(AssertUnwindSafe(|| program(schedule.clone()))) {
+        Ok(Ok(())) => return Ok(()),
+        Ok(Err(error)) => Cause::Error(error),
+        Err(panic) => Cause::Panic(message_of(panic.as_ref())),
+    };
+    let Kept { picks, recording } = schedule.kept();
+    Err(Box::new(Failure { seed: schedule.seed(), cause, picks, recording }))
+}
+
+/// Runs a program by the schedule of each seed, in order, until it fails, and answers how many seeds passed. An assertion that
+/// fails, in a thread or after the run, is a failure too: it has the seed, and keeps the run.
+///
+/// A failure is shrunk: the program runs up to 200 times more, for ten seconds at most, by schedules with fewer preemptions, and
+/// the failure of the same kind with the fewest is kept. Panics are of the same kind where their messages differ in numbers alone.
+/// Those of the runs that shrink are not printed.
+///
+/// ```
+/// use octet::{Builder, Error, Heap, Run, explore};
+///
+/// fn pay(bank: Builder) -> Result<Run<()>, Error> {
+///     bank.run(|threads| {
+///         for amount in [30, 50] {
+///             threads.spawn(move |session| {
+///                 let balance = session.object("balance")?;
+///                 let found = session.load(balance)?;
+///                 session.store(balance, found + amount)
+///             });
+///         }
+///     })
+/// }
+///
+/// let bank = Heap::builder().object("balance", 100);
+/// let failure = explore(0..1000, |schedule| {
+///     let run = pay(bank.clone().schedule(schedule))?;
+///     assert_eq!(run.value("balance"), Some(180));
+///     Ok(())
+/// })
+/// .expect_err("some schedule loses a payment");
+/// let lost = failure.recording().expect("its run has ended");
+/// assert_eq!(pay(bank.rerun(lost))?.value("balance"), lost.value("balance"));
+/// # Ok::<(), Error>(())
+/// ```
+pub fn explore(
+    seeds: impl IntoIterator<Item = u64>,
+    mut program: impl FnMut(Schedule) -> Result<(), Error>,
+) -> Result<u64, Box<Failure>> {
+    let mut passed = 0;
+    for seed in seeds {
+        match play(&mut program, Schedule::new(seed)) {
+            Ok(()) => passed += 1,
+            Err(failure) => return Err(with_fewer_preemptions(failure, &mut program)),
+        }
+    }
+    Ok(passed)
+}

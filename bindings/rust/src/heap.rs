@@ -1,0 +1,445 @@
+//! A heap, and how its threads are run.
+use crate::error::checked;
+use crate::gate::{Bell, Gate};
+use crate::shared::{Lock, Order, Shared};
+use crate::turnstile::Turnstile;
+use crate::{Error, Object, Recording, Schedule, Session, quiet, raw};
+use std::collections::HashSet;
+use std::ops::Deref;
+use std::path::PathBuf;
+use std::sync::Arc;
+use std::sync::atomic::{AtomicU64, Ordering};
+use std::time::Duration;
+use std::{panic, thread};
+
+/// The fuel of all threads together, how much of it an access may take, and how many threads and objects there may be.
+const ALL_FUEL: u32 = 262_144;
+const FUEL_OF_ACCESS: u32 = 3;
+const MAX_THREADS: usize = 16;
+const MAX_OBJECTS: usize = 1024;
+const MAX_NAME: usize = 32;
+
+fn is_name(name: &str) -> bool {
+    let begins = |byte: u8| byte.is_ascii_alphabetic() || byte == b'_';
+    name.len() <= MAX_NAME
+        && name.bytes().next().is_some_and(begins)
+        && name.bytes().all(|byte| begins(byte) || byte.is_ascii_digit())
+}
+
+/// What a heap is to have, and how its threads are to run.
+///
+/// ```
+/// use octet::{Error, Heap};
+///
+/// let run = Heap::builder().object("x", 1).object("y", 2).accesses(100).run(|threads| {
+///     threads.spawn(|session| session.load(session.object("y")?));
+/// })?;
+/// assert_eq!(run.values(), [2]);
+/// assert_eq!(run.value("x"), Some(1));
+/// # Ok::<(), Error>(())
+/// ```
+#[derive(Clone, Debug)]
+#[must_use]
+pub struct Builder {
+    objects: Vec<(String, u64)>,
+    locks: Vec<Lock>,
+    conditions: Vec<String>,
+    barriers: Vec<(String, u64)>,
+    channels: Vec<(String, u64)>,
+    threads: usize,
+    accesses: Option<u32>,
+    schedule: Option<Schedule>,
+    rerun: Option<Recording>,
+    patience: Duration,
+    failing: Option<PathBuf>,
+}
+
+impl Builder {
+    /// An object of this name, and the value that it starts with.
+    pub fn object(mut self, name: &str, start: u64) -> Builder {
+        self.objects.push((name.to_string(), start));
+        self
+    }
+
+    /// A lock for `Session::locked`. It is an object of this name too.
+    pub fn lock(mut self, name: &str) -> Builder {
+        self.locks.push(Lock { name: name.to_string(), object: self.objects.len() as u16 });
+        self.object(name, 0)
+    }
+
+    /// A condition for `Session::wait`.
+    pub fn condition(mut self, name: &str) -> Builder {
+        self.conditions.push(name.to_string());
+        self
+    }
+
+    /// A barrier for so many threads, for `Session::arrive`. It has a lock, a condition and objects, whose names begin with its
+    /// own.
+    pub fn barrier(mut self, name: &str, threads: u64) -> Builder {
+        // One for no thread lets each pass, as one for one thread does.
+        self.barriers.push((name.to_string(), threads.max(1)));
+        let objects = ["here", "round"].map(|part| format!("{name}_{part}"));
+        let with = objects.iter().fold(self.lock(name), |builder, object| builder.object(object, 0));
+        with.condition(&format!("{name}_passed"))
+    }
+
+    /// A channel that holds up to so many values, for `Session::send` and `Session::receive`. It has a lock, conditions and
+    /// objects, whose names begin with its own.
+    pub fn channel(mut self, name: &str, room: u64) -> Builder {
+        // One of no room would let no value pass.
+        let room = room.max(1);
+        self.channels.push((name.to_string(), room));
+        let cells = (0..room.min(MAX_OBJECTS as u64)).map(|cell| format!("{name}_{cell}"));
+        let parts = ["first", "count", "closed"].map(|part| format!("{name}_{part}"));
+        let with = parts.into_iter().chain(cells).fold(self.lock(name), |builder, object| builder.object(&object, 0));
+        with.condition(&format!("{name}_filled")).condition(&format!("{name}_emptied"))
+    }
+
+    /// How many threads there are, 1 to 16. `run` counts them itself.
+    pub fn threads(mut self, threads: usize) -> Builder {
+        self.threads = threads;
+        self
+    }
+
+    /// How many accesses each thread may make at least. As many as there may be, if nothing is said: 87,381 divided by the
+    /// number of threads.
+    pub fn accesses(mut self, accesses: u32) -> Builder {
+        self.accesses = Some(accesses);
+        self
+    }
+
+    /// The threads take turns by this schedule, one access at a time.
+    pub fn schedule(mut self, schedule: Schedule) -> Builder {
+        self.schedule = Some(schedule);
+        self
+    }
+
+    /// The threads run again as they were recorded: each access waits until all that was recorded before it is made, and gets
+    /// the value that it had. A thread that asks for another access has diverged, and fails.
+    ///
+    /// ```
+    /// use octet::{Builder, Error, Heap, Run};
+    ///
+    /// fn race(heap: Builder) -> Result<Run<u64>, Error> {
+    ///     heap.run(|threads| {
+    ///         for number in 1..=2 {
+    ///             threads.spawn(move |session| session.swap(session.object("x")?, number));
+    ///         }
+    ///     })
+    /// }
+    /// let heap = Heap::builder().object("x", 0);
+    /// let first = race(heap.clone())?;
+    /// let second = race(heap.rerun(&first))?;
+    /// assert_eq!(second.values(), first.values());
+    /// # Ok::<(), Error>(())
+    /// ```
+    pub fn rerun(mut self, recording: &Recording) -> Builder {
+        self.rerun = Some(recording.clone());
+        self
+    }
+
+    /// For how long a thread waits for others before it fails; ten seconds if nothing is said.
+    pub fn patience(mut self, patience: Duration) -> Builder {
+        self.patience = patience;
+        self
+    }
+
+    /// Where a thread of `run` fails or panics, the run is saved under this stem, as far as it came. Of an exploration this is the
+    /// run before it is shrunk.
+    pub fn keep_failing(mut self, stem: impl Into<PathBuf>) -> Builder {
+        self.failing = Some(stem.into());
+        self
+    }
+
+    fn judged(&self) -> Result<u32, Error> {
+        let mut seen = HashSet::new();
+        for (name, _) in &self.objects {
+            if !is_name(name) {
+                return Err(Error::BadName { name: name.clone() });
+            }
+            if !seen.insert(name) {
+                return Err(Error::NamedTwice { name: name.clone() });
+            }
+        }
+        if self.objects.len() > MAX_OBJECTS || !(1..=MAX_THREADS).contains(&self.threads) {
+            return Err(Error::BadSize);
+        }
+        let most = ALL_FUEL / self.threads as u32;
+        let fuel = self.accesses.map_or(most, |accesses| accesses.saturating_mul(FUEL_OF_ACCESS));
+        if fuel == 0 || fuel > most { Err(Error::BadSize) } else { Ok(fuel) }
+    }
+
+    // The script that declares it.
+    fn text(&self) -> Result<String, Error> {
+        let mut text = format!("fuel {}\n", self.judged()?);
+        for (name, start) in &self.objects {
+            text += &format!("object {name} {start}\n");
+        }
+        text += &"thread\n".repeat(self.threads);
+        Ok(text)
+    }
+
+    fn order(&self) -> Order {
+        match (&self.rerun, &self.schedule) {
+            (Some(_), _) => Order::Again,
+            (None, Some(schedule)) => Order::Turns(Turnstile::new(schedule, self.threads, self.locks.len(), self.patience)),
+            (None, None) => Order::Free {
+                gates: self.locks.iter().map(|_| Gate::default()).collect(),
+                bells: self.conditions.iter().map(|_| Bell::default()).collect(),
+            },
+        }
+    }
+
+    fn opened(&self) -> Result<Vec<raw::Handle>, Error> {
+        let text = self.text()?;
+        let (sessions, status) = match &self.rerun {
+            None => raw::open(text.as_bytes(), self.threads),
+            Some(recording) => {
+                let objects = self.objects.iter().map(|(name, start)| (name.as_str(), *start));
+                if !recording.objects().eq(objects) || recording.threads() != self.threads {
+                    return Err(Error::OtherRecording);
+                }
+                raw::follow(recording.script().as_bytes(), recording.log(), self.threads)
+            }
+        };
+        checked(status, 0).map(|()| sessions)
+    }
+
+    /// The heap, and a session for each of its threads, for threads that the program starts itself.
+    ///
+    /// # Errors
+    /// `BadName`, `NamedTwice` and `BadSize` of what the heap is to have. Of a recording `OtherRecording`, `NoRecording`,
+    /// `Unordered` and `TooLong`. `NoMemory`.
+    pub fn build(self) -> Result<(Heap, Vec<Session>), Error> {
+        static NEXT: AtomicU64 = AtomicU64::new(1);
+        let handles = self.opened()?;
+        let order = self.order();
+        let names = self.objects.into_iter().zip(0..);
+        let shared = Arc::new(Shared {
+            heap: NEXT.fetch_add(1, Ordering::Relaxed),
+            objects: names.map(|((name, _), place)| (name, place)).collect(),
+            locks: self.locks,
+            conditions: self.conditions,
+            barriers: self.barriers,
+            channels: self.channels,
+            order,
+            patience: self.patience,
+        });
+        let sessions = handles.into_iter().enumerate();
+        let sessions: Vec<Session> = sessions.map(|(number, handle)| Session::new(handle, number, &shared)).collect();
+        Ok((Heap { threads: sessions.len(), shared }, sessions))
+    }
+
+    /// Starts the threads that `spawn` is called for, waits for all of them, and gives what they gave back and the recording
+    /// of their run.
+    ///
+    /// # Errors
+    /// Those of `build`, and else that of the first thread that failed by itself, and not for another one's failure. Where no
+    /// thread has failed, those of `Heap::finish`.
+    ///
+    /// # Panics
+    /// Where a thread does.
+    pub fn run<'a, T: Send>(self, spawn: impl FnOnce(&mut Threads<'a, T, Error>)) -> Result<Run<T>, Error> {
+        self.try_run(spawn)
+    }
+
+    /// As `run`, with threads that fail with errors of their own.
+    ///
+    /// ```
+    /// use octet::Heap;
+    ///
+    /// #[derive(Debug)]
+    /// enum Fault {
+    ///     Empty,
+    ///     Heap(octet::Error),
+    /// }
+    ///
+    /// impl From<octet::Error> for Fault {
+    ///     fn from(error: octet::Error) -> Fault {
+    ///         Fault::Heap(error)
+    ///     }
+    /// }
+    ///
+    /// let run = Heap::builder().object("purse", 0).try_run(|threads| {
+    ///     threads.spawn(|session| match session.load(session.object("purse")?)? {
+    ///         0 => Err(Fault::Empty),
+    ///         coins => Ok(coins),
+    ///     });
+    /// });
+    /// assert!(matches!(run, Err(Fault::Empty)));
+    /// ```
+    ///
+    /// # Errors
+    /// As `run`.
+    ///
+    /// # Panics
+    /// Where a thread does.
+    pub fn try_run<'a, T, E>(mut self, spawn: impl FnOnce(&mut Threads<'a, T, E>)) -> Result<Run<T>, E>
+    where
+        T: Send,
+        E: From<Error> + Send,
+    {
+        let mut threads = Threads { works: Vec::new() };
+        spawn(&mut threads);
+        self.threads = threads.works.len();
+        let (schedule, failing) = (self.schedule.clone(), self.failing.take());
+        let shrinks = schedule.as_ref().is_some_and(Schedule::is_given);
+        let (heap, mut sessions) = self.build()?;
+        let ended = all_ended(&mut sessions, threads.works, shrinks);
+        let follows: Vec<bool> = sessions.iter().map(Session::follows).collect();
+        let recording = heap.finish(sessions);
+        if let (Some(schedule), Ok(recording)) = (&schedule, &recording) {
+            schedule.keep(recording);
+        }
+        match values_of(ended, &follows) {
+            Ok(values) => Ok(Run { recording: recording?, values }),
+            Err(failed) => {
+                if let (Some(stem), Ok(recording), false) = (failing, &recording, shrinks) {
+                    match recording.save(&stem) {
+                        Ok(()) => eprintln!("octet: the run that failed is kept in {}.octet and .log", stem.display()),
+                        Err(error) => eprintln!("octet: the run that failed is not kept: {error}"),
+                    }
+                }
+                match failed {
+                    Failed::Error(error) => Err(error),
+                    Failed::Panic(panic) => panic::resume_unwind(panic),
+                }
+            }
+        }
+    }
+}
+
+type Work<'a, T, E> = Box<dyn FnOnce(&mut Session) -> Result<T, E> + Send + 'a>;
+
+// Runs each work on a thread with its session.
+fn all_ended<T: Send, E: From<Error> + Send>(
+    sessions: &mut [Session],
+    works: Vec<Work<'_, T, E>>,
+    quietly: bool,
+) -> Vec<thread::Result<Result<T, E>>> {
+    thread::scope(|scope| {
+        let works = sessions.iter_mut().zip(works);
+        let running = works.map(|(session, work)| {
+            scope.spawn(move || {
+                quiet::set(quietly);
+                session.running(work)
+            })
+        });
+        let running: Vec<_> = running.collect();
+        running.into_iter().map(thread::ScopedJoinHandle::join).collect()
+    })
+}
+
+enum Failed<E> {
+    Error(E),
+    Panic(Box<dyn std::any::Any + Send>),
+}
+
+// What all threads gave back; or the first panic, or the first error that follows from no other thread's, or the first one.
+fn values_of<T, E>(ended: Vec<thread::Result<Result<T, E>>>, follows: &[bool]) -> Result<Vec<T>, Failed<E>> {
+    let (mut values, mut errors) = (Vec::new(), Vec::new());
+    for (thread, follows) in ended.into_iter().zip(follows) {
+        match thread {
+            Ok(Ok(value)) => values.push(value),
+            Ok(Err(error)) => errors.push((*follows, error)),
+            Err(panic) => return Err(Failed::Panic(panic)),
+        }
+    }
+    match errors.into_iter().min_by_key(|(follows, _)| *follows) {
+        Some((_, error)) => Err(Failed::Error(error)),
+        None => Ok(values),
+    }
+}
+
+/// The threads of a run.
+pub struct Threads<'a, T, E> {
+    works: Vec<Work<'a, T, E>>,
+}
+
+impl<'a, T, E> Threads<'a, T, E> {
+    /// One more thread, which does this. It starts once all are named.
+    pub fn spawn(&mut self, work: impl FnOnce(&mut Session) -> Result<T, E> + Send + 'a) {
+        self.works.push(Box::new(work));
+    }
+}
+
+/// A run that has ended: its recording, and what its threads gave back.
+#[derive(Clone, Debug)]
+pub struct Run<T> {
+    recording: Recording,
+    values: Vec<T>,
+}
+
+impl<T> Run<T> {
+    /// What the threads gave back, in the order in which they were named.
+    pub fn values(&self) -> &[T] {
+        &self.values
+    }
+
+    /// The same, by value.
+    pub fn into_values(self) -> Vec<T> {
+        self.values
+    }
+
+    /// Its recording. A run may stand wherever a recording is borrowed.
+    pub fn recording(&self) -> &Recording {
+        &self.recording
+    }
+}
+
+impl<T> Deref for Run<T> {
+    type Target = Recording;
+
+    fn deref(&self) -> &Recording {
+        &self.recording
+    }
+}
+
+/// A heap whose threads the program starts itself. It has none of the objects: the sessions have.
+pub struct Heap {
+    threads: usize,
+    shared: Arc<Shared>,
+}
+
+impl Heap {
+    /// A heap without an object, of one thread.
+    pub fn builder() -> Builder {
+        Builder {
+            objects: Vec::new(),
+            locks: Vec::new(),
+            conditions: Vec::new(),
+            barriers: Vec::new(),
+            channels: Vec::new(),
+            threads: 1,
+            accesses: None,
+            schedule: None,
+            rerun: None,
+            patience: Duration::from_secs(10),
+            failing: None,
+        }
+    }
+
+    /// The object of this name.
+    ///
+    /// # Errors
+    /// `NoName` where there is none.
+    pub fn object(&self, name: &str) -> Result<Object, Error> {
+        self.shared.object(name)
+    }
+
+    /// Ends the run. All sessions of the heap are given back, in any order, each stopped. Threads that were run again must have
+    /// made all that was recorded of them.
+    ///
+    /// # Errors
+    /// `OtherSessions`, `NotWhole`, `TooLong` and `NoMemory`. The sessions are gone then.
+    pub fn finish(self, mut sessions: Vec<Session>) -> Result<Recording, Error> {
+        sessions.sort_by_key(Session::number);
+        if sessions.len() != self.threads || !sessions.iter().all(|session| session.is_of(self.shared.heap)) {
+            return Err(Error::OtherSessions);
+        }
+        let (handles, places) = sessions.into_iter().map(Session::into_parts).unzip();
+        let (record, status) = raw::close(handles);
+        checked(status, 0)?;
+        Recording::of(record, places)
+    }
+}

@@ -1,0 +1,59 @@
+//! Threads of a Rust program make their accesses on Octet's proved heap: objects of 64 bits that they share. Each run becomes a
+//! recording, which `octet` reads, and the same program can be run again by it.
+//!
+//! ```
+//! use octet::{Builder, Error, Heap, Run, Session, explore};
+//!
+//! fn pay(session: &mut Session, amount: u64) -> Result<(), Error> {
+//!     let balance = session.object("balance")?;
+//!     session.region()?;
+//!     let found = session.load(balance)?;
+//!     session.store(balance, found + amount)
+//! }
+//!
+//! fn run(bank: Builder) -> Result<Run<()>, Error> {
+//!     bank.run(|threads| {
+//!         threads.spawn(|session| pay(session, 30));
+//!         threads.spawn(|session| pay(session, 50));
+//!     })
+//! }
+//!
+//! # std::env::set_current_dir(std::env::temp_dir()).expect("there is such a folder");
+//! let bank = Heap::builder().object("balance", 100);
+//! let failure = explore(0..1000, |schedule| {
+//!     assert_eq!(run(bank.clone().schedule(schedule))?.value("balance"), Some(180));
+//!     Ok(())
+//! })
+//! .expect_err("some schedule loses a payment");
+//! failure.save("bank")?; // for `octet regions bank.octet bank.log`, and the other commands
+//! let lost = failure.recording().expect("its run has ended");
+//! let again = run(bank.rerun(lost))?;
+//! assert_eq!(again.value("balance"), lost.value("balance"));
+//! # Ok::<(), Error>(())
+//! ```
+//!
+//! A run is repeated as far as its accesses decide what its threads do. Clocks, files and other locks are not recorded.
+#![warn(missing_docs)]
+
+mod error;
+mod explore;
+mod gate;
+mod heap;
+mod meeting;
+mod place;
+mod quiet;
+mod raw;
+mod recording;
+mod schedule;
+mod session;
+mod shared;
+mod shrink;
+mod turnstile;
+
+pub use error::{Error, Wait};
+pub use explore::{Cause, Failure, explore};
+pub use heap::{Builder, Heap, Run, Threads};
+pub use place::Place;
+pub use recording::Recording;
+pub use schedule::Schedule;
+pub use session::{Object, Session};

@@ -1,0 +1,178 @@
+//! The calls of `include/octet.h`. All of this crate's `unsafe` code stands here.
+use std::ffi::c_void;
+use std::ptr::null_mut;
+
+pub(crate) const READY: i32 = 0;
+pub(crate) const PENDING: i32 = 1;
+pub(crate) const DIVERGED: i32 = -15;
+
+/// What a session is asked for.
+#[derive(Clone, Copy)]
+pub(crate) enum Access {
+    Read,
+    Write { value: u64 },
+    Update { change: Change, operand: u64, expected: u64 },
+}
+
+/// `octet_change`.
+#[derive(Clone, Copy)]
+#[repr(u8)]
+pub(crate) enum Change {
+    Add = 0,
+    Sub = 1,
+    Swap = 2,
+    CompareExchange = 3,
+    And = 4,
+    Or = 5,
+    Xor = 6,
+    Max = 7,
+    Min = 8,
+}
+
+/// A session, a record, or nothing. It is freed when it is dropped.
+#[repr(C)]
+pub(crate) struct Handle {
+    at: *mut c_void,
+}
+
+unsafe extern "C" {
+    fn octet_open(text: *const u8, length: usize, sessions: *mut Handle, count: usize) -> i32;
+    fn octet_follow(
+        script: *const u8,
+        length: usize,
+        log: *const u8,
+        log_length: usize,
+        sessions: *mut Handle,
+        count: usize,
+    ) -> i32;
+    fn octet_start(session: *mut Handle) -> i32;
+    fn octet_stop(session: *mut Handle) -> i32;
+    fn octet_end(session: *mut Handle, out: *mut u64) -> i32;
+    fn octet_safe_point(session: *mut Handle) -> i32;
+    fn octet_region(session: *mut Handle) -> i32;
+    fn octet_access(session: *mut Handle, mode: u8, object: u16, value: u64, out: *mut u64) -> i32;
+    fn octet_update(session: *mut Handle, change: u8, object: u16, operand: u64, expected: u64, out: *mut u64) -> i32;
+    fn octet_poll(session: *mut Handle, out: *mut u64) -> i32;
+    fn octet_close(sessions: *mut Handle, count: usize, record: *mut Handle) -> i32;
+    fn octet_script(record: *mut Handle, out: *mut u8, room: usize, length: *mut usize) -> i32;
+    fn octet_log(record: *mut Handle, out: *mut u8, room: usize, length: *mut usize) -> i32;
+    fn octet_values(record: *mut Handle, out: *mut u64, room: usize, length: *mut usize) -> i32;
+    fn octet_free(handle: *mut Handle);
+}
+
+// SAFETY: the library proves that what is behind a handle may be used by another thread, and each call below takes the
+// handle by `&mut`, so one call at a time has it.
+unsafe impl Send for Handle {}
+
+impl Drop for Handle {
+    fn drop(&mut self) {
+        // SAFETY: the handle is borrowed for the call.
+        unsafe { octet_free(self) };
+    }
+}
+
+fn empty(count: usize) -> Vec<Handle> {
+    (0..count).map(|_| Handle::empty()).collect()
+}
+
+/// `octet_open`: a session for each thread, and the status.
+pub(crate) fn open(text: &[u8], threads: usize) -> (Vec<Handle>, i32) {
+    let mut sessions = empty(threads);
+    // SAFETY: text and handles are borrowed for the call, with their lengths.
+    let status = unsafe { octet_open(text.as_ptr(), text.len(), sessions.as_mut_ptr(), threads) };
+    (sessions, status)
+}
+
+/// `octet_follow`.
+pub(crate) fn follow(script: &[u8], log: &[u8], threads: usize) -> (Vec<Handle>, i32) {
+    let mut sessions = empty(threads);
+    // SAFETY: both texts and the handles are borrowed for the call, with their lengths.
+    let status =
+        unsafe { octet_follow(script.as_ptr(), script.len(), log.as_ptr(), log.len(), sessions.as_mut_ptr(), threads) };
+    (sessions, status)
+}
+
+/// `octet_close`: the record, and the status.
+pub(crate) fn close(mut sessions: Vec<Handle>) -> (Handle, i32) {
+    let mut record = Handle::empty();
+    // SAFETY: the handles are this function's own, and so is the record.
+    let status = unsafe { octet_close(sessions.as_mut_ptr(), sessions.len(), &mut record) };
+    (record, status)
+}
+
+impl Handle {
+    pub(crate) fn empty() -> Handle {
+        Handle { at: null_mut() }
+    }
+
+    pub(crate) fn start(&mut self) -> i32 {
+        // SAFETY: the handle is borrowed for the call.
+        unsafe { octet_start(self) }
+    }
+
+    pub(crate) fn stop(&mut self) -> i32 {
+        // SAFETY: as in `start`.
+        unsafe { octet_stop(self) }
+    }
+
+    pub(crate) fn end(&mut self, out: &mut u64) -> i32 {
+        // SAFETY: handle and `out` are borrowed for the call, and so in `access` and `poll`.
+        unsafe { octet_end(self, out) }
+    }
+
+    pub(crate) fn safe_point(&mut self) -> i32 {
+        // SAFETY: as in `start`.
+        unsafe { octet_safe_point(self) }
+    }
+
+    pub(crate) fn region(&mut self) -> i32 {
+        // SAFETY: as in `start`.
+        unsafe { octet_region(self) }
+    }
+
+    #[inline]
+    pub(crate) fn access(&mut self, object: u16, access: Access, out: &mut u64) -> i32 {
+        match access {
+            // SAFETY: as in `end`.
+            Access::Read => unsafe { octet_access(self, 0, object, 0, out) },
+            // SAFETY: as in `end`.
+            Access::Write { value } => unsafe { octet_access(self, 1, object, value, out) },
+            Access::Update { change, operand, expected } => {
+                // SAFETY: as in `end`.
+                unsafe { octet_update(self, change as u8, object, operand, expected, out) }
+            }
+        }
+    }
+
+    pub(crate) fn poll(&mut self, out: &mut u64) -> i32 {
+        // SAFETY: as in `end`.
+        unsafe { octet_poll(self, out) }
+    }
+
+    pub(crate) fn script(&mut self) -> (Vec<u8>, i32) {
+        // SAFETY: `copied` gives the call a buffer and its length.
+        copied(|out, room, length| unsafe { octet_script(self, out, room, length) })
+    }
+
+    pub(crate) fn log(&mut self) -> (Vec<u8>, i32) {
+        // SAFETY: as in `script`.
+        copied(|out, room, length| unsafe { octet_log(self, out, room, length) })
+    }
+
+    pub(crate) fn values(&mut self) -> (Vec<u64>, i32) {
+        // SAFETY: as in `script`.
+        copied(|out, room, length| unsafe { octet_values(self, out, room, length) })
+    }
+}
+
+// Asks a call how much there is, and then for all of it.
+fn copied<T: Default + Clone>(mut call: impl FnMut(*mut T, usize, &mut usize) -> i32) -> (Vec<T>, i32) {
+    let mut length = 0;
+    let status = call([].as_mut_ptr(), 0, &mut length);
+    if status != READY {
+        return (Vec::new(), status);
+    }
+    let mut all = vec![T::default(); length];
+    let status = call(all.as_mut_ptr(), all.len(), &mut length);
+    (all, status)
+}

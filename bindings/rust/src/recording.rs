@@ -1,0 +1,149 @@
+//! What is kept of a run.
+use crate::error::checked;
+use crate::raw::Handle;
+use crate::{Error, Place};
+use std::fs;
+use std::path::{Path, PathBuf};
+
+/// A run: a script whose threads make the accesses of the run, the log that orders them, and what they left. `octet` reads both
+/// files, and `Builder::rerun` runs the program again by them.
+///
+/// Two recordings are equal where their scripts and logs are.
+///
+/// ```
+/// use octet::{Error, Heap, Recording};
+///
+/// # let stem = std::env::temp_dir().join(format!("octet-recording-{}", std::process::id()));
+/// let heap = Heap::builder().object("x", 5);
+/// let add = |heap: octet::Builder| -> Result<octet::Run<()>, Error> {
+///     heap.run(|threads| {
+///         threads.spawn(|session| session.fetch_add(session.object("x")?, 2).map(|_| ()));
+///     })
+/// };
+/// let run = add(heap.clone())?;
+/// run.save(&stem)?; // for `octet verify`, `octet trace` and the other commands
+/// let loaded = Recording::load(&stem)?;
+/// assert_eq!(&loaded, run.recording());
+/// assert_eq!(add(heap.rerun(&loaded))?.value("x"), Some(7));
+/// # Ok::<(), Error>(())
+/// ```
+#[derive(Clone, Debug)]
+pub struct Recording {
+    script: String,
+    log: Vec<u8>,
+    // None where it was loaded.
+    values: Option<Vec<u64>>,
+    // Of each thread, for each of its accesses.
+    places: Vec<Vec<Place>>,
+}
+
+impl PartialEq for Recording {
+    fn eq(&self, other: &Recording) -> bool {
+        self.script == other.script && self.log == other.log
+    }
+}
+
+impl Eq for Recording {}
+
+/// The longest script, and the longest log, that `octet` reads.
+const MAX_SCRIPT: usize = 1 << 20;
+const MAX_LOG: usize = 1 << 26;
+
+fn with_ending(stem: &Path, ending: &str) -> PathBuf {
+    let mut name = stem.as_os_str().to_owned();
+    name.push(ending);
+    name.into()
+}
+
+fn write(path: PathBuf, content: &[u8]) -> Result<(), Error> {
+    fs::write(&path, content).map_err(|source| Error::File { path, source })
+}
+
+fn read(path: PathBuf) -> Result<Vec<u8>, Error> {
+    fs::read(&path).map_err(|source| Error::File { path, source })
+}
+
+// The text of `STEM.places`: for each thread the line `thread`, and then a line for each of its accesses.
+fn text_of(places: &[Vec<Place>]) -> String {
+    let lines = |thread: &Vec<Place>| thread.iter().map(|place| format!("{place}\n")).collect::<String>();
+    places.iter().map(|thread| format!("thread\n{}", lines(thread))).collect()
+}
+
+fn places_of(text: &str) -> Vec<Vec<Place>> {
+    let mut places: Vec<Vec<Place>> = Vec::new();
+    for line in text.lines() {
+        match (line, places.last_mut()) {
+            ("thread", _) => places.push(Vec::new()),
+            (line, Some(thread)) => thread.extend(Place::parse(line)),
+            (_, None) => {}
+        }
+    }
+    places
+}
+
+impl Recording {
+    /// The text of the script.
+    pub fn script(&self) -> &str {
+        &self.script
+    }
+
+    /// The bytes of the log, with the digest of the script's text.
+    pub fn log(&self) -> &[u8] {
+        &self.log
+    }
+
+    /// The object's value at the end. A recording that was loaded has none before it is run again.
+    pub fn value(&self, name: &str) -> Option<u64> {
+        let at = self.objects().position(|(object, _)| object == name)?;
+        self.values.as_ref()?.get(at).copied()
+    }
+
+    /// Where in the program this access of the thread stands. Both count from 0.
+    pub fn place(&self, thread: usize, access: usize) -> Option<&Place> {
+        self.places.get(thread)?.get(access)
+    }
+
+    /// Writes `STEM.octet`, `STEM.log`, and `STEM.places` with a line of source for each access. Fails with `TooLong` where
+    /// `octet` does not read such long files, and with `File`.
+    pub fn save(&self, stem: impl AsRef<Path>) -> Result<(), Error> {
+        if self.script.len() > MAX_SCRIPT || self.log.len() > MAX_LOG {
+            return Err(Error::TooLong);
+        }
+        let stem = stem.as_ref();
+        write(with_ending(stem, ".octet"), self.script.as_bytes())?;
+        write(with_ending(stem, ".log"), &self.log)?;
+        write(with_ending(stem, ".places"), text_of(&self.places).as_bytes())
+    }
+
+    /// Reads `STEM.octet` and `STEM.log`, and `STEM.places` if it is there. Whether they are a recording is judged when they
+    /// are run again. Fails with `File`, and with `NoRecording` where the script is no text.
+    pub fn load(stem: impl AsRef<Path>) -> Result<Recording, Error> {
+        let stem = stem.as_ref();
+        let script = String::from_utf8(read(with_ending(stem, ".octet"))?).map_err(|_| Error::NoRecording)?;
+        let places = fs::read_to_string(with_ending(stem, ".places")).unwrap_or_default();
+        Ok(Recording { script, log: read(with_ending(stem, ".log"))?, values: None, places: places_of(&places) })
+    }
+
+    // The objects' names and the values that they start with.
+    pub(crate) fn objects(&self) -> impl Iterator<Item = (&str, u64)> {
+        self.script.lines().filter_map(|line| {
+            let (name, start) = line.strip_prefix("object ")?.split_once(' ')?;
+            Some((name, start.parse().ok()?))
+        })
+    }
+
+    pub(crate) fn threads(&self) -> usize {
+        self.script.lines().filter(|line| *line == "thread").count()
+    }
+
+    pub(crate) fn of(mut record: Handle, places: Vec<Vec<Place>>) -> Result<Recording, Error> {
+        let (script, status) = record.script();
+        checked(status, 0)?;
+        let (log, status) = record.log();
+        checked(status, 0)?;
+        let (values, status) = record.values();
+        checked(status, 0)?;
+        let script = String::from_utf8(script).map_err(|_| Error::NoRecording)?;
+        Ok(Recording { script, log, values: Some(values), places })
+    }
+}

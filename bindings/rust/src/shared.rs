@@ -1,0 +1,76 @@
+//! What the sessions of a heap share, beside the heap itself.
+use crate::error::Wait;
+use crate::gate::{Bell, Gate};
+use crate::turnstile::{Awaited, Stuck, Turnstile};
+use crate::{Error, Object};
+use std::collections::HashMap;
+use std::time::Duration;
+
+/// How the threads come to their accesses.
+pub(crate) enum Order {
+    /// As they run.
+    Free { gates: Vec<Gate>, bells: Vec<Bell> },
+    /// One at a time.
+    Turns(Turnstile),
+    /// As they were recorded: no thread waits for a lock, since its access waits.
+    Again,
+}
+
+/// A lock: its name and its object.
+#[derive(Clone, Debug)]
+pub(crate) struct Lock {
+    pub(crate) name: String,
+    pub(crate) object: u16,
+}
+
+pub(crate) struct Shared {
+    pub(crate) heap: u64,
+    pub(crate) objects: HashMap<String, u16>,
+    pub(crate) locks: Vec<Lock>,
+    pub(crate) conditions: Vec<String>,
+    pub(crate) barriers: Vec<(String, u64)>,
+    pub(crate) channels: Vec<(String, u64)>,
+    pub(crate) order: Order,
+    pub(crate) patience: Duration,
+}
+
+fn found<T>(found: Option<T>, name: &str) -> Result<T, Error> {
+    found.ok_or_else(|| Error::NoName { name: name.to_string() })
+}
+
+impl Shared {
+    pub(crate) fn object(&self, name: &str) -> Result<Object, Error> {
+        let place = found(self.objects.get(name), name)?;
+        Ok(Object { heap: self.heap, place: *place })
+    }
+
+    pub(crate) fn lock(&self, name: &str) -> Result<usize, Error> {
+        found(self.locks.iter().position(|lock| lock.name == name), name)
+    }
+
+    pub(crate) fn condition(&self, name: &str) -> Result<usize, Error> {
+        found(self.conditions.iter().position(|condition| condition == name), name)
+    }
+
+    /// For how many threads the barrier is.
+    pub(crate) fn barrier(&self, name: &str) -> Result<u64, Error> {
+        found(self.barriers.iter().find(|barrier| barrier.0 == name).map(|barrier| barrier.1), name)
+    }
+
+    /// How many values the channel holds.
+    pub(crate) fn channel(&self, name: &str) -> Result<u64, Error> {
+        found(self.channels.iter().find(|channel| channel.0 == name).map(|channel| channel.1), name)
+    }
+
+    /// Why the thread has not come through the turnstile.
+    pub(crate) fn stuck(&self, thread: usize, stuck: Stuck) -> Error {
+        let Stuck::Deadlock(waits) = stuck else {
+            return Error::Patience { thread };
+        };
+        let named = |(thread, awaited): (usize, Awaited)| match awaited {
+            Awaited::Lock { lock, holder } => Wait { thread, name: self.locks[lock].name.clone(), holder },
+            Awaited::Condition { condition } => Wait { thread, name: self.conditions[condition].clone(), holder: None },
+        };
+        Error::Deadlock { waits: waits.into_iter().map(named).collect() }
+    }
+}

@@ -1,0 +1,207 @@
+//! One thread moves at a time, and a schedule picks which.
+use crate::Schedule;
+use crate::schedule::{Pick, Picker};
+use std::sync::{Condvar, Mutex, MutexGuard, PoisonError};
+use std::time::{Duration, Instant};
+
+#[derive(Clone, Copy, Debug, PartialEq, Eq)]
+enum Place {
+    /// Not started.
+    Away,
+    /// It was picked, and has not come back.
+    Moves,
+    /// It is to be picked.
+    Waits,
+    /// It is to be picked once the lock is free.
+    WaitsFor {
+        lock: usize,
+    },
+    /// It waits for the condition, and then for the lock.
+    Sleeps {
+        condition: usize,
+        lock: usize,
+    },
+    /// It waits elsewhere.
+    Blocked,
+    Over,
+}
+
+/// What a thread waits for in a deadlock: a lock with the thread that holds it, or a condition.
+#[derive(Clone, Copy, Debug)]
+pub(crate) enum Awaited {
+    Lock { lock: usize, holder: Option<usize> },
+    Condition { condition: usize },
+}
+
+/// Why a thread has not passed.
+#[derive(Clone, Debug)]
+pub(crate) enum Stuck {
+    Deadlock(Vec<(usize, Awaited)>),
+    Patience,
+}
+
+struct State {
+    schedule: Schedule,
+    picker: Picker,
+    places: Vec<Place>,
+    // Who holds each lock.
+    holders: Vec<Option<usize>>,
+    // Who sleeps, in the order in which they came.
+    sleepers: Vec<usize>,
+    last: Option<usize>,
+    turns: u64,
+    stuck: Option<Stuck>,
+}
+
+pub(crate) struct Turnstile {
+    state: Mutex<State>,
+    // One for each thread.
+    turned: Vec<Condvar>,
+    patience: Duration,
+}
+
+impl State {
+    fn may_move(&self, thread: usize) -> bool {
+        match self.places[thread] {
+            Place::Waits => true,
+            Place::WaitsFor { lock } => self.holders[lock].is_none(),
+            _ => false,
+        }
+    }
+
+    fn awaited(&self, thread: usize) -> Option<(usize, Awaited)> {
+        match self.places[thread] {
+            Place::WaitsFor { lock } => Some((thread, Awaited::Lock { lock, holder: self.holders[lock] })),
+            Place::Sleeps { condition, .. } => Some((thread, Awaited::Condition { condition })),
+            _ => None,
+        }
+    }
+
+    // Picks a thread, once none moves.
+    fn turn(&mut self) -> Option<usize> {
+        if self.places.iter().any(|place| matches!(place, Place::Away | Place::Moves)) {
+            return None;
+        }
+        let threads = 0..self.places.len();
+        let ready: Vec<usize> = threads.clone().filter(|&thread| self.may_move(thread)).collect();
+        if ready.is_empty() {
+            let waits: Vec<_> = threads.filter_map(|thread| self.awaited(thread)).collect();
+            if !waits.is_empty() && !self.places.contains(&Place::Blocked) {
+                self.stuck = Some(Stuck::Deadlock(waits));
+            }
+            return None;
+        }
+        let picked = self.picker.pick(&ready, self.last);
+        let preempts = self.last.is_some_and(|last| last != picked && ready.contains(&last));
+        self.schedule.note(Pick { thread: picked, preempts });
+        if let Place::WaitsFor { lock } = self.places[picked] {
+            self.holders[lock] = Some(picked);
+        }
+        self.places[picked] = Place::Moves;
+        self.last = Some(picked);
+        self.turns += 1;
+        Some(picked)
+    }
+
+    fn wake(&mut self, condition: usize, all: bool) {
+        while let Some(at) = self
+            .sleepers
+            .iter()
+            .position(|&it| matches!(self.places[it], Place::Sleeps { condition: its, .. } if its == condition))
+        {
+            let thread = self.sleepers.remove(at);
+            if let Place::Sleeps { lock, .. } = self.places[thread] {
+                self.places[thread] = Place::WaitsFor { lock };
+            }
+            if !all {
+                break;
+            }
+        }
+    }
+}
+
+impl Turnstile {
+    pub(crate) fn new(schedule: &Schedule, threads: usize, locks: usize, patience: Duration) -> Turnstile {
+        Turnstile {
+            state: Mutex::new(State {
+                schedule: schedule.clone(),
+                picker: schedule.picker(),
+                places: vec![Place::Away; threads],
+                holders: vec![None; locks],
+                sleepers: Vec::new(),
+                last: None,
+                turns: 0,
+                stuck: None,
+            }),
+            turned: (0..threads).map(|_| Condvar::new()).collect(),
+            patience,
+        }
+    }
+
+    fn state(&self) -> MutexGuard<'_, State> {
+        self.state.lock().unwrap_or_else(PoisonError::into_inner)
+    }
+
+    // Puts the thread there, and lets another one move.
+    fn go<'a>(&'a self, mut state: MutexGuard<'a, State>, thread: usize, place: Place) -> MutexGuard<'a, State> {
+        state.places[thread] = place;
+        match state.turn() {
+            Some(picked) => self.turned[picked].notify_one(),
+            None if state.stuck.is_some() => self.turned.iter().for_each(Condvar::notify_one),
+            None => {}
+        }
+        state
+    }
+
+    fn wait_until_picked(&self, mut state: MutexGuard<'_, State>, thread: usize) -> Result<(), Stuck> {
+        let (mut turns, mut since) = (state.turns, Instant::now());
+        while state.places[thread] != Place::Moves {
+            if let Some(stuck) = &state.stuck {
+                return Err(stuck.clone());
+            }
+            let waited = self.turned[thread].wait_timeout(state, self.patience);
+            state = waited.unwrap_or_else(PoisonError::into_inner).0;
+            if turns != state.turns {
+                (turns, since) = (state.turns, Instant::now());
+            } else if since.elapsed() >= self.patience && state.stuck.is_none() {
+                state.stuck = Some(Stuck::Patience);
+                self.turned.iter().for_each(Condvar::notify_one);
+            }
+        }
+        Ok(())
+    }
+
+    /// Waits until the thread is picked.
+    pub(crate) fn pass(&self, thread: usize) -> Result<(), Stuck> {
+        self.wait_until_picked(self.go(self.state(), thread, Place::Waits), thread)
+    }
+
+    /// Waits until the thread is picked, and then holds the lock.
+    pub(crate) fn take(&self, thread: usize, lock: usize) -> Result<(), Stuck> {
+        self.wait_until_picked(self.go(self.state(), thread, Place::WaitsFor { lock }), thread)
+    }
+
+    /// Frees the lock, waits for the condition, and then holds the lock again.
+    pub(crate) fn sleep(&self, thread: usize, condition: usize, lock: usize) -> Result<(), Stuck> {
+        let mut state = self.state();
+        state.holders[lock] = None;
+        state.sleepers.push(thread);
+        self.wait_until_picked(self.go(state, thread, Place::Sleeps { condition, lock }), thread)
+    }
+
+    pub(crate) fn wake(&self, condition: usize, all: bool) {
+        self.state().wake(condition, all);
+    }
+
+    pub(crate) fn free(&self, lock: usize) {
+        self.state().holders[lock] = None;
+    }
+
+    pub(crate) fn block(&self, thread: usize) {
+        drop(self.go(self.state(), thread, Place::Blocked));
+    }
+
+    pub(crate) fn end(&self, thread: usize) {
+        drop(self.go(self.state(), thread, Place::Over));
+    }
+}
