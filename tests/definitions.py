@@ -41,6 +41,7 @@ OTHERS = {
     "octet_gen/specs/Generated.antt": {16, 32},  # Accesses, draws and objects of the generated script.
     "octet_gen/src/generator.rt": {16, 32},
     "octet_log/specs/v2/Decoding.antt": {32},  # Bytes of a digest.
+    "octet_long_race/src/recording.rt": {16, 65536},  # Blocks of a ring, and accesses of a block.
     "octet_log/specs/v2/Pieces.antt": {32},
     "octet_log/specs/v2/Refusals.antt": {32},
     "octet_log/src/loader.rt": {32},
@@ -54,9 +55,10 @@ OTHERS = {
     "octet_state/specs/Words.antt": {32, 65536},  # Fields of a word.
     "octet_state/src/status_word.rt": {65536},
     "octet_top/specs/Delivery.antt": {65536},  # Bytes of a piece.
+    "octet_window/src/table.rt": {65536},  # Rows, which sixteen bits number.
 }
 # What the gate reads by its place: the answers to a function's goals.
-ANSWERS = {"Answers", "Invariants", "Proof", "Measures"}
+ANSWERS = {"Answers", "Invariants", "Proof", "Measures", "Send", "Sync"}
 # What the prover computes by itself: worked examples of the definitions.
 EXAMPLES = {"octet_model.proofs.Examples", "octet_model.proofs.Executions", "octet_state.proofs.Examples"}
 

@@ -12,7 +12,7 @@ FENCED = re.compile(r"^```.*?^```$", re.MULTILINE | re.DOTALL)
 RUST = re.compile(r"^```rust\n(.*?)^```$", re.MULTILINE | re.DOTALL)
 LINK = re.compile(r"\[[^\]\n]*\]\(([^)\s]+)\)")
 QUOTED = re.compile(r"`([^`\n]+)`")
-IN_FOLDER = re.compile(r"(?:docs|crates|tests|tools|examples|bin|bench)/[\w./*-]+")
+IN_FOLDER = re.compile(r"(?:docs|crates|tests|tools|examples|bin|bindings|include|bench)/[\w./*-]+")
 IN_CRATE = re.compile(r"octet\w*/(?:src|specs|proofs|must-fail)/[\w./*-]*")
 OF_CRATE = re.compile(r"(?:src|specs|proofs|must-fail)/[\w./*-]*")
 PAGE = re.compile(r"[A-Z]+\.md")
@@ -30,7 +30,7 @@ def documents():
 def crates():
     """The names of the crates, lowest first."""
     lines = (TOP / "crates.txt").read_text().split("\n")
-    return [line.split(":")[0] for line in lines if ":" in line and not line.startswith("#")]
+    return [line.split(":")[0].split()[0] for line in lines if ":" in line and not line.startswith("#")]
 
 
 def pages():
