@@ -1,4 +1,6 @@
 pub mod Rest
+pub mod Histories
+pub mod Renaming
 pub mod Longer
 pub mod Joining
 pub mod Accessing

@@ -1,7 +1,7 @@
 -- Journals with one event more: which accesses they have, and which marks stand before these.
 use Rattle.std.proofs.Common.{◌≡◌, ℕ, ◌<◌, ◌≤◌, ◌⊎◌, inl, inr, List, [], ◌∷◌, ◌++◌, length, take, Some, refl, sym, ap, ◌∙◌, subst, arith}
 use Rattle.std.proofs.lemmas.Bool.{cases_eq}
-use Rattle.std.proofs.lemmas.List.{take-append-le}
+use Rattle.std.proofs.lemmas.List.{take-append-le, take_all}
 use Rattle.octet_model.specs.declared.event.Mark.{Mark}
 use Rattle.octet_model.specs.declared.event.Event.{Event}
 use Rattle.octet_model.specs.declared.event.Event.TheVariants.{Marked}
@@ -60,11 +60,7 @@ module _ (js : Journals) (t : ℕ) (e : Event) (inside : t < length js) where
 
   -- and those before the new event
   pub before_new : marks_before (appended js t e) (new js t e) ≡ marks_at_end (journal_of js t)
-  before_new = before_same (new js t e) (omega arith) ∙ ap marks_at_end (take_all (journal_of js t))
-    where
-      take_all : (journal : List Event) → take (length journal) journal ≡ journal
-      take_all [] = refl
-      take_all (x ∷ journal) = ap (λ l. x ∷ l) (take_all journal)
+  before_new = before_same (new js t e) (omega arith) ∙ ap marks_at_end (take_all (count js t) (journal_of js t) (omega arith))
 
 -- journals stay ordered after a mark
 pub mark_keeps_order : (js : Journals) (t : ℕ) (m : Mark) → t < length js → IsOrdered js → IsOrdered (appended js t (Marked m))

@@ -1,6 +1,8 @@
 -- Notes, and the programs that they make.
 use Rattle.std.proofs.Common.{◌≡◌, ℕ, zero, suc, ◌+◌, ◌^◌, ◌<◌, ◌==◌, if◌then◌else◌, Bool, true, false, List, [], ◌∷◌, ◌++◌, length, map, drop, get_or, refl, sym, ap, ◌∙◌, subst, arith}
+use Rattle.std.proofs.Math.Seq.{drop-cons}
 use Rattle.std.proofs.lemmas.Bool.{eq-eqb}
+use Rattle.std.proofs.lemmas.List.{append_assoc}
 use Rattle.octet_model.specs.declared.command.Command.{Command}
 use Rattle.octet_model.specs.declared.event.Event.{Event}
 use Rattle.octet_model.specs.declared.event.Event.TheVariants.{Read, Write, Update, Marked}
@@ -14,10 +16,6 @@ use Rattle.octet_window.specs.Ordering.{accesses_in}
 pub are_in_more : (n : ℕ) (notes : List Note) (note : Note) → AreIn n notes → IsEventIn n note.event → AreIn n (notes ++ note ∷ [])
 are_in_more n [] note are is = (is, tt)
 are_in_more n (x ∷ notes) note are is = (are.0, are_in_more n notes note are.1 is)
-
-append_assoc : (a b c : List Command) → (a ++ b) ++ c ≡ a ++ (b ++ c)
-append_assoc [] b c = refl
-append_assoc (x ∷ a) b c = ap (λ (l : List Command). x ∷ l) (append_assoc a b c)
 
 -- the amount of an update leads from the value before to the one after
 leads : (before after : ℕ) → before < 2 ^ 64 → after < 2 ^ 64 → after ≡ added (difference before after) before
@@ -48,21 +46,12 @@ of_accesses n program (Marked mark ∷ journal) p = of_accesses n program journa
 
 -- a list from a place on
 pub drop_step : {X : Type 0} (xs : List X) (k : ℕ) (d : X) → k < length xs → drop k xs ≡ get_or xs k d ∷ drop (k + 1) xs
-drop_step [] k d lt = absurd (omega (arith, lt))
-drop_step (x ∷ xs) zero d lt = refl
-drop_step (x ∷ xs) (suc k) d lt = drop_step xs k d (omega (arith, lt)) ∙ ap (λ (n : ℕ). get_or xs k d ∷ drop n (x ∷ xs)) (next k)
-  where
-    next : (n : ℕ) → suc (n + 1) ≡ suc n + 1
-    next n = omega arith
-
-assoc : {X : Type 0} (a b c : List X) → (a ++ b) ++ c ≡ a ++ (b ++ c)
-assoc [] b c = refl
-assoc (x ∷ a) b c = ap (λ l. x ∷ l) (assoc a b c)
+drop_step xs k d lt = let next : suc k ≡ k + 1 = omega arith in drop-cons xs k d lt ∙ ap (λ (n : ℕ). get_or xs k d ∷ drop n xs) next
 
 pub mapped_more : {X Y : Type 0} (f : X → Y) (xs : List X) (ys : List Y) (k : ℕ) (d : X) (y : Y) → k < length xs → ys ++ map f (drop k xs) ≡ map f xs → y ≡ f (get_or xs k d)
     → (ys ++ y ∷ []) ++ map f (drop (k + 1) xs) ≡ map f xs
 mapped_more f xs ys k d y lt is of =
-    assoc ys (y ∷ []) (map f (drop (k + 1) xs))
+    append_assoc ys (y ∷ []) (map f (drop (k + 1) xs))
     ∙ (ap (λ z. ys ++ z ∷ map f (drop (k + 1) xs)) of ∙ (ap (λ l. ys ++ map f l) (sym (drop_step xs k d lt)) ∙ is))
 
 pub of_step : (objects : List ℕ) (notes : List Note) (k : ℕ) (d : Note) → k < length notes → AreOf objects (drop k notes) → AreOf objects (drop (k + 1) notes)

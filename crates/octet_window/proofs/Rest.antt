@@ -12,11 +12,16 @@ use Rattle.octet_model.specs.HappensBefore.{event_at, Edge, ProgramOrder, Joined
 use Rattle.octet_model.specs.Plays.{operation_of, next_in, by_journals, state_after_play, lowest_play}
 use Rattle.octet_model.proofs.lemmas.Lists.{slice_get-append}
 use Rattle.octet_model.proofs.lemmas.Steps.{at, count, same_journal, other_journal, as_many, grows, grows_step, draws_grow, drawn_next, joined_upto, fenced_upto, at_same, Makes, makes_from, what_it_makes, made_there, where_made}
-use Rattle.octet_model.proofs.lemmas.Fronts.{stays, no_journal, front_leads_on}
+use Rattle.octet_model.proofs.lemmas.Fronts.{stays, no_journal, after_on, front_leads_on}
 use Rattle.octet_model.proofs.lemmas.Plays.{all_finished, lowest_makes_all}
 use Rattle.octet_model.proofs.lemmas.LogsOfJournals.{same_start}
 use Rattle.octet_window.specs.declared.front.Front.{Front}
 use Rattle.octet_window.specs.Fronts.{made_in, event_after, journal_after, journals_after, rest_of, front_at, AreBeginnings, RestIsHistory}
+
+-- the event that is next
+pub next_event : (z : Option Event) (o : Operation) → next_in z ≡ Wants o → (e : Event) × (z ≡ Some e) × (o ≡ operation_of e)
+next_event None o wanted = absurd cc
+next_event (Some e) o wanted = (e, refl, cc)
 
 -- a play of the beginnings is a play of the whole
 module _ (earlier whole : Journals) (are : AreBeginnings earlier whole) where
@@ -50,13 +55,9 @@ closed_at_start journals threads a b edge made = absurd (omega (arith, made, ap 
 
 module _ (behavior : Behavior) where
   -- what comes after a front is one from there
-  front_off : (front rest : List ℕ) (s : PlainState) → IsFront behavior s (front ++ rest) → IsFront behavior (after behavior s front) rest
+  pub front_off : (front rest : List ℕ) (s : PlainState) → IsFront behavior s (front ++ rest) → IsFront behavior (after behavior s front) rest
   front_off [] rest s f = f
   front_off (t ∷ front) rest s f = front_off front rest (step behavior s t) f.1
-
-  after_off : (front rest : List ℕ) (s : PlainState) → after behavior s (front ++ rest) ≡ after behavior (after behavior s front) rest
-  after_off [] rest s = refl
-  after_off (t ∷ front) rest s = after_off front rest (step behavior s t)
 
   -- a draw that is still to be made has a higher number than the draws made
   higher : (order : List ℕ) (s : PlainState) (u k c : ℕ) → IsFront behavior s order → count s.journals u ≤ k → at (after behavior s order).journals u k ≡ Some (Marked (Draw c)) → s.draws < c
@@ -118,7 +119,7 @@ module _ (behavior : Behavior) where
       closed_along front order (step behavior s t) f.1 (closed_step (t ∷ (front ++ order)) s t m.0 f m.1 made closed)
 
 -- lists of journals that agree
-same_journals : (a b : Journals) → length a ≡ length b → ((u : ℕ) → journal_of a u ≡ journal_of b u) → a ≡ b
+pub same_journals : (a b : Journals) → length a ≡ length b → ((u : ℕ) → journal_of a u ≡ journal_of b u) → a ≡ b
 same_journals [] [] many each = refl
 same_journals [] (y ∷ b) many each = absurd (omega (arith, many))
 same_journals (x ∷ a) [] many each = absurd (omega (arith, many))
@@ -266,13 +267,6 @@ module _ (front : Front) where
     at_rest : (u k m : ℕ) (e : Event) → made_in front u + k ≡ m → at whole u m ≡ Some e → at rest u k ≡ Some (event_after front e)
     at_rest u k m e is h = ap (λ (j : List Event). slice_get j k) (after_journal front.made whole u) ∙ get_after (made_in front u) (journal_of whole u) k m e is h
 
-    next_event : (x : PlainState) (t : ℕ) (o : Operation) → next_of (by_journals whole) x t ≡ Wants o → (e : Event) × (at whole t (count x.journals t) ≡ Some e) × (o ≡ operation_of e)
-    next_event x t o wanted = go (at whole t (count x.journals t)) refl wanted
-      where
-        go : (z : Option Event) → at whole t (count x.journals t) ≡ z → next_in z ≡ Wants o → (e : Event) × (at whole t (count x.journals t) ≡ Some e) × (o ≡ operation_of e)
-        go None is w = absurd cc
-        go (Some e) is w = (e, is, cc)
-
     -- a play of the whole goes on as one of the rest
     along : (order : List ℕ) (x y : PlainState) → Along x y → IsFront (by_journals whole) x order
         → IsFront (by_journals rest) y order × Along (after (by_journals whole) x order) (after (by_journals rest) y order)
@@ -281,7 +275,7 @@ module _ (front : Front) where
         let V = by_journals whole in
         let W = by_journals rest in
         let m = what_it_makes V x t f.0 in
-        let e = next_event x t m.0 m.1.wanted in
+        let e = next_event (at whole t (count x.journals t)) m.0 m.1.wanted in
         let o2 = operation_of (event_after front e.0) in
         let wants : next_of W y t ≡ Wants o2 = ap next_in (at_rest t (count y.journals t) (count x.journals t) e.0 (counted x y a t) e.1) in
         let enabled : IsTrue (is_enabled y o2) = enabled_on x y a e.0 (subst (λ (o : Operation). IsTrue (is_enabled x o)) e.2 m.1.enabled) in
@@ -379,7 +373,7 @@ rest_is_history starts whole earlier last draws play h are makes =
     let makes_whole : (state_after_play starts whole low).journals ≡ whole = h.makes_all.makes in
     let r = front_leads_on V starts whole low play (h.makes_all.is_play, finished) (subst IsOrdered (sym makes_whole) h.ordered) is_front in
     let order = r.0 in
-    let end : after V (after V s0 play) order ≡ state_after_play starts whole low = sym (after_off V play order s0) ∙ r.2 in
+    let end : after V (after V s0 play) order ≡ state_after_play starts whole low = sym (after_on V play order s0) ∙ r.2 in
     let comes : after V at_front order ≡ state_after_play starts whole low = ap (λ (x : PlainState). after V x order) (sym there) ∙ end in
     let from_front : IsFront V at_front order = subst (λ (x : PlainState). IsFront V x order) there (front_off V play order s0 r.1.0) in
     let J : (after V s0 (play ++ order)).journals ≡ whole = ap (λ (x : PlainState). x.journals) r.2 ∙ makes_whole in

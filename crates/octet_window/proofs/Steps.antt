@@ -1,11 +1,13 @@
 -- Threads that make what is noted of them.
 use Rattle.std.proofs.Common.{◌≡◌, ℕ, zero, suc, ◌+◌, ◌<◌, inl, inr, List, [], ◌∷◌, ◌++◌, length, take, get_or, slice_set, Some, None, refl, sym, ap, ◌∙◌, subst, arith, append-nil}
+use Rattle.std.proofs.Math.Seq.{take-suc}
 use Rattle.std.proofs.lemmas.Bool.{cases_eq}
 use Rattle.std.proofs.lemmas.List.{get_or-set_same, get_or-set_other, map-append}
 use Rattle.octet_model.specs.declared.event.Event.{Event}
 use Rattle.octet_model.specs.declared.event.Event.TheVariants.{Read, Write, Update, Marked}
 use Rattle.octet_model.specs.HappensBefore.{object_of}
-use Rattle.octet_model.specs.Machine.{journal_of}
+use Rattle.octet_model.specs.Machine.{journal_of, heap_after}
+use Rattle.octet_model.specs.Plays.{operation_of}
 use Rattle.octet_window.specs.declared.notes.Note.{Note}
 use Rattle.octet_window.specs.Noting.{events_of, IsEventIn, AreIn}
 use Rattle.octet_window.specs.Ordering.{Parts, MakesAccess, accesses_in}
@@ -32,6 +34,7 @@ event_in n (notes ∷ threads) (suc t) k d lt all = event_in n threads t k d lt 
 pub adds_access : (t object : ℕ) (e : Event) (run next : Parts) → object_of e ≡ Some object → MakesAccess t e run next → AddsEvent t e run next
 adds_access t object e run next of m = record {
   starts = m.starts;
+  heap = m.heap;
   many = m.many;
   own = m.own ∙ ap (λ (l : List Event). accesses_in (journal_of run.journals t) ++ l) (sym (one_access e object of));
   others = m.others;
@@ -43,21 +46,23 @@ no_access (Write o value) none = absurd cc
 no_access (Update o before after) none = absurd cc
 no_access (Marked mark) none = refl
 
+no_change : (e : Event) (heap : List ℕ) → object_of e ≡ None → heap ≡ heap_after (operation_of e) heap
+no_change (Read o value) heap none = absurd cc
+no_change (Write o value) heap none = absurd cc
+no_change (Update o before after) heap none = absurd cc
+no_change (Marked mark) heap none = refl
+
 pub adds_mark : (t : ℕ) (e : Event) (run : Parts) → object_of e ≡ None → AddsEvent t e run run
 adds_mark t e run none = record {
   starts = refl;
+  heap = no_change e run.heap none;
   many = refl;
   own = sym (ap (λ (l : List Event). accesses_in (journal_of run.journals t) ++ l) (no_access e none) ∙ append-nil (accesses_in (journal_of run.journals t)));
   others = λ other apart. refl;
 }
 
-take_step : {X : Type 0} (xs : List X) (k : ℕ) (d : X) → k < length xs → take (k + 1) xs ≡ take k xs ++ get_or xs k d ∷ []
-take_step [] k d lt = absurd (omega (arith, lt))
-take_step (x ∷ xs) zero d lt = refl
-take_step (x ∷ xs) (suc k) d lt = ap (λ (n : ℕ). take n (x ∷ xs)) (next k) ∙ ap (λ l. x ∷ l) (take_step xs k d (omega (arith, lt)))
-  where
-    next : (n : ℕ) → suc n + 1 ≡ suc (n + 1)
-    next n = omega arith
+pub take_step : {X : Type 0} (xs : List X) (k : ℕ) (d : X) → k < length xs → take (k + 1) xs ≡ take k xs ++ get_or xs k d ∷ []
+take_step xs k d lt = let next : k + 1 ≡ suc k = omega arith in ap (λ (n : ℕ). take n xs) next ∙ take-suc xs k d lt
 
 more_events : (notes : List Note) (k : ℕ) (d : Note) → k < length notes
     → accesses_in (events_of (take (k + 1) notes)) ≡ accesses_in (events_of (take k notes)) ++ accesses_in ((get_or notes k d).event ∷ [])

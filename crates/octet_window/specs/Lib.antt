@@ -4,5 +4,6 @@ pub mod Ordering
 pub mod Noting
 pub mod Recorded
 pub mod Objects
+pub mod Histories
 pub mod Playing
 pub mod Windows

@@ -1,14 +1,16 @@
 -- How far threads are that make what is noted of them, by their marks.
-use Rattle.std.specs.Prelude.{◌≡◌, ◌≢◌, ℕ, ◌<◌, ◌≤◌, false, List, [], ◌∷◌, ◌++◌, length, map, take, get_or}
+use Rattle.std.specs.Prelude.{◌≡◌, ◌≢◌, ℕ, ◌<◌, ◌≤◌, true, false, List, [], ◌∷◌, ◌++◌, length, map, take, get_or}
 use Rattle.octet_model.specs.declared.event.Event.{Event}
 use Rattle.octet_model.specs.declared.event.Event.TheVariants.{Read}
-use Rattle.octet_model.specs.Machine.{Journals, journal_of}
+use Rattle.octet_model.specs.Machine.{Journals, journal_of, event_made, heap_after}
+use Rattle.octet_model.specs.Plays.{operation_of}
 use Rattle.octet_window.specs.declared.notes.Note.{Note}
 use Rattle.octet_window.specs.declared.notes.Notes.{Notes}
 use Rattle.octet_window.specs.declared.playing.Play.{Play}
 use Rattle.octet_window.specs.declared.refusal.Refusal.{Refusal}
 use Rattle.octet_window.specs.declared.refusal.Refusal.TheVariants.{NoHistory, OutOfMemory}
 use Rattle.octet_window.specs.Noting.{notes_in, events_of, renamed_note, AreIn, AreOf}
+use Rattle.octet_window.specs.Histories.{noted, may_be_made, ComesTo, HasNoHistory}
 use Rattle.octet_window.specs.Ordering.{Parts, parts_of, accesses_in, IsAtRest}
 
 -- the notes of a thread
@@ -48,6 +50,19 @@ pub record IsPlay (starts : List ℕ) (threads : List (List Note)) (play : Play)
   pub many : length play.run.journals.items ≡ length threads
   pub counted : length play.made.items ≡ length threads
   pub made : HaveMade threads play.made.items play.run.journals.items
+  pub comes : ComesTo starts (noted threads) play.made.items play.draws play.run.heap.items
+
+-- the next event of a thread that has made so many of each
+abbrev pub event_next : List (List Note) → List ℕ → ℕ → Event
+event_next threads made thread = (get_or (notes_of threads thread) (get_or made thread 0) no_note).event
+
+-- the thread has an event left, which may be made
+abbrev pub MayGoOn : List (List Note) → List ℕ → ℕ → ℕ → Type 0
+MayGoOn threads made draws thread = (get_or made thread 0 < length (notes_of threads thread)) × (may_be_made made draws (event_next threads made thread) ≡ true)
+
+-- no thread has one
+abbrev pub NoneGoesOn : List (List Note) → List ℕ → ℕ → Type 0
+NoneGoesOn threads made draws = (thread : ℕ) → thread < length threads → MayGoOn threads made draws thread → ⊥
 
 -- each thread has made all that is noted of it
 abbrev pub AllMade : List (List Note) → List ℕ → Type 0
@@ -56,12 +71,19 @@ AllMade threads made = (thread : ℕ) → thread < length threads → length (no
 -- the thread has made this event, of which nothing is left where it is a mark
 pub record AddsEvent (thread : ℕ) (event : Event) (run next : Parts) : Type 0 where
   pub starts : next.starts ≡ run.starts
+  pub heap : next.heap ≡ heap_after (operation_of event) run.heap
   pub many : length next.journals ≡ length run.journals
   pub own : accesses_in (journal_of next.journals thread) ≡ accesses_in (journal_of run.journals thread) ++ accesses_in (event ∷ [])
   pub others : (other : ℕ) → other ≢ thread → accesses_in (journal_of next.journals other) ≡ accesses_in (journal_of run.journals other)
 
--- why threads do not make what is noted of them: they have no history of it, or memory was refused
-abbrev pub IsPlayRefusal : Refusal → Type 0
-IsPlayRefusal NoHistory = Unit {0}
-IsPlayRefusal OutOfMemory = Unit {0}
-IsPlayRefusal _ = ⊥
+-- why an event is not made: it has not the value that its object has, or memory was refused
+abbrev pub IsEventRefusal : List ℕ → Event → Refusal → Type 0
+IsEventRefusal heap event NoHistory = event_made (operation_of event) heap ≢ event
+IsEventRefusal heap event OutOfMemory = Unit {0}
+IsEventRefusal heap event _ = ⊥
+
+-- why threads do not make what is noted of them: it has no one history from these values, or memory was refused
+abbrev pub IsPlayRefusal : List ℕ → List (List Note) → Refusal → Type 0
+IsPlayRefusal starts threads NoHistory = HasNoHistory starts (noted threads)
+IsPlayRefusal starts threads OutOfMemory = Unit {0}
+IsPlayRefusal starts threads _ = ⊥

@@ -4,14 +4,17 @@ use Rattle.octet_model.specs.declared.command.Command.{Command}
 use Rattle.octet_model.specs.declared.limits.TheConstants.{MAX_FUEL, MAX_OBJECTS}
 use Rattle.octet_model.specs.declared.log.ThreadLog.{ThreadLog}
 use Rattle.octet_model.specs.declared.script.Script.{Script}
-use Rattle.octet_model.specs.Machine.{journal_of}
+use Rattle.octet_model.specs.Machine.{Journals, journal_of}
 use Rattle.octet_model.specs.Orders.{journals_after, IsLawfulOrder}
+use Rattle.octet_model.specs.Plays.{state_after_play, IsOneHistory, MakesAll}
 use Rattle.octet_model.specs.Script.{is_thread}
 use Rattle.octet_window.specs.declared.notes.Note.{Note}
 use Rattle.octet_window.specs.declared.notes.Notes.{Notes}
 use Rattle.octet_window.specs.declared.refusal.Refusal.{Refusal}
-use Rattle.octet_window.specs.declared.refusal.Refusal.TheVariants.{NoObject, ManyObjects, ManyLines}
+use Rattle.octet_window.specs.declared.refusal.Refusal.TheVariants.{NoObject, ManyObjects, ManyLines, NoHistory, OutOfMemory}
 use Rattle.octet_window.specs.Noting.{has, program_of, renamed, events_of, notes_in, touched_in}
+use Rattle.octet_window.specs.Fronts.{front_at, rest_of, AreBeginnings}
+use Rattle.octet_window.specs.Histories.{noted, HasNoHistory}
 use Rattle.octet_window.specs.Objects.{name_of}
 use Rattle.octet_window.specs.Ordering.{accesses_in}
 use Rattle.octet_window.specs.Playing.{all_renamed}
@@ -47,6 +50,10 @@ pub record IsWindowOf (values : List ℕ) (threads : List Notes) (objects : List
 abbrev pub noted_by : List Notes → ℕ → List Note
 noted_by threads thread = get_or (map notes_in threads) thread []
 
+-- what is noted of all threads
+abbrev pub all_noted : List Notes → Journals
+all_noted threads = noted (map notes_in threads)
+
 -- in each lawful order of the script and the log the threads make the accesses that are noted of them, with the same values
 abbrev pub MakesNoted : List Notes → List ℕ → Script → List ThreadLog → Type 0
 MakesNoted threads objects script log = (order : List ℕ) → IsLawfulOrder script log order → (thread : ℕ)
@@ -57,7 +64,15 @@ abbrev pub IsRefused : List ℕ → List Notes → Refusal → Type 0
 IsRefused values threads (NoObject object) = (has (touched_in [] threads) object ≡ true) × (length values ≤ object)
 IsRefused values threads (ManyObjects objects) = (objects ≡ length (touched_in [] threads)) × (MAX_OBJECTS < objects)
 IsRefused values threads (ManyLines lines) = (lines ≡ most_lines (programs_of (touched_in [] threads) threads)) × (MAX_FUEL < length threads * lines)
-IsRefused values threads _ = Unit {0}
+IsRefused values threads NoHistory = HasNoHistory values (all_noted threads)
+IsRefused values threads OutOfMemory = Unit {0}
+
+-- all that the threads of a recorded run make after a front is never refused for want of a history
+abbrev pub RestIsNotRefused : Type 0
+RestIsNotRefused = (starts : List ℕ) (whole earlier : Journals) (last : List ℕ) (draws : ℕ) (play : List ℕ) (threads : List Notes)
+    → IsOneHistory starts whole last draws → AreBeginnings earlier whole → MakesAll starts earlier play
+    → let at = state_after_play starts earlier play in
+    all_noted threads ≡ rest_of (front_at earlier at.draws) whole → IsRefused at.heap threads NoHistory → ⊥
 
 -- each program is a valid thread, of a script with so many objects
 abbrev pub AreThreads : ℕ → List (List Command) → Type 0

@@ -2,7 +2,8 @@
 ghost use Rattle.std.specs.Prelude.{◌≡◌, ◌*◌, ◌<◌, ◌≤◌, length, map, IfOk, IfErr};
 ghost use Rattle.octet_model.specs.declared.limits.TheConstants.{MAX_THREADS};
 ghost use Rattle.octet_model.specs.Orders.{IsFaithful};
-ghost use Rattle.octet_window.specs.Windows.{IsRefused, IsWindowOf, MakesNoted};
+ghost use Rattle.octet_window.specs.Histories.{HasHistory};
+ghost use Rattle.octet_window.specs.Windows.{all_noted, IsRefused, IsWindowOf, MakesNoted};
 
 use crate::notes::Notes;
 use crate::playing::play_notes;
@@ -26,14 +27,15 @@ pub struct Window {
 /// from there on, in order. The script has the objects that the threads access and their accesses as lines, and with
 /// its log and its outcome it is a faithful recording, by which the threads make just the accesses that are noted,
 /// with the same values. The log has joins where conflicting accesses need them, and no mark else. Refused where the
-/// script would be too large, or where the threads do not make what is noted of them, by the marks and from these
-/// values on.
+/// script would be too large, or where what is noted has no one history, by the marks and from these values on. Where
+/// there is a window, some order of what is noted meets each mark's wait and has the value of each access.
 pub fn close(alloc: Global, values: &[u64], threads: &[Notes]) -> Result<Window, Refusal>
     requires some { 1 ≤ length threads.now }
     requires few { length threads.now ≤ MAX_THREADS }
     ensures faithful { IfOk result (λ w. IsFaithful w.script w.log.threads w.outcome) }
     ensures script { IfOk result (λ w. IsWindowOf values.now threads.now w.objects w.script) }
     ensures accesses { IfOk result (λ w. MakesNoted threads.now w.objects w.script w.log.threads) }
+    ensures history { IfOk result (λ w. HasHistory values.now (all_noted threads.now)) }
     ensures refused { IfErr result (IsRefused values.now threads.now) }
 {
     let objects = touched_in(alloc, threads)?;

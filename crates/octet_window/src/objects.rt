@@ -1,6 +1,6 @@
 //! The objects of a window.
 ghost use Rattle.std.specs.Prelude.{◌≡◌, ◌<◌, ◌≤◌, ◌^◌, ◌++◌, ◌∷◌, length, map, IfOk, IfErr, slice_index};
-ghost use Rattle.octet_window.specs.Objects.{name_of, IsRefusedObject};
+ghost use Rattle.octet_window.specs.Objects.{name_of, HaveValues, IsRefusedObject};
 
 use crate::refusal::Refusal;
 use octet_model::{List, Name, Object, OutOfMemory};
@@ -23,6 +23,7 @@ pub(crate) fn objects_of(
 ) -> Result<List<Object>, Refusal>
     ensures names { IfOk result (λ list. map (λ object. object.name) list ≡ map name_of objects.now) }
     ensures starts { IfOk result (λ list. map (λ object. object.start) list ≡ map (slice_index values.now) objects.now) }
+    ensures there { IfOk result (λ list. HaveValues values.now objects.now) }
     ensures refused { IfErr result (IsRefusedObject values.now objects.now) }
 {
     let mut list = List::new(alloc);

@@ -48,6 +48,7 @@ impl OrderedRun {
         requires objects { length starts.now ≤ MAX_OBJECTS }
         ensures rest { IfOk result (λ run. IsAtRest (parts_of run)) }
         ensures starts { IfOk result (λ run. run.starts ≡ starts.now) }
+        ensures heap { IfOk result (λ run. run.heap.items ≡ starts.now) }
         ensures none { IfOk result (λ run. run.journals.items ≡ no_events threads.now) }
     {
         Ok(OrderedRun {

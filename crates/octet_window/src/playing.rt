@@ -1,11 +1,12 @@
 //! The threads make what is noted of them, in an order that their marks allow.
-ghost use Rattle.std.specs.Prelude.{◌≡◌, ◌+◌, ◌^◌, ◌<◌, ◌≤◌, true, length, map, slice_index, get_or, IfOk, IfErr, IfSome, OnOk};
+ghost use Rattle.std.specs.Prelude.{◌≡◌, ◌≢◌, ◌↔◌, ◌+◌, ◌^◌, ◌<◌, ◌≤◌, IsTrue, true, false, length, map, slice_index, slice_set, get_or, IfOk, IfErr, IfSome, IfNone, OnOk};
 ghost use Rattle.octet_model.specs.declared.limits.TheConstants.{MAX_THREADS, MAX_OBJECTS};
-ghost use Rattle.octet_model.specs.Machine.{event_made, no_events};
+ghost use Rattle.octet_model.specs.Machine.{event_made, no_events, draws_after};
 ghost use Rattle.octet_model.specs.Plays.{operation_of};
+ghost use Rattle.octet_window.specs.Histories.{noted, may_be_made, HasHistory};
 ghost use Rattle.octet_window.specs.Noting.{IsEventIn};
 ghost use Rattle.octet_window.specs.Ordering.{parts_of, IsAtRest};
-ghost use Rattle.octet_window.specs.Playing.{no_note, notes_of, AddsEvent, AllIn, AllMade, HaveAll, IsPlay, IsPlayRefusal};
+ghost use Rattle.octet_window.specs.Playing.{event_next, no_note, notes_of, AddsEvent, AllIn, AllMade, HaveAll, IsEventRefusal, IsPlay, IsPlayRefusal, MayGoOn, NoneGoesOn};
 
 use crate::notes::Note;
 use crate::ordered::OrderedRun;
@@ -24,7 +25,8 @@ pub(crate) struct Play {
 // Whether the event has the values that its object has.
 fn has_values(heap: &[u64], event: Event) -> bool
     requires { IsEventIn (length heap.now) event }
-    ensures { result ≡ true → event_made (operation_of event) heap.now ≡ event }
+    ensures yes { result ≡ true → event_made (operation_of event) heap.now ≡ event }
+    ensures no_ { result ≡ false → event_made (operation_of event) heap.now ≢ event }
 {
     match event {
         Event::Read { object, value } => heap[object as usize] == value,
@@ -71,35 +73,48 @@ impl Play {
         })
     }
 
+    // How many events of a thread are made.
+    fn made_by(&self, thread: u8) -> usize
+        ensures { result ≡ get_or self.now.made.items thread 0 }
+    {
+        self.made.get(thread as usize).copied().unwrap_or(0)
+    }
+
     // Whether the event may be made now.
-    fn may_make(&self, event: Event) -> bool {
-        match event {
-            Event::Marked {
-                mark: Mark::Join { from, upto },
-            } => match self.made.get(from as usize) {
-                Some(made) => *made as u64 >= upto,
-                None => upto == 0,
-            },
-            Event::Marked {
-                mark: Mark::Draw { number },
-            } => number > self.draws && number - self.draws == 1,
-            Event::Marked {
-                mark: Mark::Fence { number },
-            } => self.draws >= number,
-            _ => true,
+    fn may_make(&self, event: Event) -> bool
+        ensures { result ≡ may_be_made self.now.made.items self.now.draws event }
+    {
+        let Event::Marked { mark } = event else {
+            return true;
+        };
+        match mark {
+            Mark::Join { from, upto } => upto <= self.made_by(from) as u64,
+            Mark::Draw { number } => number > 0 && number - 1 == self.draws,
+            Mark::Fence { number } => number <= self.draws,
         }
+    }
+
+    // Whether the thread has an event left, which may be made now.
+    fn may_go_on(&self, threads: &[List<Note>], thread: usize) -> bool
+        requires there { thread < length threads.now }
+        requires counted { length self.now.made.items ≡ length threads.now }
+        ensures { IsTrue result ↔ MayGoOn threads.now self.now.made.items self.now.draws thread }
+    {
+        let made = self.made[thread];
+        let notes = threads[thread].as_slice();
+        made < notes.len() && self.may_make(notes[made].event)
     }
 
     // The lowest thread whose next event may be made.
     fn next(&self, threads: &[List<Note>]) -> Option<u8>
         requires few { length threads.now ≤ MAX_THREADS }
         requires counted { length self.now.made.items ≡ length threads.now }
-        ensures { IfSome result (λ thread. (thread < length threads.now) × (get_or self.now.made.items thread 0 < length (notes_of threads.now thread))) }
+        ensures there { IfSome result (λ thread. thread < length threads.now) }
+        ensures goes_on { IfSome result (MayGoOn threads.now self.now.made.items self.now.draws) }
+        ensures none { IfNone result (NoneGoesOn threads.now self.now.made.items self.now.draws) }
     {
         for thread in 0..threads.len() {
-            let made = self.made[thread];
-            let notes = threads[thread].as_slice();
-            if made < notes.len() && self.may_make(notes[made].event) {
+            if self.may_go_on(threads, thread) {
                 return Some(thread as u8);
             }
         }
@@ -112,10 +127,13 @@ impl Play {
         requires rest { IsAtRest (parts_of self.old.run) }
         requires there { thread < length self.old.run.journals.items }
         requires inside { IsEventIn (length self.old.run.starts) event }
+        requires may { may_be_made self.old.made.items self.old.draws event ≡ true }
         ensures rest { OnOk result (IsAtRest (parts_of self.new.run)) }
         ensures adds { OnOk result (AddsEvent thread event (parts_of self.old.run) (parts_of self.new.run)) }
+        ensures value { OnOk result (event_made (operation_of event) self.old.run.heap.items ≡ event) }
+        ensures draws { OnOk result (self.new.draws ≡ draws_after (operation_of event) self.old.draws) }
         ensures made { self.new.made ≡ self.old.made }
-        ensures refused { IfErr result IsPlayRefusal }
+        ensures refused { IfErr result (IsEventRefusal self.old.run.heap.items event) }
     {
         let Some(object) = event.object() else {
             if let Event::Marked {
@@ -138,9 +156,10 @@ impl Play {
         requires play { IsPlay starts.now threads.now self.old }
         requires inside { AllIn (length starts.now) threads.now }
         requires there { thread < length threads.now }
-        requires next { get_or self.old.made.items thread 0 < length (notes_of threads.now thread) }
+        requires next { MayGoOn threads.now self.old.made.items self.old.draws thread }
         ensures play { OnOk result (IsPlay starts.now threads.now self.new) }
-        ensures refused { IfErr result IsPlayRefusal }
+        ensures made { OnOk result (self.new.made.items ≡ slice_set self.old.made.items thread (get_or self.old.made.items thread 0 + 1)) }
+        ensures refused { IfErr result (IsPlayRefusal starts.now threads.now) }
     {
         let place = self.made[thread as usize];
         let event = event_of(starts, threads, thread, place);
@@ -152,7 +171,7 @@ impl Play {
     // Whether each thread has made all that is noted of it.
     fn has_made_all(&self, threads: &[List<Note>]) -> bool
         requires counted { length self.now.made.items ≡ length threads.now }
-        ensures { result ≡ true → AllMade threads.now self.now.made.items }
+        ensures { IsTrue result ↔ AllMade threads.now self.now.made.items }
     {
         for thread in 0..threads.len() {
             if self.made[thread] < threads[thread].len() {
@@ -163,17 +182,8 @@ impl Play {
     }
 }
 
-/// How many notes there are.
-fn total(threads: &[List<Note>]) -> u64 {
-    let mut total: u64 = 0;
-    for notes in threads {
-        total = total.saturating_add(notes.len() as u64);
-    }
-    total
-}
-
 /// The run that the threads make from these values, by what is noted of them. Refuses where they do not make it by
-/// their marks and these values.
+/// their marks and these values: where what is noted has no one history.
 pub(crate) fn play_notes(
     alloc: Global,
     starts: &[u64],
@@ -186,13 +196,11 @@ pub(crate) fn play_notes(
     ensures starts { IfOk result (λ run. run.starts ≡ starts.now) }
     ensures many { IfOk result (λ run. length run.journals.items ≡ length threads.now) }
     ensures made { IfOk result (λ run. HaveAll threads.now run.journals.items) }
-    ensures refused { IfErr result IsPlayRefusal }
+    ensures history { IfOk result (λ run. HasHistory starts.now (noted threads.now)) }
+    ensures refused { IfErr result (IsPlayRefusal starts.now threads.now) }
 {
     let mut play = Play::new(alloc, starts, threads)?;
-    for _event in 0..total(threads) {
-        let Some(thread) = play.next(threads) else {
-            break;
-        };
+    while let Some(thread) = play.next(threads) {
         play.make(starts, threads, thread)?;
     }
     if !play.has_made_all(threads) {

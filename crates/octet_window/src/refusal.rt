@@ -18,7 +18,8 @@ pub enum Refusal {
     /// A thread needs so many lines, which is more than all threads of a script may have together.
     #[error("{lines} lines of a thread")]
     ManyLines { lines: usize },
-    /// By their marks and these values the threads do not make what is noted of them.
+    /// What is noted has no one history, by its marks and from these values: no order of it has them all, or two
+    /// accesses that conflict are not ordered by the marks.
     #[error("the threads do not make what is noted")]
     NoHistory,
     #[error("out of memory")]

@@ -2,7 +2,7 @@
 ghost use Rattle.std.specs.Prelude.{◌≡◌, ◌*◌, ◌<◌, ◌≤◌, length, map, IfOk, IfErr};
 ghost use Rattle.octet_model.specs.declared.limits.TheConstants.{MAX_FUEL, MAX_OBJECTS, MAX_THREADS};
 ghost use Rattle.octet_window.specs.Noting.{program_of};
-ghost use Rattle.octet_window.specs.Objects.{IsRefusedObject};
+ghost use Rattle.octet_window.specs.Objects.{HaveValues, IsRefusedObject};
 ghost use Rattle.octet_window.specs.Playing.{all_renamed, AllIn, AllOf};
 ghost use Rattle.octet_window.specs.Windows.{most_lines, AreDifferent, AreThreads, IsScriptWith};
 
@@ -89,6 +89,7 @@ pub(crate) fn script_of(
     requires lines { lines ≡ most_lines programs }
     requires fuel { length programs * lines ≤ MAX_FUEL }
     ensures script { IfOk result (IsScriptWith values.now objects.now programs) }
+    ensures there { IfOk result (λ script. HaveValues values.now objects.now) }
     ensures refused { IfErr result (IsRefusedObject values.now objects.now) }
 {
     let objects = objects_of(alloc, values, objects)?;

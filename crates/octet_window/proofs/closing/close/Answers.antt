@@ -1,12 +1,15 @@
-use Rattle.std.proofs.Common.{◌≡◌, [], List, ℕ, length, map, sym, ap, ◌∙◌, subst}
+use Rattle.std.proofs.Common.{◌≡◌, [], List, ℕ, length, map, slice_index, sym, ap, ◌∙◌, subst}
+use Rattle.std.proofs.lemmas.Result.{err_from_is_err_and}
 use Rattle.octet_model.specs.declared.command.Command.{Command}
 use Rattle.octet_window.specs.declared.notes.Note.{Note}
 use Rattle.octet_window.specs.Noting.{program_of}
+use Rattle.octet_window.specs.Histories.{noted, HasHistory}
+use Rattle.octet_window.specs.Objects.{HaveValues}
 use Rattle.octet_window.specs.Ordering.{parts_of}
-use Rattle.octet_window.specs.Playing.{all_renamed, AllIn, AllOf, HaveAll}
+use Rattle.octet_window.specs.Playing.{all_renamed, AllIn, AllOf, HaveAll, IsPlayRefusal}
 use Rattle.octet_window.specs.Windows.{AreDifferent, AreThreads, IsScriptWith, IsWindowOf, MakesNoted}
 use Rattle.octet_window.proofs.Valid.{in_different, touched_of, are_threads}
-use Rattle.octet_window.proofs.Windows.{has_programs, makes_noted}
+use Rattle.octet_window.proofs.Windows.{has_programs, makes_noted, play_refusal, window_history}
 use Rattle.octet_window.proofs.closing.close.Goals as goal
 
 pub all_renamed-requires-clause-there : goal.all_renamed-requires-clause-there
@@ -66,3 +69,31 @@ returns-clause-accesses c =
     subst (λ (l : List ℕ). MakesNoted c.args.threads.now l script log) (sym c.from_vec.ensures)
     (makes_noted objects c.args.threads.now script log js c.in_ok-log.ensures.orders
     (subst (λ (l : List (List Note)). HaveAll l js) (c.deref-5.ensures.value ∙ renamed) c.in_ok-run.ensures.made))
+
+pub returns-clause-history : goal.returns-clause-history
+returns-clause-history c =
+    let objects = c.in_ok-objects.objects.items in
+    let threads = c.args.threads.now in
+    let values = c.args.values.now in
+    let renamed : c.in_ok-notes.notes.items ≡ all_renamed objects threads = c.in_ok-notes.ensures.renamed ∙ ap (λ (l : List ℕ). all_renamed l threads) c.deref.ensures.value in
+    let starts : c.deref-4.result.now ≡ map (slice_index values) objects =
+    c.deref-4.ensures.value ∙ (c.in_ok-starts.ensures ∙ (c.in_ok-script.ensures.script.starts ∙ ap (λ (l : List ℕ). map (slice_index values) l) c.deref-3.ensures.value)) in
+    window_history values objects threads
+    (subst (HaveValues values) c.deref-3.ensures.value c.in_ok-script.ensures.there) (subst (λ (l : List ℕ). AllOf l threads) (sym c.in_ok-objects.ensures) (touched_of threads))
+    (subst (λ (l : List (List Note)). HasHistory (map (slice_index values) objects) (noted l)) (c.deref-5.ensures.value ∙ renamed)
+    (subst (λ (l : List ℕ). HasHistory l (noted c.deref-5.result.now)) starts c.in_ok-run.ensures.history))
+
+pub returns-in_err-run-clause-refused : goal.returns-in_err-run-clause-refused
+returns-in_err-run-clause-refused c =
+    let p = err_from_is_err_and c.from_residual-in_err-run.result c.from_residual-in_err-run.ensures.1 in
+    let objects = c.in_ok-objects.objects.items in
+    let threads = c.args.threads.now in
+    let values = c.args.values.now in
+    let renamed : c.in_ok-notes.notes.items ≡ all_renamed objects threads = c.in_ok-notes.ensures.renamed ∙ ap (λ (l : List ℕ). all_renamed l threads) c.deref.ensures.value in
+    let starts : c.deref-4.result.now ≡ map (slice_index values) objects =
+    c.deref-4.ensures.value ∙ (c.in_ok-starts.ensures ∙ (c.in_ok-script.ensures.script.starts ∙ ap (λ (l : List ℕ). map (slice_index values) l) c.deref-3.ensures.value)) in
+    let why = c.in_err-run.field-0.0 in
+    rw (p.1, p.2) (play_refusal values objects threads
+    (subst (HaveValues values) c.deref-3.ensures.value c.in_ok-script.ensures.there) (subst (λ (l : List ℕ). AllOf l threads) (sym c.in_ok-objects.ensures) (touched_of threads)) why
+    (subst (λ (l : List (List Note)). IsPlayRefusal (map (slice_index values) objects) l why) (c.deref-5.ensures.value ∙ renamed)
+    (subst (λ (l : List ℕ). IsPlayRefusal l c.deref-5.result.now why) starts c.in_err-run.ensures.refused)))
