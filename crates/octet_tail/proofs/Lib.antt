@@ -1,0 +1,5 @@
+pub mod Sifting
+pub mod Finding
+pub mod Merged
+pub mod Tailing
+pub mod Asking
