@@ -29,6 +29,7 @@ pub(crate) struct Quiet {
 struct Sight {
     turns: u64,
     looks: u64,
+    over: u64,
 }
 
 /// What a thread that waits has seen of the others.
@@ -90,7 +91,10 @@ impl Quiet {
         let mut still = true;
         let mut moved = false;
         for (post, seen) in self.posts.as_slice().iter().zip(watch.seen.as_slice()) {
-            if post.over.load(Ordering::SeqCst) == 0 {
+            let over = post.over.load(Ordering::SeqCst);
+            // What it made at last may let others go on.
+            moved = moved || over != seen.over;
+            if over == 0 {
                 // The turn is read last: while it is the same, so is the wait that was looked at.
                 let looks = post.looks.load(Ordering::SeqCst);
                 let turns = post.turns.load(Ordering::SeqCst);
@@ -112,8 +116,9 @@ impl Quiet {
             .iter()
             .zip(watch.seen.as_mut_slice().iter_mut())
         {
-            seen.looks = post.looks.load(Ordering::SeqCst);
+            seen.over = post.over.load(Ordering::SeqCst);
             seen.turns = post.turns.load(Ordering::SeqCst);
+            seen.looks = post.looks.load(Ordering::SeqCst);
         }
     }
 }
@@ -123,7 +128,11 @@ impl Watch {
     pub(crate) fn new(alloc: Global, threads: u8) -> Result<Watch, OutOfMemory> {
         let mut seen = Vec::new(alloc);
         for _ in 0..threads {
-            seen.push(Sight { turns: 0, looks: 0 })?;
+            seen.push(Sight {
+                turns: 0,
+                looks: 0,
+                over: 0,
+            })?;
         }
         Ok(Watch {
             seen,
