@@ -16,18 +16,21 @@ from case import text
 from files import OCTET, SECONDS, TOP, called, differs, first, folder_with, octet
 
 RESTS = re.compile(r"\nvoluntary_ctxt_switches:\s+(\d+)")
-# Each thread is busy with an object of its own, and then both bump x, so they are not apart. An access of x before
-# that would make one of them rest, for longer than the other one takes.
-TOGETHER = text(
-    "fuel 131072", "object x 0", "object a 0", "object b 0",
-    *(
-        line
-        for name in "ab"
-        for line in ["thread", "set r0 10000", "set r1 1", "while r0"]
-        + [f"write {name} r0"] * 10
-        + ["safe", "sub r0 r0 r1", "end", "bump x r1"]
-    ),
-)  # fmt: skip
+
+
+def together(names, fuel, rounds):
+    """Each thread is busy with an object of its own, and then all bump x, so they are not apart. An access of x before that
+    would make one of them rest, for longer than another one takes."""
+    threads = (
+        ["thread", f"set r0 {rounds}", "set r1 1", "while r0", *[f"write {name} r0"] * 10, "safe", "sub r0 r0 r1", "end", "bump x r1"]
+        for name in names
+    )
+    return text(f"fuel {fuel}", "object x 0", *(f"object {name} 0" for name in names), *itertools.chain(*threads))
+
+
+TOGETHER = together("ab", 131072, 10000)
+# Players are of use where they take half the time of one, or less.
+FOUR_TOGETHER = together("abcd", 65536, 4900)
 
 
 def running(number):
@@ -101,14 +104,15 @@ def rests(words, folder):
 
 def beside_each_other():
     """`run`, `gen` and `parallel` have threads that run beside each other, on scripts whose threads share what they write."""
-    with folder_with(S=TOGETHER) as folder:
-        together = share(seen(["run", "S", "L"], folder, 5), 2)
+    with folder_with(S=TOGETHER, F=FOUR_TOGETHER) as folder:
+        at_once = share(seen(["run", "S", "L"], folder, 5), 2)
         rested = min(count for count, threads in (rests(["run", "S", "L"], folder) for _ in range(10)) if threads >= 2)
         return first(
-            None if together > 0.25 else f"run: two threads run in {together:.0%} of the looks",
+            None if at_once > 0.25 else f"run: two threads run in {at_once:.0%} of the looks",
             None if rested <= 50 else f"run: its threads gave their processors away {rested} times",
             differs("whether they met", octet(["show", "L"], folder)[1].count(b"\ngap ") > 0, True),
-            often(["parallel", "S", "L"], folder, 2),
+            differs("run of four", octet(["run", "F", "K"], folder)[0], 0),
+            often(["parallel", "F", "K"], folder, 2),
             often(["gen", "1", "G", "M"], folder, 4),
             often(["parallel", "G", "M"], folder, 4),
         )
@@ -131,11 +135,33 @@ def many_marks():
         )
 
 
+def one_after_another():
+    """`parallel` starts no thread where the second thread begins after the first one's last access, by the one mark of the log."""
+    rounds = [["while r0", *[f"write {name} r0"] * 10, "sub r0 r0 r1", "end"] for name in "ab"]
+    first_thread, second_thread = (["thread", "set r0 10000", "set r1 1"] for _ in "ab")
+    first_thread += [*rounds[0], "bump x r1"]
+    second_thread += ["bump x r1", *rounds[1]]
+    script = text("fuel 131072", "object x 0", "object a 0", "object b 0", *first_thread, *second_thread)
+    log = text("threads 2", "thread 0 accesses 100001 marks 0", "thread 1 accesses 100001 marks 1", "gap 0 join 0 100001")
+    with folder_with(S=script, T=log) as folder:
+        called([TOP / "tools" / "log", "T", "L"], folder)
+        done = text("thread 0 done", "thread 1 done", "object x 2", "object a 1", "object b 1")
+        return first(
+            differs("looks with more than one thread", seen(["parallel", "S", "L"], folder, 3), []),
+            differs("parallel", octet(["parallel", "S", "L"], folder), (0, done)),
+        )
+
+
 def in_turn():
-    """A script of one thread is told apart from that."""
+    """A script of one thread is told apart from that. Where the processors have much to do, a thread that only looks now and then
+    whether there are marks to be written has to wait for one, and seems to run: so one call of many is enough."""
     with folder_with(S=b"thread\n".join(TOGETHER.split(b"thread\n")[:2])) as folder:
-        alone = share(seen(["run", "S", "L"], folder, 5), 2)
-        return None if alone < 0.25 else f"two threads run in {alone:.0%} of the looks"
+        shares = []
+        for _ in range(50):
+            shares.append(share(seen(["run", "S", "L"], folder), 2))
+            if shares[-1] < 0.25:
+                return None
+        return f"two threads run in {min(shares):.0%} of the looks, or more"
 
 
 def counted(content, folder, library):
@@ -179,6 +205,7 @@ def allocations():
 TESTS = {
     "run, gen, parallel: threads beside each other": beside_each_other,
     "parallel: a log of many marks": many_marks,
+    "parallel: threads one after another": one_after_another,
     "run: a thread alone": in_turn,
     "run: twice the accesses, as many allocations": allocations,
 }

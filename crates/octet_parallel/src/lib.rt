@@ -10,6 +10,7 @@ mod fate;
 mod field;
 mod finished;
 pub mod laws;
+mod pace;
 mod passing;
 mod played;
 mod player;

@@ -1,6 +1,5 @@
 //! How a worker waits for another player, and when threads are of no use.
 use crate::crew::Crew;
-use octet_model::Log;
 use std::hint;
 use std::sync::Wait;
 
@@ -20,23 +19,6 @@ const EVENTS_FOR_A_WAIT: usize = 512;
 /// Threads are of no use either where workers slept while one player alone made events, until it had
 /// made as many as one of them, and so many more.
 const LONE_EVENTS: u64 = 1 << 14;
-
-/// A log has many marks from so many on, where it has fewer events for each of them than this.
-const MANY_MARKS: u64 = 1024;
-
-const EVENTS_FOR_A_MARK: u64 = 256;
-
-/// Whether most players of a log would wait for others most of the time.
-pub(crate) fn has_many_marks(log: &Log) -> bool {
-    let mut events: u64 = 0;
-    let mut marks: u64 = 0;
-    for thread in log.threads.as_slice() {
-        let own = thread.marks.len() as u64;
-        marks = marks.saturating_add(own);
-        events = events.saturating_add(own.saturating_add(u64::from(thread.accesses)));
-    }
-    marks >= MANY_MARKS && events <= marks.saturating_mul(EVENTS_FOR_A_MARK)
-}
 
 /// How long a worker has waited for its next event, and how much its last events had to.
 ///

@@ -12,7 +12,7 @@ use crate::apart::are_apart;
 use crate::crew::Crew;
 use crate::field::Field;
 use crate::finished::Finished;
-use crate::player_backoff::has_many_marks;
+use crate::pace::waits_mostly;
 use crate::worker::play_all;
 use octet_base::Gate;
 use octet_clock::{Verdict, Verified, ordered, verify_and_replay};
@@ -44,7 +44,7 @@ pub fn parallel<R: Threads + Wait + Sync, G: Gate>(
     if are_apart(alloc, script)? {
         return replay_apart(rt, alloc, script, log, gate);
     }
-    if gate.is_open() && has_many_marks(log) {
+    if gate.is_open() && waits_mostly(alloc, log)? {
         return replay_here(alloc, script, log);
     }
     replay_together(rt, alloc, script, log, gate)
