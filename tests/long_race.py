@@ -5,25 +5,31 @@ accesses of the plan on plain cells. The program is tried where it is built (`rt
 """
 
 import itertools
+import json
 import pathlib
+import re
 import signal
 import subprocess
 import time
 from hashlib import sha256
 
 from case import block, end, marks_head, text
-from files import SECONDS, TOP, called, differs, first, folder_with
+from files import OCTET, SECONDS, TOP, called, differs, first, folder_with, octet
 
+DIAGRAM = TOP / "tools" / "diagram"
 PROGRAM = TOP / "crates" / "octet_long_race" / "out" / "octet_long_race"
 THREADS, SHARED, OWN, OBJECTS = 4, 4, 8, 36
 ALL = 2**64
 SPREAD, STEP, LOW = 0x9E3779B97F4A7C15, 0xD1342543DE82EF95, 2**20
 RACES = 200
-WORDS = b"octet_long_race: wanted is `record FILE SEED ACCESSES EVERY` or `follow` with the same, EVERY from 1 to 1,000,000\n"
+WORDS = (
+    b"octet_long_race: wanted is `record FILE SEED ACCESSES EVERY`, `follow` with the same, or `window` with the same and "
+    b"LAST SCRIPT LOG; EVERY from 1 to 1,000,000, LAST from 1 to 65,535\n"
+)
 
 
-def race(verb, folder, seed, accesses, every, file="F", **how):
-    return called([PROGRAM, verb, file, str(seed), str(accesses), str(every)], folder, **how)
+def race(verb, folder, seed, accesses, every, file="F", more=(), **how):
+    return called([PROGRAM, verb, file, str(seed), str(accesses), str(every), *map(str, more)], folder, **how)
 
 
 def refused(status, line):
@@ -74,6 +80,7 @@ class Model:
         self.told = [(seed * STEP + thread) % ALL for thread in range(THREADS)]
         self.events, self.accesses, self.draws = [0] * THREADS, [0] * THREADS, 0
         self.steps, self.ended = [[] for _ in range(THREADS)], [False] * THREADS
+        self.made = [[] for _ in range(THREADS)]
         for kind, body, _ in frames_of(content):
             if kind == 1:
                 self.steps[body[0]].extend(steps_of(body))
@@ -88,12 +95,16 @@ class Model:
         place = rest % SHARED if shared else SHARED + thread * OWN + rest % OWN
         value = self.cells[place]
         kind = rest // OWN % 4
+        made = f"read o{place} {value}"
         if kind == 0:
             value = self.cells[place] = told
+            made = f"write o{place} {told}"
         elif kind == 1:
             self.cells[place] = (value + told) % ALL
+            made = f"update o{place} {value} {self.cells[place]}"
+        self.made[thread].append(made)
         self.told[thread] = (told * STEP + value + 1) % ALL
-        self.accesses[thread] = made + 1
+        self.accesses[thread] += 1
 
     def mark(self, source, number):
         """Makes a mark, if it may be made."""
@@ -116,15 +127,46 @@ class Model:
             self.events[thread] += 1
         return self.events[thread] > before
 
-    def said(self):
+    def run(self):
         while any([self.walk(thread) for thread in range(THREADS)]):
             pass
+
+    def said(self):
+        self.run()
         lines = []
         for thread in range(THREADS):
             whole = self.ended[thread] and self.events[thread] == len(self.steps[thread])
             cut = "" if whole else ", where its recording ends"
             lines.append(f"thread {thread}: {self.accesses[thread]} accesses, told {self.told[thread]}{cut}")
         return text(*lines, *(f"object {object}: {value}" for object, value in enumerate(self.cells)))
+
+    def events_with(self, thread, count):
+        """How many first events of a thread have its first accesses, so many."""
+        places = [place for place, step in enumerate(self.steps[thread]) if step is None]
+        return places[count - 1] + 1 if count else 0
+
+    def begins(self, last):
+        """How many accesses of each thread come before the last ones: the fewest that leave out nothing that a mark waits for."""
+        front = [self.events_with(thread, max(0, self.accesses[thread] - last)) for thread in range(THREADS)]
+        draws = {
+            step[1]: (thread, place + 1)
+            for thread in range(THREADS)
+            for place, step in enumerate(self.steps[thread])
+            if step is not None and step[0] == 16
+        }
+        before = None
+        while before != front:
+            before = list(front)
+            drawn = 0
+            for thread in range(THREADS):
+                for source, number in filter(None, self.steps[thread][: before[thread]]):
+                    if source < 16:
+                        front[source] = max(front[source], number)
+                    else:
+                        drawn = max(drawn, number)
+            for thread, place in (draws[number] for number in range(1, drawn + 1)):
+                front[thread] = max(front[thread], place)
+        return [self.steps[thread][: front[thread]].count(None) for thread in range(THREADS)]
 
 
 def recorded(folder, seed, accesses, every):
@@ -136,8 +178,9 @@ def recorded(folder, seed, accesses, every):
 
 
 def raced():
-    """Races of a million accesses, half of them with many dependences and half with few, are followed to the same lines."""
-    if not PROGRAM.exists():
+    """Races of a million accesses, half of them with many dependences and half with few, are followed to the same lines. Their last
+    accesses are a script with its log, which leaves the same values."""
+    if not PROGRAM.exists() or not OCTET.exists():
         return None
     with folder_with() as folder:
         for seed in range(RACES):
@@ -145,6 +188,16 @@ def raced():
             said, _ = recorded(folder, *words)
             if said.count(b": 250000 accesses, told ") != THREADS or race("follow", folder, *words) != (0, said):
                 return f"{words} is not followed to what was recorded"
+            left, last = values_said(said, "", ":"), race("window", folder, *words, more=[100, "S", "L"])[0]
+            replayed, made = octet(["replay", "S", "L"], folder)
+            problem = first(
+                differs("the window", last, 0),
+                differs("verify", octet(["verify", "S", "L"], folder), (0, text("ordered"))),
+                differs("replay", replayed, 0),
+                differs("the values", [left[number] for number in values_said(made, "o", "")], list(values_said(made, "o", "").values())),
+            )
+            if problem is not None:
+                return f"the window of {words}: {problem}"
     return None
 
 
@@ -180,6 +233,120 @@ def cut():
             if problem is not None:
                 return problem
     return None
+
+
+def lines_of_spans(begins, ends):
+    spans = [f"its accesses {begin} to {end - 1}" if begin < end else "none of its accesses" for begin, end in zip(begins, ends)]
+    return text(*(f"thread {thread}: {span}" for thread, span in enumerate(spans)))
+
+
+def accesses_traced(said):
+    """The accesses of each thread by what `octet trace` says."""
+    made = [[] for _ in range(THREADS)]
+    for line in said.decode().splitlines():
+        place, words = line.split(" ", 1)
+        if words.split()[0] in ("read", "write", "update"):
+            made[int(place.split(":")[0])].append(words.rsplit(" line ", 1)[0])
+    return made
+
+
+def values_said(said, word, separator):
+    """The value of each object that is said, by its number."""
+    found = re.findall(rf"^object {word}(\d+){separator} (\d+)$", said.decode(), re.MULTILINE)
+    return {int(number): int(value) for number, value in found}
+
+
+def window_problem(folder, model, words, asked, last=None):
+    """What is wrong with a window of the recording in a folder, which the model has followed. It has so many last accesses."""
+    last = last or asked
+    begins = model.begins(last)
+    wanted = [made[begin:] for begin, made in zip(begins, model.made)]
+    problem = differs("the window", race("window", folder, *words, more=[asked, "S", "L"]), (0, lines_of_spans(begins, model.accesses)))
+    if problem is not None:
+        return problem
+    status, said = octet(["replay", "S", "L"], folder)
+    left = values_said(said, "o", "")
+    return first(
+        differs("verify", octet(["verify", "S", "L"], folder), (0, text("ordered"))),
+        differs("replay", status, 0),
+        differs("the accesses", accesses_traced(octet(["trace", "S", "L"], folder)[1]), wanted),
+        differs("some values", bool(left), any(wanted)),
+        differs("the values", left, {number: model.cells[number] for number in left}),
+        differs("more accesses than were asked for", [len(made) > last for made in wanted], [False] * THREADS),
+    )
+
+
+def windowed():
+    """The last accesses of a run, whole and cut, are a script with its log, which `octet` takes."""
+    if not PROGRAM.exists() or not OCTET.exists():
+        return None
+    with folder_with() as folder:
+        for every, is_cut in itertools.product([10, 1_000], [False, True]):
+            words = [8, 3_000, every]
+            _, content = recorded(folder, *words)
+            if is_cut:
+                content = content[: len(content) * 2 // 3]
+                pathlib.Path(folder, "F").write_bytes(content)
+            model = Model(content, 8, every)
+            model.run()
+            for last in [1, 100, 1_000]:
+                problem = window_problem(folder, model, words, last)
+                if problem is not None:
+                    return f"{last} of {words}, cut: {is_cut}: {problem}"
+    return None
+
+
+def begun_later():
+    """A window that has no room in a script's file begins later, with half of what was asked for."""
+    if not PROGRAM.exists() or not OCTET.exists():
+        return None
+    with folder_with() as folder:
+        # By these words no thread makes an access of a shared object. So threads 1 to 3 have as many as were asked for, and thread
+        # 0, from which they take their objects, as many or fewer.
+        words = [4, 20_000, 1_000_000]
+        _, content = recorded(folder, *words)
+        model = Model(content, *words[::2])
+        model.run()
+        # So many accesses of three threads take some 1.4 million bytes; half as many of four take 930,000.
+        asked = 18_000
+        problem = window_problem(folder, model, words, asked, asked // 2)
+        size = pathlib.Path(folder, "S").stat().st_size
+        return first(problem, None if 2**19 < size <= 2**20 else f"the script has {size} bytes")
+
+
+def pictured():
+    """A picture of the last thousand accesses of a longer run, which a mark orders."""
+    if not PROGRAM.exists() or not OCTET.exists():
+        return None
+    with folder_with() as folder:
+        words = [9, 20_000, 100]
+        recorded(folder, *words)
+        status, *_ = race("window", folder, *words, more=[250, "S", "L"])
+        status_of_picture, picture = called([DIAGRAM, "--octet", OCTET, "S", "L", "--from", "1", "--to", "400"], folder)
+        traced = called([DIAGRAM, "--octet", OCTET, "S", "L", "--chrome", "R"], folder)[0]
+        made = json.loads(pathlib.Path(folder, "R").read_bytes())
+        return first(
+            differs("the window", status, 0),
+            differs("the picture", (status_of_picture, picture.startswith(b"<svg")), (0, True)),
+            differs("the trace", (traced, bool(made)), (0, True)),
+        )
+
+
+def unwindowed():
+    """A window that is none: wrong words, and a file that is none."""
+    if not PROGRAM.exists():
+        return None
+    with folder_with() as folder:
+        recorded(folder, 1, 900, 10)
+        before = sorted(path.name for path in pathlib.Path(folder).iterdir())
+        bad = [(), (1, "S"), (0, "S", "L"), (65_536, "S", "L"), ("x", "S", "L"), (1, "S", "S"), (1, "F", "L"), (1, "S", "F"), (1, "S", "L", 1)]
+        unread = "the file cannot be read"
+        return first(
+            *(differs(f"{each}", race("window", folder, 1, 900, 10, more=each), (1, b"", WORDS)) for each in bad),
+            differs("record with more words", race("record", folder, 1, 900, 10, more=[1, "S", "L"]), (1, b"", WORDS)),
+            differs("no file", race("window", folder, 1, 2, 3, "N", more=[1, "S", "L"]), refused(5, unread)),
+            differs("nothing is written", sorted(path.name for path in pathlib.Path(folder).iterdir()), before),
+        )
 
 
 def refusal_of_change(place, begin):
@@ -284,5 +451,9 @@ TESTS = {
     "octet_long_race: a killed recording is followed": killed,
     "octet_long_race: what is no recording of these words": spoiled,
     "octet_long_race: what it refuses": words,
-    f"octet_long_race: {RACES} races of a million accesses are followed": raced,
+    "octet_long_race: the last accesses of a run are a script with its log": windowed,
+    "octet_long_race: a window that is too long begins later": begun_later,
+    "octet_long_race: a picture of the last thousand accesses": pictured,
+    "octet_long_race: a window that is none": unwindowed,
+    f"octet_long_race: {RACES} races of a million accesses are followed, and each has a window": raced,
 }

@@ -1,5 +1,9 @@
 mod Walked
 mod Writes
-mod Taken
 mod Fours
 mod Recorded
+mod Served
+mod Found
+mod Windowed
+mod Reruns
+mod Taken

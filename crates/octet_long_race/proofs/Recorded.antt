@@ -19,13 +19,12 @@ use Rattle.octet_long_race.specs.Beside.{HasEndedAs}
 use Rattle.octet_long_race.specs.Followed.{HasMade, Follows}
 use Rattle.octet_long_race.specs.Lines.{run_text, Tells}
 use Rattle.octet_long_race.specs.Recorded.{numbers, head_of, HasMadeAll, Records}
-use Rattle.octet_long_race.specs.Serving.{Serves, Recorded, Followed}
 use Rattle.octet_long_race.specs.Written.{HasFile, Holds, Grows}
 
 made_all : (run : LongRun) (plan : Plan) (number : ℕ) (track : Track) (stop : Stop) → HasEndedAs run plan number track stop → HasMadeAll plan number (journal_of track) stop
 made_all run plan number track stop ended = record { way = ended.way; complete = ended.complete; whole = ended.whole }
 
-on_ok : {A E : Type 0} (result : Result A E) (P Q : Type 0) → (P → Q) → OnOk result P → OnOk result Q
+pub on_ok : {A E : Type 0} (result : Result A E) (P Q : Type 0) → (P → Q) → OnOk result P → OnOk result Q
 on_ok (Ok x) P Q then p = then p
 on_ok (Err e) P Q then p = tt
 
@@ -104,15 +103,3 @@ pub recorded_all : {E : Type 0} (run : LongRun) (plan : Plan) (file : List ℕ) 
 recorded_all run plan file a b c d stops values starts result first mid grown ended last holds grows ends same one two three four recorded tells =
     records run plan file grows.bytes a b c d stops values starts result first.contents ended.contents last.contents same one two three four recorded
     (ends file (piece_bytes (pieces.Head (head_of plan)) ++ grows.bytes) first.contents (grows.adds file (piece_bytes (pieces.Head (head_of plan))) first.contents holds)) tells
-
-pub serves_recorded : {E : Type 0} (plan : Plan) (file : List ℕ) (result : Result (Unit {0}) E) (before after : Option Contents) → OnOk result (IfSome before (λ had. IsSomeAnd after (Records plan file had))) → OnOk result (IfSome before (λ had. IsSomeAnd after (Serves had)))
-serves_recorded plan file (Err e) before after is = tt
-serves_recorded plan file (Ok done) None after is = tt
-serves_recorded plan file (Ok done) (Some had) None is = is
-serves_recorded plan file (Ok done) (Some had) (Some now) is = Recorded plan file is
-
-pub serves_followed : {E : Type 0} (plan : Plan) (result : Result (Unit {0}) E) (before after : Option Contents) → OnOk result (IfSome before (λ had. IsSomeAnd after (Follows plan had))) → OnOk result (IfSome before (λ had. IsSomeAnd after (Serves had)))
-serves_followed plan (Err e) before after is = tt
-serves_followed plan (Ok done) None after is = tt
-serves_followed plan (Ok done) (Some had) None is = is
-serves_followed plan (Ok done) (Some had) (Some now) is = Followed plan is

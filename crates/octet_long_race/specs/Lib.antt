@@ -7,4 +7,8 @@ pub mod Lines
 pub mod Recorded
 pub mod Reads
 pub mod Followed
+pub mod Reruns
+pub mod Finding
+pub mod Windows
+pub mod Words
 pub mod Serving

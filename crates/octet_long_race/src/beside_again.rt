@@ -13,8 +13,12 @@ use crate::walking::{Walked, walk};
 use octet_base::Desk;
 use octet_live::Bells;
 use octet_stream::{Halt, LongFollower, LongRerun};
+use octet_tail::{Tailed, TailedThread};
 use std::sync::Wait;
 use std::thread::{Threads, join_mut};
+
+/// A thread of a run that is made again, with its last accesses, if they are noted.
+pub(crate) type Runner = TailedThread<LongFollower>;
 
 /// What a thread came to, or none where no threads can be made.
 pub(crate) type Came = Option<Walked<Halt>>;
@@ -22,19 +26,19 @@ pub(crate) type Came = Option<Walked<Halt>>;
 /// What all threads share.
 #[derive(Clone, Copy)]
 pub(crate) struct Shared<'a> {
-    pub(crate) rerun: &'a LongRerun,
+    pub(crate) run: &'a Tailed<LongRerun>,
     pub(crate) start: &'a Start,
     pub(crate) bells: &'a Bells,
     pub(crate) plan: Plan,
 }
 
 // One thread, from the meeting of all to its end.
-fn one<R: Wait>(rt: &R, shared: Shared<'_>, track: &mut LongFollower, number: u8) -> Came
-    requires ready { IsReady shared.rerun.now number track.old }
-    ensures come { HasCome shared.entry.rerun.now shared.entry.plan number result track.new }
+fn one<R: Wait>(rt: &R, shared: Shared<'_>, track: &mut Runner, number: u8) -> Came
+    requires ready { IsReady shared.run.now number track.old }
+    ensures come { HasCome shared.entry.run.now shared.entry.plan number result track.new }
 {
     let came = if shared.start.meet(rt) {
-        Some(walk(rt, shared.rerun, track, number, shared.plan))
+        Some(walk(rt, shared.run, track, number, shared.plan))
     } else {
         None
     };
@@ -46,26 +50,26 @@ fn one<R: Wait>(rt: &R, shared: Shared<'_>, track: &mut LongFollower, number: u8
 fn two<R: Threads + Wait + Sync>(
     rt: &R,
     shared: Shared<'_>,
-    a: &mut LongFollower,
-    b: &mut LongFollower,
+    a: &mut Runner,
+    b: &mut Runner,
     number: u8,
 ) -> (Came, Came)
     requires inside { number < 3 }
-    requires first { IsReady shared.rerun.now number a.old }
-    requires second { IsReady shared.rerun.now (number + 1) b.old }
-    ensures first { HasCome shared.entry.rerun.now shared.entry.plan number result.0 a.new }
-    ensures second { HasCome shared.entry.rerun.now shared.entry.plan (number + 1) result.1 b.new }
+    requires first { IsReady shared.run.now number a.old }
+    requires second { IsReady shared.run.now (number + 1) b.old }
+    ensures first { HasCome shared.entry.run.now shared.entry.plan number result.0 a.new }
+    ensures second { HasCome shared.entry.run.now shared.entry.plan (number + 1) result.1 b.new }
 {
     let next = number + 1;
     join_mut(
         rt,
         &mut || -> Came
-            requires { IsSync R.row × IsReady shared.rerun.now number a.now }
-            ensures { HasCome shared.entry.rerun.now shared.entry.plan number result a.exit.now }
+            requires { IsSync R.row × IsReady shared.run.now number a.now }
+            ensures { HasCome shared.entry.run.now shared.entry.plan number result a.exit.now }
         { one(rt, shared, a, number) },
         &mut || -> Came
-            requires { IsSync R.row × IsReady shared.rerun.now next b.now }
-            ensures { HasCome shared.entry.rerun.now shared.entry.plan next result b.exit.now }
+            requires { IsSync R.row × IsReady shared.run.now next b.now }
+            ensures { HasCome shared.entry.run.now shared.entry.plan next result b.exit.now }
         { one(rt, shared, b, next) },
     )
 }
@@ -74,31 +78,31 @@ fn two<R: Threads + Wait + Sync>(
 fn four<R: Threads + Wait + Sync>(
     rt: &R,
     shared: Shared<'_>,
-    a: &mut LongFollower,
-    b: &mut LongFollower,
-    c: &mut LongFollower,
-    d: &mut LongFollower,
+    a: &mut Runner,
+    b: &mut Runner,
+    c: &mut Runner,
+    d: &mut Runner,
 ) -> ((Came, Came), (Came, Came))
-    requires first { IsReady shared.rerun.now 0 a.old }
-    requires second { IsReady shared.rerun.now 1 b.old }
-    requires third { IsReady shared.rerun.now 2 c.old }
-    requires fourth { IsReady shared.rerun.now 3 d.old }
-    ensures first { HasCome shared.entry.rerun.now shared.entry.plan 0 result.0.0 a.new }
-    ensures second { HasCome shared.entry.rerun.now shared.entry.plan 1 result.0.1 b.new }
-    ensures third { HasCome shared.entry.rerun.now shared.entry.plan 2 result.1.0 c.new }
-    ensures fourth { HasCome shared.entry.rerun.now shared.entry.plan 3 result.1.1 d.new }
+    requires first { IsReady shared.run.now 0 a.old }
+    requires second { IsReady shared.run.now 1 b.old }
+    requires third { IsReady shared.run.now 2 c.old }
+    requires fourth { IsReady shared.run.now 3 d.old }
+    ensures first { HasCome shared.entry.run.now shared.entry.plan 0 result.0.0 a.new }
+    ensures second { HasCome shared.entry.run.now shared.entry.plan 1 result.0.1 b.new }
+    ensures third { HasCome shared.entry.run.now shared.entry.plan 2 result.1.0 c.new }
+    ensures fourth { HasCome shared.entry.run.now shared.entry.plan 3 result.1.1 d.new }
 {
     join_mut(
         rt,
         &mut || -> (Came, Came)
-            requires { IsSync R.row × IsReady shared.rerun.now 0 a.now × IsReady shared.rerun.now 1 b.now }
-            ensures first { HasCome shared.entry.rerun.now shared.entry.plan 0 result.0 a.exit.now }
-            ensures second { HasCome shared.entry.rerun.now shared.entry.plan 1 result.1 b.exit.now }
+            requires { IsSync R.row × IsReady shared.run.now 0 a.now × IsReady shared.run.now 1 b.now }
+            ensures first { HasCome shared.entry.run.now shared.entry.plan 0 result.0 a.exit.now }
+            ensures second { HasCome shared.entry.run.now shared.entry.plan 1 result.1 b.exit.now }
         { two(rt, shared, a, b, 0) },
         &mut || -> (Came, Came)
-            requires { IsSync R.row × IsReady shared.rerun.now 2 c.now × IsReady shared.rerun.now 3 d.now }
-            ensures third { HasCome shared.entry.rerun.now shared.entry.plan 2 result.0 c.exit.now }
-            ensures fourth { HasCome shared.entry.rerun.now shared.entry.plan 3 result.1 d.exit.now }
+            requires { IsSync R.row × IsReady shared.run.now 2 c.now × IsReady shared.run.now 3 d.now }
+            ensures third { HasCome shared.entry.run.now shared.entry.plan 2 result.0 c.exit.now }
+            ensures fourth { HasCome shared.entry.run.now shared.entry.plan 3 result.1 d.exit.now }
         { two(rt, shared, c, d, 2) },
     )
 }
@@ -125,20 +129,20 @@ pub(crate) fn follow_beside<R: Threads + Wait + Sync, D: Desk>(
     sources: &mut Sources,
     desk: &mut D,
     wanted: &Wanted,
-    a: &mut LongFollower,
-    b: &mut LongFollower,
-    c: &mut LongFollower,
-    d: &mut LongFollower,
+    a: &mut Runner,
+    b: &mut Runner,
+    c: &mut Runner,
+    d: &mut Runner,
 ) -> ((Came, Came), (Came, Came))
-    requires first { IsReady shared.rerun.now 0 a.old }
-    requires second { IsReady shared.rerun.now 1 b.old }
-    requires third { IsReady shared.rerun.now 2 c.old }
-    requires fourth { IsReady shared.rerun.now 3 d.old }
+    requires first { IsReady shared.run.now 0 a.old }
+    requires second { IsReady shared.run.now 1 b.old }
+    requires third { IsReady shared.run.now 2 c.old }
+    requires fourth { IsReady shared.run.now 3 d.old }
     ensures reads { OnlyReads (D.state desk.old) (D.state desk.new) }
-    ensures first { HasCome shared.entry.rerun.now shared.entry.plan 0 result.0.0 a.new }
-    ensures second { HasCome shared.entry.rerun.now shared.entry.plan 1 result.0.1 b.new }
-    ensures third { HasCome shared.entry.rerun.now shared.entry.plan 2 result.1.0 c.new }
-    ensures fourth { HasCome shared.entry.rerun.now shared.entry.plan 3 result.1.1 d.new }
+    ensures first { HasCome shared.entry.run.now shared.entry.plan 0 result.0.0 a.new }
+    ensures second { HasCome shared.entry.run.now shared.entry.plan 1 result.0.1 b.new }
+    ensures third { HasCome shared.entry.run.now shared.entry.plan 2 result.1.0 c.new }
+    ensures fourth { HasCome shared.entry.run.now shared.entry.plan 3 result.1.1 d.new }
 {
     let (_, came) = join_mut(
         rt,
@@ -147,11 +151,11 @@ pub(crate) fn follow_beside<R: Threads + Wait + Sync, D: Desk>(
             ensures reads { OnlyReads (D.state desk.entry.now) (D.state desk.exit.now) }
         { feed(rt, shared, sources, desk, wanted) },
         &mut || -> ((Came, Came), (Came, Came))
-            requires { IsSync R.row × IsReady shared.rerun.now 0 a.now × IsReady shared.rerun.now 1 b.now × IsReady shared.rerun.now 2 c.now × IsReady shared.rerun.now 3 d.now }
-            ensures first { HasCome shared.entry.rerun.now shared.entry.plan 0 result.0.0 a.exit.now }
-            ensures second { HasCome shared.entry.rerun.now shared.entry.plan 1 result.0.1 b.exit.now }
-            ensures third { HasCome shared.entry.rerun.now shared.entry.plan 2 result.1.0 c.exit.now }
-            ensures fourth { HasCome shared.entry.rerun.now shared.entry.plan 3 result.1.1 d.exit.now }
+            requires { IsSync R.row × IsReady shared.run.now 0 a.now × IsReady shared.run.now 1 b.now × IsReady shared.run.now 2 c.now × IsReady shared.run.now 3 d.now }
+            ensures first { HasCome shared.entry.run.now shared.entry.plan 0 result.0.0 a.exit.now }
+            ensures second { HasCome shared.entry.run.now shared.entry.plan 1 result.0.1 b.exit.now }
+            ensures third { HasCome shared.entry.run.now shared.entry.plan 2 result.1.0 c.exit.now }
+            ensures fourth { HasCome shared.entry.run.now shared.entry.plan 3 result.1.1 d.exit.now }
         { four(rt, shared, a, b, c, d) },
     );
     came

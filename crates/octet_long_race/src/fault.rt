@@ -1,15 +1,18 @@
 //! Why the program ends early.
 use octet_base::DeskFault;
+use octet_blocks::{FeedFault, GatherFault};
 use octet_marks::{MarksCause, MarksFault};
 use octet_model::OutOfMemory;
 use octet_stream::Divergence;
+use octet_tail::{Untaken, Unwritten};
+use octet_window::Refusal;
 use std::alloc::{AllocError, AllocFailed};
 use thiserror::Error;
 
 /// Why the program ends early.
 #[derive(Clone, Copy, Debug, Error)]
 pub(crate) enum Fault {
-    #[error("wanted is `record FILE SEED ACCESSES EVERY` or `follow` with the same, EVERY from 1 to 1,000,000")]
+    #[error("wanted is `record FILE SEED ACCESSES EVERY`, `follow` with the same, or `window` with the same and LAST SCRIPT LOG; EVERY from 1 to 1,000,000, LAST from 1 to 65,535")]
     Words,
     #[error("out of memory")]
     Memory,
@@ -29,6 +32,10 @@ pub(crate) enum Fault {
     Threads,
     #[error("a thread has handed on no block, or has not ended")]
     Broken,
+    #[error("the window is too long for a script: begin later, with fewer accesses")]
+    TooLong,
+    #[error("the window has no one history by the marks of the file")]
+    NoHistory,
 }
 
 /// The number of a refusal of a marks file.
@@ -62,6 +69,7 @@ impl Fault {
             Fault::Amiss => 8,
             Fault::Threads => 9,
             Fault::Broken => 10,
+            Fault::TooLong | Fault::NoHistory => 11,
         }
     }
 }
@@ -89,6 +97,55 @@ impl From<MarksFault> for Fault {
         match fault {
             MarksFault::Refused { cause, at } => Fault::Refused { cause, at },
             MarksFault::OutOfMemory => Fault::Memory,
+        }
+    }
+}
+
+impl From<GatherFault> for Fault {
+    fn from(fault: GatherFault) -> Self {
+        match fault {
+            GatherFault::OutOfMemory => Fault::Memory,
+            GatherFault::Broken => Fault::Broken,
+        }
+    }
+}
+
+impl From<FeedFault> for Fault {
+    fn from(fault: FeedFault) -> Self {
+        match fault {
+            FeedFault::OutOfMemory => Fault::Memory,
+            FeedFault::Refused { cause, at } => Fault::Refused { cause, at },
+            FeedFault::OtherRun => Fault::Other,
+            FeedFault::Over => Fault::Broken,
+        }
+    }
+}
+
+impl From<Untaken> for Fault {
+    fn from(untaken: Untaken) -> Self {
+        match untaken {
+            Untaken::ManyEvents => Fault::Amiss,
+            Untaken::OutOfMemory => Fault::Memory,
+        }
+    }
+}
+
+impl From<Refusal> for Fault {
+    fn from(refusal: Refusal) -> Self {
+        match refusal {
+            Refusal::OutOfMemory => Fault::Memory,
+            Refusal::NoHistory => Fault::NoHistory,
+            Refusal::NoObject { .. } => Fault::Amiss,
+            Refusal::ManyObjects { .. } | Refusal::ManyLines { .. } => Fault::TooLong,
+        }
+    }
+}
+
+impl From<Unwritten> for Fault {
+    fn from(unwritten: Unwritten) -> Self {
+        match unwritten {
+            Unwritten::TooLong => Fault::TooLong,
+            Unwritten::OutOfMemory => Fault::Memory,
         }
     }
 }

@@ -1,6 +1,7 @@
 //! What a marks file has of each thread is given to it while the threads run again.
 ghost use Rattle.octet_long_race.specs.Reads.{OnlyReads};
 
+use crate::cutting::Cut;
 use crate::fault::Fault;
 use crate::plan::THREADS;
 use crate::source::{Source, Wanted};
@@ -25,11 +26,16 @@ pub(crate) struct Sources {
 }
 
 impl Sources {
-    /// For the threads that these feed.
-    pub(crate) fn new(alloc: Global, feeders: List<Feeder>) -> Result<Sources, OutOfMemory> {
+    /// For the threads that these feed, in order. The recording of each is cut there, if anywhere.
+    pub(crate) fn new(
+        alloc: Global,
+        feeders: List<Feeder>,
+        cuts: &[Cut],
+    ) -> Result<Sources, OutOfMemory> {
         let mut sources = Vec::new(alloc);
         for feeder in feeders.into_vec() {
-            sources.push(Source::new(alloc, feeder))?;
+            let cut = cuts.get(sources.len()).copied();
+            sources.push(Source::new(alloc, feeder, cut))?;
         }
         Ok(Sources {
             alloc,
@@ -40,7 +46,7 @@ impl Sources {
 
     // Nothing more is read for anyone.
     fn stop_all(&mut self, fault: Fault) {
-        self.fault = Some(fault);
+        self.fault = Some(self.fault.unwrap_or(fault));
         for index in 0..self.sources.len() {
             if let Some(source) = self.sources.get_mut(index) {
                 source.stop();
@@ -58,8 +64,9 @@ impl Sources {
         match source.give_some(self.alloc, desk, wanted) {
             Ok(some) => some,
             Err(fault) => {
+                let is_first = self.fault.is_none();
                 self.stop_all(fault);
-                true
+                is_first
             }
         }
     }

@@ -1,9 +1,11 @@
 //! What the program says of a run.
 ghost use Rattle.std.specs.Prelude.{◌≡◌, ◌++◌, OnOk, IfOk};
 ghost use Rattle.std.specs.Fmt.{decimal};
-ghost use Rattle.octet_long_race.specs.Lines.{cut_words, stop_line, value_lines, run_text, Tells};
+ghost use Rattle.octet_long_race.specs.Lines.{cut_words, stop_line, value_lines, run_text, span_words, span_line, spans_text, made_in, made_but, Tells};
 
-use crate::fault::{Fault, unwritten};
+use crate::fault::Fault;
+use crate::files::say;
+use crate::finding::Span;
 use crate::walking::Way;
 use octet_base::Desk;
 use octet_model::{List, OutOfMemory, push_number};
@@ -23,6 +25,41 @@ pub(crate) struct Stops {
     pub(crate) second: Stop,
     pub(crate) third: Stop,
     pub(crate) fourth: Stop,
+}
+
+/// The accesses of four threads between two fronts.
+#[derive(Clone, Copy)]
+pub(crate) struct Spans {
+    pub(crate) first: Span,
+    pub(crate) second: Span,
+    pub(crate) third: Span,
+    pub(crate) fourth: Span,
+}
+
+impl Stops {
+    /// How many accesses each thread has made.
+    pub(crate) fn made(&self) -> [u64; 4]
+        ensures { result ≡ made_in self.now }
+    {
+        [
+            self.first.way.accesses,
+            self.second.way.accesses,
+            self.third.way.accesses,
+            self.fourth.way.accesses,
+        ]
+    }
+
+    /// How many accesses each thread has made, but for the last ones.
+    pub(crate) fn made_but(&self, last: u64) -> [u64; 4]
+        ensures { result ≡ made_but last self.now }
+    {
+        [
+            self.first.way.accesses.saturating_sub(last),
+            self.second.way.accesses.saturating_sub(last),
+            self.third.way.accesses.saturating_sub(last),
+            self.fourth.way.accesses.saturating_sub(last),
+        ]
+    }
 }
 
 // Adds words and a number.
@@ -88,8 +125,38 @@ pub(crate) fn tell<D: Desk>(
     ensures told { OnOk result (Tells (run_text stops values.now) (D.state desk.old).contents (D.state desk.new).contents) }
 {
     let text = run_text(alloc, stops, values.as_slice())?;
-    match desk.say(alloc, text.as_slice()) {
-        Ok(()) => Ok(()),
-        Err(fault) => Err(unwritten(fault)),
+    say(alloc, desk, text.as_slice())
+}
+
+// Adds which accesses these are, if there are any.
+fn push_words(out: &mut Vec<u8>, some: bool, span: Span) -> Result<(), OutOfMemory>
+    ensures { OnOk result (out.new.items ≡ out.old.items ++ span_words some span) }
+{
+    if some {
+        push_named(out, b": its accesses ", span.from)?;
+        push_named(out, b" to ", span.upto.saturating_sub(1))?;
+        out.extend_from_slice(b"\n")?;
+    } else {
+        out.extend_from_slice(b": none of its accesses\n")?;
     }
+    Ok(())
+}
+
+fn push_span(out: &mut Vec<u8>, thread: u64, span: Span) -> Result<(), OutOfMemory>
+    ensures { OnOk result (out.new.items ≡ out.old.items ++ span_line thread span) }
+{
+    push_named(out, b"thread ", thread)?;
+    push_words(out, span.from < span.upto, span)
+}
+
+/// A line for each thread: its accesses in the window, counted from 0.
+pub(crate) fn spans_text(alloc: Global, spans: Spans) -> Result<Vec<u8>, OutOfMemory>
+    ensures { IfOk result (λ text. text.items ≡ spans_text spans) }
+{
+    let mut out = Vec::new(alloc);
+    push_span(&mut out, 0, spans.first)?;
+    push_span(&mut out, 1, spans.second)?;
+    push_span(&mut out, 2, spans.third)?;
+    push_span(&mut out, 3, spans.fourth)?;
+    Ok(out)
 }

@@ -1,22 +1,27 @@
 //! `octet_long_race record FILE SEED ACCESSES EVERY`: four threads make accesses of shared and of own objects, and their
-//! marks go into a file while they run. `octet_long_race follow ..` with the same words makes the run again by that file.
+//! marks go into a file while they run. `octet_long_race follow ..` with the same words makes the run again by that file, and
+//! `octet_long_race window .. LAST SCRIPT LOG` writes its last accesses as a script with its log.
 #![tactic(auto)]
 
 mod beside;
 mod beside_again;
+mod cutting;
 mod demands;
 mod fault;
 mod feeding;
+mod files;
+mod finding;
 mod following;
 mod four;
 mod lines;
 mod plan;
 mod race;
 mod recording;
-mod sheet;
 mod source;
 mod starting;
 mod walking;
+mod windowing;
+mod words;
 mod writing;
 
 use fault::Fault;

@@ -1,5 +1,5 @@
 //! The numbers from which follows what threads do.
-ghost use Rattle.std.specs.Prelude.{◌≤◌};
+ghost use Rattle.std.specs.Prelude.{◌≡◌, ◌≤◌, IfSome};
 
 /// How many threads run.
 pub(crate) const THREADS: u8 = 4;
@@ -41,7 +41,9 @@ pub(crate) struct Plan {
 impl Plan {
     /// The plan of three numbers, if each thread is to make at most 2^42 accesses, and one in 1 to 1,000,000 of a shared
     /// object.
-    pub(crate) fn new(seed: u64, accesses: u64, every: u64) -> Option<Plan> {
+    pub(crate) fn new(seed: u64, accesses: u64, every: u64) -> Option<Plan>
+        ensures { IfSome result (λ plan. (plan.seed ≡ seed) × (plan.accesses ≡ accesses) × (plan.every ≡ every)) }
+    {
         if accesses > MOST_ACCESSES || every == 0 || every > MOST_BETWEEN {
             return None;
         }

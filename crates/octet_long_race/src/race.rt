@@ -1,26 +1,40 @@
-//! The words of the command line, and what they ask for.
-ghost use Rattle.std.specs.Prelude.{◌≡◌, None, IfSome, IsSomeAnd, OnOk};
-ghost use Rattle.octet_long_race.specs.Serving.{Serves};
+//! What the words of a command line ask for is done.
+ghost use Rattle.std.specs.Prelude.{◌≡◌, ◌<◌, ℕ, None, IfSome, IsSomeAnd, OnOk};
+ghost use Rattle.octet_long_race.specs.Serving.{IsDone, Serves};
+ghost use Rattle.octet_long_race.specs.Words.{texts};
+ghost use Rattle.octet_long_race.specs.declared.windowing.Names.{Names};
+ghost use Rattle.octet_long_race.specs.declared.words.Task.TheVariants.{Window};
 
 use crate::fault::Fault;
 use crate::following::follow;
-use crate::plan::Plan;
 use crate::recording::record_run;
+use crate::windowing::window;
+use crate::words::{Asked, Task, asked_by};
 use octet_base::Desk;
 use std::alloc::Global;
 use std::sync::Wait;
 use std::thread::Threads;
 
-// The plan that three words are.
-fn plan_of(seed: &str, accesses: &str, every: &str) -> Option<Plan> {
-    Plan::new(
-        seed.parse().ok()?,
-        accesses.parse().ok()?,
-        every.parse().ok()?,
-    )
+// Does what was asked for.
+fn carry_out<R: Threads + Wait + Sync, D: Desk>(
+    rt: &R,
+    alloc: Global,
+    desk: &mut D,
+    asked: Asked<'_>,
+) -> Result<(), Fault>
+    requires some { (names : Names) (last : ℕ) → asked.task ≡ Window names last → 0 < last }
+    requires begun { (D.state desk.old).begun ≡ None }
+    ensures { OnOk result (IfSome (D.state desk.old).contents (λ before. IsSomeAnd (D.state desk.new).contents (IsDone asked.entry.task asked.entry.plan asked.entry.file.now before))) }
+{
+    match asked.task {
+        Task::Record => record_run(rt, alloc, desk, asked.file, asked.plan),
+        Task::Follow => follow(rt, alloc, desk, asked.file, asked.plan),
+        Task::Window { names, last } => window(rt, alloc, desk, names, asked.plan, last),
+    }
 }
 
-/// Does what the words of a command line say: records a run, or makes one again by its file.
+/// Does what the words of a command line say: records a run, makes one again by its file, or writes its last accesses.
+#[tactic(auto, using(crate::proofs::Served::some_asked))]
 pub(crate) fn serve<R: Threads + Wait + Sync, D: Desk>(
     rt: &R,
     alloc: Global,
@@ -28,15 +42,10 @@ pub(crate) fn serve<R: Threads + Wait + Sync, D: Desk>(
     desk: &mut D,
 ) -> Result<(), Fault>
     requires { (D.state desk.old).begun ≡ None }
-    ensures { OnOk result (IfSome (D.state desk.old).contents (λ before. IsSomeAnd (D.state desk.new).contents (Serves before))) }
+    ensures { OnOk result (IfSome (D.state desk.old).contents (λ before. IsSomeAnd (D.state desk.new).contents (Serves (texts words.entry.now) before))) }
 {
-    let [verb, file, seed, accesses, every] = words else {
+    let Some(asked) = asked_by(words) else {
         return Err(Fault::Words);
     };
-    let plan = plan_of(seed.as_str(), accesses.as_str(), every.as_str()).ok_or(Fault::Words)?;
-    match verb.as_str() {
-        "record" => record_run(rt, alloc, desk, file.as_str(), plan),
-        "follow" => follow(rt, alloc, desk, file.as_str(), plan),
-        _ => Err(Fault::Words),
-    }
+    carry_out(rt, alloc, desk, asked)
 }

@@ -1,6 +1,5 @@
 //! A run that is recorded.
-ghost use Rattle.std.specs.Prelude.{◌≡◌, ◌∷◌, [], ℕ, List, Option, None, length, IfOk, IfSome, IsSomeAnd, IsSome, OnOk};
-ghost use Rattle.octet_base.specs.Desk.{Contents};
+ghost use Rattle.std.specs.Prelude.{◌≡◌, ◌∷◌, [], None, length, IfOk, IfSome, IsSomeAnd, OnOk};
 ghost use Rattle.octet_heap.specs.Models.{heap_model};
 ghost use Rattle.octet_long.specs.Recordings.{IsRecorded};
 ghost use Rattle.octet_marks.specs.declared.piece.Piece.TheVariants as pieces;
@@ -9,17 +8,18 @@ ghost use Rattle.octet_stream.specs.Runs.{RestsAs};
 ghost use Rattle.octet_stream.specs.Tracks.{journal_of};
 ghost use Rattle.octet_long_race.specs.Beside.{IsReady, HasCome, HasEndedAs};
 ghost use Rattle.octet_long_race.specs.Recorded.{numbers, head_of, Records};
-ghost use Rattle.octet_long_race.specs.Written.{Holds, HasFile};
+ghost use Rattle.octet_long_race.specs.Written.{Holds};
 
 use crate::beside::{Came, Shared, record_beside};
-use crate::fault::{Fault, unwritten};
+use crate::fault::Fault;
+use crate::files::{begin_with, finish};
 use crate::four::{four_of, list_of};
 use crate::lines::{Stop, Stops, tell};
 use crate::plan::{OBJECTS, Plan, THREADS};
-use crate::sheet::Sheet;
 use crate::starting::Start;
 use crate::writing::Writer;
 use octet_base::Desk;
+use octet_blocks::BlockWriter;
 use octet_live::Bells;
 use octet_log::{Digest, digest};
 use octet_marks::{Head, head};
@@ -73,22 +73,18 @@ pub(crate) fn head_of(alloc: Global, plan: Plan) -> Result<Head, OutOfMemory>
 type Opening = (LongRun, Track, Track, Track, Track, Writer);
 
 // The writer of what these receive.
-fn writer_of(alloc: Global, receivers: List<Receiver>) -> Result<Writer, OutOfMemory>
+fn writer_of(alloc: Global, receivers: List<Receiver>) -> Writer
     requires four { length receivers ≡ THREADS }
 {
     let (a, b, c, d) = four_of(receivers);
-    let first = Sheet::new(alloc, a)?;
-    let second = Sheet::new(alloc, b)?;
-    let third = Sheet::new(alloc, c)?;
-    let fourth = Sheet::new(alloc, d)?;
-    Ok(Writer {
+    Writer {
         alloc,
-        first,
-        second,
-        third,
-        fourth,
+        first: BlockWriter::new(alloc, a),
+        second: BlockWriter::new(alloc, b),
+        third: BlockWriter::new(alloc, c),
+        fourth: BlockWriter::new(alloc, d),
         fault: None,
-    })
+    }
 }
 
 fn opened(alloc: Global) -> Result<Opening, OutOfMemory>
@@ -99,7 +95,7 @@ fn opened(alloc: Global) -> Result<Opening, OutOfMemory>
     ensures fourth { IfOk result (λ new. IsReady new.0 3 new.4) }
 {
     let (run, tracks, receivers) = LongRun::new(alloc, THREADS, &starts(alloc)?, ROOM)?;
-    let writer = writer_of(alloc, receivers)?;
+    let writer = writer_of(alloc, receivers);
     let (first, second, third, fourth) = four_of(tracks);
     Ok((run, first, second, third, fourth, writer))
 }
@@ -147,28 +143,10 @@ fn begin<D: Desk>(alloc: Global, desk: &mut D, file: &str, plan: Plan) -> Result
     ensures begun { OnOk result (Holds file.now (piece_bytes (pieces.Head (head_of plan))) (D.state desk.old).contents (D.state desk.new)) }
 {
     let bytes = head(alloc, &head_of(alloc, plan)?)?;
-    if let Err(fault) = desk.begin(alloc, file) {
-        return Err(unwritten(fault));
-    }
-    match desk.add(alloc, bytes.as_slice()) {
-        Ok(()) => Ok(()),
-        Err(fault) => Err(unwritten(fault)),
-    }
-}
-
-// Ends the file of a recording.
-fn finish<D: Desk>(desk: &mut D) -> Result<(), Fault>
-    requires { IsSome (D.state desk.old).begun }
-    ensures { OnOk result ((name bytes : List ℕ) (before : Option Contents) → Holds name bytes before (D.state desk.old) → HasFile name bytes before (D.state desk.new).contents) }
-{
-    match desk.finish() {
-        Ok(()) => Ok(()),
-        Err(fault) => Err(unwritten(fault)),
-    }
+    begin_with(alloc, desk, file, bytes.as_slice())
 }
 
 /// Records a run into a file, and says what it came to.
-
 pub(crate) fn record_run<R: Threads + Wait + Sync, D: Desk>(
     rt: &R,
     alloc: Global,

@@ -1,17 +1,19 @@
-//! One thread's way through a marks file: what the file has of the thread is given to it, item by item.
+//! One thread's way through a marks file: it is fed the file, or the beginning of its recording.
 ghost use Rattle.octet_long_race.specs.Reads.{OnlyReads};
 
+use crate::cutting::{Cut, Cutter, Next};
 use crate::fault::{Fault, unread};
 use octet_base::Desk;
-use octet_marks::{Block, Head, Piece, Reader};
-use octet_stream::{Feeder, Item};
+use octet_blocks::BlockReader;
+use octet_marks::Head;
+use octet_stream::Feeder;
 use std::alloc::Global;
 
 /// How many bytes of a file are taken at once.
 pub(crate) const TAKEN_AT_ONCE: u32 = 32_768;
 
 /// How many steps are made in a row.
-const IN_A_ROW: u32 = 4_096;
+const IN_A_ROW: u32 = 16;
 
 /// The file that is wanted: its name, and what it begins with.
 #[derive(Drop)]
@@ -20,97 +22,53 @@ pub(crate) struct Wanted {
     pub(crate) head: Head,
 }
 
-fn is_same(one: &Head, other: &Head) -> bool {
-    one.threads == other.threads
-        && one.declared.bytes == other.declared.bytes
-        && one.starts.as_slice() == other.starts.as_slice()
-}
-
 /// One thread's way through a marks file.
 #[derive(Drop)]
 pub(crate) struct Source {
-    feeder: Feeder,
-    reader: Reader,
+    reader: BlockReader,
+    // Where the recording of the thread is cut, if it is.
+    cutter: Option<Cutter>,
     // Where the bytes begin that are taken next.
     from: u64,
-    // A block of the thread, and how many of its marks were given.
-    block: Option<Block>,
-    given: usize,
-    // An item that the thread has no room for yet.
-    held: Option<Item>,
-    // Whether the thread was told its end.
-    has_ended: bool,
-    // Whether nothing is left to be read.
+    // Bytes that were taken, of which so many were fed.
+    bytes: Vec<u8>,
+    fed: usize,
+    // Whether nothing is left to be taken.
     is_through: bool,
+    // Whether the thread was given all.
+    is_over: bool,
 }
 
 impl Source {
-    /// The way of the thread that this feeds, from the file's begin on.
-    pub(crate) fn new(alloc: Global, feeder: Feeder) -> Source {
+    /// The way of the thread that this feeds, from the file's begin on, up to the cut, if there is one.
+    pub(crate) fn new(alloc: Global, feeder: Feeder, cut: Option<Cut>) -> Source {
+        let reader = BlockReader::new(alloc, feeder);
+        let cutter = match cut {
+            Some(cut) => Some(Cutter::new(alloc, reader.thread(), cut)),
+            None => None,
+        };
         Source {
-            feeder,
-            reader: Reader::new(alloc),
+            reader,
+            cutter,
             from: 0,
-            block: None,
-            given: 0,
-            held: None,
-            has_ended: false,
+            bytes: Vec::new(alloc),
+            fed: 0,
             is_through: false,
+            is_over: false,
         }
     }
 
     /// Whether all is given that the file has.
     pub(crate) fn is_over(&self) -> bool {
-        self.is_through && self.held.is_none()
+        self.is_over
     }
 
-    /// Nothing more is read. The thread is told that its recording breaks off, unless it was told its end.
+    /// Nothing more is taken. The thread is told that its recording breaks off, unless it was told its end.
     pub(crate) fn stop(&mut self) {
-        self.block = None;
         self.is_through = true;
-        self.held = if self.has_ended {
-            None
-        } else {
-            Some(Item::BreaksOff)
-        };
-        self.has_ended = true;
     }
 
-    // The next item of the thread's block, if it has one.
-    fn next_of_block(&mut self) -> Option<Item> {
-        let block = self.block.as_ref()?;
-        let item = match block.marks.get(self.given) {
-            Some(mark) => Item::Marked { mark: *mark },
-            None => Item::BlockEnd {
-                gap: block.gap,
-                digest: block.digest,
-            },
-        };
-        self.given = self.given.saturating_add(1);
-        if let Item::BlockEnd { .. } = item {
-            self.block = None;
-        }
-        Some(item)
-    }
-
-    // What a piece of the file is to the thread. Another head than the one that is wanted is that of another run.
-    fn turn_to(&mut self, piece: Piece, wanted: &Wanted) -> Result<(), Fault> {
-        match piece {
-            Piece::Head { head } if !is_same(&head, &wanted.head) => return Err(Fault::Other),
-            Piece::Block { block } if block.thread == self.feeder.thread() => {
-                self.block = Some(block);
-                self.given = 0;
-            }
-            Piece::End { end } if end.thread == self.feeder.thread() => {
-                self.held = Some(Item::ThreadEnd);
-                self.has_ended = true;
-            }
-            Piece::Head { .. } | Piece::Block { .. } | Piece::End { .. } => {}
-        }
-        Ok(())
-    }
-
-    // Takes more bytes of the file. Where there are none, nothing more is read.
+    // Takes more bytes of the file. Where there are none, nothing is left.
     fn take_more<D: Desk>(
         &mut self,
         alloc: Global,
@@ -123,33 +81,52 @@ impl Source {
             Ok(bytes) => bytes,
             Err(fault) => return Err(unread(fault)),
         };
-        if bytes.is_empty() {
-            self.stop();
+        self.from = self.from.saturating_add(bytes.len() as u64);
+        self.is_through = bytes.is_empty();
+        if let Some(cutter) = &mut self.cutter {
+            cutter.feed(alloc, bytes.as_slice())?;
             return Ok(());
         }
-        self.from = self.from.saturating_add(bytes.len() as u64);
-        self.reader.feed(alloc, bytes.as_slice())?;
+        self.bytes = bytes;
+        self.fed = 0;
         Ok(())
     }
 
-    // Gives an item, reads a piece, or takes more bytes. Tells whether it could.
+    // Takes what comes next of a recording that is cut. Tells whether there was anything.
+    fn cut_next(&mut self, alloc: Global) -> Result<bool, Fault> {
+        let Some(cutter) = &mut self.cutter else {
+            return Ok(false);
+        };
+        match cutter.next(alloc)? {
+            Next::Bytes { bytes } => {
+                self.bytes = bytes;
+                self.fed = 0;
+            }
+            Next::Through => self.is_through = true,
+            Next::More => return Ok(false),
+        }
+        Ok(true)
+    }
+
+    // Feeds the thread what was taken, or takes more. Tells whether it could.
     fn step<D: Desk>(&mut self, alloc: Global, desk: &mut D, wanted: &Wanted) -> Result<bool, Fault>
         ensures reads { OnlyReads (D.state desk.old) (D.state desk.new) }
     {
-        if let Some(item) = self.held {
-            self.held = self.feeder.give(item);
-            return Ok(self.held.is_none());
-        }
-        if self.is_through {
+        if self.is_over {
             return Ok(false);
         }
-        self.held = self.next_of_block();
-        if self.held.is_some() {
-            return Ok(true);
+        if self.is_through {
+            self.is_over = self.reader.end(alloc, &wanted.head)?;
+            return Ok(self.is_over);
         }
-        match self.reader.next(alloc)? {
-            Some(piece) => self.turn_to(piece, wanted)?,
-            None => self.take_more(alloc, desk, wanted)?,
+        if self.fed < self.bytes.len() {
+            let (_, left) = self.bytes.as_slice().split_at(self.fed);
+            let count = self.reader.feed(alloc, &wanted.head, left)?;
+            self.fed = self.fed.saturating_add(count);
+            return Ok(count > 0);
+        }
+        if !self.cut_next(alloc)? {
+            self.take_more(alloc, desk, wanted)?;
         }
         Ok(true)
     }
