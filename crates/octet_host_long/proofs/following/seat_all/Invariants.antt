@@ -1,0 +1,9 @@
+use Rattle.std.proofs.Common.{◌≡◌, All, map}
+use Rattle.octet_host_long.specs.Opened.{IsSeatAgain}
+use Rattle.octet_host_long.proofs.following.seat_all.Given as goal
+
+abbrev pub invariant-loop-follower : goal.invariant-loop-follower
+invariant-loop-follower l = record {
+  seats : All (IsSeatAgain l.course.value.rerun l.objects) l.threads.items;
+  followers : map (λ it. it.thread) l.threads.items ≡ l.yielded;
+}

@@ -1,0 +1,4 @@
+pub mod Threads
+pub mod Streams
+pub mod Opened
+pub mod Closed

@@ -1,0 +1,43 @@
+-- What a clause says of the threads of a run of any length.
+use Rattle.std.specs.Prelude.{◌≡◌, length}
+use Rattle.std.specs.Arc.{arc_value}
+use Rattle.octet_follow.specs.Calls.{starts_in}
+use Rattle.octet_heap.specs.Models.{heap_model}
+use Rattle.octet_session.specs.Standing.{Standing}
+use Rattle.octet_stream.specs.declared.long_run.LongRun.{LongRun}
+use Rattle.octet_stream.specs.declared.long_rerun.LongRerun.{LongRerun}
+use Rattle.octet_stream.specs.Accesses.{track_standing, TrackRuns, TrackRests, TrackHasEnded}
+use Rattle.octet_stream.specs.Followers.{follower_standing, IsLongFollowerOf, HasFollowed}
+use Rattle.octet_stream.specs.Tracks.{IsTrackOf}
+use Rattle.octet_host.specs.declared.stage.Stage.{Stage}
+use Rattle.octet_host.specs.Stages.{StandsAt}
+use Rattle.octet_host_long.specs.declared.recorded.LongRecorded.{LongRecorded}
+use Rattle.octet_host_long.specs.declared.repeated.LongRepeated.{LongRepeated}
+
+-- the run of a thread that is recorded
+abbrev pub run_of : LongRecorded → LongRun
+run_of it = (arc_value it.heap).run
+
+-- its track is one of the run's, and stands where the stage says
+pub record IsLongRecorded (it : LongRecorded) : Type 0 where
+  pub own : IsTrackOf (run_of it) it.track
+  pub objects : it.objects ≡ (heap_model (run_of it).heap).objects
+  pub stands : StandsAt (TrackRuns it.track) (TrackRests it.track) (TrackHasEnded it.track) (heap_model (run_of it).heap).objects it.stage (track_standing it.track)
+
+-- the run of a thread that is made again
+abbrev pub rerun_of : LongRepeated → LongRerun
+rerun_of it = (arc_value it.course).rerun
+
+-- its follower is one of the run's, and stands where the stage says
+pub record IsLongRepeated (it : LongRepeated) : Type 0 where
+  pub own : IsLongFollowerOf (rerun_of it) it.thread
+  pub objects : it.objects ≡ length (starts_in (rerun_of it).course)
+  pub stands : StandsAt (Unit {0}) (Unit {0}) (HasFollowed it.thread) (length (starts_in (rerun_of it).course)) it.stage (follower_standing it.thread)
+
+-- what a call does to a recorded thread. It stays in its run
+abbrev pub OnTrack : (Stage → Standing → Stage → Standing → Type 0) → LongRecorded → LongRecorded → Type 0
+OnTrack Does it that = (that.heap ≡ it.heap) × Does it.stage (track_standing it.track) that.stage (track_standing that.track)
+
+-- what a call does to a thread that is made again. It stays in its run
+abbrev pub OnFollower : (Stage → Standing → Stage → Standing → Type 0) → LongRepeated → LongRepeated → Type 0
+OnFollower Does it that = (that.course ≡ it.course) × Does it.stage (follower_standing it.thread) that.stage (follower_standing that.thread)

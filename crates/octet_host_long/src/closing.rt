@@ -1,0 +1,102 @@
+//! What a recorded run of any length leaves, once all its threads are handed back.
+ghost use Rattle.std.specs.Prelude.{◌≡◌, All, length, IfOk};
+ghost use Rattle.octet_heap.specs.Markers.{Rests};
+ghost use Rattle.octet_stream.specs.Runs.{EachRests};
+ghost use Rattle.octet_stream.specs.Tracks.{IsTrackOf};
+ghost use Rattle.octet_host_long.specs.Closed.{IsClosedRecording};
+ghost use Rattle.octet_host_long.specs.Threads.{IsLongRecorded};
+
+use crate::fault::CloseFault;
+use crate::recorded::{LeftTrack, LongHeap, LongRecorded, Place};
+use octet_host::{Left, Stage, lay};
+use octet_model::List;
+use octet_stream::{LongRun, Track};
+use std::alloc::Global;
+use std::sync::Arc;
+
+impl LongHeap {
+    // Lays a track down. Tells whether its place was there and free.
+    fn lay(&self, number: usize, left: Left<Track>) -> bool
+        requires own { IsTrackOf self.now.run left.loose.value }
+        requires rests { Rests left.loose.value.marker }
+    {
+        match self.desk.get(number) {
+            Some(place) => lay(place, LeftTrack { left }),
+            None => false,
+        }
+    }
+}
+
+// Lays a thread's track on the desk of its run, as thread `number` of so many. Gives what the threads share, where no
+// other one has it any more.
+fn hand_in(
+    alloc: Global,
+    recorded: LongRecorded,
+    number: usize,
+    threads: usize,
+) -> Result<Option<LongHeap>, CloseFault>
+    requires { IsLongRecorded recorded }
+{
+    let LongRecorded {
+        heap,
+        track,
+        stage,
+        ..
+    } = recorded;
+    let (Stage::Resting | Stage::Ended) = stage else {
+        return Err(CloseFault::StillRunning);
+    };
+    if track.thread() as usize != number || heap.desk.len() != threads {
+        return Err(CloseFault::OtherSessions);
+    }
+    let left = Left::new(alloc, track)?;
+    if !heap.lay(number, left) {
+        return Err(CloseFault::OtherSessions);
+    }
+    Ok(Arc::into_inner(heap))
+}
+
+// Lays all tracks down. Gives what the threads share, where all of it are here.
+fn hand_in_all(alloc: Global, threads: Vec<LongRecorded>) -> Result<LongHeap, CloseFault>
+    requires { All IsLongRecorded threads.items }
+{
+    let count = threads.len();
+    let mut last = None;
+    let mut number = 0;
+    for recorded in threads {
+        last = hand_in(alloc, recorded, number, count)?;
+        number += 1;
+    }
+    last.ok_or(CloseFault::OtherSessions)
+}
+
+// The tracks that lie on a desk, in order.
+fn tracks_on(alloc: Global, run: &LongRun, desk: Vec<Place>) -> Result<List<Track>, CloseFault>
+    requires tags { All (λ tag. tag ≡ run.now) desk.items }
+    ensures all { IfOk result (λ tracks. length tracks ≡ length desk.items) }
+    ensures rest { IfOk result (EachRests run.now) }
+{
+    let mut tracks = List::new(alloc);
+    for place in desk {
+        let Some(left) = place.into_inner() else {
+            return Err(CloseFault::OtherSessions);
+        };
+        let track = left.left.into_inner();
+        if track.thread() as usize != tracks.len() {
+            return Err(CloseFault::OtherSessions);
+        }
+        tracks.push(track)?;
+    }
+    Ok(tracks)
+}
+
+/// Ends a recorded run, and answers the objects' final values. Every thread of it is handed in, in order, off, blocked or
+/// ended; else the threads are gone.
+pub fn close_recorded(alloc: Global, threads: Vec<LongRecorded>) -> Result<List<u64>, CloseFault>
+    requires { All IsLongRecorded threads.items }
+    ensures { IfOk result IsClosedRecording }
+{
+    let LongHeap { run, desk } = hand_in_all(alloc, threads)?;
+    let tracks = tracks_on(alloc, &run, desk)?;
+    Ok(run.close(alloc, tracks)?)
+}

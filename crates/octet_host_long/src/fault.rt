@@ -1,0 +1,23 @@
+//! Why a run is not ended.
+ghost use Rattle.std.specs.Prelude.{◌≡◌};
+ghost use Rattle.octet_host_long.specs.declared.fault.CloseFault.TheVariants as fault;
+
+use octet_model::OutOfMemory;
+
+/// Why a run is not ended.
+#[derive(Clone, Copy, Debug, PartialEq, Eq)]
+pub enum CloseFault {
+    OutOfMemory,
+    /// Threads are missing, in another order, or of two runs.
+    OtherSessions,
+    /// A thread runs.
+    StillRunning,
+}
+
+impl From<OutOfMemory> for CloseFault {
+    ghost from_gives = { λ _ e. e ≡ fault.OutOfMemory };
+
+    fn from(_: OutOfMemory) -> CloseFault {
+        CloseFault::OutOfMemory
+    }
+}

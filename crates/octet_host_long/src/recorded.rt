@@ -1,0 +1,128 @@
+//! A thread of a run of any length that is recorded.
+ghost use Rattle.std.specs.Prelude.{◌≡◌, All, length};
+ghost use Rattle.octet_heap.specs.Markers.{Rests};
+ghost use Rattle.octet_heap.specs.Models.{heap_model};
+ghost use Rattle.octet_stream.specs.Tracks.{IsTrackOf};
+
+use counted_slot::{Counted, Fits};
+use octet_host::{Answer, Left, Misuse, Stage, calls};
+use octet_session::Access;
+use octet_stream::{Full, LongRun, Track};
+use std::alloc::Global;
+use std::sync::Arc;
+
+/// How many words lie between what two threads write: two cache lines.
+pub(crate) const CACHE_PADDING: usize = 16;
+
+/// The track that a thread leaves.
+#[derive(Drop)]
+pub(crate) struct LeftTrack {
+    pub(crate) left: Left<Track>,
+}
+
+// What lies on the desk of a run is a track of it, off or blocked.
+impl Fits for LeftTrack {
+    type Tag = LongRun;
+
+    ghost fits = { λ run it. IsTrackOf run it.left.loose.value × Rests it.left.loose.value.marker };
+}
+
+/// Where a thread lays its track once its session is handed back.
+pub(crate) type Place = Counted<Option<LeftTrack>>;
+
+/// What the threads of a recorded run share.
+#[derive(Drop)]
+pub struct LongHeap {
+    pub(crate) run: LongRun,
+    // A place for each thread.
+    pub(crate) desk: Vec<Place>,
+    ghost tags: { All (λ tag. tag ≡ run) desk.items },
+    ghost places: { length desk.items ≡ (heap_model run.heap).threads },
+}
+
+/// A thread that is recorded.
+#[derive(Drop)]
+pub struct LongRecorded {
+    pub(crate) heap: Arc<LongHeap, Global>,
+    pub(crate) track: Track,
+    pub(crate) stage: Stage,
+    pub(crate) objects: u16,
+    // So that what two threads write lies apart.
+    pub(crate) padding: [u64; CACHE_PADDING],
+}
+
+impl LongRecorded {
+    ghost use Rattle.octet_host.specs.Calls.{Does, Goes, BeginsNext, IsNoRest, IsNotIdle, Accesses, GoesOn, Ends};
+    ghost use Rattle.octet_host.specs.declared.stage.Stage.TheVariants as at;
+    ghost use Rattle.octet_stream.specs.Accesses.{TrackHasEnded, IsTrackReason};
+    ghost use Rattle.octet_host_long.specs.Threads.{IsLongRecorded, OnTrack};
+
+    /// Marks the thread as running.
+    pub fn start(&mut self) -> Result<(), Misuse>
+        requires { IsLongRecorded self.old }
+        ensures good { IsLongRecorded self.new }
+        ensures does { OnTrack (Does (Goes at.Resting at.Idle) IsNoRest result) self.old self.new }
+    {
+        calls::start(&self.heap.run, &mut self.track, &mut self.stage)
+    }
+
+    /// Marks the thread as blocked.
+    pub fn stop(&mut self) -> Result<(), Misuse>
+        requires { IsLongRecorded self.old }
+        ensures good { IsLongRecorded self.new }
+        ensures does { OnTrack (Does (Goes at.Idle at.Resting) IsNotIdle result) self.old self.new }
+    {
+        calls::stop(&self.heap.run, &mut self.track, &mut self.stage)
+    }
+
+    /// Begins a region with the next access.
+    pub fn region(&mut self) -> Result<(), Misuse>
+        requires { IsLongRecorded self.old }
+        ensures good { IsLongRecorded self.new }
+        ensures does { OnTrack (Does BeginsNext IsNotIdle result) self.old self.new }
+    {
+        calls::region(&self.heap.run, &mut self.track, self.stage)
+    }
+
+    /// Answers the threads that have asked this one.
+    pub fn safe_point(&mut self) -> Result<(), Misuse>
+        requires { IsLongRecorded self.old }
+        ensures good { IsLongRecorded self.new }
+        ensures does { OnTrack (Does (Goes at.Idle at.Idle) IsNotIdle result) self.old self.new }
+    {
+        calls::safe_point(&self.heap.run, &mut self.track, self.stage)
+    }
+
+    /// Begins an access, and makes it if it can be made at once.
+    pub fn access(&mut self, wanted: Access) -> Answer<Full>
+        requires { IsLongRecorded self.old }
+        ensures good { IsLongRecorded self.new }
+        ensures does { OnTrack (λ s v t w. Accesses (λ asked. IsTrackReason asked self.old.track self.new.track) self.old.objects wanted s v result t w) self.old self.new }
+    {
+        calls::access(
+            &self.heap.run,
+            &mut self.track,
+            &mut self.stage,
+            self.objects,
+            wanted,
+        )
+    }
+
+    /// Goes on with the access that was begun.
+    pub fn poll(&mut self) -> Answer<Full>
+        requires { IsLongRecorded self.old }
+        ensures good { IsLongRecorded self.new }
+        ensures does { OnTrack (λ s v t w. GoesOn (λ asked. IsTrackReason asked self.old.track self.new.track) s v result t w) self.old self.new }
+    {
+        calls::poll(&self.heap.run, &mut self.track, &mut self.stage)
+    }
+
+    /// Ends the thread: hands on what it has made since its last block, and its end.
+    pub fn end(&mut self) -> Answer<Full>
+        requires { IsLongRecorded self.old }
+        ensures good { IsLongRecorded self.new }
+        ensures does { OnTrack (λ s v t w. Ends (λ asked. IsTrackReason asked self.old.track self.new.track) (TrackHasEnded self.new.track) s v result t w) self.old self.new }
+    {
+        calls::end(&self.heap.run, &mut self.track, &mut self.stage)
+    }
+}

@@ -1,0 +1,122 @@
+//! A thread of a run of any length that is made again.
+ghost use Rattle.std.specs.Prelude.{◌≡◌, All, length};
+ghost use Rattle.octet_follow.specs.Calls.{followers_in};
+ghost use Rattle.octet_stream.specs.Followers.{IsLongFollowerOf};
+
+use counted_slot::{Counted, Fits};
+use octet_host::{Answer, Left, Misuse, Stage, calls};
+use octet_session::Access;
+use octet_stream::{Halt, LongFollower, LongRerun};
+use std::alloc::Global;
+use std::sync::Arc;
+
+/// The follower that a thread leaves.
+#[derive(Drop)]
+pub(crate) struct LeftFollower {
+    pub(crate) left: Left<LongFollower>,
+}
+
+// What lies on the desk of a run is a follower of it.
+impl Fits for LeftFollower {
+    type Tag = LongRerun;
+
+    ghost fits = { λ rerun it. IsLongFollowerOf rerun it.left.loose.value };
+}
+
+/// Where a thread lays its follower once its session is handed back.
+pub(crate) type Place = Counted<Option<LeftFollower>>;
+
+/// What the threads of a run share that is made again.
+#[derive(Drop)]
+pub struct LongCourse {
+    pub(crate) rerun: LongRerun,
+    // A place for each thread.
+    pub(crate) desk: Vec<Place>,
+    ghost tags: { All (λ tag. tag ≡ rerun) desk.items },
+    ghost places: { length desk.items ≡ followers_in rerun.course },
+}
+
+/// A thread that is made again.
+#[derive(Drop)]
+pub struct LongRepeated {
+    pub(crate) course: Arc<LongCourse, Global>,
+    pub(crate) thread: LongFollower,
+    pub(crate) stage: Stage,
+    pub(crate) objects: u16,
+}
+
+impl LongRepeated {
+    ghost use Rattle.octet_host.specs.Calls.{Does, Goes, BeginsNext, IsNoRest, IsNotIdle, Accesses, GoesOn, Ends};
+    ghost use Rattle.octet_host.specs.declared.stage.Stage.TheVariants as at;
+    ghost use Rattle.octet_stream.specs.Followers.{HasFollowed, IsFollowerReason};
+    ghost use Rattle.octet_host_long.specs.Threads.{rerun_of, IsLongRepeated, OnFollower};
+
+    /// Marks the thread as running.
+    pub fn start(&mut self) -> Result<(), Misuse>
+        requires { IsLongRepeated self.old }
+        ensures good { IsLongRepeated self.new }
+        ensures does { OnFollower (Does (Goes at.Resting at.Idle) IsNoRest result) self.old self.new }
+    {
+        calls::start(&self.course.rerun, &mut self.thread, &mut self.stage)
+    }
+
+    /// Marks the thread as blocked.
+    pub fn stop(&mut self) -> Result<(), Misuse>
+        requires { IsLongRepeated self.old }
+        ensures good { IsLongRepeated self.new }
+        ensures does { OnFollower (Does (Goes at.Idle at.Resting) IsNotIdle result) self.old self.new }
+    {
+        calls::stop(&self.course.rerun, &mut self.thread, &mut self.stage)
+    }
+
+    /// Begins a region with the next access.
+    pub fn region(&mut self) -> Result<(), Misuse>
+        requires { IsLongRepeated self.old }
+        ensures good { IsLongRepeated self.new }
+        ensures does { OnFollower (Does BeginsNext IsNotIdle result) self.old self.new }
+    {
+        calls::region(&self.course.rerun, &mut self.thread, self.stage)
+    }
+
+    /// Does nothing: no thread waits for the answer of another one.
+    pub fn safe_point(&mut self) -> Result<(), Misuse>
+        requires { IsLongRepeated self.old }
+        ensures good { IsLongRepeated self.new }
+        ensures does { OnFollower (Does (Goes at.Idle at.Idle) IsNotIdle result) self.old self.new }
+    {
+        calls::safe_point(&self.course.rerun, &mut self.thread, self.stage)
+    }
+
+    /// Begins an access, and makes it if it can be made at once.
+    pub fn access(&mut self, wanted: Access) -> Answer<Halt>
+        requires { IsLongRepeated self.old }
+        ensures good { IsLongRepeated self.new }
+        ensures does { OnFollower (λ s v t w. Accesses (λ asked. IsFollowerReason (rerun_of self.new) asked self.new.thread) self.old.objects wanted s v result t w) self.old self.new }
+    {
+        calls::access(
+            &self.course.rerun,
+            &mut self.thread,
+            &mut self.stage,
+            self.objects,
+            wanted,
+        )
+    }
+
+    /// Goes on with the access that was begun.
+    pub fn poll(&mut self) -> Answer<Halt>
+        requires { IsLongRepeated self.old }
+        ensures good { IsLongRepeated self.new }
+        ensures does { OnFollower (λ s v t w. GoesOn (λ asked. IsFollowerReason (rerun_of self.new) asked self.new.thread) s v result t w) self.old self.new }
+    {
+        calls::poll(&self.course.rerun, &mut self.thread, &mut self.stage)
+    }
+
+    /// Ends the thread, which has then made all that was recorded of it.
+    pub fn end(&mut self) -> Answer<Halt>
+        requires { IsLongRepeated self.old }
+        ensures good { IsLongRepeated self.new }
+        ensures does { OnFollower (λ s v t w. Ends (λ asked. IsFollowerReason (rerun_of self.new) asked self.new.thread) (HasFollowed self.new.thread) s v result t w) self.old self.new }
+    {
+        calls::end(&self.course.rerun, &mut self.thread, &mut self.stage)
+    }
+}
