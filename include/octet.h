@@ -1,13 +1,14 @@
 /* Octet for C and C++: the threads of a program make their accesses on a proved heap. Their run becomes a
- * script and its log, which `octet` reads, and the same program can be run again by them.
+ * script and its log, which `octet` reads, and the same program can be run again by them. A run of any length
+ * becomes a marks file, and can be run again by it.
  *
  * A session is one thread of a run. No call waits, takes a lock or starts a thread. Whatever a call needs of
  * its session is tested, and a status says what was missing. Six things no call can test, and the caller owes:
  *
- *   1. A handle, an `octet_session` or an `octet_record`, is zeroed before its first use.
+ *   1. A handle, an `octet_session`, an `octet_stream` or an `octet_record`, is zeroed before its first use.
  *   2. From then on only these calls write to it. It may be moved: then its old place is not used, or zeroed.
  *   3. No pointer is null. Each points to as much as is said beside it, and no two to the same memory.
- *   4. A handle is given to one call at a time. Different sessions may be in calls at once.
+ *   4. A handle is given to one call at a time. Different sessions and streams may be in calls at once.
  *   5. A handle goes to another thread by what orders memory: a lock, a thread's start or end, an atomic.
  *   6. No call is made from a signal handler, or in a child after `fork`. */
 #ifndef OCTET_H
@@ -23,7 +24,7 @@ extern "C" {
 /* One pointer. What it holds is freed by `octet_close`, by `octet_free`, or where a call puts another thing there. */
 typedef struct octet_handle {
     void *at;
-} octet_session, octet_record;
+} octet_session, octet_stream, octet_record;
 
 enum octet_mode {
     OCTET_READ = 0,
@@ -46,13 +47,16 @@ enum octet_change {
 enum octet_status {
     OCTET_READY = 0,
     OCTET_PENDING = 1,           /* the access waits for another thread: poll it */
+    OCTET_ANSWERED = 1,          /* of octet_safe_point: a thread had asked */
+    OCTET_OVER = 2,              /* of a long run: its recording, or its stream, has no more */
     OCTET_NO_SESSION = -1,       /* the handle has no session */
     OCTET_RESTING = -2,          /* the thread is not started, or is stopped */
     OCTET_RUNNING = -3,          /* the thread is started already */
     OCTET_BEGUN = -4,            /* an access was begun: poll it first */
     OCTET_NOT_BEGUN = -5,        /* no access was begun */
     OCTET_NO_OBJECT = -6,        /* the heap has no object of this number */
-    OCTET_SPENT = -7,            /* the thread has less fuel left than an access may take, which is 3 */
+    OCTET_SPENT = -7,            /* the thread has less fuel left than an access may take, which is 3; or, in a
+                                    long run, it has made 2^42 accesses */
     OCTET_NO_MODE = -8,          /* the mode is none of octet_mode */
     OCTET_NO_MEMORY = -9,
     OCTET_BAD_TEXT = -10,        /* the text is no script */
@@ -62,12 +66,19 @@ enum octet_status {
     OCTET_NO_RECORD = -14,       /* the handle has no record */
     /* Of threads that are run again: */
     OCTET_DIVERGED = -15,        /* the recording has another access here, or none */
-    OCTET_HALTED = -16,          /* the access would wait for a thread that has diverged */
+    OCTET_HALTED = -16,          /* the access would wait for a thread that has diverged; or what the thread
+                                    was fed is no recording */
     OCTET_MISFIT = -17,          /* the log does not fit the script, or is of another script */
     OCTET_UNORDERED = -18,       /* the log leaves conflicts of the script unordered */
     OCTET_NOT_WHOLE = -19,       /* a thread has not made all that was recorded of it */
     OCTET_BAD_LOG = -20,         /* the bytes are no log */
-    OCTET_NO_CHANGE = -21        /* the change is none of octet_change */
+    OCTET_NO_CHANGE = -21,       /* the change is none of octet_change */
+    /* Of long runs: */
+    OCTET_BAD_SIZE = -22,        /* not 1 to 16 threads, or not 1 to 65,535 objects */
+    OCTET_NO_STREAM = -23,       /* the handle has no stream, or one of the other kind */
+    OCTET_NO_ROOM = -24,         /* there are more bytes than there is room for */
+    OCTET_BAD_MARKS = -25,       /* the bytes are no marks file */
+    OCTET_OTHER_RUN = -26        /* the marks file is of another run */
 };
 
 /* Opens a heap, and puts a session behind each handle: as many as the text has threads, in their order. The text is
@@ -91,7 +102,8 @@ int32_t octet_stop(octet_session *session);
  * OCTET_READY the thread starts no more; after any other status it still runs. */
 int32_t octet_end(octet_session *session, uint64_t *out);
 
-/* Answers the threads that wait for this one: 1 where there was one. Call it in long stretches without accesses. */
+/* Answers the threads that wait for this one: OCTET_ANSWERED where there was one, else OCTET_READY; in a long run
+ * always OCTET_READY. Call it in long stretches without accesses. */
 int32_t octet_safe_point(octet_session *session);
 
 /* A region begins with the next access, and the one before ends there. `octet regions` tells whether they could
@@ -110,19 +122,57 @@ int32_t octet_update(octet_session *session, uint8_t change, uint16_t object, ui
 /* Goes on with the access that was begun, and answers as the call that began it. */
 int32_t octet_poll(octet_session *session, uint64_t *out);
 
-/* Ends the run, and puts its record behind the handle. Give all sessions of one `octet_open` or `octet_follow`, in
- * order, each stopped. They are gone afterwards, whatever is answered. With any status but OCTET_READY `record`
+/* Ends the run, and puts its record behind the handle. Give all sessions of one call that opened them, in order,
+ * each stopped or ended. They are gone afterwards, whatever is answered. With any status but OCTET_READY `record`
  * stays as it is. */
 int32_t octet_close(octet_session *sessions, size_t count, octet_record *record);
 
 /* What the record has: the text of the script, the bytes of the log with the text's digest, the objects' values at
- * the end. Each call copies as much as there is room for; `length` is how much there is. */
+ * the end. That of a long run has values alone. Each call copies as much as there is room for; `length` is how much
+ * there is. */
 int32_t octet_script(octet_record *record, uint8_t *out, size_t room, size_t *length);
 int32_t octet_log(octet_record *record, uint8_t *out, size_t room, size_t *length);
 int32_t octet_values(octet_record *record, uint64_t *out, size_t room, size_t *length);
 
 /* Frees what a handle holds. It may be used anew. */
 void octet_free(octet_session *handle);
+
+/* Opens a long run: of any length, over objects with these starting values. Puts a session and its stream behind
+ * the handles, one of each for each thread, in order; `count` and `stream_count` are both how many threads there
+ * are. What a handle held is freed. With any status but OCTET_READY the handles stay as they are, and so in
+ * `octet_follow_long`. The calls above take its sessions. Take what the streams have while the threads run: an
+ * access is pending, too, while too much of its thread was not taken. A thread that is only stopped has not handed
+ * on its last accesses: `octet_end` does, or answers OCTET_PENDING until enough was taken. */
+int32_t octet_open_long(const uint64_t *starts, size_t objects, octet_session *sessions, size_t count,
+                        octet_stream *streams, size_t stream_count);
+
+/* What a marks file begins with. `declared` is whatever tells your run from others, as its words: a file of other
+ * bytes is another run's. Copies as much as there is room for; `length` is how much there is. */
+int32_t octet_head(const uint64_t *starts, size_t objects, uint8_t threads, const uint8_t *declared,
+                   size_t declared_length, uint8_t *out, size_t room, size_t *length);
+
+/* Takes the next piece of a thread, to be written behind what the file has; `length` is how long it is. Pieces of
+ * several threads may stand in any order, but those of one in the order in which they came. OCTET_PENDING: the
+ * thread has none yet. OCTET_OVER: its last was taken. OCTET_NO_ROOM: `length` is how much room it wants, and
+ * nothing is taken. The stream may outlive its session. */
+int32_t octet_take(octet_stream *stream, uint8_t *out, size_t room, size_t *length);
+
+/* Opens a long run that is made again by a marks file, which begins as `octet_head` says. An access is pending until
+ * the thread was fed enough, and all is made that was recorded before it. OCTET_OVER: the recording ends here, since
+ * the file was cut; this is no divergence. OCTET_DIVERGED: `out` is how many accesses the thread had made where it
+ * was found, which may be later than it left its recording. */
+int32_t octet_follow_long(const uint64_t *starts, size_t objects, const uint8_t *declared, size_t declared_length,
+                          octet_session *sessions, size_t count, octet_stream *streams, size_t stream_count);
+
+/* Feeds a thread the next bytes of the file; `taken` is how many of them were taken. 0: the thread has no room yet,
+ * so feed it again later. What the bytes have of the thread comes to it with the next call, which may have none.
+ * Each stream is fed the whole file. OCTET_BAD_MARKS: `taken` is the place of the file that is refused. OCTET_OVER:
+ * it was said that the file has no more. */
+int32_t octet_feed(octet_stream *stream, const uint8_t *bytes, size_t length, uint64_t *taken);
+
+/* Says that the file has no more. Call it until it answers OCTET_READY: OCTET_PENDING, while the thread has no room;
+ * OCTET_BAD_MARKS, once, where the file is refused at the place `at`, and the thread's recording ends there. */
+int32_t octet_feed_end(octet_stream *stream, uint64_t *at);
 
 #ifdef __cplusplus
 }

@@ -6,7 +6,7 @@
 #include <stdlib.h>
 #include <string.h>
 
-enum { HANDLES = 12, ROOM = 4096, LEAST = -21, MOST = 1, RECORDINGS = 4 };
+enum { HANDLES = 12, ROOM = 4096, LEAST = -26, MOST = 2, RECORDINGS = 4, MARKS = 65536 };
 
 static octet_session handles[HANDLES];
 static unsigned long told[MOST - LEAST + 1];
@@ -17,6 +17,12 @@ static struct recording {
     uint8_t script[ROOM], log[ROOM];
     size_t script_length, log_length;
 } recordings[RECORDINGS];
+
+/* What the streams gave since a long run was opened, and how much of it was fed to what is at each place. */
+static uint8_t marks[MARKS];
+static size_t marks_length, fed[HANDLES];
+static const uint64_t STARTS[] = {5, 6};
+static const uint8_t DECLARED[] = "fuzz";
 
 static const char UNORDERED[] = "fuel 12\nobject x 5\nthread\nread r0 x\nthread\nset r0 1\nwrite x r0\n";
 static const uint8_t NO_MARKS[] = {'O', 'C', 'T', 'L', 1, 2, 0, 0, 0, 1, 0, 0, 0, 0, 0, 0, 0, 1, 0, 0, 0, 0};
@@ -117,6 +123,61 @@ static int32_t close_any(void) {
     return status;
 }
 
+static void begin_marks(size_t threads) {
+    size_t length = 0;
+    if (octet_head(STARTS, 2, (uint8_t)threads, DECLARED, sizeof DECLARED, marks, MARKS, &length) == OCTET_READY) marks_length = length;
+}
+
+/* Sessions are in the first half of the handles, and their streams in the other. */
+static int32_t open_long_any(int again) {
+    size_t at = 3 * pick(HANDLES / 6), count = pick(16) ? 1 + pick(3) : pick(2) ? 0 : 17;
+    size_t streams = count > 3 ? 17 : pick(16) ? count : pick(4), objects = pick(16) ? 2 : 0, words = pick(16) ? sizeof DECLARED : 2;
+    octet_session *first = &handles[at], *second = &handles[HANDLES / 2 + at];
+    if (!again) {
+        int32_t status = octet_open_long(STARTS, objects, first, count, second, streams);
+        if (status == OCTET_READY) begin_marks(count);
+        return status;
+    }
+    int32_t status = octet_follow_long(STARTS, objects, DECLARED, words, first, count, second, streams);
+    if (status == OCTET_READY) memset(&fed[HANDLES / 2 + at], 0, count * sizeof *fed);
+    return status;
+}
+
+/* From a buffer of which only as much as is said may be written. */
+static int32_t take(octet_stream *stream) {
+    size_t room = pick(4) ? 256 : pick(24), length = 0;
+    uint8_t *bytes = (uint8_t *)malloc(room ? room : 1);
+    if (!bytes) fail("no memory");
+    int32_t status = octet_take(stream, bytes, room, &length);
+    if (status == OCTET_READY && length > room) fail("more was taken than there is room for");
+    if (status == OCTET_NO_ROOM && length <= room) fail("there was room");
+    if (status == OCTET_READY && marks_length + length <= MARKS) {
+        memcpy(marks + marks_length, bytes, length);
+        marks_length += length;
+    }
+    free(bytes);
+    return status;
+}
+
+static int32_t feed(size_t at) {
+    size_t there = fed[at] < marks_length ? marks_length - fed[at] : 0, length = pick(4) ? there : there ? pick(there) : 0;
+    uint64_t taken = 0;
+    int32_t status = octet_feed(&handles[at], marks + fed[at], length, &taken);
+    if (status == OCTET_READY && taken > length) fail("more was fed than there is");
+    if (status == OCTET_READY) fed[at] += taken;
+    return status;
+}
+
+static int32_t stream_any(void) {
+    size_t at = pick(8) ? HANDLES / 2 + pick(HANDLES / 2) : pick(HANDLES);
+    uint64_t place = 0;
+    switch (pick(12)) {
+    case 0: return octet_feed_end(&handles[at], &place);
+    case 1: case 2: case 3: return feed(at);
+    default: return take(&handles[at]);
+    }
+}
+
 /* What a thread does; mostly what may be asked of it. */
 static int32_t ask(void) {
     octet_session *session = any();
@@ -143,7 +204,9 @@ static int32_t call(void) {
     case 14: return close_any();
     case 15: return keep(any());
     case 16: return values(any());
-    default: return ask();
+    case 17: case 18: return open_long_any(0);
+    case 19: return open_long_any(1);
+    default: return kind < 64 ? stream_any() : ask();
     }
 }
 
@@ -171,6 +234,42 @@ static void whole_run(void) {
     octet_free(&record);
 }
 
+static void work_long(octet_session *session) {
+    uint64_t out = 0;
+    octet_start(session);
+    for (int access = 0; access < 5; access++) {
+        int32_t status = octet_update(session, OCTET_ADD, 1, 3, 0, &out);
+        for (int poll = 0; poll < 99 && status == OCTET_PENDING; poll++) status = octet_poll(session, &out);
+        told[status - LEAST]++;
+    }
+    if (octet_end(session, &out) != OCTET_READY && octet_end(session, &out) != OCTET_READY) octet_stop(session);
+}
+
+/* The same of a long run, which is recorded, and then made again by its file or by the half of it. */
+static void whole_long_run(void) {
+    octet_session *first = handles, *streams = &handles[HANDLES / 2];
+    octet_record record = {0};
+    uint64_t place = 0;
+    told[octet_open_long(STARTS, 2, first, 2, streams, 2) - LEAST]++;
+    begin_marks(2);
+    for (int thread = 0; thread < 2; thread++) {
+        work_long(&first[thread]);
+        while (octet_take(&streams[thread], marks, 0, &(size_t){0}) == OCTET_NO_ROOM) take(&streams[thread]);
+        told[take(&streams[thread]) - LEAST]++;
+    }
+    if (octet_close(first, 2, &record) != OCTET_READY) fail("a long run that is not closed");
+    octet_free(&record);
+    if (octet_follow_long(STARTS, 2, DECLARED, sizeof DECLARED, first, 2, streams, 2) != OCTET_READY) fail("a long run is not made again");
+    size_t whole = pick(2) ? marks_length : pick(marks_length);
+    for (int thread = 0; thread < 2; thread++) {
+        if (octet_feed(&streams[thread], marks, whole, &place) != OCTET_READY || place != whole) fail("a file that is not taken");
+        if (octet_feed_end(&streams[thread], &place) != OCTET_READY) fail("a file that does not end");
+    }
+    for (int thread = 0; thread < 2; thread++) work_long(&first[thread]);
+    told[octet_close(first, 2, &record) - LEAST]++;
+    octet_free(&record);
+}
+
 int main(int count, char **words) {
     if (count != 3) return 64;
     state = strtoull(words[1], NULL, 10);
@@ -182,6 +281,7 @@ int main(int count, char **words) {
         if (status < LEAST || status > MOST) fail("a status that is none");
         told[status - LEAST]++;
         if (made % 256 == 0) whole_run();
+        if (made % 1024 == 0) whole_long_run();
     }
     for (int at = 0; at < HANDLES; at++) octet_free(&handles[at]);
     int missing = 0;

@@ -31,7 +31,7 @@ use Rattle.std_alloc.specs.Box.Ownership.{box_owns}
 use Rattle.std_alloc.proofs.ResultValues.{and_tt}
 use Rattle.octet_c.specs.Owned.{owned}
 use Rattle.octet_c.specs.Sessions.{IsHeld}
-use Rattle.octet_c.proofs.Values.{both, al}
+use Rattle.octet_host.proofs.lemmas.Values.{both, al}
 use Rattle.octet_c.specs.contracts.handle.Handle as handle
 use Rattle.octet_c.specs.contracts.held.Held as held
 

@@ -1,4 +1,4 @@
+pub mod First
 pub mod Handles
 pub mod Refused
-pub mod Rows
-pub mod Values
+pub mod Pairs

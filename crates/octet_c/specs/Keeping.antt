@@ -1,23 +1,33 @@
 -- What is kept of a run, and copied of it.
-use Rattle.std.specs.Prelude.{◌≡◌, ℕ, ℤ, List, ◌++◌, length, take, drop, Option, Some, None}
+use Rattle.std.specs.Prelude.{◌≡◌, ℕ, ℤ, List, length, Option, Some}
 use Rattle.octet_c.specs.declared.held.Held.{Held}
 use Rattle.octet_c.specs.declared.held.Held.TheVariants as held
 use Rattle.octet_c.specs.declared.kept.Kept.{Kept}
 use Rattle.octet_c.specs.declared.status.TheConstants as status
-use Rattle.octet_c.specs.Records.{IsGood}
+use Rattle.octet_host.specs.Copies.{copied}
+use Rattle.octet_c.specs.Records.{IsGood, AreGood}
 
--- room for items, once as many of a list are copied to it as there is room for
-abbrev pub copied : {X : Type 0} → List X → List X → List X
-copied all room = take (length room) all ++ drop (length all) room
+-- nothing is copied
+abbrev pub CopiesNothing : {X : Type 0} → ℤ → List X → List X → ℕ → ℕ → Type 0
+CopiesNothing said room out before size = (said ≡ status.NO_RECORD) × (out ≡ room) × (size ≡ before)
 
--- what is copied of a record, if one is there, and how much there is
-abbrev pub CopiesOf : {X : Type 0} → (Kept → List X) → Option Held → ℤ → List X → List X → ℕ → ℕ → Type 0
-CopiesOf part (Some (held.Kept kept)) said room out before size = (said ≡ status.READY) × (out ≡ copied (part kept) room) × (size ≡ length (part kept))
-CopiesOf part (Some (held.Recorded it)) said room out before size = (said ≡ status.NO_RECORD) × (out ≡ room) × (size ≡ before)
-CopiesOf part (Some (held.Repeated it)) said room out before size = (said ≡ status.NO_RECORD) × (out ≡ room) × (size ≡ before)
-CopiesOf part None said room out before size = (said ≡ status.NO_RECORD) × (out ≡ room) × (size ≡ before)
+-- as much of a list is copied as there is room for, and its length is told
+abbrev pub CopiesAll : {X : Type 0} → List X → ℤ → List X → List X → ℕ → Type 0
+CopiesAll all said room out size = (said ≡ status.READY) × (out ≡ copied all room) × (size ≡ length all)
+
+-- what is copied of a script and its log, if they are there
+abbrev pub CopiesOf : (Kept → List ℕ) → Option Held → ℤ → List ℕ → List ℕ → ℕ → ℕ → Type 0
+CopiesOf part (Some (held.Kept kept)) said room out before size = CopiesAll (part kept) said room out size
+CopiesOf part _ said room out before size = CopiesNothing said room out before size
+
+-- what is copied of values, if they are there
+abbrev pub CopiesValues : Option Held → ℤ → List ℕ → List ℕ → ℕ → ℕ → Type 0
+CopiesValues (Some (held.Kept kept)) said room out before size = CopiesAll kept.values said room out size
+CopiesValues (Some (held.Values kept)) said room out before size = CopiesAll kept.values said room out size
+CopiesValues _ said room out before size = CopiesNothing said room out before size
 
 -- a good record is there
 abbrev pub IsRecord : Option Held → Type 0
 IsRecord (Some (held.Kept kept)) = IsGood kept
+IsRecord (Some (held.Values kept)) = AreGood kept
 IsRecord _ = ⊥

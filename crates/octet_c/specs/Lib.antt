@@ -2,11 +2,12 @@ pub mod Owned
 pub mod Spelled
 pub mod Faults
 pub mod Refusals
-pub mod Stages
 pub mod Records
 pub mod Sessions
+pub mod Gathered
 pub mod Opened
-pub mod Calls
 pub mod Statuses
+pub mod Streams
+pub mod Long
 pub mod Names
 pub mod Keeping

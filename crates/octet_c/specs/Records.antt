@@ -7,7 +7,9 @@ use Rattle.octet_model.specs.declared.script.Script.{Script}
 use Rattle.octet_model.specs.Orders.{IsFaithful}
 use Rattle.octet_script.specs.Spelling.{Spells}
 use Rattle.octet_log.specs.Spellings.{IsSpelling}
+use Rattle.octet_host_long.specs.Closed.{IsClosedRecording, IsClosedAgain}
 use Rattle.octet_c.specs.declared.kept.Kept.{Kept}
+use Rattle.octet_c.specs.declared.kept.Values.{Values}
 use Rattle.octet_c.specs.Spelled.{IsSpelled}
 
 -- the bytes spell a script, and a log with the digest of its text, which are a faithful recording with these final values
@@ -30,3 +32,7 @@ pub record RepeatsRecording (kept : Kept) : Type 0 where
 -- it is of a run that was recorded, or of one that was made again
 abbrev pub IsGood : Kept → Type 0
 IsGood kept = KeepsRecording kept ⊎ RepeatsRecording kept
+
+-- they are those of a run of any length that was recorded, or of one that was made again
+abbrev pub AreGood : Values → Type 0
+AreGood kept = IsClosedRecording kept.values ⊎ IsClosedAgain kept.values

@@ -7,11 +7,10 @@ ghost use Rattle.octet_session.specs.Recording.{TrackRests};
 ghost use Rattle.octet_c.specs.Records.{KeepsRecording};
 ghost use Rattle.octet_c.specs.Sessions.{IsRecorded};
 
-use crate::desk::{Left, lay};
 use crate::kept::Kept;
-use crate::recorded::{Heap, Place, Recorded};
-use crate::stage::Stage;
+use crate::recorded::{Heap, LeftTrack, Place, Recorded};
 use crate::status::Fault;
+use octet_host::{Left, Stage, lay};
 use octet_log::{MAX_MARKS, digest, encode_v2};
 use octet_model::{List, Outcome, ThreadLog};
 use octet_recorder::{Recorder, Recording, Track};
@@ -26,7 +25,7 @@ impl Heap {
         requires rests { TrackRests left.loose.value }
     {
         match self.desk.get(number) {
-            Some(place) => lay(place, left),
+            Some(place) => lay(place, LeftTrack { left }),
             None => false,
         }
     }
@@ -86,7 +85,7 @@ fn tracks_on(alloc: Global, recorder: &Recorder, desk: Vec<Place>) -> Result<Lis
         let Some(left) = place.into_inner() else {
             return Err(Fault::OtherSessions);
         };
-        let track = left.into_inner();
+        let track = left.left.into_inner();
         if track.thread() as usize != tracks.len() {
             return Err(Fault::OtherSessions);
         }

@@ -1,22 +1,21 @@
 //! A recording, from its bytes to the end of a run by it.
-ghost use Rattle.std.specs.Prelude.{◌≡◌, ◌↔◌, All, length, true, IfOk, IfErr};
+ghost use Rattle.std.specs.Prelude.{◌≡◌, ◌↔◌, [], All, length, true, Some, IfOk, IfErr};
 ghost use Rattle.std.specs.Arc.{arc_value};
 ghost use Rattle.std.specs.Option.{option_map};
 ghost use Rattle.octet_parallel.specs.Calls.{script_in, log_in, players_in};
 ghost use Rattle.octet_rerun.specs.Reruns.{made_by, recorded_of, IsFollowerOf, EachAtStart, EachAtEnd};
-ghost use Rattle.octet_c.specs.Opened.{Records};
+ghost use Rattle.octet_c.specs.Opened.{EachFirstAgain, Follows, IsFirstAgain, Records};
 ghost use Rattle.octet_c.specs.Records.{RepeatsRecording};
 ghost use Rattle.octet_c.specs.Refusals.{RefusesToFollow};
 ghost use Rattle.octet_c.specs.Sessions.{IsHeld, IsRepeated};
 ghost use Rattle.octet_c.specs.Spelled.{IsOf, IsSpelled};
 
-use crate::desk::{Left, lay, places};
 use crate::held::Held;
 use crate::kept::Kept;
 use crate::opening::objects_of;
-use crate::repeated::{Course, Place, Repeated};
-use crate::stage::Stage;
+use crate::repeated::{Course, LeftFollower, Place, Repeated};
 use crate::status::Fault;
+use octet_host::{Left, Stage, lay, places};
 use octet_log::{Digest, Loaded, decode, digest};
 use octet_model::{List, Log, MAX_LOG_FILE, MAX_SCRIPT_FILE, OutOfMemory, Outcome, Script};
 use octet_rerun::{Follower, Rerun};
@@ -85,8 +84,11 @@ fn seat(
     follower: Follower,
 ) -> Result<Box<Held, Global>, OutOfMemory>
     requires own { IsFollowerOf (arc_value course.now).rerun follower }
+    requires none_made { made_by follower ≡ [] }
     requires objects { objects ≡ length (script_in (arc_value course.now).rerun.field).objects }
-    ensures { IfOk result (λ held. IsHeld held.value) }
+    requires fuel { fuel ≡ (script_in (arc_value course.now).rerun.field).fuel }
+    ensures good { IfOk result (λ held. IsHeld held.value) }
+    ensures first { IfOk result (λ held. IsFirstAgain (arc_value course.now).rerun follower.thread (Some held.value)) }
 {
     let held = Held::Repeated(Repeated {
         course: Arc::try_clone(course)?,
@@ -107,8 +109,10 @@ fn seat_all(
 ) -> Result<Vec<Box<Held, Global>>, OutOfMemory>
     requires start { EachAtStart (arc_value course.now).rerun followers.items }
     requires objects { objects ≡ length (script_in (arc_value course.now).rerun.field).objects }
+    requires fuel { fuel ≡ (script_in (arc_value course.now).rerun.field).fuel }
     ensures count { IfOk result (λ threads. length threads.items ≡ length followers.items) }
     ensures good { IfOk result (λ threads. All (λ held. IsHeld held.value) threads.items) }
+    ensures first { IfOk result (λ threads. EachFirstAgain (λ held. Some held.value) (arc_value course.now).rerun threads.items) }
 {
     let mut threads = Vec::new(alloc);
     for follower in followers {
@@ -127,6 +131,7 @@ pub(crate) fn follow(
 ) -> Result<Vec<Box<Held, Global>>, Fault>
     ensures good { IfOk result (λ threads. All (λ held. IsHeld held.value) threads.items) }
     ensures recorded { IfOk result (λ threads. Records text.now bytes.now (length threads.items)) }
+    ensures follows { IfOk result (λ threads. Follows (λ held. Some held.value) text.now bytes.now threads.items) }
     ensures refused { IfErr result (RefusesToFollow text.now bytes.now) }
 {
     let (script, log) = loaded(alloc, text, bytes)?;
@@ -147,7 +152,7 @@ impl Course {
         requires ended { made_by left.loose.value ≡ recorded_of self.now.rerun left.loose.value.thread }
     {
         match self.desk.get(number) {
-            Some(place) => lay(place, left),
+            Some(place) => lay(place, LeftFollower { left }),
             None => false,
         }
     }
@@ -211,7 +216,7 @@ fn followers_on(alloc: Global, rerun: &Rerun, desk: Vec<Place>) -> Result<List<F
         let Some(left) = place.into_inner() else {
             return Err(Fault::OtherSessions);
         };
-        let follower = left.into_inner();
+        let follower = left.left.into_inner();
         if follower.thread() as usize != followers.len() {
             return Err(Fault::OtherSessions);
         }

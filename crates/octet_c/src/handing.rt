@@ -3,12 +3,15 @@ ghost use Rattle.std.specs.Prelude.{◌≡◌, ◌≢◌, All, length, IfOk, IfS
 ghost use Rattle.octet_c.specs.declared.status.TheConstants.{READY, OTHER_SESSIONS};
 ghost use Rattle.octet_c.specs.Opened.{HoldEach};
 ghost use Rattle.octet_c.specs.Sessions.{IsHeld, IsRecorded, IsRepeated};
+ghost use Rattle.octet_c.specs.Gathered.{AreThreads};
+ghost use Rattle.octet_host_long.specs.Threads.{IsLongRecorded, IsLongRepeated};
 
 use crate::handle::Handle;
 use crate::held::Held;
 use crate::recorded::Recorded;
 use crate::repeated::Repeated;
 use crate::status::{Fault, OTHER_SESSIONS, READY};
+use octet_host_long::{LongRecorded, LongRepeated};
 use std::alloc::Global;
 
 /// Puts one behind each of the handles, in order. What a handle held is freed. Refused where there are more of one than of
@@ -16,6 +19,7 @@ use std::alloc::Global;
 pub(crate) fn put_all(alloc: Global, handles: &mut [Handle], boxes: Vec<Box<Held, Global>>) -> i32
     requires { All (λ held. IsHeld held.value) boxes.items }
     ensures ready { result ≡ READY → HoldEach (λ held. held.value) boxes.items handles.new }
+    ensures fits { length handles.old ≡ length boxes.items → result ≡ READY }
     ensures refused { result ≢ READY → (result ≡ OTHER_SESSIONS) × (handles.new ≡ handles.old) × (length handles.old ≢ length boxes.items) }
 {
     if boxes.len() != handles.len() {
@@ -52,47 +56,74 @@ fn add_repeated(all: &mut Vec<Repeated>, it: Repeated) -> Result<(), Fault>
     Ok(())
 }
 
+// Adds a thread that is recorded at any length.
+fn add_long_recorded(all: &mut Vec<LongRecorded>, it: LongRecorded) -> Result<(), Fault>
+    requires one { IsLongRecorded it }
+    requires all { All IsLongRecorded all.old.items }
+    ensures { All IsLongRecorded all.new.items }
+{
+    all.push(it)?;
+    Ok(())
+}
+
+// Adds a thread of such a run that is made again.
+fn add_long_repeated(all: &mut Vec<LongRepeated>, it: LongRepeated) -> Result<(), Fault>
+    requires one { IsLongRepeated it }
+    requires all { All IsLongRepeated all.old.items }
+    ensures { All IsLongRepeated all.new.items }
+{
+    all.push(it)?;
+    Ok(())
+}
+
+/// Threads that were behind handles, by their kinds.
+#[derive(Drop)]
+pub(crate) struct Threads {
+    pub(crate) recorded: Vec<Recorded>,
+    pub(crate) repeated: Vec<Repeated>,
+    pub(crate) long_recorded: Vec<LongRecorded>,
+    pub(crate) long_repeated: Vec<LongRepeated>,
+}
+
 // Adds what was behind a handle to those of its kind.
-fn sort(
-    held: Option<Box<Held, Global>>,
-    recorded: &mut Vec<Recorded>,
-    repeated: &mut Vec<Repeated>,
-) -> Result<(), Fault>
+fn sort(held: Option<Box<Held, Global>>, threads: &mut Threads) -> Result<(), Fault>
     requires good { IfSome held (λ held. IsHeld held.value) }
-    requires recorded { All IsRecorded recorded.old.items }
-    requires repeated { All IsRepeated repeated.old.items }
-    ensures recorded { All IsRecorded recorded.new.items }
-    ensures repeated { All IsRepeated repeated.new.items }
+    requires threads { AreThreads threads.old }
+    ensures { AreThreads threads.new }
 {
     let Some(held) = held else {
         return Err(Fault::OtherSessions);
     };
     match Box::into_inner(held) {
-        Held::Recorded(it) => add_recorded(recorded, it),
-        Held::Repeated(it) => add_repeated(repeated, it),
-        Held::Kept(_) => Err(Fault::OtherSessions),
+        Held::Recorded(it) => add_recorded(&mut threads.recorded, it),
+        Held::Repeated(it) => add_repeated(&mut threads.repeated, it),
+        Held::LongRecorded(it) => add_long_recorded(&mut threads.long_recorded, it),
+        Held::LongRepeated(it) => add_long_repeated(&mut threads.long_repeated, it),
+        Held::Outlet(_) | Held::Inlet(_) | Held::Kept(_) | Held::Values(_) => {
+            Err(Fault::OtherSessions)
+        }
     }
 }
 
 /// The sessions behind the handles, which then have none, whatever is answered.
-pub(crate) fn take_all(
-    alloc: Global,
-    handles: &mut [Handle],
-) -> Result<(Vec<Recorded>, Vec<Repeated>), Fault>
+pub(crate) fn take_all(alloc: Global, handles: &mut [Handle]) -> Result<Threads, Fault>
     ensures gone { All (λ handle. handle.held ≡ None) handles.new }
-    ensures recorded { IfOk result (λ taken. All IsRecorded taken.0.items) }
-    ensures repeated { IfOk result (λ taken. All IsRepeated taken.1.items) }
+    ensures threads { IfOk result AreThreads }
 {
-    let mut recorded = Vec::new(alloc);
-    let mut repeated = Vec::new(alloc);
+    let mut threads = Threads {
+        recorded: Vec::new(alloc),
+        repeated: Vec::new(alloc),
+        long_recorded: Vec::new(alloc),
+        long_repeated: Vec::new(alloc),
+    };
     let mut fault = None;
     for place in handles {
-        if let Err(why) = sort(place.take(alloc), &mut recorded, &mut repeated) {
+        if let Err(why) = sort(place.take(alloc), &mut threads) {
             fault = Some(why);
         }
     }
     match fault {
         Some(why) => Err(why),
-        None => Ok((recorded, repeated)),
+        None => Ok(threads),
     }
 }

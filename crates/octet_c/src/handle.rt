@@ -10,7 +10,7 @@ ghost use Rattle.octet_c.specs.declared.held.Held.{Held};
 ghost use Rattle.octet_c.specs.contracts.held.Held.{the_row as HeldRow};
 
 use crate::held::Held;
-use crate::loose::Loose;
+use octet_host::Loose;
 use std::alloc::Global;
 use std::marker::Model;
 use std::mem;

@@ -1,26 +1,29 @@
 //! What a handle stands for.
 ghost use Rattle.std.specs.Prelude.{◌≡◌};
-ghost use Rattle.octet_session.specs.Recording.{track_standing};
-ghost use Rattle.octet_c.specs.Calls.{Goes, BeginsNext, IsNoRest, IsNotIdle};
-ghost use Rattle.octet_c.specs.Sessions.{recorder_of, IsHeld, IsRecorded};
-ghost use Rattle.octet_c.specs.Statuses.{status_done, Tells, TellsEnd, NeverHalts, Halts, Called, Accessed, Polled, IsEnded, OnThread};
-ghost use Rattle.octet_c.specs.declared.stage.Stage.TheVariants as at;
+ghost use Rattle.octet_c.specs.Sessions.{IsHeld, IsRecorded, IsRepeated};
+ghost use Rattle.octet_c.specs.Statuses.{status_done, status_asked, Tells, TellsEnd, NeverHalts, Halts, Accessed, Polled, Glances, OnRecorded, OnRepeated, EndsRepeated, Starts, Stops, EndsThread, BeginsRegionNext, Passes, AccessesNext, Polls};
 
-use crate::answer::Answer;
-use crate::calls;
-use crate::kept::Kept;
+use crate::kept::{Kept, Values};
 use crate::recorded::Recorded;
 use crate::repeated::Repeated;
-use crate::status::{DIVERGED, HALTED, Misuse, NO_SESSION, PENDING, READY};
-use octet_session::{Access, Halt};
+use crate::status::{ANSWERED, NO_SESSION, PENDING, READY, status_of};
+use crate::told::Told;
+use octet_host::{Answer, Misuse, calls};
+use octet_host_long::{Inlet, LongRecorded, LongRepeated, Outlet};
+use octet_session::Access;
 use std::convert::Infallible;
 
-/// What a handle stands for: a thread that is recorded or run again, or what a run has left.
+/// What a handle stands for: a thread that is recorded or run again, a stream of one, or what a run has left.
 #[derive(Drop)]
 pub enum Held {
     Recorded(Recorded),
     Repeated(Repeated),
+    LongRecorded(LongRecorded),
+    LongRepeated(LongRepeated),
+    Outlet(Outlet),
+    Inlet(Inlet),
     Kept(Kept),
+    Values(Values),
 }
 
 // What a call without a value comes to.
@@ -29,12 +32,38 @@ fn done(called: Result<(), Misuse>) -> i32
 {
     match called {
         Ok(()) => READY,
-        Err(misuse) => misuse.status(),
+        Err(misuse) => status_of(misuse),
     }
 }
 
-// What an access of a recorded thread comes to, with its value if it has one. It has no recording to leave.
-fn told(answer: Answer<Infallible>, out: &mut u64) -> i32
+// What a safe point of a recorded thread comes to.
+fn asked(passed: Result<bool, Misuse>) -> i32
+    ensures { result ≡ status_asked passed }
+{
+    match passed {
+        Ok(false) => READY,
+        Ok(true) => ANSWERED,
+        Err(misuse) => status_of(misuse),
+    }
+}
+
+// What an access comes to, with its value if it has one.
+fn told<H: Told>(answer: Answer<H>, out: &mut u64) -> i32
+    ensures { Tells H.Tells answer result out.old out.new }
+{
+    match answer {
+        Answer::Ready { value } => {
+            *out = value;
+            READY
+        }
+        Answer::Pending => PENDING,
+        Answer::Refused { misuse } => status_of(misuse),
+        Answer::Left { halt } => halt.tell(out),
+    }
+}
+
+// The same of a thread that has no recording to leave.
+fn told_recorded(answer: Answer<Infallible>, out: &mut u64) -> i32
     ensures { Tells NeverHalts answer result out.old out.new }
 {
     match answer {
@@ -43,49 +72,20 @@ fn told(answer: Answer<Infallible>, out: &mut u64) -> i32
             READY
         }
         Answer::Pending => PENDING,
-        Answer::Refused { misuse } => misuse.status(),
+        Answer::Refused { misuse } => status_of(misuse),
         Answer::Left { halt } => match halt {},
     }
 }
 
-// Why a thread of a second run goes on no more. Where it has left its recording, how many accesses it has made.
-fn halted(halt: Halt, out: &mut u64) -> i32
-    ensures { Halts halt result out.old out.new }
-{
-    match halt {
-        Halt::Diverges { divergence } => {
-            *out = u64::from(divergence.accesses);
-            DIVERGED
-        }
-        Halt::Waits { .. } => PENDING,
-        Halt::Stopped { .. } | Halt::Amiss => HALTED,
-    }
-}
-
-// Likewise of a thread that is run again.
-fn told_again(answer: Answer<Halt>, out: &mut u64) -> i32
-    ensures { Tells Halts answer result out.old out.new }
-{
-    match answer {
-        Answer::Ready { value } => {
-            *out = value;
-            READY
-        }
-        Answer::Pending => PENDING,
-        Answer::Refused { misuse } => misuse.status(),
-        Answer::Left { halt } => halted(halt, out),
-    }
-}
-
-// The end of a thread that is run again has no value.
-fn ended(answer: Answer<Halt>, out: &mut u64) -> i32
-    ensures { TellsEnd answer result out.old out.new }
+// What the end of a thread comes to. It has no value.
+fn ended<H: Told>(answer: Answer<H>, out: &mut u64) -> i32
+    ensures { TellsEnd H.Tells answer result out.old out.new }
 {
     match answer {
         Answer::Ready { .. } => READY,
         Answer::Pending => PENDING,
-        Answer::Refused { misuse } => misuse.status(),
-        Answer::Left { halt } => halted(halt, out),
+        Answer::Refused { misuse } => status_of(misuse),
+        Answer::Left { halt } => halt.tell(out),
     }
 }
 
@@ -94,12 +94,50 @@ impl Recorded {
     fn access(&mut self, wanted: Access, out: &mut u64) -> i32
         requires { IsRecorded self.old }
         ensures good { IsRecorded self.new }
-        ensures run { self.new.heap ≡ self.old.heap }
-        ensures does { Accessed NeverHalts wanted out.old out.new self.old.objects result self.old.stage (track_standing (recorder_of self.old) self.old.track) self.new.stage (track_standing (recorder_of self.new) self.new.track) }
+        ensures does { OnRecorded (Accessed NeverHalts wanted out.old out.new) self.old result self.new }
     {
         let answer = calls::access(
             &self.heap.recorder,
             &mut self.track,
+            &mut self.stage,
+            self.objects,
+            wanted,
+        );
+        told_recorded(answer, out)
+    }
+
+    // Answers the threads that have asked this one. Tells whether any has.
+    fn safe_point(&mut self) -> Result<bool, Misuse>
+        requires { IsRecorded self.old }
+        ensures good { IsRecorded self.new }
+        ensures run { self.new.heap ≡ self.old.heap }
+        ensures does { Glances result self.old self.new }
+    {
+        self.stage.idle()?;
+        Ok(self.heap.recorder.safe_point(&mut self.track))
+    }
+
+    // Goes on with the access that was begun.
+    fn poll(&mut self, out: &mut u64) -> i32
+        requires { IsRecorded self.old }
+        ensures good { IsRecorded self.new }
+        ensures does { OnRecorded (Polled NeverHalts out.old out.new) self.old result self.new }
+    {
+        let answer = calls::poll(&self.heap.recorder, &mut self.track, &mut self.stage);
+        told_recorded(answer, out)
+    }
+}
+
+impl Repeated {
+    // Begins an access, and makes it if it can be made at once.
+    fn access(&mut self, wanted: Access, out: &mut u64) -> i32
+        requires { IsRepeated self.old }
+        ensures good { IsRepeated self.new }
+        ensures does { OnRepeated (Accessed Halts wanted out.old out.new) self.old result self.new }
+    {
+        let answer = calls::access(
+            &self.course.rerun,
+            &mut self.thread,
             &mut self.stage,
             self.objects,
             wanted,
@@ -109,13 +147,22 @@ impl Recorded {
 
     // Goes on with the access that was begun.
     fn poll(&mut self, out: &mut u64) -> i32
-        requires { IsRecorded self.old }
-        ensures good { IsRecorded self.new }
-        ensures run { self.new.heap ≡ self.old.heap }
-        ensures does { Polled NeverHalts out.old out.new self.old.objects result self.old.stage (track_standing (recorder_of self.old) self.old.track) self.new.stage (track_standing (recorder_of self.new) self.new.track) }
+        requires { IsRepeated self.old }
+        ensures good { IsRepeated self.new }
+        ensures does { OnRepeated (Polled Halts out.old out.new) self.old result self.new }
     {
-        let answer = calls::poll(&self.heap.recorder, &mut self.track, &mut self.stage);
+        let answer = calls::poll(&self.course.rerun, &mut self.thread, &mut self.stage);
         told(answer, out)
+    }
+
+    // Ends the thread.
+    fn end(&mut self, out: &mut u64) -> i32
+        requires { IsRepeated self.old }
+        ensures good { IsRepeated self.new }
+        ensures does { EndsRepeated out.old out.new self.old result self.new }
+    {
+        let answer = calls::end(&self.course.rerun, &mut self.thread, &mut self.stage);
+        ended(answer, out)
     }
 }
 
@@ -124,7 +171,7 @@ impl Held {
     pub(crate) fn start(&mut self) -> i32
         requires { IsHeld self.old }
         ensures good { IsHeld self.new }
-        ensures does { OnThread (Called (Goes at.Resting at.Idle) IsNoRest) (Called (Goes at.Resting at.Idle) IsNoRest) self.old result self.new }
+        ensures does { Starts self.old result self.new }
     {
         match self {
             Held::Recorded(it) => done(calls::start(
@@ -137,7 +184,9 @@ impl Held {
                 &mut it.thread,
                 &mut it.stage,
             )),
-            Held::Kept(_) => NO_SESSION,
+            Held::LongRecorded(it) => done(it.start()),
+            Held::LongRepeated(it) => done(it.start()),
+            Held::Outlet(_) | Held::Inlet(_) | Held::Kept(_) | Held::Values(_) => NO_SESSION,
         }
     }
 
@@ -145,7 +194,7 @@ impl Held {
     pub(crate) fn stop(&mut self) -> i32
         requires { IsHeld self.old }
         ensures good { IsHeld self.new }
-        ensures does { OnThread (Called (Goes at.Idle at.Resting) IsNotIdle) (Called (Goes at.Idle at.Resting) IsNotIdle) self.old result self.new }
+        ensures does { Stops self.old result self.new }
     {
         match self {
             Held::Recorded(it) => done(calls::stop(
@@ -158,15 +207,17 @@ impl Held {
                 &mut it.thread,
                 &mut it.stage,
             )),
-            Held::Kept(_) => NO_SESSION,
+            Held::LongRecorded(it) => done(it.stop()),
+            Held::LongRepeated(it) => done(it.stop()),
+            Held::Outlet(_) | Held::Inlet(_) | Held::Kept(_) | Held::Values(_) => NO_SESSION,
         }
     }
 
-    /// Ends the thread. A recorded one is blocked.
+    /// Ends the thread. A recorded one of a script is blocked.
     pub(crate) fn end(&mut self, out: &mut u64) -> i32
         requires { IsHeld self.old }
         ensures good { IsHeld self.new }
-        ensures does { OnThread (Called (Goes at.Idle at.Resting) IsNotIdle) (IsEnded out.old out.new) self.old result self.new }
+        ensures does { EndsThread out.old out.new self.old result self.new }
     {
         match self {
             Held::Recorded(it) => done(calls::stop(
@@ -174,11 +225,10 @@ impl Held {
                 &mut it.track,
                 &mut it.stage,
             )),
-            Held::Repeated(it) => ended(
-                calls::end(&it.course.rerun, &mut it.thread, &mut it.stage),
-                out,
-            ),
-            Held::Kept(_) => NO_SESSION,
+            Held::Repeated(it) => it.end(out),
+            Held::LongRecorded(it) => ended(it.end(), out),
+            Held::LongRepeated(it) => ended(it.end(), out),
+            Held::Outlet(_) | Held::Inlet(_) | Held::Kept(_) | Held::Values(_) => NO_SESSION,
         }
     }
 
@@ -186,14 +236,16 @@ impl Held {
     pub(crate) fn region(&mut self) -> i32
         requires { IsHeld self.old }
         ensures good { IsHeld self.new }
-        ensures does { OnThread (Called BeginsNext IsNotIdle) (Called BeginsNext IsNotIdle) self.old result self.new }
+        ensures does { BeginsRegionNext self.old result self.new }
     {
         match self {
             Held::Recorded(it) => done(calls::region(&it.heap.recorder, &mut it.track, it.stage)),
             Held::Repeated(it) => {
                 done(calls::region(&it.course.rerun, &mut it.thread, it.stage))
             }
-            Held::Kept(_) => NO_SESSION,
+            Held::LongRecorded(it) => done(it.region()),
+            Held::LongRepeated(it) => done(it.region()),
+            Held::Outlet(_) | Held::Inlet(_) | Held::Kept(_) | Held::Values(_) => NO_SESSION,
         }
     }
 
@@ -201,16 +253,16 @@ impl Held {
     pub(crate) fn safe_point(&mut self) -> i32
         requires { IsHeld self.old }
         ensures good { IsHeld self.new }
+        ensures does { Passes self.old result self.new }
     {
         match self {
-            Held::Recorded(it) => match it.stage.idle() {
-                Ok(()) => i32::from(it.heap.recorder.safe_point(&mut it.track)),
-                Err(misuse) => misuse.status(),
-            },
+            Held::Recorded(it) => asked(it.safe_point()),
             Held::Repeated(it) => {
                 done(calls::safe_point(&it.course.rerun, &mut it.thread, it.stage))
             }
-            Held::Kept(_) => NO_SESSION,
+            Held::LongRecorded(it) => done(it.safe_point()),
+            Held::LongRepeated(it) => done(it.safe_point()),
+            Held::Outlet(_) | Held::Inlet(_) | Held::Kept(_) | Held::Values(_) => NO_SESSION,
         }
     }
 
@@ -218,21 +270,14 @@ impl Held {
     pub(crate) fn access(&mut self, wanted: Access, out: &mut u64) -> i32
         requires { IsHeld self.old }
         ensures good { IsHeld self.new }
-        ensures does { OnThread (Accessed NeverHalts wanted out.old out.new) (Accessed Halts wanted out.old out.new) self.old result self.new }
+        ensures does { AccessesNext wanted out.old out.new self.old result self.new }
     {
         match self {
             Held::Recorded(it) => it.access(wanted, out),
-            Held::Repeated(it) => told_again(
-                calls::access(
-                    &it.course.rerun,
-                    &mut it.thread,
-                    &mut it.stage,
-                    it.objects,
-                    wanted,
-                ),
-                out,
-            ),
-            Held::Kept(_) => NO_SESSION,
+            Held::Repeated(it) => it.access(wanted, out),
+            Held::LongRecorded(it) => told(it.access(wanted), out),
+            Held::LongRepeated(it) => told(it.access(wanted), out),
+            Held::Outlet(_) | Held::Inlet(_) | Held::Kept(_) | Held::Values(_) => NO_SESSION,
         }
     }
 
@@ -240,15 +285,14 @@ impl Held {
     pub(crate) fn poll(&mut self, out: &mut u64) -> i32
         requires { IsHeld self.old }
         ensures good { IsHeld self.new }
-        ensures does { OnThread (Polled NeverHalts out.old out.new) (Polled Halts out.old out.new) self.old result self.new }
+        ensures does { Polls out.old out.new self.old result self.new }
     {
         match self {
             Held::Recorded(it) => it.poll(out),
-            Held::Repeated(it) => told_again(
-                calls::poll(&it.course.rerun, &mut it.thread, &mut it.stage),
-                out,
-            ),
-            Held::Kept(_) => NO_SESSION,
+            Held::Repeated(it) => it.poll(out),
+            Held::LongRecorded(it) => told(it.poll(), out),
+            Held::LongRepeated(it) => told(it.poll(), out),
+            Held::Outlet(_) | Held::Inlet(_) | Held::Kept(_) | Held::Values(_) => NO_SESSION,
         }
     }
 }

@@ -8,3 +8,9 @@ pub struct Kept {
     pub(crate) log: Vec<u8>,
     pub(crate) values: List<u64>,
 }
+
+/// What a run of any length leaves: the objects' final values.
+#[derive(Drop)]
+pub struct Values {
+    pub(crate) values: List<u64>,
+}

@@ -5,37 +5,37 @@
 ghost use Rattle.octet_c.specs.declared.status.TheConstants.{READY};
 ghost use Rattle.std.specs.Prelude.{◌≡◌, ◌≢◌, All, Some, None, IfOk};
 ghost use Rattle.std.specs.Prelude.{length as list_length};
-ghost use Rattle.octet_c.specs.Calls.{Goes, BeginsNext, IsNoRest, IsNotIdle};
 ghost use Rattle.octet_c.specs.Names.{access_named, update_named};
-ghost use Rattle.octet_c.specs.Statuses.{Called, Accessed, Polled, IsEnded, NeverHalts, Halts, OnHandle, AsksHandle};
-ghost use Rattle.octet_c.specs.declared.stage.Stage.TheVariants as at;
-ghost use Rattle.octet_c.specs.Keeping.{copied, CopiesOf, IsRecord};
-ghost use Rattle.octet_c.specs.Records.{IsGood};
-ghost use Rattle.octet_c.specs.Opened.{Declares, Records, RefusesToOpen, GivesNone};
+ghost use Rattle.octet_c.specs.Gathered.{AreThreads};
+ghost use Rattle.octet_c.specs.Statuses.{Starts, Stops, EndsThread, BeginsRegionNext, Passes, Polls, OnHandle, AsksHandle};
+ghost use Rattle.octet_host_long.specs.Threads.{IsLongRecorded, IsLongRepeated};
+ghost use Rattle.octet_c.specs.Keeping.{CopiesOf, CopiesValues, IsRecord};
+ghost use Rattle.octet_c.specs.Records.{IsGood, AreGood};
+ghost use Rattle.octet_c.specs.Opened.{Declares, Records, Opens, Follows, RefusesToOpen, GivesNone};
 ghost use Rattle.octet_c.specs.Refusals.{RefusesToFollow};
 ghost use Rattle.octet_c.specs.Sessions.{IsRecorded, IsRepeated};
 
-mod answer;
-mod calls;
 mod closing;
-mod desk;
 mod following;
 mod handing;
 mod handle;
 mod held;
 mod kept;
-mod loose;
+mod long;
 mod opening;
 mod recorded;
 mod repeated;
-mod stage;
 mod status;
+mod streams;
+mod told;
 mod words;
 
-use handing::{put_all, take_all};
+use handing::{Threads, put_all, take_all};
 pub use handle::Handle;
 pub use held::Held;
-pub use kept::Kept;
+pub use kept::{Kept, Values};
+use octet_host::copy_out;
+use octet_host_long::{LongRecorded, LongRepeated, close_recorded, close_repeated};
 use octet_recorder::Access;
 pub use recorded::{Heap, Recorded};
 pub use repeated::{Course, Repeated};
@@ -47,7 +47,7 @@ use words::{access_of, update_of};
 /// a handle held is freed.
 #[unsafe(no_mangle)]
 pub extern "C" fn octet_open(alloc: Global, text: &[u8], sessions: &mut [Handle]) -> i32
-    ensures ready { result ≡ READY → Declares text.now (list_length sessions.new) }
+    ensures ready { result ≡ READY → Opens (λ session. session.held) text.now sessions.new }
     ensures kept { result ≢ READY → sessions.new ≡ sessions.old }
     ensures cause { result ≢ READY → GivesNone (RefusesToOpen text.now) (Declares text.now) (list_length sessions.old) result }
 {
@@ -67,7 +67,7 @@ pub extern "C" fn octet_follow(
     log: &[u8],
     sessions: &mut [Handle],
 ) -> i32
-    ensures ready { result ≡ READY → Records script.now log.now (list_length sessions.new) }
+    ensures ready { result ≡ READY → Follows (λ session. session.held) script.now log.now sessions.new }
     ensures kept { result ≢ READY → sessions.new ≡ sessions.old }
     ensures cause { result ≢ READY → GivesNone (RefusesToFollow script.now log.now) (Records script.now log.now) (list_length sessions.old) result }
 {
@@ -80,7 +80,7 @@ pub extern "C" fn octet_follow(
 /// Marks the session's thread as running.
 #[unsafe(no_mangle)]
 pub extern "C" fn octet_start(alloc: Global, session: &mut Handle) -> i32
-    ensures { OnHandle (Called (Goes at.Resting at.Idle) IsNoRest) (Called (Goes at.Resting at.Idle) IsNoRest) session.old.held result session.new.held }
+    ensures { OnHandle Starts session.old.held result session.new.held }
 {
     match session.take(alloc) {
         None => NO_SESSION,
@@ -95,7 +95,7 @@ pub extern "C" fn octet_start(alloc: Global, session: &mut Handle) -> i32
 /// Marks the session's thread as blocked.
 #[unsafe(no_mangle)]
 pub extern "C" fn octet_stop(alloc: Global, session: &mut Handle) -> i32
-    ensures { OnHandle (Called (Goes at.Idle at.Resting) IsNotIdle) (Called (Goes at.Idle at.Resting) IsNotIdle) session.old.held result session.new.held }
+    ensures { OnHandle Stops session.old.held result session.new.held }
 {
     match session.take(alloc) {
         None => NO_SESSION,
@@ -111,7 +111,7 @@ pub extern "C" fn octet_stop(alloc: Global, session: &mut Handle) -> i32
 /// accesses, and `out` is how many it has made; it is pending while marks that are left wait for another thread.
 #[unsafe(no_mangle)]
 pub extern "C" fn octet_end(alloc: Global, session: &mut Handle, out: &mut u64) -> i32
-    ensures { OnHandle (Called (Goes at.Idle at.Resting) IsNotIdle) (IsEnded out.old out.new) session.old.held result session.new.held }
+    ensures { OnHandle (EndsThread out.old out.new) session.old.held result session.new.held }
 {
     match session.take(alloc) {
         None => NO_SESSION,
@@ -126,7 +126,7 @@ pub extern "C" fn octet_end(alloc: Global, session: &mut Handle, out: &mut u64) 
 /// Begins a region with the session's next access.
 #[unsafe(no_mangle)]
 pub extern "C" fn octet_region(alloc: Global, session: &mut Handle) -> i32
-    ensures { OnHandle (Called BeginsNext IsNotIdle) (Called BeginsNext IsNotIdle) session.old.held result session.new.held }
+    ensures { OnHandle BeginsRegionNext session.old.held result session.new.held }
 {
     match session.take(alloc) {
         None => NO_SESSION,
@@ -138,9 +138,11 @@ pub extern "C" fn octet_region(alloc: Global, session: &mut Handle) -> i32
     }
 }
 
-/// Answers the threads that have asked this one: 1 if any has.
+/// Answers the threads that have asked this one: 1 if any has. In a second run none asks.
 #[unsafe(no_mangle)]
-pub extern "C" fn octet_safe_point(alloc: Global, session: &mut Handle) -> i32 {
+pub extern "C" fn octet_safe_point(alloc: Global, session: &mut Handle) -> i32
+    ensures { OnHandle Passes session.old.held result session.new.held }
+{
     match session.take(alloc) {
         None => NO_SESSION,
         Some(mut held) => {
@@ -205,7 +207,7 @@ pub extern "C" fn octet_update(
 /// Goes on with the access that was begun: 0 with its value, or 1 where it is pending.
 #[unsafe(no_mangle)]
 pub extern "C" fn octet_poll(alloc: Global, session: &mut Handle, out: &mut u64) -> i32
-    ensures { OnHandle (Polled NeverHalts out.old out.new) (Polled Halts out.old out.new) session.old.held result session.new.held }
+    ensures { OnHandle (Polls out.old out.new) session.old.held result session.new.held }
 {
     match session.take(alloc) {
         None => NO_SESSION,
@@ -217,8 +219,12 @@ pub extern "C" fn octet_poll(alloc: Global, session: &mut Handle, out: &mut u64)
     }
 }
 
-// The record of threads that were recorded, or of threads that were run again.
-fn close_all(alloc: Global, recorded: Vec<Recorded>, repeated: Vec<Repeated>) -> Result<Kept, Fault>
+// The record of a run of a script: of threads that were recorded, or of threads that were run again.
+fn close_scripts(
+    alloc: Global,
+    recorded: Vec<Recorded>,
+    repeated: Vec<Repeated>,
+) -> Result<Kept, Fault>
     requires recorded { All IsRecorded recorded.items }
     requires repeated { All IsRepeated repeated.items }
     ensures { IfOk result IsGood }
@@ -232,18 +238,61 @@ fn close_all(alloc: Global, recorded: Vec<Recorded>, repeated: Vec<Repeated>) ->
     }
 }
 
-// Ends the run of the sessions behind the handles.
-fn closed(alloc: Global, sessions: &mut [Handle]) -> Result<Kept, Fault>
-    ensures gone { All (λ session. session.held ≡ None) sessions.new }
-    ensures good { IfOk result IsGood }
+// The values of a run of any length.
+fn close_long(
+    alloc: Global,
+    recorded: Vec<LongRecorded>,
+    repeated: Vec<LongRepeated>,
+) -> Result<Values, Fault>
+    requires recorded { All IsLongRecorded recorded.items }
+    requires repeated { All IsLongRepeated repeated.items }
+    ensures { IfOk result AreGood }
 {
-    let (recorded, repeated) = take_all(alloc, sessions)?;
-    close_all(alloc, recorded, repeated)
+    let closed = if repeated.is_empty() {
+        close_recorded(alloc, recorded)
+    } else if recorded.is_empty() {
+        close_repeated(alloc, repeated)
+    } else {
+        return Err(Fault::OtherSessions);
+    };
+    match closed {
+        Ok(values) => Ok(Values { values }),
+        Err(fault) => Err(Fault::from(fault)),
+    }
 }
 
-/// Ends the run, and puts its record behind `kept`; what that held is freed. The sessions are those that one call of
-/// `octet_open` or `octet_follow` gave, in order, each off or blocked; after `octet_follow` each has made all accesses of its
-/// recording. They are gone then, whatever is answered. Any others are refused.
+// What threads leave that are all of one kind.
+fn close_all(alloc: Global, threads: Threads) -> Result<Held, Fault>
+    requires { AreThreads threads }
+    ensures { IfOk result (λ held. IsRecord (Some held)) }
+{
+    let Threads {
+        recorded,
+        repeated,
+        long_recorded,
+        long_repeated,
+    } = threads;
+    if long_recorded.is_empty() && long_repeated.is_empty() {
+        Ok(Held::Kept(close_scripts(alloc, recorded, repeated)?))
+    } else if recorded.is_empty() && repeated.is_empty() {
+        Ok(Held::Values(close_long(alloc, long_recorded, long_repeated)?))
+    } else {
+        Err(Fault::OtherSessions)
+    }
+}
+
+// Ends the run of the sessions behind the handles.
+fn closed(alloc: Global, sessions: &mut [Handle]) -> Result<Held, Fault>
+    ensures gone { All (λ session. session.held ≡ None) sessions.new }
+    ensures good { IfOk result (λ held. IsRecord (Some held)) }
+{
+    let threads = take_all(alloc, sessions)?;
+    close_all(alloc, threads)
+}
+
+/// Ends the run, and puts its record behind `kept`; what that held is freed. The sessions are those that one call gave, in
+/// order, each off, blocked or over; after `octet_follow` each has made all accesses of its recording. They are gone then,
+/// whatever is answered. Any others are refused.
 #[unsafe(no_mangle)]
 pub extern "C" fn octet_close(alloc: Global, sessions: &mut [Handle], kept: &mut Handle) -> i32
     ensures gone { All (λ session. session.held ≡ None) sessions.new }
@@ -251,7 +300,7 @@ pub extern "C" fn octet_close(alloc: Global, sessions: &mut [Handle], kept: &mut
     ensures refused { result ≢ READY → kept.new ≡ kept.old }
 {
     match closed(alloc, sessions) {
-        Ok(closed) => match Box::new(alloc, Held::Kept(closed)) {
+        Ok(closed) => match Box::new(alloc, closed) {
             Ok(held) => {
                 drop(kept.take(alloc));
                 kept.put(held);
@@ -261,16 +310,6 @@ pub extern "C" fn octet_close(alloc: Global, sessions: &mut [Handle], kept: &mut
         },
         Err(fault) => fault.status(),
     }
-}
-
-// Copies as many as there is room for, and says how many there are.
-fn copy<T: Copy>(all: &[T], out: &mut [T], length: &mut usize)
-    ensures length { length.new ≡ list_length all.now }
-    ensures out { out.new ≡ copied all.now out.old }
-{
-    *length = all.len();
-    let count = all.len().min(out.len());
-    out[..count].copy_from_slice(&all[..count]);
 }
 
 /// Copies as much of the script's text as there is room for, and says how long it is.
@@ -289,10 +328,10 @@ pub extern "C" fn octet_script(
         Some(held) => {
             let status = match &*held {
                 Held::Kept(record) => {
-                    copy(record.script.as_slice(), out, length);
+                    *length = copy_out(record.script.as_slice(), out);
                     READY
                 }
-                Held::Recorded(_) | Held::Repeated(_) => NO_RECORD,
+                _ => NO_RECORD,
             };
             kept.put(held);
             status
@@ -316,10 +355,10 @@ pub extern "C" fn octet_log(
         Some(held) => {
             let status = match &*held {
                 Held::Kept(record) => {
-                    copy(record.log.as_slice(), out, length);
+                    *length = copy_out(record.log.as_slice(), out);
                     READY
                 }
-                Held::Recorded(_) | Held::Repeated(_) => NO_RECORD,
+                _ => NO_RECORD,
             };
             kept.put(held);
             status
@@ -336,17 +375,21 @@ pub extern "C" fn octet_values(
     length: &mut usize,
 ) -> i32
     ensures keeps { kept.new.held ≡ kept.old.held }
-    ensures copies { CopiesOf (λ kept. kept.values) kept.old.held result out.old out.new length.old length.new }
+    ensures copies { CopiesValues kept.old.held result out.old out.new length.old length.new }
 {
     match kept.take(alloc) {
         None => NO_RECORD,
         Some(held) => {
             let status = match &*held {
                 Held::Kept(record) => {
-                    copy(record.values.as_slice(), out, length);
+                    *length = copy_out(record.values.as_slice(), out);
                     READY
                 }
-                Held::Recorded(_) | Held::Repeated(_) => NO_RECORD,
+                Held::Values(kept) => {
+                    *length = copy_out(kept.values.as_slice(), out);
+                    READY
+                }
+                _ => NO_RECORD,
             };
             kept.put(held);
             status

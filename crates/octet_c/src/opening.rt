@@ -1,15 +1,15 @@
 //! The threads of a new heap.
-ghost use Rattle.std.specs.Prelude.{◌≡◌, All, length, IfOk, IfErr};
+ghost use Rattle.std.specs.Prelude.{◌≡◌, All, length, IfOk, IfErr, Some};
 ghost use Rattle.std.specs.Arc.{arc_value};
-ghost use Rattle.octet_recorder.specs.Tracks.{objects_in, threads_in, EachNew};
-ghost use Rattle.octet_c.specs.Opened.{Declares, RefusesToOpen};
-ghost use Rattle.octet_c.specs.Sessions.{IsFresh, IsHeld};
+ghost use Rattle.octet_recorder.specs.Tracks.{objects_in, threads_in, lines_in, number_of, IsTrackOf, EachNew};
+ghost use Rattle.octet_session.specs.Recording.{track_standing, TrackRests};
+ghost use Rattle.octet_c.specs.Opened.{Declares, EachFirst, IsFirst, IsFirstOf, Opens, RefusesToOpen};
+ghost use Rattle.octet_c.specs.Sessions.{IsHeld};
 
-use crate::desk::places;
 use crate::held::Held;
 use crate::recorded::{CACHE_PADDING, Heap, Recorded};
-use crate::stage::Stage;
 use crate::status::Fault;
+use octet_host::{Stage, places};
 use octet_model::{MAX_SCRIPT_FILE, OutOfMemory, Script};
 use octet_recorder::{Recorder, Track};
 use octet_script::parse;
@@ -47,9 +47,12 @@ fn seat(
     objects: u16,
     track: Track,
 ) -> Result<Box<Held, Global>, OutOfMemory>
-    requires new { IsFresh (arc_value heap.now).recorder track }
+    requires own { IsTrackOf (arc_value heap.now).recorder track }
+    requires off { TrackRests track }
+    requires first { IsFirst (number_of track) (lines_in (arc_value heap.now).recorder) (track_standing (arc_value heap.now).recorder track) }
     requires objects { objects ≡ objects_in (arc_value heap.now).recorder }
-    ensures { IfOk result (λ held. IsHeld held.value) }
+    ensures good { IfOk result (λ held. IsHeld held.value) }
+    ensures first { IfOk result (λ held. IsFirstOf (arc_value heap.now).recorder (number_of track) (Some held.value)) }
 {
     let held = Held::Recorded(Recorded {
         heap: Arc::try_clone(heap)?,
@@ -72,6 +75,7 @@ fn seat_all(
     requires objects { objects ≡ objects_in (arc_value heap.now).recorder }
     ensures count { IfOk result (λ threads. length threads.items ≡ length tracks.items) }
     ensures good { IfOk result (λ threads. All (λ held. IsHeld held.value) threads.items) }
+    ensures first { IfOk result (λ threads. EachFirst (λ held. Some held.value) (arc_value heap.now).recorder threads.items) }
 {
     let mut threads = Vec::new(alloc);
     for track in tracks {
@@ -85,6 +89,7 @@ fn seat_all(
 pub(crate) fn open(alloc: Global, text: &[u8]) -> Result<Vec<Box<Held, Global>>, Fault>
     ensures good { IfOk result (λ threads. All (λ held. IsHeld held.value) threads.items) }
     ensures declared { IfOk result (λ threads. Declares text.now (length threads.items)) }
+    ensures opens { IfOk result (λ threads. Opens (λ held. Some held.value) text.now threads.items) }
     ensures refused { IfErr result (RefusesToOpen text.now) }
 {
     if text.len() > MAX_SCRIPT_FILE as usize {

@@ -3,9 +3,8 @@ ghost use Rattle.std.specs.Prelude.{◌≡◌, All, length};
 ghost use Rattle.octet_recorder.specs.Tracks.{threads_in, IsTrackOf};
 ghost use Rattle.octet_session.specs.Recording.{TrackRests};
 
-use crate::desk::Left;
-use crate::stage::Stage;
 use counted_slot::{Counted, Fits};
+use octet_host::{Left, Stage};
 use octet_recorder::{Recorder, Track};
 use std::alloc::Global;
 use std::sync::Arc;
@@ -13,15 +12,21 @@ use std::sync::Arc;
 /// How many words lie between what two threads write: two cache lines.
 pub(crate) const CACHE_PADDING: usize = 16;
 
+/// The track that a thread leaves.
+#[derive(Drop)]
+pub(crate) struct LeftTrack {
+    pub(crate) left: Left<Track>,
+}
+
 // What lies on the desk of a recorder is a track of it, off or blocked.
-impl Fits for Left<Track> {
+impl Fits for LeftTrack {
     type Tag = Recorder;
 
-    ghost fits = { λ recorder left. IsTrackOf recorder left.loose.value × TrackRests left.loose.value };
+    ghost fits = { λ recorder it. IsTrackOf recorder it.left.loose.value × TrackRests it.left.loose.value };
 }
 
 /// Where a thread lays its track once its session is handed back.
-pub(crate) type Place = Counted<Option<Left<Track>>>;
+pub(crate) type Place = Counted<Option<LeftTrack>>;
 
 /// What the threads of a recorded run share.
 #[derive(Drop)]

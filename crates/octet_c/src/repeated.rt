@@ -6,23 +6,28 @@ ghost use Rattle.octet_rerun.specs.Reruns.{made_by, recorded_of, IsFollowerOf};
 ghost use Rattle.octet_script.specs.Spelling.{Spells};
 ghost use Rattle.octet_c.specs.Spelled.{IsSpelled};
 
-use crate::desk::Left;
-use crate::stage::Stage;
 use counted_slot::{Counted, Fits};
+use octet_host::{Left, Stage};
 use octet_rerun::{Follower, Rerun};
 use octet_session::SecondThread;
 use std::alloc::Global;
 use std::sync::Arc;
 
+/// The follower that a thread leaves.
+#[derive(Drop)]
+pub(crate) struct LeftFollower {
+    pub(crate) left: Left<Follower>,
+}
+
 // What lies on the desk of a second run is a follower of it, which has made all of its recording.
-impl Fits for Left<Follower> {
+impl Fits for LeftFollower {
     type Tag = Rerun;
 
-    ghost fits = { λ rerun left. IsFollowerOf rerun left.loose.value × (made_by left.loose.value ≡ recorded_of rerun left.loose.value.thread) };
+    ghost fits = { λ rerun it. IsFollowerOf rerun it.left.loose.value × (made_by it.left.loose.value ≡ recorded_of rerun it.left.loose.value.thread) };
 }
 
 /// Where a thread lays its follower once its session is handed back.
-pub(crate) type Place = Counted<Option<Left<Follower>>>;
+pub(crate) type Place = Counted<Option<LeftFollower>>;
 
 /// What the threads of a second run share, and the bytes of the recording.
 #[derive(Drop)]

@@ -2,31 +2,17 @@
 ghost use Rattle.std.specs.Prelude.{◌≡◌, ◌≢◌};
 ghost use Rattle.octet_c.specs.declared.status.TheConstants.{READY};
 ghost use Rattle.octet_c.specs.declared.status.Fault.TheVariants.{OutOfMemory as MemoryRefused};
-ghost use Rattle.octet_c.specs.Faults.{text_fault, log_fault, rerun_fault, fault_status};
+ghost use Rattle.octet_c.specs.Faults.{text_fault, log_fault, rerun_fault, close_fault, fault_status};
 ghost use Rattle.octet_c.specs.Statuses.{status_of};
 
+use octet_host::Misuse;
+use octet_host_long::CloseFault;
 use octet_log::LogFault;
 use octet_model::OutOfMemory;
 use octet_replay::ReplayFault;
 use octet_rerun::RerunFault;
 use octet_script::ScriptFault;
 use std::alloc::{AllocError, AllocFailed};
-
-/// A call that the state of its session does not allow.
-#[derive(Clone, Copy, Debug, PartialEq, Eq)]
-pub enum Misuse {
-    /// The thread is off or blocked, or over.
-    Resting,
-    /// The thread runs.
-    Running,
-    /// An access was begun, and is not made yet.
-    Begun,
-    /// No access was begun.
-    NotBegun,
-    NoSuchObject,
-    /// The thread has made all accesses that it may make.
-    Spent,
-}
 
 /// Why no heap was opened, or no record was made.
 #[derive(Clone, Copy, Debug, PartialEq, Eq)]
@@ -48,6 +34,8 @@ pub enum Fault {
     Unordered,
     /// A thread that was run again has not made all of its recording.
     NotWhole,
+    /// A run of any length has 1 to 16 threads and 1 to 65,535 objects.
+    BadSize,
 }
 
 impl From<AllocError> for Fault {
@@ -108,10 +96,28 @@ impl From<RerunFault> for Fault {
     }
 }
 
+impl From<CloseFault> for Fault {
+    ghost from_gives = { λ fault e. e ≡ close_fault fault };
+
+    fn from(fault: CloseFault) -> Fault {
+        match fault {
+            CloseFault::OutOfMemory => Fault::OutOfMemory,
+            CloseFault::OtherSessions => Fault::OtherSessions,
+            CloseFault::StillRunning => Fault::StillRunning,
+        }
+    }
+}
+
 /// The statuses that the calls answer. They stand in `include/octet.h` too.
 pub const READY: i32 = 0;
 
 pub const PENDING: i32 = 1;
+
+/// Of a safe point: a thread had asked this one.
+pub const ANSWERED: i32 = 1;
+
+/// Of a run of any length: the thread or its recording has no more.
+pub const OVER: i32 = 2;
 
 pub const NO_SESSION: i32 = -1;
 
@@ -155,18 +161,27 @@ pub const BAD_LOG: i32 = -20;
 
 pub const NO_CHANGE: i32 = -21;
 
-impl Misuse {
-    pub(crate) fn status(self) -> i32
-        ensures { result ≡ status_of self }
-    {
-        match self {
-            Misuse::Resting => RESTING,
-            Misuse::Running => RUNNING,
-            Misuse::Begun => BEGUN,
-            Misuse::NotBegun => NOT_BEGUN,
-            Misuse::NoSuchObject => NO_OBJECT,
-            Misuse::Spent => SPENT,
-        }
+pub const BAD_SIZE: i32 = -22;
+
+pub const NO_STREAM: i32 = -23;
+
+pub const NO_ROOM: i32 = -24;
+
+pub const BAD_MARKS: i32 = -25;
+
+pub const OTHER_RUN: i32 = -26;
+
+/// The status of a call that the state of its thread does not allow.
+pub(crate) fn status_of(misuse: Misuse) -> i32
+    ensures { result ≡ status_of misuse }
+{
+    match misuse {
+        Misuse::Resting => RESTING,
+        Misuse::Running => RUNNING,
+        Misuse::Begun => BEGUN,
+        Misuse::NotBegun => NOT_BEGUN,
+        Misuse::NoSuchObject => NO_OBJECT,
+        Misuse::Spent => SPENT,
     }
 }
 
@@ -185,6 +200,7 @@ impl Fault {
             Fault::Misfit => MISFIT,
             Fault::Unordered => UNORDERED,
             Fault::NotWhole => NOT_WHOLE,
+            Fault::BadSize => BAD_SIZE,
         }
     }
 }

@@ -1,6 +1,6 @@
 use Rattle.std.proofs.Common.{rules, ◌≡◌, [], ◌∷◌, ◌++◌, All, length, length-append, ap, sym, subst, arith, suc}
 use Rattle.octet_recorder.specs.Tracks.{number_of, RestsAs, EachRests}
-use Rattle.octet_c.proofs.Rows.{each_more}
+use Rattle.octet_host.proofs.lemmas.Rows.{each_more}
 use Rattle.octet_c.proofs.closing.tracks_on.Goals as goal
 
 pub loop-place-preserved : goal.loop-place-preserved

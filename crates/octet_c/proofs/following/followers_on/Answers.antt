@@ -1,6 +1,6 @@
 use Rattle.std.proofs.Common.{rules, ◌≡◌, [], ◌∷◌, ◌++◌, All, length, length-append, ap, sym, subst, arith, suc}
 use Rattle.octet_rerun.specs.Reruns.{IsAtEnd, EachAtEnd}
-use Rattle.octet_c.proofs.Rows.{each_more}
+use Rattle.octet_host.proofs.lemmas.Rows.{each_more}
 use Rattle.octet_c.proofs.following.followers_on.Goals as goal
 
 pub loop-place-preserved : goal.loop-place-preserved

@@ -1,11 +1,14 @@
-use Rattle.std.proofs.Common.{◌≡◌, ◌+◌, All, length}
-use Rattle.octet_rerun.specs.Reruns.{IsFollowerOf}
+use Rattle.std.proofs.Common.{◌≡◌, ℕ, ◌+◌, ◌<◌, All, length, slice_index_or, Some}
+use Rattle.octet_rerun.specs.declared.follower.Follower.{Follower}
+use Rattle.octet_rerun.specs.Reruns.{IsAtStart}
+use Rattle.octet_c.specs.Opened.{EachFirstAgain}
 use Rattle.octet_c.specs.Sessions.{IsHeld}
 use Rattle.octet_c.proofs.following.seat_all.Given as goal
 
 abbrev pub invariant-loop-follower : goal.invariant-loop-follower
 invariant-loop-follower l = record {
-  rest : All (IsFollowerOf l.course.value.rerun) l.follower-iterator.rest.items;
+  rest : (k : ℕ) (none : Follower) → k < length l.follower-iterator.rest.items → IsAtStart l.course.value.rerun (length l.threads.items + k) (slice_index_or l.follower-iterator.rest.items k none);
   good : All (λ held. IsHeld held.value) l.threads.items;
+  first : EachFirstAgain (λ held. Some held.value) l.course.value.rerun l.threads.items;
   count : length l.threads.items + length l.follower-iterator.rest.items ≡ length l.fn.followers.items;
 }

@@ -1,10 +1,14 @@
-use Rattle.std.proofs.Common.{◌≡◌, ◌+◌, All, length}
-use Rattle.octet_c.specs.Sessions.{IsFresh, IsHeld}
+use Rattle.std.proofs.Common.{◌≡◌, ℕ, ◌+◌, ◌<◌, All, length, slice_index_or, Some}
+use Rattle.octet_recorder.specs.declared.track.Track.{Track}
+use Rattle.octet_recorder.specs.Tracks.{IsNew}
+use Rattle.octet_c.specs.Opened.{EachFirst}
+use Rattle.octet_c.specs.Sessions.{IsHeld}
 use Rattle.octet_c.proofs.opening.seat_all.Given as goal
 
 abbrev pub invariant-loop-track : goal.invariant-loop-track
 invariant-loop-track l = record {
-  rest : All (IsFresh l.heap.value.recorder) l.track-iterator.rest.items;
+  rest : (k : ℕ) (none : Track) → k < length l.track-iterator.rest.items → IsNew l.heap.value.recorder (length l.threads.items + k) (slice_index_or l.track-iterator.rest.items k none);
   good : All (λ held. IsHeld held.value) l.threads.items;
+  first : EachFirst (λ held. Some held.value) l.heap.value.recorder l.threads.items;
   count : length l.threads.items + length l.track-iterator.rest.items ≡ length l.fn.tracks.items;
 }

@@ -17,7 +17,7 @@ use denote.Triple.Walked.{Stays, stay_dropped, walk_of, Goes-dropped}
 use Rattle.std.specs.declared.option.Option.{Option}
 use Rattle.std.specs.declared.option.Option.TheVariants.{None, Some}
 use Rattle.std.proofs.raw_atomic.Walks.{proved_at, leaves}
-use Rattle.octet_c.proofs.Values.{both}
+use Rattle.octet_host.proofs.lemmas.Values.{both}
 use Rattle.octet_c.proofs.Handles.{R, H as Held, empty_good, handle_out}
 use Rattle.octet_c.specs.contracts.handle.Handle.discard.{ended, clauses}
 use Rattle.octet_c.specs.contracts.handle.Handle.discard.Key.{name as #self}

@@ -21,7 +21,7 @@ use Rattle.std.proofs.alloc.Global.TheLaws as heap_laws
 use Rattle.std.specs.contracts.impls.GlobalAllocator.TheImpl.{ghosts}
 use Rattle.std.specs.declared.option.Option.TheVariants.{None}
 use Rattle.std.proofs.raw_atomic.Walks.{proved_at, leaves}
-use Rattle.octet_c.proofs.Values.{both, al}
+use Rattle.octet_host.proofs.lemmas.Values.{both, al}
 use Rattle.octet_c.proofs.Handles.{R, Z, empty_good, empty_in}
 use Rattle.octet_c.specs.contracts.handle.Handle.empty.{ended, clauses}
 use Rattle.octet_c.specs.contracts.handle.Handle.empty.Key.{name as #self}

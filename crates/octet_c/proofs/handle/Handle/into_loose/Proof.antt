@@ -27,7 +27,7 @@ use Rattle.std.specs.declared.option.Option.TheVariants.{None, Some}
 use Rattle.std_alloc.proofs.ResultValues.{and_tt}
 use Rattle.std.proofs.raw_atomic.Walks.{proved_at, leaves}
 use Rattle.octet_c.specs.Sessions.{IsHeld}
-use Rattle.octet_c.proofs.Values.{both, Loose, loose_good, loose_in}
+use Rattle.octet_host.proofs.lemmas.Values.{both, Loose, loose_good, loose_in}
 use Rattle.octet_c.proofs.Handles.{R, Z, H as Held, empty_good, handle_out}
 use Rattle.octet_c.specs.contracts.handle.Handle.into_loose.{ended, clauses}
 use Rattle.octet_c.specs.contracts.handle.Handle.into_loose.Key.{name as #self}

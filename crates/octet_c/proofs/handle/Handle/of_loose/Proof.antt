@@ -21,7 +21,7 @@ use Rattle.std.specs.contracts.impls.GlobalAllocator.TheImpl.{ghosts}
 use Rattle.std.specs.declared.option.Option.TheVariants.{Some}
 use Rattle.std.proofs.raw_atomic.Walks.{proved_at, leaves}
 use Rattle.octet_c.specs.Sessions.{IsHeld}
-use Rattle.octet_c.proofs.Values.{both, Loose, loose_good, loose_out}
+use Rattle.octet_host.proofs.lemmas.Values.{both, Loose, loose_good, loose_out}
 use Rattle.octet_c.proofs.Handles.{R, Z, handle_in}
 use Rattle.octet_c.specs.contracts.handle.Handle.of_loose.{ended, clauses}
 use Rattle.octet_c.specs.contracts.handle.Handle.of_loose.Key.{name as #self}

@@ -1,0 +1,22 @@
+use Rattle.std.proofs.Common.{rules}
+use Rattle.octet_host_long.specs.declared.inlet.Inlet.{Inlet}
+use Rattle.octet_host_long.specs.declared.repeated.LongRepeated.{LongRepeated}
+use Rattle.octet_host_long.specs.Threads.{IsLongRepeated}
+use Rattle.octet_c.specs.declared.held.Held.TheVariants as held
+use Rattle.octet_c.proofs.Pairs.{all_held}
+use Rattle.octet_c.proofs.long.following.Goals as goal
+
+pub returns-clause-follows : goal.returns-clause-follows
+returns-clause-follows c = record {
+  repeated = c.in_ok-threads.threads.items;
+  inlets = c.in_ok-threads.inlets.items;
+  follows = c.in_ok-threads.ensures.follows;
+  sessions_are = c.in_ok-box_repeated.ensures.each;
+  streams_are = c.in_ok-box_inlets.ensures.each;
+}
+
+pub returns-clause-good : goal.returns-clause-good
+returns-clause-good c = (
+  all_held (λ held. held.value) (λ it. held.LongRepeated it) IsLongRepeated (λ it good. good) c.in_ok-box_repeated.field-0.items c.in_ok-threads.threads.items c.in_ok-box_repeated.ensures.each c.in_ok-threads.ensures.good,
+  all_held (λ held. held.value) (λ it. held.Inlet it) (λ (it : Inlet). Unit {0}) (λ it good. tt) c.in_ok-box_inlets.field-0.items c.in_ok-threads.inlets.items c.in_ok-box_inlets.ensures.each (λ k d lt. tt),
+)

@@ -1,0 +1,11 @@
+use Rattle.std.proofs.Common.{rules, length, inr}
+use Rattle.octet_c.proofs.First.{follows_of}
+use Rattle.octet_c.proofs.octet_follow.Goals as goal
+
+pub returns-in-Ok-clause-ready : goal.returns-in-Ok-clause-ready
+returns-in-Ok-clause-ready c = λ ready. follows_of (λ held. held.value) c.args.script.now c.args.log.now c.in-Ok.opened.items c.put_all.new.handles (c.put_all.ensures.ready (search (rules, ready))) c.in-Ok.ensures.follows
+
+pub returns-in-Ok-clause-cause : goal.returns-in-Ok-clause-cause
+returns-in-Ok-clause-cause c = λ unready.
+    let refused = c.put_all.ensures.refused (λ ready. unready (search (rules, ready))) in
+    inr (length c.in-Ok.opened.items, c.in-Ok.ensures.recorded, refused.2, search (rules, refused.0))

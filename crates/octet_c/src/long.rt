@@ -1,0 +1,182 @@
+//! The calls by which a run of any length begins.
+ghost use Rattle.octet_c.specs.declared.status.TheConstants.{READY};
+ghost use Rattle.std.specs.Prelude.{◌≡◌, ◌≢◌, ◌↔◌, All, length, map, true, IfOk, IfErr};
+ghost use Rattle.octet_c.specs.declared.held.Held.TheVariants as held;
+ghost use Rattle.octet_c.specs.declared.status.Fault.TheVariants.{OutOfMemory};
+ghost use Rattle.octet_c.specs.Long.{IsSize, Refuses, RefusesLong, OpensLong, FollowsLong, AreOpened, AreFollowing, Holds};
+ghost use Rattle.octet_c.specs.Sessions.{IsHeld};
+ghost use Rattle.octet_host_long.specs.Threads.{IsLongRecorded, IsLongRepeated};
+
+use crate::handing::put_all;
+use crate::handle::Handle;
+use crate::held::Held;
+use crate::status::Fault;
+use octet_host_long::{Inlet, LongRecorded, LongRepeated, Outlet, follow, open};
+use octet_model::MAX_THREADS;
+use octet_rule::MAX_OBJECTS_OF_HEAP;
+use std::alloc::Global;
+
+/// What is to be behind handles.
+type Boxes = Vec<Box<Held, Global>>;
+
+/// Whether a run of any length may have so many threads and objects.
+pub(crate) fn is_size(threads: usize, objects: usize) -> bool
+    ensures { (result ≡ true) ↔ IsSize threads objects }
+{
+    threads >= 1 && threads <= MAX_THREADS && objects >= 1 && objects <= MAX_OBJECTS_OF_HEAP
+}
+
+// Refuses numbers of threads and objects that no run may have, and handles that are no pairs.
+fn sized(objects: usize, sessions: usize, streams: usize) -> Result<(), Fault>
+    ensures fits { IfOk result (λ _. IsSize sessions objects × (sessions ≡ streams)) }
+    ensures refused { IfErr result (Refuses objects sessions streams) }
+{
+    if !is_size(sessions, objects) {
+        return Err(Fault::BadSize);
+    }
+    if sessions != streams {
+        return Err(Fault::OtherSessions);
+    }
+    Ok(())
+}
+
+// Threads that are recorded, each in a box.
+fn box_recorded(alloc: Global, threads: Vec<LongRecorded>) -> Result<Boxes, Fault>
+    ensures each { IfOk result (λ boxes. map (λ box. box.value) boxes.items ≡ map (λ it. held.LongRecorded it) threads.items) }
+    ensures memory { IfErr result (λ fault. fault ≡ OutOfMemory) }
+{
+    let mut boxes = Vec::new(alloc);
+    for it in threads {
+        boxes.push(Box::new(alloc, Held::LongRecorded(it))?)?;
+    }
+    Ok(boxes)
+}
+
+// Threads that are made again, each in a box.
+fn box_repeated(alloc: Global, threads: Vec<LongRepeated>) -> Result<Boxes, Fault>
+    ensures each { IfOk result (λ boxes. map (λ box. box.value) boxes.items ≡ map (λ it. held.LongRepeated it) threads.items) }
+    ensures memory { IfErr result (λ fault. fault ≡ OutOfMemory) }
+{
+    let mut boxes = Vec::new(alloc);
+    for it in threads {
+        boxes.push(Box::new(alloc, Held::LongRepeated(it))?)?;
+    }
+    Ok(boxes)
+}
+
+// Streams that give, each in a box.
+fn box_outlets(alloc: Global, outlets: Vec<Outlet>) -> Result<Boxes, Fault>
+    ensures each { IfOk result (λ boxes. map (λ box. box.value) boxes.items ≡ map (λ it. held.Outlet it) outlets.items) }
+    ensures memory { IfErr result (λ fault. fault ≡ OutOfMemory) }
+{
+    let mut boxes = Vec::new(alloc);
+    for it in outlets {
+        boxes.push(Box::new(alloc, Held::Outlet(it))?)?;
+    }
+    Ok(boxes)
+}
+
+// Streams that are fed, each in a box.
+fn box_inlets(alloc: Global, inlets: Vec<Inlet>) -> Result<Boxes, Fault>
+    ensures each { IfOk result (λ boxes. map (λ box. box.value) boxes.items ≡ map (λ it. held.Inlet it) inlets.items) }
+    ensures memory { IfErr result (λ fault. fault ≡ OutOfMemory) }
+{
+    let mut boxes = Vec::new(alloc);
+    for it in inlets {
+        boxes.push(Box::new(alloc, Held::Inlet(it))?)?;
+    }
+    Ok(boxes)
+}
+
+// The threads of a new run and their streams.
+fn opened(
+    alloc: Global,
+    starts: &[u64],
+    sessions: usize,
+    streams: usize,
+) -> Result<(Boxes, Boxes), Fault>
+    ensures opens { IfOk result (λ boxes. AreOpened sessions starts.now (map (λ box. box.value) boxes.0.items) (map (λ box. box.value) boxes.1.items)) }
+    ensures good { IfOk result (λ boxes. All (λ box. IsHeld box.value) boxes.0.items × All (λ box. IsHeld box.value) boxes.1.items) }
+    ensures count { IfOk result (λ boxes. (length boxes.0.items ≡ sessions) × (length boxes.1.items ≡ streams)) }
+    ensures refused { IfErr result (Refuses (length starts.now) sessions streams) }
+{
+    sized(starts.len(), sessions, streams)?;
+    let (threads, outlets) = open(alloc, sessions as u8, starts)?;
+    Ok((box_recorded(alloc, threads)?, box_outlets(alloc, outlets)?))
+}
+
+// The threads of a run that is made again and their streams.
+fn following(
+    alloc: Global,
+    starts: &[u64],
+    declared: &[u8],
+    sessions: usize,
+    streams: usize,
+) -> Result<(Boxes, Boxes), Fault>
+    ensures follows { IfOk result (λ boxes. AreFollowing sessions starts.now declared.now (map (λ box. box.value) boxes.0.items) (map (λ box. box.value) boxes.1.items)) }
+    ensures good { IfOk result (λ boxes. All (λ box. IsHeld box.value) boxes.0.items × All (λ box. IsHeld box.value) boxes.1.items) }
+    ensures count { IfOk result (λ boxes. (length boxes.0.items ≡ sessions) × (length boxes.1.items ≡ streams)) }
+    ensures refused { IfErr result (Refuses (length starts.now) sessions streams) }
+{
+    sized(starts.len(), sessions, streams)?;
+    let (threads, inlets) = follow(alloc, sessions as u8, starts, declared)?;
+    Ok((box_repeated(alloc, threads)?, box_inlets(alloc, inlets)?))
+}
+
+// Puts threads behind the one handles, and their streams behind the others.
+fn put_both(
+    alloc: Global,
+    sessions: &mut [Handle],
+    streams: &mut [Handle],
+    boxes: (Boxes, Boxes),
+) -> i32
+    requires good { All (λ box. IsHeld box.value) boxes.0.items × All (λ box. IsHeld box.value) boxes.1.items }
+    requires count { (length boxes.0.items ≡ length sessions.old) × (length boxes.1.items ≡ length streams.old) }
+    ensures ready { result ≡ READY }
+    ensures sessions { Holds (map (λ box. box.value) boxes.0.items) sessions.new }
+    ensures streams { Holds (map (λ box. box.value) boxes.1.items) streams.new }
+{
+    let (threads, ends) = boxes;
+    put_all(alloc, sessions, threads);
+    put_all(alloc, streams, ends)
+}
+
+/// Opens a run of any length over objects with these starting values, and puts a session and its stream behind the handles,
+/// one of each for each thread, in order. What a handle held is freed.
+#[unsafe(no_mangle)]
+pub extern "C" fn octet_open_long(
+    alloc: Global,
+    starts: &[u64],
+    sessions: &mut [Handle],
+    streams: &mut [Handle],
+) -> i32
+    ensures ready { result ≡ READY → OpensLong (length sessions.old) starts.now sessions.new streams.new }
+    ensures kept { result ≢ READY → (sessions.new ≡ sessions.old) × (streams.new ≡ streams.old) }
+    ensures cause { result ≢ READY → RefusesLong (length starts.now) (length sessions.old) (length streams.old) result }
+{
+    match opened(alloc, starts, sessions.len(), streams.len()) {
+        Ok(boxes) => put_both(alloc, sessions, streams, boxes),
+        Err(fault) => fault.status(),
+    }
+}
+
+/// Opens a run of any length that is made again, over objects with these starting values, and puts a session and its stream
+/// behind the handles, one of each for each thread, in order. Each stream is fed a marks file, whose head has to be that of
+/// `octet_head`. What a handle held is freed.
+#[unsafe(no_mangle)]
+pub extern "C" fn octet_follow_long(
+    alloc: Global,
+    starts: &[u64],
+    declared: &[u8],
+    sessions: &mut [Handle],
+    streams: &mut [Handle],
+) -> i32
+    ensures ready { result ≡ READY → FollowsLong (length sessions.old) starts.now declared.now sessions.new streams.new }
+    ensures kept { result ≢ READY → (sessions.new ≡ sessions.old) × (streams.new ≡ streams.old) }
+    ensures cause { result ≢ READY → RefusesLong (length starts.now) (length sessions.old) (length streams.old) result }
+{
+    match following(alloc, starts, declared, sessions.len(), streams.len()) {
+        Ok(boxes) => put_both(alloc, sessions, streams, boxes),
+        Err(fault) => fault.status(),
+    }
+}
