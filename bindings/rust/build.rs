@@ -25,12 +25,14 @@ fn main() {
     let here = PathBuf::from(env::var_os("CARGO_MANIFEST_DIR").expect("cargo says where the package is"));
     let named = env::var_os("OCTET_LIB").map(PathBuf::from);
     let places = [here.join("../../crates/octet_c/out"), here.join("../../../lib")];
-    let folder = named.unwrap_or_else(|| {
-        let found = places.iter().find(|folder| folder.join("liboctet_c.a").is_file() || folder.join("liboctet.a").is_file());
-        found.unwrap_or(&places[0]).clone()
-    });
     println!("cargo::rerun-if-env-changed=OCTET_LIB");
     println!("cargo::rerun-if-env-changed=RATTLE_KIT");
+    let has_library = |folder: &PathBuf| folder.join("liboctet_c.a").is_file() || folder.join("liboctet.a").is_file();
+    let folders = named.map_or(places.to_vec(), |named| vec![named]);
+    let Some(folder) = folders.into_iter().find(has_library) else {
+        println!("cargo::error=Octet's library is not built: `rt lib` in crates/octet_c does, or set OCTET_LIB to its folder");
+        return;
+    };
     if folder.join("liboctet.a").is_file() {
         link(&folder, "octet");
     } else {

@@ -23,7 +23,8 @@ pub enum Error {
     BadName { name: String },
     /// Two objects have this name.
     NamedTwice { name: String },
-    /// A heap has 1 to 16 threads, at most 1,024 objects, and 87,381 accesses of all threads.
+    /// A heap has 1 to 16 threads, at most 1,024 objects, and 87,381 accesses of all threads; in a run of any length 1 to 65,535
+    /// objects.
     BadSize,
     /// The heap has no object, lock or other thing of this name.
     NoName { name: String },
@@ -52,12 +53,16 @@ pub enum Error {
     /// The recording is of other objects, or of another number of threads.
     OtherRecording,
     /// The thread, run again, asked for another access than was recorded, after this many. Where it ended too early there is
-    /// no place.
+    /// no place. By a file of marks this is found up to 65,536 accesses later.
     Diverged { thread: usize, accesses: u64, place: Option<Place> },
     /// The thread would wait for another one, which has diverged.
     Halted { thread: usize },
     /// The threads, run again, ended before their recording.
     NotWhole,
+    /// The recording of the thread, which is run again, ends here: the recorded run was stopped, or its file was cut.
+    RecordingEnds { thread: usize },
+    /// The marks file is damaged at this place, counted in bytes.
+    BadMarks { path: PathBuf, place: u64 },
     /// Threads wait for each other.
     Deadlock { waits: Vec<Wait> },
     /// The thread has waited for longer than the heap's patience.
@@ -117,6 +122,8 @@ impl fmt::Display for Error {
             }
             Error::Halted { thread } => write!(out, "thread {thread} would wait for one that has left its recording"),
             Error::NotWhole => out.write_str("the threads ended before their recording"),
+            Error::RecordingEnds { thread } => write!(out, "the recording of thread {thread} ends here"),
+            Error::BadMarks { path, place } => write!(out, "{} is damaged at byte {place}", path.display()),
             Error::Deadlock { waits } => {
                 let waits: Vec<String> = waits.iter().map(Wait::to_string).collect();
                 write!(out, "deadlock: {}", waits.join("; "))
@@ -140,7 +147,7 @@ impl error::Error for Error {
 impl Error {
     // Whether it follows from an error of another thread.
     pub(crate) fn follows(&self) -> bool {
-        matches!(self, Error::Halted { .. } | Error::Patience { .. } | Error::Deadlock { .. })
+        matches!(self, Error::Halted { .. } | Error::Patience { .. } | Error::Deadlock { .. } | Error::RecordingEnds { .. })
     }
 }
 
@@ -148,6 +155,7 @@ impl Error {
 pub(crate) fn checked(status: i32, thread: usize) -> Result<(), Error> {
     Err(match status {
         raw::READY | raw::PENDING => return Ok(()),
+        raw::OVER => Error::RecordingEnds { thread },
         -2 => Error::Resting,
         -3 => Error::Running,
         -7 => Error::Spent { thread },
@@ -160,6 +168,8 @@ pub(crate) fn checked(status: i32, thread: usize) -> Result<(), Error> {
         -16 => Error::Halted { thread },
         -18 => Error::Unordered,
         -19 => Error::NotWhole,
+        -22 => Error::BadSize,
+        -26 => Error::OtherRecording,
         other => Error::Status(other),
     })
 }

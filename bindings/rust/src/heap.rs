@@ -1,9 +1,10 @@
 //! A heap, and how its threads are run.
 use crate::error::checked;
 use crate::gate::{Bell, Gate};
+use crate::long::{LongBuilder, Way};
 use crate::shared::{Lock, Order, Shared};
 use crate::turnstile::Turnstile;
-use crate::{Error, Object, Recording, Schedule, Session, quiet, raw};
+use crate::{Error, Object, Place, Recording, Schedule, Session, quiet, raw};
 use std::collections::HashSet;
 use std::ops::Deref;
 use std::path::PathBuf;
@@ -15,7 +16,7 @@ use std::{panic, thread};
 /// The fuel of all threads together, how much of it an access may take, and how many threads and objects there may be.
 const ALL_FUEL: u32 = 262_144;
 const FUEL_OF_ACCESS: u32 = 3;
-const MAX_THREADS: usize = 16;
+pub(crate) const MAX_THREADS: usize = 16;
 const MAX_OBJECTS: usize = 1024;
 const MAX_NAME: usize = 32;
 
@@ -41,12 +42,12 @@ fn is_name(name: &str) -> bool {
 #[derive(Clone, Debug)]
 #[must_use]
 pub struct Builder {
-    objects: Vec<(String, u64)>,
+    pub(crate) objects: Vec<(String, u64)>,
     locks: Vec<Lock>,
     conditions: Vec<String>,
     barriers: Vec<(String, u64)>,
     channels: Vec<(String, u64)>,
-    threads: usize,
+    pub(crate) threads: usize,
     accesses: Option<u32>,
     schedule: Option<Schedule>,
     rerun: Option<Recording>,
@@ -138,6 +139,16 @@ impl Builder {
         self
     }
 
+    /// The run may have any length, and its marks go into this file while it goes on.
+    pub fn record(self, path: impl Into<PathBuf>) -> LongBuilder {
+        LongBuilder::new(self, Way::Record, path.into())
+    }
+
+    /// The threads run again by the file of marks that `record` has written.
+    pub fn follow(self, path: impl Into<PathBuf>) -> LongBuilder {
+        LongBuilder::new(self, Way::Follow, path.into())
+    }
+
     /// For how long a thread waits for others before it fails; ten seconds if nothing is said.
     pub fn patience(mut self, patience: Duration) -> Builder {
         self.patience = patience;
@@ -151,7 +162,8 @@ impl Builder {
         self
     }
 
-    fn judged(&self) -> Result<u32, Error> {
+    // That each name is one, and stands once; and how many objects and threads there are.
+    pub(crate) fn judged(&self, most_objects: usize) -> Result<(), Error> {
         let mut seen = HashSet::new();
         for (name, _) in &self.objects {
             if !is_name(name) {
@@ -161,9 +173,12 @@ impl Builder {
                 return Err(Error::NamedTwice { name: name.clone() });
             }
         }
-        if self.objects.len() > MAX_OBJECTS || !(1..=MAX_THREADS).contains(&self.threads) {
-            return Err(Error::BadSize);
-        }
+        let is_good = self.objects.len() <= most_objects && (1..=MAX_THREADS).contains(&self.threads);
+        if is_good { Ok(()) } else { Err(Error::BadSize) }
+    }
+
+    fn fuel(&self) -> Result<u32, Error> {
+        self.judged(MAX_OBJECTS)?;
         let most = ALL_FUEL / self.threads as u32;
         let fuel = self.accesses.map_or(most, |accesses| accesses.saturating_mul(FUEL_OF_ACCESS));
         if fuel == 0 || fuel > most { Err(Error::BadSize) } else { Ok(fuel) }
@@ -171,7 +186,7 @@ impl Builder {
 
     // The script that declares it.
     fn text(&self) -> Result<String, Error> {
-        let mut text = format!("fuel {}\n", self.judged()?);
+        let mut text = format!("fuel {}\n", self.fuel()?);
         for (name, start) in &self.objects {
             text += &format!("object {name} {start}\n");
         }
@@ -179,11 +194,12 @@ impl Builder {
         Ok(text)
     }
 
-    fn order(&self) -> Order {
-        match (&self.rerun, &self.schedule) {
-            (Some(_), _) => Order::Again,
-            (None, Some(schedule)) => Order::Turns(Turnstile::new(schedule, self.threads, self.locks.len(), self.patience)),
-            (None, None) => Order::Free {
+    // How threads come to their accesses, which may be run again.
+    pub(crate) fn order(&self, again: bool) -> Order {
+        match &self.schedule {
+            _ if again => Order::Again,
+            Some(schedule) => Order::Turns(Turnstile::new(schedule, self.threads, self.locks.len(), self.patience)),
+            None => Order::Free {
                 gates: self.locks.iter().map(|_| Gate::default()).collect(),
                 bells: self.conditions.iter().map(|_| Bell::default()).collect(),
             },
@@ -211,9 +227,14 @@ impl Builder {
     /// `BadName`, `NamedTwice` and `BadSize` of what the heap is to have. Of a recording `OtherRecording`, `NoRecording`,
     /// `Unordered` and `TooLong`. `NoMemory`.
     pub fn build(self) -> Result<(Heap, Vec<Session>), Error> {
-        static NEXT: AtomicU64 = AtomicU64::new(1);
         let handles = self.opened()?;
-        let order = self.order();
+        let order = self.order(self.rerun.is_some());
+        Ok(self.with_sessions(handles, order, true))
+    }
+
+    // The heap whose sessions are opened.
+    pub(crate) fn with_sessions(self, handles: Vec<raw::Handle>, order: Order, keeps_places: bool) -> (Heap, Vec<Session>) {
+        static NEXT: AtomicU64 = AtomicU64::new(1);
         let names = self.objects.into_iter().zip(0..);
         let shared = Arc::new(Shared {
             heap: NEXT.fetch_add(1, Ordering::Relaxed),
@@ -226,8 +247,9 @@ impl Builder {
             patience: self.patience,
         });
         let sessions = handles.into_iter().enumerate();
-        let sessions: Vec<Session> = sessions.map(|(number, handle)| Session::new(handle, number, &shared)).collect();
-        Ok((Heap { threads: sessions.len(), shared }, sessions))
+        let sessions: Vec<Session> =
+            sessions.map(|(number, handle)| Session::new(handle, number, &shared, keeps_places)).collect();
+        (Heap { threads: sessions.len(), shared }, sessions)
     }
 
     /// Starts the threads that `spawn` is called for, waits for all of them, and gives what they gave back and the recording
@@ -279,13 +301,12 @@ impl Builder {
         T: Send,
         E: From<Error> + Send,
     {
-        let mut threads = Threads { works: Vec::new() };
-        spawn(&mut threads);
+        let threads = Threads::named_by(spawn);
         self.threads = threads.works.len();
         let (schedule, failing) = (self.schedule.clone(), self.failing.take());
         let shrinks = schedule.as_ref().is_some_and(Schedule::is_given);
         let (heap, mut sessions) = self.build()?;
-        let ended = all_ended(&mut sessions, threads.works, shrinks);
+        let ended = all_ended(&mut sessions, threads.works, shrinks, |_| ());
         let follows: Vec<bool> = sessions.iter().map(Session::follows).collect();
         let recording = heap.finish(sessions);
         if let (Some(schedule), Ok(recording)) = (&schedule, &recording) {
@@ -300,22 +321,20 @@ impl Builder {
                         Err(error) => eprintln!("octet: the run that failed is not kept: {error}"),
                     }
                 }
-                match failed {
-                    Failed::Error(error) => Err(error),
-                    Failed::Panic(panic) => panic::resume_unwind(panic),
-                }
+                Err(failed.into_error())
             }
         }
     }
 }
 
-type Work<'a, T, E> = Box<dyn FnOnce(&mut Session) -> Result<T, E> + Send + 'a>;
+pub(crate) type Work<'a, T, E> = Box<dyn FnOnce(&mut Session) -> Result<T, E> + Send + 'a>;
 
-// Runs each work on a thread with its session.
-fn all_ended<T: Send, E: From<Error> + Send>(
+// Runs each work on a thread with its session, and meanwhile something beside them, which can ask whether all have ended.
+pub(crate) fn all_ended<T: Send, E: From<Error> + Send>(
     sessions: &mut [Session],
     works: Vec<Work<'_, T, E>>,
     quietly: bool,
+    beside: impl FnOnce(&dyn Fn() -> bool),
 ) -> Vec<thread::Result<Result<T, E>>> {
     thread::scope(|scope| {
         let works = sessions.iter_mut().zip(works);
@@ -326,17 +345,31 @@ fn all_ended<T: Send, E: From<Error> + Send>(
             })
         });
         let running: Vec<_> = running.collect();
+        beside(&|| running.iter().all(thread::ScopedJoinHandle::is_finished));
         running.into_iter().map(thread::ScopedJoinHandle::join).collect()
     })
 }
 
-enum Failed<E> {
+pub(crate) enum Failed<E> {
     Error(E),
     Panic(Box<dyn std::any::Any + Send>),
 }
 
+impl<E> Failed<E> {
+    /// The error; or it panics as the thread did.
+    pub(crate) fn into_error(self) -> E {
+        match self {
+            Failed::Error(error) => error,
+            Failed::Panic(panic) => panic::resume_unwind(panic),
+        }
+    }
+}
+
 // What all threads gave back; or the first panic, or the first error that follows from no other thread's, or the first one.
-fn values_of<T, E>(ended: Vec<thread::Result<Result<T, E>>>, follows: &[bool]) -> Result<Vec<T>, Failed<E>> {
+pub(crate) fn values_of<T, E>(
+    ended: impl IntoIterator<Item = thread::Result<Result<T, E>>>,
+    follows: &[bool],
+) -> Result<Vec<T>, Failed<E>> {
     let (mut values, mut errors) = (Vec::new(), Vec::new());
     for (thread, follows) in ended.into_iter().zip(follows) {
         match thread {
@@ -353,10 +386,16 @@ fn values_of<T, E>(ended: Vec<thread::Result<Result<T, E>>>, follows: &[bool]) -
 
 /// The threads of a run.
 pub struct Threads<'a, T, E> {
-    works: Vec<Work<'a, T, E>>,
+    pub(crate) works: Vec<Work<'a, T, E>>,
 }
 
 impl<'a, T, E> Threads<'a, T, E> {
+    pub(crate) fn named_by(spawn: impl FnOnce(&mut Threads<'a, T, E>)) -> Threads<'a, T, E> {
+        let mut threads = Threads { works: Vec::new() };
+        spawn(&mut threads);
+        threads
+    }
+
     /// One more thread, which does this. It starts once all are named.
     pub fn spawn(&mut self, work: impl FnOnce(&mut Session) -> Result<T, E> + Send + 'a) {
         self.works.push(Box::new(work));
@@ -432,7 +471,12 @@ impl Heap {
     ///
     /// # Errors
     /// `OtherSessions`, `NotWhole`, `TooLong` and `NoMemory`. The sessions are gone then.
-    pub fn finish(self, mut sessions: Vec<Session>) -> Result<Recording, Error> {
+    pub fn finish(self, sessions: Vec<Session>) -> Result<Recording, Error> {
+        let (record, places) = self.closed(sessions)?;
+        Recording::of(record, places)
+    }
+
+    pub(crate) fn closed(self, mut sessions: Vec<Session>) -> Result<(raw::Handle, Vec<Vec<Place>>), Error> {
         sessions.sort_by_key(Session::number);
         if sessions.len() != self.threads || !sessions.iter().all(|session| session.is_of(self.shared.heap)) {
             return Err(Error::OtherSessions);
@@ -440,6 +484,6 @@ impl Heap {
         let (handles, places) = sessions.into_iter().map(Session::into_parts).unzip();
         let (record, status) = raw::close(handles);
         checked(status, 0)?;
-        Recording::of(record, places)
+        Ok((record, places))
     }
 }

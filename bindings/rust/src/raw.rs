@@ -4,7 +4,10 @@ use std::ptr::null_mut;
 
 pub(crate) const READY: i32 = 0;
 pub(crate) const PENDING: i32 = 1;
+pub(crate) const OVER: i32 = 2;
 pub(crate) const DIVERGED: i32 = -15;
+pub(crate) const NO_ROOM: i32 = -24;
+pub(crate) const BAD_MARKS: i32 = -25;
 
 /// What a session is asked for.
 #[derive(Clone, Copy)]
@@ -58,6 +61,37 @@ unsafe extern "C" {
     fn octet_log(record: *mut Handle, out: *mut u8, room: usize, length: *mut usize) -> i32;
     fn octet_values(record: *mut Handle, out: *mut u64, room: usize, length: *mut usize) -> i32;
     fn octet_free(handle: *mut Handle);
+    fn octet_open_long(
+        starts: *const u64,
+        objects: usize,
+        sessions: *mut Handle,
+        count: usize,
+        streams: *mut Handle,
+        stream_count: usize,
+    ) -> i32;
+    fn octet_head(
+        starts: *const u64,
+        objects: usize,
+        threads: u8,
+        declared: *const u8,
+        declared_length: usize,
+        out: *mut u8,
+        room: usize,
+        length: *mut usize,
+    ) -> i32;
+    fn octet_take(stream: *mut Handle, out: *mut u8, room: usize, length: *mut usize) -> i32;
+    fn octet_follow_long(
+        starts: *const u64,
+        objects: usize,
+        declared: *const u8,
+        declared_length: usize,
+        sessions: *mut Handle,
+        count: usize,
+        streams: *mut Handle,
+        stream_count: usize,
+    ) -> i32;
+    fn octet_feed(stream: *mut Handle, bytes: *const u8, length: usize, taken: *mut u64) -> i32;
+    fn octet_feed_end(stream: *mut Handle, at: *mut u64) -> i32;
 }
 
 // SAFETY: the library proves that what is behind a handle may be used by another thread, and each call below takes the
@@ -90,6 +124,44 @@ pub(crate) fn follow(script: &[u8], log: &[u8], threads: usize) -> (Vec<Handle>,
     let status =
         unsafe { octet_follow(script.as_ptr(), script.len(), log.as_ptr(), log.len(), sessions.as_mut_ptr(), threads) };
     (sessions, status)
+}
+
+/// `octet_open_long`: a session and a stream for each thread, and the status.
+pub(crate) fn open_long(starts: &[u64], threads: usize) -> (Vec<Handle>, Vec<Handle>, i32) {
+    let (mut sessions, mut streams) = (empty(threads), empty(threads));
+    // SAFETY: the values and the handles are borrowed for the call, with their lengths.
+    let status = unsafe {
+        octet_open_long(starts.as_ptr(), starts.len(), sessions.as_mut_ptr(), threads, streams.as_mut_ptr(), threads)
+    };
+    (sessions, streams, status)
+}
+
+/// `octet_head`: its bytes, and the status.
+pub(crate) fn head(starts: &[u64], threads: u8, declared: &[u8]) -> (Vec<u8>, i32) {
+    // SAFETY: `copied` gives the call a buffer and its length; the rest is borrowed for the call, with its lengths.
+    copied(|out, room, length| unsafe {
+        octet_head(starts.as_ptr(), starts.len(), threads, declared.as_ptr(), declared.len(), out, room, length)
+    })
+}
+
+/// `octet_follow_long`.
+pub(crate) fn follow_long(starts: &[u64], declared: &[u8], threads: usize) -> (Vec<Handle>, Vec<Handle>, i32) {
+    let (mut sessions, mut streams) = (empty(threads), empty(threads));
+    let (words, length) = (declared.as_ptr(), declared.len());
+    // SAFETY: values, bytes and handles are borrowed for the call, with their lengths.
+    let status = unsafe {
+        octet_follow_long(
+            starts.as_ptr(),
+            starts.len(),
+            words,
+            length,
+            sessions.as_mut_ptr(),
+            threads,
+            streams.as_mut_ptr(),
+            threads,
+        )
+    };
+    (sessions, streams, status)
 }
 
 /// `octet_close`: the record, and the status.
@@ -147,6 +219,21 @@ impl Handle {
     pub(crate) fn poll(&mut self, out: &mut u64) -> i32 {
         // SAFETY: as in `end`.
         unsafe { octet_poll(self, out) }
+    }
+
+    pub(crate) fn take(&mut self, out: &mut [u8], length: &mut usize) -> i32 {
+        // SAFETY: handle, buffer and `length` are borrowed for the call.
+        unsafe { octet_take(self, out.as_mut_ptr(), out.len(), length) }
+    }
+
+    pub(crate) fn feed(&mut self, bytes: &[u8], taken: &mut u64) -> i32 {
+        // SAFETY: as in `take`.
+        unsafe { octet_feed(self, bytes.as_ptr(), bytes.len(), taken) }
+    }
+
+    pub(crate) fn feed_end(&mut self, at: &mut u64) -> i32 {
+        // SAFETY: as in `end`.
+        unsafe { octet_feed_end(self, at) }
     }
 
     pub(crate) fn script(&mut self) -> (Vec<u8>, i32) {

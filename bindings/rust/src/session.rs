@@ -42,16 +42,19 @@ pub struct Session {
     handle: Handle,
     number: usize,
     heap: u64,
+    // The heap, where an access may be made at once. No heap has the number 0.
+    at_once: u64,
     pub(crate) shared: Arc<Shared>,
-    takes_turns: bool,
     // The locks that it holds, the last one taken last.
     held: Vec<usize>,
-    // For each access where it was asked for.
-    places: Vec<Caller>,
+    // For each access where it was asked for, unless the run may be of any length.
+    places: Option<Vec<Caller>>,
     // Where a call stands that makes several accesses.
     caller: Option<Caller>,
     // Whether its last error follows from another thread's.
     follows: bool,
+    // Whether its recording has ended before the thread did.
+    is_cut: bool,
     not_sync: PhantomData<Cell<()>>,
 }
 
@@ -65,23 +68,24 @@ impl Drop for Session {
 
 /// What `Builder::build` gives, and `Heap::finish` takes.
 impl Session {
-    pub(crate) fn new(handle: Handle, number: usize, shared: &Arc<Shared>) -> Session {
+    pub(crate) fn new(handle: Handle, number: usize, shared: &Arc<Shared>, keeps_places: bool) -> Session {
         Session {
             handle,
             number,
             heap: shared.heap,
+            at_once: if matches!(shared.order, Order::Turns(_)) { 0 } else { shared.heap },
             shared: Arc::clone(shared),
-            takes_turns: matches!(shared.order, Order::Turns(_)),
             held: Vec::new(),
-            places: Vec::new(),
+            places: keeps_places.then(Vec::new),
             caller: None,
             follows: false,
+            is_cut: false,
             not_sync: PhantomData,
         }
     }
 
     pub(crate) fn into_parts(mut self) -> (Handle, Vec<Place>) {
-        let places = mem::take(&mut self.places).into_iter().map(Place::from).collect();
+        let places = mem::take(&mut self.places).unwrap_or_default().into_iter().map(Place::from).collect();
         (mem::replace(&mut self.handle, Handle::empty()), places)
     }
 
@@ -91,6 +95,10 @@ impl Session {
 
     pub(crate) fn follows(&self) -> bool {
         self.follows
+    }
+
+    pub(crate) fn is_cut(&self) -> bool {
+        self.is_cut
     }
 
     /// The number of its thread, from 0.
@@ -198,6 +206,7 @@ impl Session {
         if status == raw::DIVERGED {
             return Err(Error::Diverged { thread: self.number, accesses: out, place: caller.map(Place::from) });
         }
+        self.is_cut = self.is_cut || status == raw::OVER;
         checked(status, self.number).inspect_err(|error| self.follows = error.follows())
     }
 
@@ -302,32 +311,50 @@ impl Session {
 /// # Ok::<(), Error>(())
 /// ```
 impl Session {
-    // An access from this place.
-    #[inline]
+    // An access from this place. Where it is written which one it is, this comes to one call of the library.
+    #[inline(always)]
     fn make(&mut self, object: u16, access: Access, caller: Caller) -> Result<u64, Error> {
         let mut out = 0;
-        let mut status = self.handle.access(object, access, &mut out);
-        if status == raw::PENDING {
-            status = self.until_made(status, &mut out, Handle::poll)?;
-        }
+        let status = self.handle.access(object, access, &mut out);
         if status != raw::READY {
-            self.answered(status, out, Some(caller))?;
+            return self.make_later(status, out, caller);
         }
-        self.places.push(caller);
+        self.note_place(caller);
         Ok(out)
     }
 
-    #[inline]
+    #[inline(always)]
+    fn note_place(&mut self, caller: Caller) {
+        if let Some(places) = &mut self.places {
+            places.push(caller);
+        }
+    }
+
+    // An access that was begun, or refused.
+    #[cold]
+    fn make_later(&mut self, status: i32, mut out: u64, caller: Caller) -> Result<u64, Error> {
+        let status = self.until_made(status, &mut out, Handle::poll)?;
+        if status != raw::READY {
+            self.answered(status, out, Some(caller))?;
+        }
+        self.note_place(caller);
+        Ok(out)
+    }
+
+    #[inline(always)]
     #[track_caller]
     fn access(&mut self, object: Object, access: Access) -> Result<u64, Error> {
-        let here = Location::caller();
-        if object.heap != self.heap {
-            return Err(Error::OtherHeap);
+        let caller = self.caller.unwrap_or(Location::caller());
+        if object.heap != self.at_once {
+            self.before_access(object)?;
         }
-        if self.takes_turns {
-            self.take_turn()?;
-        }
-        self.make(object.place, access, self.caller.unwrap_or(here))
+        self.make(object.place, access, caller)
+    }
+
+    // Waits for the thread's turn, if the object is one of its heap.
+    #[cold]
+    fn before_access(&mut self, object: Object) -> Result<(), Error> {
+        if object.heap != self.heap { Err(Error::OtherHeap) } else { self.take_turn() }
     }
 
     #[inline]
@@ -450,7 +477,7 @@ impl Session {
 
     // Notes that the lock is freed.
     fn note_free(&mut self, lock: usize, caller: Caller) -> Result<(), Error> {
-        if self.takes_turns {
+        if self.at_once != self.heap {
             self.take_turn()?;
         }
         self.touch(lock, caller)

@@ -1,0 +1,171 @@
+//! Runs of any length. Their marks go into a file while they go on, and by it they are run again.
+use crate::error::checked;
+use crate::heap::{Failed, Threads, all_ended, values_of};
+use crate::marks_file::{Feeding, Writing};
+use crate::{Builder, Error, Session, raw};
+use std::path::PathBuf;
+
+/// The most objects that a marks file names.
+const MAX_OBJECTS: usize = 65_535;
+
+/// Whether a run is recorded, or run again.
+#[derive(Clone, Copy, Debug)]
+pub(crate) enum Way {
+    Record,
+    Follow,
+}
+
+/// What a heap is to have, and the file of marks by which its threads are recorded, or run again. The file keeps which accesses came
+/// before which ones, and no value. So a run of 2^42 accesses of each thread may be recorded, and memory does not grow with it.
+///
+/// The threads that run again have to make the same accesses by themselves: each one follows from the values that the thread was
+/// told. That is not so where it reads a clock, or asks the system.
+///
+/// ```
+/// use octet::{Error, Heap, Threads};
+///
+/// fn threads(threads: &mut Threads<'_, u64, Error>) {
+///     for _ in 0..2 {
+///         threads.spawn(|session| {
+///             let x = session.object("x")?;
+///             (0..100_000).try_fold(0, |sum: u64, _| Ok(sum.wrapping_add(session.fetch_add(x, 1)?)))
+///         });
+///     }
+/// }
+///
+/// # let file = std::env::temp_dir().join(format!("octet-long-{}.octm", std::process::id()));
+/// let heap = Heap::builder().object("x", 0);
+/// let first = heap.clone().record(&file).run(threads)?;
+/// let second = heap.follow(&file).run(threads)?;
+/// assert_eq!(second.values(), first.values());
+/// assert_eq!(second.value("x"), Some(200_000));
+/// # std::fs::remove_file(&file).expect("the file is there");
+/// # Ok::<(), Error>(())
+/// ```
+#[derive(Clone, Debug)]
+#[must_use]
+pub struct LongBuilder {
+    heap: Builder,
+    way: Way,
+    path: PathBuf,
+}
+
+// What is written or read beside the threads, and by what.
+enum Beside {
+    Writing(Writing),
+    Feeding(Feeding),
+}
+
+impl LongBuilder {
+    pub(crate) fn new(heap: Builder, way: Way, path: PathBuf) -> LongBuilder {
+        LongBuilder { heap, way, path }
+    }
+
+    // What the file's head declares by its digest, beside the number of threads and the objects' values.
+    fn declared(&self) -> String {
+        self.heap.objects.iter().map(|(name, _)| format!("object {name}\n")).collect()
+    }
+
+    // The sessions' handles, and what goes on beside them.
+    fn opened(&self) -> Result<(Vec<raw::Handle>, Beside), Error> {
+        self.heap.judged(MAX_OBJECTS)?;
+        let starts: Vec<u64> = self.heap.objects.iter().map(|(_, start)| *start).collect();
+        let (threads, declared) = (self.heap.threads, self.declared());
+        match self.way {
+            Way::Record => {
+                let (head, status) = raw::head(&starts, threads as u8, declared.as_bytes());
+                checked(status, 0)?;
+                let (sessions, streams, status) = raw::open_long(&starts, threads);
+                checked(status, 0)?;
+                Ok((sessions, Beside::Writing(Writing::begin(&self.path, &head, streams)?)))
+            }
+            Way::Follow => {
+                let (sessions, streams, status) = raw::follow_long(&starts, declared.as_bytes(), threads);
+                checked(status, 0)?;
+                Ok((sessions, Beside::Feeding(Feeding::open(&self.path, streams)?)))
+            }
+        }
+    }
+
+    /// Starts the threads that `spawn` is called for, and waits for all of them. Meanwhile the file is written, or read.
+    ///
+    /// # Errors
+    /// `BadName`, `NamedTwice` and `BadSize` of what the heap is to have, `File` and `NoMemory`; of a file that is followed
+    /// `OtherRecording` and `BadMarks`. Else that of the first thread that failed by itself, and not for another one's failure.
+    ///
+    /// # Panics
+    /// Where a thread does.
+    pub fn run<'a, T: Send>(self, spawn: impl FnOnce(&mut Threads<'a, T, Error>)) -> Result<LongRun<T>, Error> {
+        self.try_run(spawn)
+    }
+
+    /// As `run`, with threads that fail with errors of their own.
+    ///
+    /// # Errors
+    /// As `run`.
+    ///
+    /// # Panics
+    /// Where a thread does.
+    pub fn try_run<'a, T, E>(mut self, spawn: impl FnOnce(&mut Threads<'a, T, E>)) -> Result<LongRun<T>, E>
+    where
+        T: Send,
+        E: From<Error> + Send,
+    {
+        let threads = Threads::named_by(spawn);
+        self.heap.threads = threads.works.len();
+        let (handles, mut beside) = self.opened()?;
+        let names = self.heap.objects.iter().map(|(name, _)| name.clone()).collect();
+        let order = self.heap.order(matches!(self.way, Way::Follow));
+        let (heap, mut sessions) = self.heap.with_sessions(handles, order, false);
+        let ended = all_ended(&mut sessions, threads.works, false, |are_done| match &mut beside {
+            Beside::Writing(writing) => writing.write_until(are_done),
+            Beside::Feeding(feeding) => feeding.feed_until(are_done),
+        });
+        match beside {
+            Beside::Writing(writing) => writing.end()?,
+            Beside::Feeding(feeding) => feeding.end()?,
+        }
+        let follows: Vec<bool> = sessions.iter().map(Session::follows).collect();
+        let values = ended.into_iter().zip(&sessions).map(|(thread, session)| match thread {
+            Ok(Err(_)) if session.is_cut() => Ok(Ok(None)),
+            thread => thread.map(|done| done.map(Some)),
+        });
+        let values = values_of(values, &follows).map_err(Failed::into_error)?;
+        let (mut record, _) = heap.closed(sessions)?;
+        let (last, status) = record.values();
+        checked(status, 0)?;
+        Ok(LongRun { names, last, values })
+    }
+}
+
+/// A run of any length that has ended: what its threads gave back, and the objects' values.
+#[derive(Clone, Debug)]
+pub struct LongRun<T> {
+    names: Vec<String>,
+    last: Vec<u64>,
+    values: Vec<Option<T>>,
+}
+
+impl<T> LongRun<T> {
+    /// What the threads gave back, in the order in which they were named. None of a thread that was run again, and whose
+    /// recording ends before it does: the recorded run was stopped, or its file was cut.
+    pub fn values(&self) -> &[Option<T>] {
+        &self.values
+    }
+
+    /// The same, by value.
+    pub fn into_values(self) -> Vec<Option<T>> {
+        self.values
+    }
+
+    /// Whether each thread has come to its end.
+    pub fn is_whole(&self) -> bool {
+        self.values.iter().all(Option::is_some)
+    }
+
+    /// The object's value at the end, or where the recording ends.
+    pub fn value(&self, name: &str) -> Option<u64> {
+        let place = self.names.iter().position(|other| other == name)?;
+        self.last.get(place).copied()
+    }
+}

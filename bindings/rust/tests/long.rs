@@ -1,0 +1,154 @@
+//! Runs of any length, recorded by their marks alone and run again.
+use octet::{Builder, Error, Heap, LongRun, Session, Threads};
+use std::fs;
+use std::path::{Path, PathBuf};
+
+/// A file that is gone with it.
+struct Kept(PathBuf);
+
+impl Kept {
+    fn new(name: &str) -> Kept {
+        Kept(std::env::temp_dir().join(format!("octet-{name}-{}.octm", std::process::id())))
+    }
+}
+
+impl AsRef<Path> for Kept {
+    fn as_ref(&self) -> &Path {
+        &self.0
+    }
+}
+
+impl Drop for Kept {
+    fn drop(&mut self) {
+        let _ = fs::remove_file(&self.0);
+    }
+}
+
+const THREADS: u64 = 3;
+const ROUNDS: u64 = 40_000;
+
+fn heap() -> Builder {
+    (0..THREADS).fold(Heap::builder().object("shared", 1), |heap, thread| heap.object(&format!("own{thread}"), thread))
+}
+
+// What the thread was told decides what it does next.
+fn walk(session: &mut Session, every: u64) -> Result<u64, Error> {
+    let (shared, own) = (session.object("shared")?, session.object(&format!("own{}", session.number()))?);
+    let mut told = session.number() as u64;
+    for round in 0..ROUNDS {
+        let object = if (told.wrapping_add(round)) % every == 0 { shared } else { own };
+        told = told.wrapping_mul(31).wrapping_add(session.fetch_add(object, told | 1)?);
+    }
+    Ok(told)
+}
+
+fn walks(every: u64) -> impl FnOnce(&mut Threads<'_, u64, Error>) {
+    move |threads| (0..THREADS).for_each(|_| threads.spawn(move |session| walk(session, every)))
+}
+
+fn last_values<T>(run: &LongRun<T>) -> Vec<Option<u64>> {
+    ["shared", "own0", "own1", "own2", "no such"].map(|name| run.value(name)).to_vec()
+}
+
+#[test]
+fn a_run_of_any_length_is_repeated() {
+    let file = Kept::new("long");
+    for every in [1, 10, 1_000] {
+        for _ in 0..3 {
+            let first = heap().record(file.as_ref()).run(walks(every)).unwrap();
+            let second = heap().follow(file.as_ref()).run(walks(every)).unwrap();
+            assert!(first.is_whole() && second.is_whole());
+            assert_eq!(second.values(), first.values());
+            assert_eq!(last_values(&second), last_values(&first));
+        }
+    }
+}
+
+#[test]
+fn a_file_that_is_cut_is_followed_as_far_as_it_goes() {
+    let (file, cut) = (Kept::new("whole"), Kept::new("cut"));
+    let first = heap().record(file.as_ref()).run(walks(10)).unwrap();
+    let content = fs::read(file.as_ref()).unwrap();
+    for part in [0, 1, 2, 5, 9, 10] {
+        fs::write(cut.as_ref(), &content[..content.len() * part / 10]).unwrap();
+        let second = heap().follow(cut.as_ref()).run(walks(10)).unwrap();
+        assert_eq!(second.is_whole(), part == 10);
+        for (second, first) in second.values().iter().zip(first.values()) {
+            assert!(second.is_none() || second == first);
+        }
+        // A short beginning may wait for what is not in it.
+        let is_at_start = last_values(&second)[..4] == [Some(1), Some(0), Some(1), Some(2)];
+        assert!(is_at_start || part > 0);
+        assert!(!is_at_start || part < 5);
+    }
+}
+
+#[test]
+fn what_is_no_file_of_this_run_is_refused() {
+    let file = Kept::new("refused");
+    let absent = heap().follow(file.as_ref()).run(walks(10)).unwrap_err();
+    assert!(matches!(&absent, Error::File { path, .. } if path == file.as_ref()), "{absent}");
+    heap().record(file.as_ref()).run(walks(10)).unwrap();
+    let other_object = Heap::builder().object("other", 0).follow(file.as_ref()).run(walks(10)).unwrap_err();
+    assert!(matches!(other_object, Error::OtherRecording), "{other_object}");
+    let fewer_threads = heap().follow(file.as_ref()).run(|threads| threads.spawn(|session| walk(session, 10))).unwrap_err();
+    assert!(matches!(fewer_threads, Error::OtherRecording), "{fewer_threads}");
+    let mut content = fs::read(file.as_ref()).unwrap();
+    let place = content.len() / 2;
+    content[place] ^= 1;
+    fs::write(file.as_ref(), &content).unwrap();
+    let damaged = heap().follow(file.as_ref()).run(walks(10)).unwrap_err();
+    assert!(matches!(&damaged, Error::BadMarks { place: found, .. } if (1..=place as u64).contains(found)), "{damaged}");
+}
+
+#[test]
+fn another_program_diverges() {
+    let file = Kept::new("another");
+    heap().record(file.as_ref()).run(walks(10)).unwrap();
+    let other = heap().follow(file.as_ref()).run(walks(11)).unwrap_err();
+    assert!(matches!(other, Error::Diverged { .. }), "{other}");
+}
+
+fn deposit(session: &mut Session) -> Result<(), Error> {
+    for _ in 0..1_000 {
+        session.locked("account", |session| {
+            let balance = session.object("balance")?;
+            let found = session.load(balance)?;
+            session.store(balance, found + 1)
+        })?;
+    }
+    Ok(())
+}
+
+#[test]
+fn locks_are_recorded_too() {
+    let file = Kept::new("locks");
+    let bank = Heap::builder().object("balance", 0).lock("account");
+    let threads = |threads: &mut Threads<'_, (), Error>| (0..4).for_each(|_| threads.spawn(deposit));
+    for heap in [bank.clone().record(file.as_ref()), bank.follow(file.as_ref())] {
+        assert_eq!(heap.run(threads).unwrap().value("balance"), Some(4_000));
+    }
+}
+
+#[test]
+fn a_thread_that_panics_ends_its_recording_there() {
+    let file = Kept::new("panics");
+    let counting = |stops_at: u64| {
+        move |threads: &mut Threads<'_, (), Error>| {
+            threads.spawn(move |session| {
+                let x = session.object("x")?;
+                for made in 0..1_000 {
+                    assert_ne!(made, stops_at);
+                    session.fetch_add(x, 1)?;
+                }
+                Ok(())
+            });
+        }
+    };
+    let heap = Heap::builder().object("x", 0);
+    let recorded = std::panic::catch_unwind(|| heap.clone().record(file.as_ref()).run(counting(700)));
+    assert!(recorded.is_err());
+    // Its end is recorded as well: one that goes on has left its recording.
+    let on = heap.follow(file.as_ref()).run(counting(1_000)).unwrap_err();
+    assert!(matches!(on, Error::Diverged { thread: 0, accesses: 700, .. }), "{on}");
+}
