@@ -1,0 +1,104 @@
+//! Threads that make the same accesses by the crate `octet`, on atomic words, or behind a mutex for each word. bench/run --native
+//! builds and calls it, and bench/native.c says how: `native HOW KIND THREADS ACCESSES RUNS`.
+use octet::{Error, Heap, Session};
+use std::sync::atomic::{AtomicU64, Ordering};
+use std::sync::{Barrier, Mutex};
+use std::time::{Duration, Instant};
+use std::{env, error, thread};
+
+const MAX_THREADS: usize = 16;
+
+/// Each has lines of the processor's cache to itself.
+#[repr(align(128))]
+#[derive(Default)]
+struct Apart<T>(T);
+
+#[derive(Clone, Copy)]
+struct Kind {
+    is_update: bool,
+    is_shared: bool,
+}
+
+impl Kind {
+    fn parse(word: &str) -> Option<Kind> {
+        let (is_update, is_shared) = match word {
+            "read" => (false, false),
+            "update" => (true, false),
+            "shared" => (false, true),
+            "wanted" => (true, true),
+            _ => return None,
+        };
+        Some(Kind { is_update, is_shared })
+    }
+
+    fn word(self, thread: usize) -> usize {
+        if self.is_shared { 0 } else { thread }
+    }
+}
+
+// What the threads have read is summed up, so that no read is left out.
+fn timed<E>(all: &Barrier, accesses: u64, mut access: impl FnMut() -> Result<u64, E>) -> Result<Duration, E> {
+    all.wait();
+    let start = Instant::now();
+    let mut sum = 0_u64;
+    for _ in 0..accesses {
+        sum = sum.wrapping_add(access()?);
+    }
+    std::hint::black_box(sum);
+    Ok(start.elapsed())
+}
+
+fn in_sessions(kind: Kind, threads: usize, accesses: u64) -> Result<Duration, Error> {
+    let all = &Barrier::new(threads);
+    let names: Vec<String> = (0..threads).map(|number| format!("x{number}")).collect();
+    let heap = names.iter().fold(Heap::builder(), |heap, name| heap.object(name, 0));
+    let work = |session: &mut Session| {
+        let object = session.object(&names[kind.word(session.number())])?;
+        if kind.is_update {
+            timed(all, accesses, || session.fetch_add(object, 1))
+        } else {
+            timed(all, accesses, || session.load(object))
+        }
+    };
+    let run = heap.run(|running| (0..threads).for_each(|_| running.spawn(work)))?;
+    Ok(run.values().iter().sum())
+}
+
+fn on_words<T: Default + Sync>(kind: Kind, threads: usize, accesses: u64, access: impl Fn(&T) -> u64 + Sync) -> Duration {
+    let (all, access) = (&Barrier::new(threads), &access);
+    let words: Vec<Apart<T>> = (0..MAX_THREADS).map(|_| Apart::default()).collect();
+    let words = &words;
+    thread::scope(|scope| {
+        let running = (0..threads).map(|thread| {
+            let word = &words[kind.word(thread)].0;
+            scope.spawn(move || timed(all, accesses, || Ok::<u64, Error>(access(word))).unwrap_or_default())
+        });
+        let running: Vec<_> = running.collect();
+        running.into_iter().map(|running| running.join().unwrap_or_default()).sum()
+    })
+}
+
+fn run(how: &str, kind: Kind, threads: usize, accesses: u64) -> Result<Duration, Error> {
+    Ok(match (how, kind.is_update) {
+        ("octet", _) => in_sessions(kind, threads, accesses)?,
+        ("atomic", true) => on_words(kind, threads, accesses, |word: &AtomicU64| word.fetch_add(1, Ordering::SeqCst)),
+        ("atomic", false) => on_words(kind, threads, accesses, |word: &AtomicU64| word.load(Ordering::SeqCst)),
+        (_, is_update) => on_words(kind, threads, accesses, |word: &Mutex<u64>| {
+            let mut value = word.lock().unwrap_or_else(|poisoned| poisoned.into_inner());
+            *value += u64::from(is_update);
+            *value
+        }),
+    })
+}
+
+fn main() -> Result<(), Box<dyn error::Error>> {
+    let words: Vec<String> = env::args().skip(1).collect();
+    let [how, kind, threads, accesses, runs] = words.as_slice() else { return Err("HOW KIND THREADS ACCESSES RUNS".into()) };
+    let kind = Kind::parse(kind).ok_or("no such kind")?;
+    let (threads, runs): (usize, u32) = (threads.parse()?, runs.parse()?);
+    let accesses = accesses.parse::<u64>()? / threads as u64;
+    let times = (0..runs).map(|_| run(how, kind, threads, accesses));
+    let time = times.sum::<Result<Duration, Error>>()?;
+    println!("{:.2}", time.as_nanos() as f64 / (accesses * threads as u64 * u64::from(runs)) as f64);
+    Ok(())
+}
