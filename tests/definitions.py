@@ -40,12 +40,13 @@ HEADS = ""
 OTHERS = {
     "octet_gen/specs/Generated.antt": {16, 32},  # Accesses, draws and objects of the generated script.
     "octet_gen/src/generator.rt": {16, 32},
+    "octet_host_long/src/opening.rt": {16, 65536},  # Blocks of a ring, and accesses of a block.
     "octet_log/specs/v2/Decoding.antt": {32},  # Bytes of a digest.
-    "octet_long_race/src/recording.rt": {16, 65536},  # Blocks of a ring, and accesses of a block.
     "octet_log/specs/v2/Pieces.antt": {32},
     "octet_log/specs/v2/Refusals.antt": {32},
     "octet_log/src/loader.rt": {32},
     "octet_log/src/v2/encoder.rt": {32},
+    "octet_long_race/src/recording.rt": {16, 65536},  # The same.
     "octet_marks/specs/Bodies.antt": {32},  # Bytes of a digest.
     "octet_marks/specs/Spellings.antt": {32},
     "octet_marks/src/bodies.rt": {32},

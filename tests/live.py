@@ -67,15 +67,18 @@ def killed_in_the_middle():
     """Marks are in the file while the threads are still busy, and a run that is killed leaves a prefix."""
     cuts = 0
     with folder_with(S=LONG) as folder:
-        for _ in range(20):
+        # Where the processors have much to do, many a run is over before it is killed.
+        for _ in range(100):
             content, was_cut = killed(folder)
             if not was_cut or not isinstance(judges.read_log(content), str):
                 continue
             cuts += 1
             if (wrong := cut_short(folder)) is not None:
                 return f"{content.hex()}: {wrong}"
+            if cuts == 10:
+                return None
     # A log that is written at the end would be caught with a piece and no tail by mere luck.
-    return None if cuts >= 10 else f"of 20 runs {cuts} had a piece in the file and no tail"
+    return f"of 100 runs {cuts} had a piece in the file and no tail"
 
 
 def threads_beside_each_other():
