@@ -306,7 +306,7 @@ impl Builder {
         let (schedule, failing) = (self.schedule.clone(), self.failing.take());
         let shrinks = schedule.as_ref().is_some_and(Schedule::is_given);
         let (heap, mut sessions) = self.build()?;
-        let ended = all_ended(&mut sessions, threads.works, shrinks, |_| ());
+        let ended = all_ended(&mut sessions, threads.works, shrinks);
         let follows: Vec<bool> = sessions.iter().map(Session::follows).collect();
         let recording = heap.finish(sessions);
         if let (Some(schedule), Ok(recording)) = (&schedule, &recording) {
@@ -329,12 +329,11 @@ impl Builder {
 
 pub(crate) type Work<'a, T, E> = Box<dyn FnOnce(&mut Session) -> Result<T, E> + Send + 'a>;
 
-// Runs each work on a thread with its session, and meanwhile something beside them, which can ask whether all have ended.
+// Runs each work on a thread with its session.
 pub(crate) fn all_ended<T: Send, E: From<Error> + Send>(
     sessions: &mut [Session],
     works: Vec<Work<'_, T, E>>,
     quietly: bool,
-    beside: impl FnOnce(&dyn Fn() -> bool),
 ) -> Vec<thread::Result<Result<T, E>>> {
     thread::scope(|scope| {
         let works = sessions.iter_mut().zip(works);
@@ -345,7 +344,6 @@ pub(crate) fn all_ended<T: Send, E: From<Error> + Send>(
             })
         });
         let running: Vec<_> = running.collect();
-        beside(&|| running.iter().all(thread::ScopedJoinHandle::is_finished));
         running.into_iter().map(thread::ScopedJoinHandle::join).collect()
     })
 }

@@ -55,7 +55,7 @@ mod turnstile;
 pub use error::{Error, Wait};
 pub use explore::{Cause, Failure, explore};
 pub use heap::{Builder, Heap, Run, Threads};
-pub use long::{LongBuilder, LongRun};
+pub use long::{LongBuilder, LongHeap, LongRun};
 pub use place::Place;
 pub use recording::Recording;
 pub use schedule::Schedule;

@@ -2,8 +2,11 @@
 use crate::error::checked;
 use crate::heap::{Failed, Threads, all_ended, values_of};
 use crate::marks_file::{Feeding, Writing};
-use crate::{Builder, Error, Session, raw};
+use crate::{Builder, Error, Heap, Object, Session, raw};
 use std::path::PathBuf;
+use std::sync::Arc;
+use std::sync::atomic::{AtomicBool, Ordering};
+use std::thread::{self, JoinHandle};
 
 /// The most objects that a marks file names.
 const MAX_OBJECTS: usize = 65_535;
@@ -51,9 +54,46 @@ pub struct LongBuilder {
 }
 
 // What is written or read beside the threads, and by what.
-enum Beside {
+enum Work {
     Writing(Writing),
     Feeding(Feeding),
+}
+
+/// A thread that writes or reads the file until it is told that the others have ended.
+struct Beside {
+    are_done: Arc<AtomicBool>,
+    thread: Option<JoinHandle<Result<(), Error>>>,
+}
+
+impl Beside {
+    fn start(work: Work) -> Beside {
+        let are_done = Arc::new(AtomicBool::new(false));
+        let told = Arc::clone(&are_done);
+        let thread = thread::spawn(move || {
+            let are_done = || told.load(Ordering::Acquire);
+            match work {
+                Work::Writing(writing) => writing.write_until(are_done),
+                Work::Feeding(feeding) => feeding.feed_until(are_done),
+            }
+        });
+        Beside { are_done, thread: Some(thread) }
+    }
+
+    // What went wrong with the file, once all of it is written or read.
+    fn end(&mut self) -> Result<(), Error> {
+        self.are_done.store(true, Ordering::Release);
+        let Some(thread) = self.thread.take() else {
+            return Ok(());
+        };
+        thread.join().unwrap_or_else(|panic| std::panic::resume_unwind(panic))
+    }
+}
+
+impl Drop for Beside {
+    fn drop(&mut self) {
+        // One that is not handed in has nobody to tell.
+        let _ = self.end();
+    }
 }
 
 impl LongBuilder {
@@ -67,7 +107,7 @@ impl LongBuilder {
     }
 
     // The sessions' handles, and what goes on beside them.
-    fn opened(&self) -> Result<(Vec<raw::Handle>, Beside), Error> {
+    fn opened(&self) -> Result<(Vec<raw::Handle>, Work), Error> {
         self.heap.judged(MAX_OBJECTS)?;
         let starts: Vec<u64> = self.heap.objects.iter().map(|(_, start)| *start).collect();
         let (threads, declared) = (self.heap.threads, self.declared());
@@ -77,21 +117,53 @@ impl LongBuilder {
                 checked(status, 0)?;
                 let (sessions, streams, status) = raw::open_long(&starts, threads);
                 checked(status, 0)?;
-                Ok((sessions, Beside::Writing(Writing::begin(&self.path, &head, streams)?)))
+                Ok((sessions, Work::Writing(Writing::begin(&self.path, &head, streams)?)))
             }
             Way::Follow => {
                 let (sessions, streams, status) = raw::follow_long(&starts, declared.as_bytes(), threads);
                 checked(status, 0)?;
-                Ok((sessions, Beside::Feeding(Feeding::open(&self.path, streams)?)))
+                Ok((sessions, Work::Feeding(Feeding::open(&self.path, streams)?)))
             }
         }
+    }
+
+    /// The heap, and a session for each of its threads, for threads that the program starts itself. From now on until
+    /// `LongHeap::finish` a thread of the heap's own writes the file, or reads it.
+    ///
+    /// # Errors
+    /// `BadName`, `NamedTwice` and `BadSize` of what the heap is to have, `File` and `NoMemory`.
+    ///
+    /// ```
+    /// use octet::{Error, Heap};
+    /// use std::thread;
+    ///
+    /// # let file = std::env::temp_dir().join(format!("octet-built-{}.octm", std::process::id()));
+    /// let builder = Heap::builder().object("x", 0).threads(2);
+    /// for long in [builder.clone().record(&file), builder.follow(&file)] {
+    ///     let (heap, mut sessions) = long.build()?;
+    ///     thread::scope(|scope| {
+    ///         for session in &mut sessions {
+    ///             scope.spawn(|| session.running(|session| session.fetch_add(session.object("x")?, 1)));
+    ///         }
+    ///     });
+    ///     assert_eq!(heap.finish(sessions)?.value("x"), Some(2));
+    /// }
+    /// # std::fs::remove_file(&file).expect("the file is there");
+    /// # Ok::<(), Error>(())
+    /// ```
+    pub fn build(self) -> Result<(LongHeap, Vec<Session>), Error> {
+        let (handles, work) = self.opened()?;
+        let names = self.heap.objects.iter().map(|(name, _)| name.clone()).collect();
+        let order = self.heap.order(matches!(self.way, Way::Follow));
+        let (heap, sessions) = self.heap.with_sessions(handles, order, false);
+        Ok((LongHeap { heap, names, beside: Beside::start(work) }, sessions))
     }
 
     /// Starts the threads that `spawn` is called for, and waits for all of them. Meanwhile the file is written, or read.
     ///
     /// # Errors
-    /// `BadName`, `NamedTwice` and `BadSize` of what the heap is to have, `File` and `NoMemory`; of a file that is followed
-    /// `OtherRecording` and `BadMarks`. Else that of the first thread that failed by itself, and not for another one's failure.
+    /// Those of `build`; of a file that is followed `OtherRecording` and `BadMarks`. Else that of the first thread that failed by
+    /// itself, and not for another one's failure.
     ///
     /// # Panics
     /// Where a thread does.
@@ -113,24 +185,52 @@ impl LongBuilder {
     {
         let threads = Threads::named_by(spawn);
         self.heap.threads = threads.works.len();
-        let (handles, mut beside) = self.opened()?;
-        let names = self.heap.objects.iter().map(|(name, _)| name.clone()).collect();
-        let order = self.heap.order(matches!(self.way, Way::Follow));
-        let (heap, mut sessions) = self.heap.with_sessions(handles, order, false);
-        let ended = all_ended(&mut sessions, threads.works, false, |are_done| match &mut beside {
-            Beside::Writing(writing) => writing.write_until(are_done),
-            Beside::Feeding(feeding) => feeding.feed_until(are_done),
-        });
-        match beside {
-            Beside::Writing(writing) => writing.end()?,
-            Beside::Feeding(feeding) => feeding.end()?,
-        }
+        let (mut heap, mut sessions) = self.build()?;
+        let ended = all_ended(&mut sessions, threads.works, false);
+        heap.beside.end()?;
         let follows: Vec<bool> = sessions.iter().map(Session::follows).collect();
         let values = ended.into_iter().zip(&sessions).map(|(thread, session)| match thread {
             Ok(Err(_)) if session.is_cut() => Ok(Ok(None)),
             thread => thread.map(|done| done.map(Some)),
         });
         let values = values_of(values, &follows).map_err(Failed::into_error)?;
+        Ok(heap.closed(sessions, values)?)
+    }
+}
+
+/// A heap whose run may have any length, and whose threads the program starts itself. It has none of the objects: the sessions
+/// have. Where it is dropped the file has what was written until then.
+pub struct LongHeap {
+    heap: Heap,
+    names: Vec<String>,
+    beside: Beside,
+}
+
+impl LongHeap {
+    /// The object of this name.
+    ///
+    /// # Errors
+    /// `NoName` where there is none.
+    pub fn object(&self, name: &str) -> Result<Object, Error> {
+        self.heap.object(name)
+    }
+
+    /// Ends the run. All sessions of the heap are given back, in any order, each stopped. A thread gives nothing back, so
+    /// `LongRun::values` tells only which of them have come to their ends.
+    ///
+    /// # Errors
+    /// `File` and `NoMemory`; of a file that is followed `OtherRecording` and `BadMarks`. `OtherSessions`. The sessions are gone
+    /// then.
+    pub fn finish(mut self, sessions: Vec<Session>) -> Result<LongRun<()>, Error> {
+        self.beside.end()?;
+        let mut ends: Vec<_> = sessions.iter().map(|session| (session.number(), !session.is_cut())).collect();
+        ends.sort_unstable();
+        self.closed(sessions, ends.into_iter().map(|(_, is_whole)| is_whole.then_some(())).collect())
+    }
+
+    fn closed<T>(self, sessions: Vec<Session>, values: Vec<Option<T>>) -> Result<LongRun<T>, Error> {
+        let LongHeap { heap, names, beside } = self;
+        drop(beside);
         let (mut record, _) = heap.closed(sessions)?;
         let (last, status) = record.values();
         checked(status, 0)?;

@@ -20,7 +20,7 @@ fn named(path: &Path) -> impl Fn(std::io::Error) -> Error + '_ {
 }
 
 // Makes rounds until one has nothing to do, though the threads have ended before it.
-fn rounds_until(are_done: &dyn Fn() -> bool, mut round: impl FnMut() -> bool) {
+fn rounds_until(are_done: impl Fn() -> bool, mut round: impl FnMut() -> bool) {
     loop {
         let are_done = are_done();
         if !round() {
@@ -78,12 +78,9 @@ impl Writing {
         !self.bytes.is_empty()
     }
 
-    /// Writes what the threads hand on until they have ended.
-    pub(crate) fn write_until(&mut self, are_done: &dyn Fn() -> bool) {
+    /// Writes what the threads hand on until they have ended. Answers the first fault.
+    pub(crate) fn write_until(mut self, are_done: impl Fn() -> bool) -> Result<(), Error> {
         rounds_until(are_done, || self.round());
-    }
-
-    pub(crate) fn end(self) -> Result<(), Error> {
         self.fault.map_or(Ok(()), Err)
     }
 }
@@ -158,12 +155,9 @@ impl Feeding {
         some
     }
 
-    /// Feeds the threads until they have ended.
-    pub(crate) fn feed_until(&mut self, are_done: &dyn Fn() -> bool) {
+    /// Feeds the threads until they have ended. Answers the first fault.
+    pub(crate) fn feed_until(mut self, are_done: impl Fn() -> bool) -> Result<(), Error> {
         rounds_until(are_done, || self.round());
-    }
-
-    pub(crate) fn end(self) -> Result<(), Error> {
         self.fault.map_or(Ok(()), Err)
     }
 }

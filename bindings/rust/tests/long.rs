@@ -2,6 +2,8 @@
 use octet::{Builder, Error, Heap, LongRun, Session, Threads};
 use std::fs;
 use std::path::{Path, PathBuf};
+use std::sync::atomic::{AtomicU64, Ordering};
+use std::thread;
 
 /// A file that is gone with it.
 struct Kept(PathBuf);
@@ -31,15 +33,20 @@ fn heap() -> Builder {
     (0..THREADS).fold(Heap::builder().object("shared", 1), |heap, thread| heap.object(&format!("own{thread}"), thread))
 }
 
-// What the thread was told decides what it does next.
-fn walk(session: &mut Session, every: u64) -> Result<u64, Error> {
+// What the thread was told decides what it does next. Its accesses are counted.
+fn walk_counted(session: &mut Session, every: u64, made: &AtomicU64) -> Result<u64, Error> {
     let (shared, own) = (session.object("shared")?, session.object(&format!("own{}", session.number()))?);
     let mut told = session.number() as u64;
     for round in 0..ROUNDS {
         let object = if (told.wrapping_add(round)) % every == 0 { shared } else { own };
         told = told.wrapping_mul(31).wrapping_add(session.fetch_add(object, told | 1)?);
+        made.fetch_add(1, Ordering::Relaxed);
     }
     Ok(told)
+}
+
+fn walk(session: &mut Session, every: u64) -> Result<u64, Error> {
+    walk_counted(session, every, &AtomicU64::new(0))
 }
 
 fn walks(every: u64) -> impl FnOnce(&mut Threads<'_, u64, Error>) {
@@ -69,18 +76,46 @@ fn a_file_that_is_cut_is_followed_as_far_as_it_goes() {
     let (file, cut) = (Kept::new("whole"), Kept::new("cut"));
     let first = heap().record(file.as_ref()).run(walks(10)).unwrap();
     let content = fs::read(file.as_ref()).unwrap();
+    let mut before = [0; THREADS as usize];
     for part in [0, 1, 2, 5, 9, 10] {
         fs::write(cut.as_ref(), &content[..content.len() * part / 10]).unwrap();
-        let second = heap().follow(cut.as_ref()).run(walks(10)).unwrap();
+        let made = [const { AtomicU64::new(0) }; THREADS as usize];
+        let second = heap().follow(cut.as_ref()).run(|threads| {
+            made.iter().for_each(|made| threads.spawn(|session| walk_counted(session, 10, made)));
+        });
+        let second = second.unwrap();
         assert_eq!(second.is_whole(), part == 10);
         for (second, first) in second.values().iter().zip(first.values()) {
             assert!(second.is_none() || second == first);
         }
-        // A short beginning may wait for what is not in it.
-        let is_at_start = last_values(&second)[..4] == [Some(1), Some(0), Some(1), Some(2)];
-        assert!(is_at_start || part > 0);
-        assert!(!is_at_start || part < 5);
+        // Nothing of the file, nothing is made. Of more of it no thread makes less.
+        let made = made.map(AtomicU64::into_inner);
+        assert!(part > 0 || made == [0; THREADS as usize]);
+        assert!(before.iter().zip(&made).all(|(before, made)| before <= made), "{before:?} {made:?}");
+        before = made;
     }
+    assert_eq!(before, [ROUNDS; THREADS as usize]);
+}
+
+#[test]
+fn threads_of_the_program_are_told_where_their_recording_ends() {
+    let file = Kept::new("built");
+    heap().record(file.as_ref()).run(walks(10)).unwrap();
+    let content = fs::read(file.as_ref()).unwrap();
+    fs::write(file.as_ref(), &content[..content.len() / 2]).unwrap();
+    let (heap, mut sessions) = heap().threads(THREADS as usize).follow(file.as_ref()).build().unwrap();
+    let ended: Vec<_> = thread::scope(|scope| {
+        let walking = sessions.iter_mut().map(|session| scope.spawn(|| session.running(|session| walk(session, 10))));
+        let walking: Vec<_> = walking.collect();
+        walking.into_iter().map(|thread| thread.join().unwrap()).collect()
+    });
+    assert!(ended.iter().all(|end| matches!(end, Ok(_) | Err(Error::RecordingEnds { .. }))), "{ended:?}");
+    // They may be given back in any order.
+    sessions.reverse();
+    let run = heap.finish(sessions).unwrap();
+    let are_whole: Vec<_> = run.values().iter().map(Option::is_some).collect();
+    assert_eq!(are_whole, ended.iter().map(Result::is_ok).collect::<Vec<_>>());
+    assert!(!run.is_whole() && run.value("shared").is_some());
 }
 
 #[test]
