@@ -5,7 +5,7 @@
  * A session is one thread of a run. No call waits, takes a lock or starts a thread. Whatever a call needs of
  * its session is tested, and a status says what was missing. Six things no call can test, and the caller owes:
  *
- *   1. A handle, an `octet_session`, an `octet_stream` or an `octet_record`, is zeroed before its first use.
+ *   1. A handle, an `octet_session`, `octet_stream`, `octet_record` or `octet_turns`, is zeroed before its first use.
  *   2. From then on only these calls write to it. It may be moved: then its old place is not used, or zeroed.
  *   3. No pointer is null. Each points to as much as is said beside it, and no two to the same memory.
  *   4. A handle is given to one call at a time. Different sessions and streams may be in calls at once.
@@ -24,7 +24,7 @@ extern "C" {
 /* One pointer. What it holds is freed by `octet_close`, by `octet_free`, or where a call puts another thing there. */
 typedef struct octet_handle {
     void *at;
-} octet_session, octet_stream, octet_record;
+} octet_session, octet_stream, octet_record, octet_turns;
 
 enum octet_mode {
     OCTET_READ = 0,
@@ -44,11 +44,19 @@ enum octet_change {
     OCTET_MIN = 8
 };
 
+/* How a schedule picks the next of the threads that are ready. */
+enum octet_way {
+    OCTET_UNIFORM = 0,    /* any of them */
+    OCTET_BURSTS = 1,     /* one makes up to `most` accesses in a row, and then another one */
+    OCTET_PRIORITIES = 2  /* the one of the lowest rank; up to `most` times the thread at work is put last */
+};
+
 enum octet_status {
     OCTET_READY = 0,
     OCTET_PENDING = 1,           /* the access waits for another thread: poll it */
     OCTET_ANSWERED = 1,          /* of octet_safe_point: a thread had asked */
-    OCTET_OVER = 2,              /* of a long run: its recording, or its stream, has no more */
+    OCTET_OVER = 2,              /* of a long run: its recording, or its stream, has no more; of octet_pick: no
+                                    thread is ready */
     OCTET_NO_SESSION = -1,       /* the handle has no session */
     OCTET_RESTING = -2,          /* the thread is not started, or is stopped */
     OCTET_RUNNING = -3,          /* the thread is started already */
@@ -78,7 +86,10 @@ enum octet_status {
     OCTET_NO_STREAM = -23,       /* the handle has no stream, or one of the other kind */
     OCTET_NO_ROOM = -24,         /* there are more bytes than there is room for */
     OCTET_BAD_MARKS = -25,       /* the bytes are no marks file */
-    OCTET_OTHER_RUN = -26        /* the marks file is of another run */
+    OCTET_OTHER_RUN = -26,       /* the marks file is of another run */
+    /* Of schedules: */
+    OCTET_NO_WAY = -27,          /* the way is none of octet_way */
+    OCTET_NO_SCHEDULE = -28      /* the handle has no schedule */
 };
 
 /* Opens a heap, and puts a session behind each handle: as many as the text has threads, in their order. The text is
@@ -173,6 +184,16 @@ int32_t octet_feed(octet_stream *stream, const uint8_t *bytes, size_t length, ui
 /* Says that the file has no more. Call it until it answers OCTET_READY: OCTET_PENDING, while the thread has no room;
  * OCTET_BAD_MARKS, once, where the file is refused at the place `at`, and the thread's recording ends there. */
 int32_t octet_feed_end(octet_stream *stream, uint64_t *at);
+
+/* Puts a new schedule behind the handle; what it held is freed. With any status but OCTET_READY the handle stays as
+ * it is. By a schedule the threads go on one at a time: before each access pick one, and let that one alone make it.
+ * The same way, seed and `most` pick the same threads, where the same ones are ready. */
+int32_t octet_schedule(octet_turns *turns, uint8_t way, uint64_t seed, uint32_t most);
+
+/* Picks the thread that makes the next access. `ready` has a byte for each thread, of which there are 1 to 16: 0
+ * where it cannot go on. One that was picked 64 times in a row is picked again only where no other is ready. With
+ * any status but OCTET_READY nothing changes. */
+int32_t octet_pick(octet_turns *turns, const uint8_t *ready, size_t threads, uint8_t *thread);
 
 #ifdef __cplusplus
 }

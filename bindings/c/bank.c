@@ -1,6 +1,7 @@
 /* Two threads pay into one account, each by a read and a write.
  *
  *   bank record STEM           records runs until a payment is lost, and writes STEM.octet and STEM.log
+ *   bank hunt STEM             the same with one payment of each and no thread: a schedule picks who goes on
  *   bank rerun STEM AMOUNT     runs again by them; the second thread pays AMOUNT each time: 50, as it was
  *                              recorded, or another one, which leaves the recording */
 #define _POSIX_C_SOURCE 200809L
@@ -122,8 +123,9 @@ static uint8_t *load(const char *stem, const char *ending, size_t *length) {
     return bytes;
 }
 
+static const char text[] = "fuel 131072\nobject balance 100\nthread\nthread\n";
+
 static int record_runs(const char *stem) {
-    static const char text[] = "fuel 131072\nobject balance 100\nthread\nthread\n";
     const uint64_t whole = START + ROUNDS * (FIRST + SECOND);
     for (int runs = 1; runs <= MOST_RUNS; runs++) {
         octet_session sessions[THREADS] = {{0}, {0}};
@@ -141,6 +143,48 @@ static int record_runs(const char *stem) {
     }
     fail("no payment was lost");
     return 1;
+}
+
+/* The read of a payment, or the write after it. The other one is stopped, so no access waits. */
+static void go_on(octet_session *session, int writes, uint64_t amount, uint64_t *balance) {
+    int32_t status = octet_start(session);
+    if (status == OCTET_READY && !writes) status = octet_region(session);
+    if (status == OCTET_READY)
+        status = octet_access(session, writes ? OCTET_WRITE : OCTET_READ, ACCOUNT, *balance + amount, balance);
+    if (status != OCTET_READY || octet_stop(session) != OCTET_READY) fail("an access is not made");
+}
+
+static void run_by(octet_turns *turns, octet_session *sessions) {
+    const uint64_t amounts[THREADS] = {FIRST, SECOND};
+    uint64_t balances[THREADS] = {0, 0};
+    uint8_t ready[THREADS] = {1, 1}, has_read[THREADS] = {0, 0}, t = 0;
+    while (octet_pick(turns, ready, THREADS, &t) == OCTET_READY) {
+        go_on(&sessions[t], has_read[t], amounts[t], &balances[t]);
+        ready[t] = !has_read[t];
+        has_read[t] = 1;
+    }
+}
+
+static int hunt(const char *stem) {
+    const uint64_t whole = START + FIRST + SECOND;
+    octet_turns turns = {0};
+    uint64_t seed = 0, balance = whole;
+    for (; balance == whole && seed < MOST_RUNS; seed++) {
+        octet_session sessions[THREADS] = {{0}, {0}};
+        octet_record record = {0};
+        if (octet_open((const uint8_t *)text, strlen(text), sessions, THREADS) != OCTET_READY) fail("no heap");
+        if (octet_schedule(&turns, OCTET_UNIFORM, seed, 0) != OCTET_READY) fail("no schedule");
+        run_by(&turns, sessions);
+        if (octet_close(sessions, THREADS, &record) != OCTET_READY) fail("no record");
+        balance = balance_of(&record);
+        save(&record, octet_script, stem, ".octet");
+        save(&record, octet_log, stem, ".log");
+        octet_free(&record);
+    }
+    octet_free(&turns);
+    if (balance == whole) fail("no payment was lost");
+    printf("seed %" PRIu64 ": balance %" PRIu64 " of %" PRIu64 "\n", seed - 1, balance, whole);
+    return 0;
 }
 
 static int rerun(const char *stem, uint64_t second) {
@@ -163,7 +207,8 @@ static int rerun(const char *stem, uint64_t second) {
 
 int main(int count, char **words) {
     if (count == 3 && !strcmp(words[1], "record")) return record_runs(words[2]);
+    if (count == 3 && !strcmp(words[1], "hunt")) return hunt(words[2]);
     if (count == 4 && !strcmp(words[1], "rerun")) return rerun(words[2], strtoull(words[3], NULL, 10));
-    fprintf(stderr, "bank record STEM, or bank rerun STEM AMOUNT\n");
+    fprintf(stderr, "bank record STEM, bank hunt STEM, or bank rerun STEM AMOUNT\n");
     return 64;
 }

@@ -6,7 +6,7 @@
 #include <stdlib.h>
 #include <string.h>
 
-enum { HANDLES = 12, ROOM = 4096, LEAST = -26, MOST = 2, RECORDINGS = 4, MARKS = 65536 };
+enum { HANDLES = 12, ROOM = 4096, LEAST = -28, MOST = 2, RECORDINGS = 4, MARKS = 65536 };
 
 static octet_session handles[HANDLES];
 static unsigned long told[MOST - LEAST + 1];
@@ -178,6 +178,20 @@ static int32_t stream_any(void) {
     }
 }
 
+/* The picked thread is one that is ready. */
+static int32_t schedule_any(void) {
+    octet_turns *turns = pick(8) ? &handles[HANDLES / 2 - 1] : any();
+    if (!pick(4)) return octet_schedule(turns, (uint8_t)(pick(8) ? pick(3) : pick(256)), pick(1000), (uint32_t)pick(100));
+    size_t threads = pick(16) ? 1 + pick(16) : pick(20);
+    uint8_t *ready = (uint8_t *)malloc(threads ? threads : 1), thread = 99;
+    if (!ready) fail("no memory");
+    for (size_t at = 0; at < threads; at++) ready[at] = (uint8_t)(pick(3) ? 0 : pick(256));
+    int32_t status = octet_pick(turns, ready, threads, &thread);
+    if (status == OCTET_READY ? thread >= threads || !ready[thread] : thread != 99) fail("a thread that is not ready");
+    free(ready);
+    return status;
+}
+
 /* What a thread does; mostly what may be asked of it. */
 static int32_t ask(void) {
     octet_session *session = any();
@@ -206,6 +220,7 @@ static int32_t call(void) {
     case 16: return values(any());
     case 17: case 18: return open_long_any(0);
     case 19: return open_long_any(1);
+    case 20: case 21: case 22: case 23: return schedule_any();
     default: return kind < 64 ? stream_any() : ask();
     }
 }

@@ -274,7 +274,40 @@ static void close_two_runs(void) {
     }
 }
 
+static void at_a_schedule(void) {
+    static const uint8_t none[17] = {0}, third[3] = {0, 0, 2}, both[2] = {1, 1};
+    octet_turns t = {0};
+    uint8_t thread = 7;
+    EXPECT(octet_pick(&t, both, 2, &thread), OCTET_NO_SCHEDULE);
+    EXPECT(octet_schedule(&t, 3, 1, 1), OCTET_NO_WAY);
+    EXPECT(t.at == NULL, 1);
+    for (uint8_t way = OCTET_UNIFORM; way <= OCTET_PRIORITIES; way++) {
+        EXPECT(octet_schedule(&t, way, 1, 100), OCTET_READY);
+        EXPECT(octet_schedule(&t, 255, 1, 1), OCTET_NO_WAY);
+        EXPECT(octet_start(&t), OCTET_NO_SESSION);
+        thread = 7;
+        EXPECT(octet_pick(&t, none, 0, &thread), OCTET_BAD_SIZE);
+        EXPECT(octet_pick(&t, none, 17, &thread), OCTET_BAD_SIZE);
+        EXPECT(octet_pick(&t, none, 16, &thread), OCTET_OVER);
+        EXPECT(thread, 7);
+        for (int again = 0; again < 99; again++) EXPECT(octet_pick(&t, third, 3, &thread), OCTET_READY);
+        EXPECT(thread, 2);
+        int others = 0, row = 0, longest = 0;
+        for (int again = 0; again < 999; again++) {
+            uint8_t before = thread;
+            EXPECT(octet_pick(&t, both, 2, &thread), OCTET_READY);
+            row = before == thread ? row + 1 : 1;
+            longest = row > longest ? row : longest;
+            others += before != thread;
+        }
+        EXPECT(longest <= 64 && others >= 15, 1);
+    }
+    octet_free(&t);
+    EXPECT(t.at == NULL, 1);
+}
+
 int main(void) {
+    at_a_schedule();
     without_a_session();
     at_open();
     out_of_turn();

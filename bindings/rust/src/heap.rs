@@ -195,15 +195,15 @@ impl Builder {
     }
 
     // How threads come to their accesses, which may be run again.
-    pub(crate) fn order(&self, again: bool) -> Order {
-        match &self.schedule {
+    pub(crate) fn order(&self, again: bool) -> Result<Order, Error> {
+        Ok(match &self.schedule {
             _ if again => Order::Again,
-            Some(schedule) => Order::Turns(Turnstile::new(schedule, self.threads, self.locks.len(), self.patience)),
+            Some(schedule) => Order::Turns(Turnstile::new(schedule, self.threads, self.locks.len(), self.patience)?),
             None => Order::Free {
                 gates: self.locks.iter().map(|_| Gate::default()).collect(),
                 bells: self.conditions.iter().map(|_| Bell::default()).collect(),
             },
-        }
+        })
     }
 
     fn opened(&self) -> Result<Vec<raw::Handle>, Error> {
@@ -228,7 +228,7 @@ impl Builder {
     /// `Unordered` and `TooLong`. `NoMemory`.
     pub fn build(self) -> Result<(Heap, Vec<Session>), Error> {
         let handles = self.opened()?;
-        let order = self.order(self.rerun.is_some());
+        let order = self.order(self.rerun.is_some())?;
         Ok(self.with_sessions(handles, order, true))
     }
 

@@ -154,7 +154,7 @@ impl LongBuilder {
     pub fn build(self) -> Result<(LongHeap, Vec<Session>), Error> {
         let (handles, work) = self.opened()?;
         let names = self.heap.objects.iter().map(|(name, _)| name.clone()).collect();
-        let order = self.heap.order(matches!(self.way, Way::Follow));
+        let order = self.heap.order(matches!(self.way, Way::Follow))?;
         let (heap, sessions) = self.heap.with_sessions(handles, order, false);
         Ok((LongHeap { heap, names, beside: Beside::start(work) }, sessions))
     }

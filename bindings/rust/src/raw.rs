@@ -32,7 +32,16 @@ pub(crate) enum Change {
     Min = 8,
 }
 
-/// A session, a record, or nothing. It is freed when it is dropped.
+/// `octet_way`.
+#[derive(Clone, Copy, Debug)]
+#[repr(u8)]
+pub(crate) enum Way {
+    Uniform = 0,
+    Bursts = 1,
+    Priorities = 2,
+}
+
+/// A session, a stream, a record, a schedule, or nothing. It is freed when it is dropped.
 #[repr(C)]
 pub(crate) struct Handle {
     at: *mut c_void,
@@ -92,6 +101,8 @@ unsafe extern "C" {
     ) -> i32;
     fn octet_feed(stream: *mut Handle, bytes: *const u8, length: usize, taken: *mut u64) -> i32;
     fn octet_feed_end(stream: *mut Handle, at: *mut u64) -> i32;
+    fn octet_schedule(turns: *mut Handle, way: u8, seed: u64, most: u32) -> i32;
+    fn octet_pick(turns: *mut Handle, ready: *const u8, threads: usize, thread: *mut u8) -> i32;
 }
 
 // SAFETY: the library proves that what is behind a handle may be used by another thread, and each call below takes the
@@ -164,6 +175,14 @@ pub(crate) fn follow_long(starts: &[u64], declared: &[u8], threads: usize) -> (V
     (sessions, streams, status)
 }
 
+/// `octet_schedule`: the schedule, and the status.
+pub(crate) fn schedule(way: Way, seed: u64, most: u32) -> (Handle, i32) {
+    let mut turns = Handle::empty();
+    // SAFETY: the handle is this function's own.
+    let status = unsafe { octet_schedule(&mut turns, way as u8, seed, most) };
+    (turns, status)
+}
+
 /// `octet_close`: the record, and the status.
 pub(crate) fn close(mut sessions: Vec<Handle>) -> (Handle, i32) {
     let mut record = Handle::empty();
@@ -234,6 +253,15 @@ impl Handle {
     pub(crate) fn feed_end(&mut self, at: &mut u64) -> i32 {
         // SAFETY: as in `end`.
         unsafe { octet_feed_end(self, at) }
+    }
+
+    /// `octet_pick`: a thread that is ready, if one is.
+    pub(crate) fn pick(&mut self, ready: &[bool]) -> Option<usize> {
+        let marks: Vec<u8> = ready.iter().map(|&is_ready| is_ready.into()).collect();
+        let mut thread = 0;
+        // SAFETY: handle, marks and `thread` are borrowed for the call, the marks with their number.
+        let status = unsafe { octet_pick(self, marks.as_ptr(), marks.len(), &mut thread) };
+        (status == READY).then_some(thread.into())
     }
 
     pub(crate) fn script(&mut self) -> (Vec<u8>, i32) {

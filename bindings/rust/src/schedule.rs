@@ -1,6 +1,7 @@
 //! Which thread goes on: a seed picks it, or it is given.
-use crate::Recording;
-use crate::heap::MAX_THREADS;
+use crate::error::checked;
+use crate::raw::{self, Way};
+use crate::{Error, Recording};
 use std::mem;
 use std::sync::{Arc, Mutex, MutexGuard, PoisonError};
 
@@ -37,24 +38,34 @@ pub(crate) struct Kept {
 #[derive(Clone, Debug)]
 pub struct Schedule {
     seed: u64,
-    way: Way,
+    picks: Picks,
     kept: Arc<Mutex<Kept>>,
 }
 
 #[derive(Clone, Debug)]
-enum Way {
+enum Picks {
     /// By draws of the seed.
-    Drawn,
-    /// By ranks that the seed draws.
-    Ranked { depth: u32 },
-    /// As it is given.
+    Drawn { way: Way, most: u32 },
+    /// As they are given.
     Given { threads: Arc<[usize]> },
 }
 
+/// By odd seeds a thread makes up to so many accesses in a row.
+const LONGEST_BURST: u32 = 8;
+
 impl Schedule {
-    /// Even seeds pick any thread before each access. Odd ones mostly let a thread go on, so that threads change less often.
+    /// Any thread comes before each access.
+    pub(crate) fn uniform(seed: u64) -> Schedule {
+        Schedule { seed, picks: Picks::Drawn { way: Way::Uniform, most: 0 }, kept: Arc::default() }
+    }
+
+    /// Even seeds pick any thread before each access. Odd ones let a thread make up to 8 accesses in a row, so that threads
+    /// change less often.
     pub fn new(seed: u64) -> Schedule {
-        Schedule { seed, way: Way::Drawn, kept: Arc::default() }
+        if seed % 2 == 0 {
+            return Schedule::uniform(seed);
+        }
+        Schedule { picks: Picks::Drawn { way: Way::Bursts, most: LONGEST_BURST }, ..Schedule::uniform(seed) }
     }
 
     /// By priorities that the seed draws: of the threads that can move, the one with the highest goes on. At `depth - 1` places,
@@ -82,7 +93,7 @@ impl Schedule {
     pub fn pct(mut self, depth: u32) -> Schedule {
         // One by which a failure is shrunk stays what it is.
         if !self.is_given() {
-            self.way = Way::Ranked { depth };
+            self.picks = Picks::Drawn { way: Way::Priorities, most: depth.saturating_sub(1) };
         }
         self
     }
@@ -95,20 +106,22 @@ impl Schedule {
     /// One that picks these threads in turn, but for those that cannot move then. After them each thread goes on as long as it
     /// can.
     pub(crate) fn given(seed: u64, threads: Vec<usize>) -> Schedule {
-        Schedule { way: Way::Given { threads: threads.into() }, ..Schedule::new(seed) }
+        Schedule { picks: Picks::Given { threads: threads.into() }, ..Schedule::uniform(seed) }
     }
 
     /// Whether a failure is shrunk by it.
     pub(crate) fn is_given(&self) -> bool {
-        matches!(self.way, Way::Given { .. })
+        matches!(self.picks, Picks::Given { .. })
     }
 
-    pub(crate) fn picker(&self) -> Picker {
+    pub(crate) fn picker(&self) -> Result<Picker, Error> {
         self.kept_now().picks.clear();
-        match &self.way {
-            Way::Drawn => Picker::Drawn { random: Random(self.seed), goes_on: self.seed % 2 == 1 },
-            Way::Ranked { depth } => Picker::Ranked(Box::new(Ranks::new(Random(self.seed), *depth))),
-            Way::Given { threads } => Picker::Given { threads: Arc::clone(threads), next: 0 },
+        match &self.picks {
+            Picks::Drawn { way, most } => {
+                let (turns, status) = raw::schedule(*way, self.seed, *most);
+                checked(status, 0).map(|()| Picker::Drawn(turns))
+            }
+            Picks::Given { threads } => Ok(Picker::Given { threads: Arc::clone(threads), next: 0 }),
         }
     }
 
@@ -129,105 +142,26 @@ impl Schedule {
     }
 }
 
-/// Numbers that are drawn from a seed.
-#[derive(Debug)]
-pub(crate) struct Random(pub(crate) u64);
-
-impl Random {
-    // splitmix64
-    pub(crate) fn next(&mut self) -> u64 {
-        self.0 = self.0.wrapping_add(0x9e37_79b9_7f4a_7c15);
-        let mut mixed = self.0;
-        mixed = (mixed ^ (mixed >> 30)).wrapping_mul(0xbf58_476d_1ce4_e5b9);
-        mixed = (mixed ^ (mixed >> 27)).wrapping_mul(0x94d0_49bb_1331_11eb);
-        mixed ^ (mixed >> 31)
-    }
-
-    /// One below this number, which is not 0.
-    pub(crate) fn below(&mut self, most: usize) -> usize {
-        (self.next() % most as u64) as usize
-    }
-}
-
-/// After so many accesses in a row another thread is picked, so that one that waits in a loop lets the others go on.
-const MOST_IN_A_ROW: u32 = 64;
-
-/// Ranks that are drawn lie below this one; a thread that is put last gets one above it.
-const DRAWN_RANKS: usize = 1 << 32;
-
-/// The order of the threads: the one of the lowest rank goes on.
-#[derive(Debug)]
-pub(crate) struct Ranks {
-    random: Random,
-    ranks: [usize; MAX_THREADS],
-    last_rank: usize,
-    // How often the thread at work is still put last, after how many accesses next, and how many there are between at most.
-    changes: u32,
-    left: usize,
-    apart: usize,
-    in_a_row: u32,
-}
-
-impl Ranks {
-    fn new(mut random: Random, depth: u32) -> Ranks {
-        let ranks = [(); MAX_THREADS].map(|()| random.below(DRAWN_RANKS));
-        let apart = 4 << random.below(5);
-        let left = random.below(apart);
-        Ranks { random, ranks, last_rank: DRAWN_RANKS, changes: depth.saturating_sub(1), left, apart, in_a_row: 0 }
-    }
-
-    fn put_last(&mut self, thread: usize) {
-        self.ranks[thread] = self.last_rank;
-        self.last_rank += 1;
-    }
-
-    // Of those that can move, where the one at work can.
-    fn pick(&mut self, ready: &[usize], same: Option<usize>) -> usize {
-        if let (Some(at_work), true) = (same, ready.len() > 1) {
-            if self.changes > 0 && self.left == 0 {
-                self.changes -= 1;
-                self.left = self.random.below(self.apart);
-                self.put_last(at_work);
-            } else if self.in_a_row >= MOST_IN_A_ROW {
-                self.put_last(at_work);
-            } else {
-                self.left = self.left.saturating_sub(1);
-            }
-        }
-        let picked = ready.iter().copied().min_by_key(|&thread| self.ranks[thread]).unwrap_or(ready[0]);
-        self.in_a_row = if same == Some(picked) { self.in_a_row + 1 } else { 1 };
-        picked
-    }
-}
-
 /// Picks the threads of one run.
-#[derive(Debug)]
 pub(crate) enum Picker {
-    Drawn { random: Random, goes_on: bool },
-    Ranked(Box<Ranks>),
+    Drawn(raw::Handle),
     Given { threads: Arc<[usize]>, next: usize },
 }
 
 impl Picker {
-    /// One of those that can move, of which there is one at least, in the order of their numbers.
-    pub(crate) fn pick(&mut self, ready: &[usize], last: Option<usize>) -> usize {
-        let same = last.filter(|last| ready.contains(last));
+    /// One of those that are ready, if one is.
+    pub(crate) fn pick(&mut self, ready: &[bool], last: Option<usize>) -> Option<usize> {
         match self {
-            Picker::Drawn { random, goes_on } => {
-                let random = random.next();
-                let same = same.filter(|_| *goes_on && random >> 62 != 0);
-                same.unwrap_or(ready[(random % ready.len() as u64) as usize])
-            }
-            Picker::Ranked(ranks) => ranks.pick(ready, same),
+            Picker::Drawn(turns) => turns.pick(ready),
             Picker::Given { threads, next } => {
-                while let Some(thread) = threads.get(*next) {
+                while let Some(&thread) = threads.get(*next) {
                     *next += 1;
-                    if ready.contains(thread) {
-                        return *thread;
+                    if ready.get(thread) == Some(&true) {
+                        return Some(thread);
                     }
                 }
-                let after = ready.iter().copied().find(|&thread| Some(thread) > last);
-                same.or(after).unwrap_or(ready[0])
+                let from = last.unwrap_or(0);
+                (from..ready.len()).chain(0..from).find(|&thread| ready[thread])
             }
         }
     }
@@ -239,13 +173,9 @@ mod tests {
 
     // How often another thread was picked than the one before, of three that can always move.
     fn switches(schedule: Schedule, picks: usize) -> usize {
-        let (mut picker, mut last, mut switches) = (schedule.picker(), None, 0);
-        for _ in 0..picks {
-            let picked = picker.pick(&[0, 1, 2], last);
-            switches += usize::from(last.is_some_and(|last| last != picked));
-            last = Some(picked);
-        }
-        switches
+        let mut picker = schedule.picker().expect("there is memory");
+        let picked: Vec<_> = (0..picks).map(|_| picker.pick(&[true; 3], None)).collect();
+        picked.windows(2).filter(|pair| pair[0] != pair[1]).count()
     }
 
     #[test]
@@ -260,13 +190,14 @@ mod tests {
 
     #[test]
     fn given_picks_are_taken_in_turn_and_then_each_goes_on() {
-        let mut picker = Schedule::given(0, vec![2, 0, 1, 1]).picker();
-        assert_eq!(picker.pick(&[0, 1, 2], None), 2);
+        let mut picker = Schedule::given(0, vec![2, 0, 1, 1]).picker().expect("there is memory");
+        assert_eq!(picker.pick(&[true; 3], None), Some(2));
         // Thread 0 cannot move, so its pick is passed over.
-        assert_eq!(picker.pick(&[1, 2], Some(2)), 1);
-        assert_eq!(picker.pick(&[0, 1, 2], Some(1)), 1);
-        assert_eq!(picker.pick(&[0, 1, 2], Some(1)), 1);
-        assert_eq!(picker.pick(&[0, 2], Some(1)), 2);
-        assert_eq!(picker.pick(&[0], Some(2)), 0);
+        assert_eq!(picker.pick(&[false, true, true], Some(2)), Some(1));
+        assert_eq!(picker.pick(&[true; 3], Some(1)), Some(1));
+        assert_eq!(picker.pick(&[true; 3], Some(1)), Some(1));
+        assert_eq!(picker.pick(&[true, false, true], Some(1)), Some(2));
+        assert_eq!(picker.pick(&[true, false, false], Some(2)), Some(0));
+        assert_eq!(picker.pick(&[false; 3], Some(2)), None);
     }
 }

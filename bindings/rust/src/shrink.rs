@@ -1,7 +1,7 @@
 //! A failure with fewer preemptions. The search is bounded, and may miss the fewest.
 use crate::explore::{Failure, play};
 use crate::quiet::Quiet;
-use crate::schedule::{Pick, Random};
+use crate::schedule::{Pick, Picker};
 use crate::{Error, Schedule};
 use std::collections::HashSet;
 use std::hash::{BuildHasher, BuildHasherDefault, DefaultHasher};
@@ -57,13 +57,19 @@ struct Search<'a> {
     best: Box<Failure>,
     // How often each thread was picked in the run that is shrunk.
     lengths: Vec<usize>,
-    random: Random,
+    draws: Picker,
     // The hashes of the picks that were played.
     played: HashSet<u64>,
     until: Instant,
 }
 
 impl Search<'_> {
+    // A number that the seed draws, below this one: each pick of sixteen threads is a digit.
+    fn below(&mut self, end: usize) -> usize {
+        let mut digit = || self.draws.pick(&[true; 16], None).unwrap_or(0);
+        (0..6).fold(0, |number, _| 16 * number + digit()) % end
+    }
+
     fn is_over(&self) -> bool {
         self.played.len() >= MOST_RUNS || Instant::now() >= self.until
     }
@@ -104,13 +110,13 @@ impl Search<'_> {
             if others.is_empty() {
                 return picks;
             }
-            let thread = others[self.random.below(others.len())];
+            let thread = others[self.below(others.len())];
             if made == preemptions {
                 picks.push(thread);
                 return picks;
             }
             // Every third time or so a thread goes on to its end.
-            let burst = left[thread].min(1 + self.random.below(left[thread] + left[thread] / 2));
+            let burst = left[thread].min(1 + self.below(left[thread] + left[thread] / 2));
             picks.extend(iter::repeat_n(thread, burst));
             left[thread] -= burst;
             made += usize::from(left[thread] > 0);
@@ -182,13 +188,15 @@ pub(crate) fn with_fewer_preemptions(
     if failure.preemptions() == 0 || failure.is_impatient() {
         return failure;
     }
+    let Ok(draws) = Schedule::uniform(failure.seed()).picker() else {
+        return failure;
+    };
     let _quiet = Quiet::new();
     let picks = threads(failure.picks());
     let count = |thread| picks.iter().filter(|&&picked| picked == thread).count();
     let lengths = (0..=picks.iter().copied().max().unwrap_or(0)).map(count).collect();
-    let random = Random(failure.seed());
     let until = Instant::now() + MOST_TIME;
-    let mut search = Search { program, best: failure, lengths, random, played: HashSet::new(), until };
+    let mut search = Search { program, best: failure, lengths, draws, played: HashSet::new(), until };
     if search.failure_by(picks).is_some() {
         search.all();
     }

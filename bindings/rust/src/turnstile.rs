@@ -1,6 +1,6 @@
 //! One thread moves at a time, and a schedule picks which.
-use crate::Schedule;
 use crate::schedule::{Pick, Picker};
+use crate::{Error, Schedule};
 use std::sync::{Condvar, Mutex, MutexGuard, PoisonError};
 use std::time::{Duration, Instant};
 
@@ -83,16 +83,15 @@ impl State {
             return None;
         }
         let threads = 0..self.places.len();
-        let ready: Vec<usize> = threads.clone().filter(|&thread| self.may_move(thread)).collect();
-        if ready.is_empty() {
+        let ready: Vec<bool> = threads.clone().map(|thread| self.may_move(thread)).collect();
+        let Some(picked) = self.picker.pick(&ready, self.last) else {
             let waits: Vec<_> = threads.filter_map(|thread| self.awaited(thread)).collect();
             if !waits.is_empty() && !self.places.contains(&Place::Blocked) {
                 self.stuck = Some(Stuck::Deadlock(waits));
             }
             return None;
-        }
-        let picked = self.picker.pick(&ready, self.last);
-        let preempts = self.last.is_some_and(|last| last != picked && ready.contains(&last));
+        };
+        let preempts = self.last.is_some_and(|last| last != picked && ready[last]);
         self.schedule.note(Pick { thread: picked, preempts });
         if let Place::WaitsFor { lock } = self.places[picked] {
             self.holders[lock] = Some(picked);
@@ -121,11 +120,11 @@ impl State {
 }
 
 impl Turnstile {
-    pub(crate) fn new(schedule: &Schedule, threads: usize, locks: usize, patience: Duration) -> Turnstile {
-        Turnstile {
+    pub(crate) fn new(schedule: &Schedule, threads: usize, locks: usize, patience: Duration) -> Result<Turnstile, Error> {
+        Ok(Turnstile {
             state: Mutex::new(State {
                 schedule: schedule.clone(),
-                picker: schedule.picker(),
+                picker: schedule.picker()?,
                 places: vec![Place::Away; threads],
                 holders: vec![None; locks],
                 sleepers: Vec::new(),
@@ -135,7 +134,7 @@ impl Turnstile {
             }),
             turned: (0..threads).map(|_| Condvar::new()).collect(),
             patience,
-        }
+        })
     }
 
     fn state(&self) -> MutexGuard<'_, State> {

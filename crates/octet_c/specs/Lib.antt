@@ -8,6 +8,7 @@ pub mod Gathered
 pub mod Opened
 pub mod Statuses
 pub mod Streams
+pub mod Turns
 pub mod Long
 pub mod Names
 pub mod Keeping

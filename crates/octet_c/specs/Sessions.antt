@@ -46,3 +46,4 @@ IsHeld (held.Outlet it) = Unit {0}
 IsHeld (held.Inlet it) = Unit {0}
 IsHeld (held.Kept kept) = IsGood kept
 IsHeld (held.Values kept) = AreGood kept
+IsHeld (held.Schedule it) = Unit {0}

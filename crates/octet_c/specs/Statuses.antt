@@ -165,6 +165,7 @@ OnThread Records Repeats Tracks Follows (held.Outlet it) said that = (said ≡ s
 OnThread Records Repeats Tracks Follows (held.Inlet it) said that = (said ≡ status.NO_SESSION) × (that ≡ held.Inlet it)
 OnThread Records Repeats Tracks Follows (held.Kept it) said that = (said ≡ status.NO_SESSION) × (that ≡ held.Kept it)
 OnThread Records Repeats Tracks Follows (held.Values it) said that = (said ≡ status.NO_SESSION) × (that ≡ held.Values it)
+OnThread Records Repeats Tracks Follows (held.Schedule it) said that = (said ≡ status.NO_SESSION) × (that ≡ held.Schedule it)
 OnThread Records Repeats Tracks Follows _ said _ = ⊥
 
 -- the thread starts

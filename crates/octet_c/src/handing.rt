@@ -99,9 +99,8 @@ fn sort(held: Option<Box<Held, Global>>, threads: &mut Threads) -> Result<(), Fa
         Held::Repeated(it) => add_repeated(&mut threads.repeated, it),
         Held::LongRecorded(it) => add_long_recorded(&mut threads.long_recorded, it),
         Held::LongRepeated(it) => add_long_repeated(&mut threads.long_repeated, it),
-        Held::Outlet(_) | Held::Inlet(_) | Held::Kept(_) | Held::Values(_) => {
-            Err(Fault::OtherSessions)
-        }
+        Held::Outlet(_) | Held::Inlet(_) | Held::Kept(_) | Held::Values(_) | Held::Schedule(_) =>
+            Err(Fault::OtherSessions),
     }
 }
 

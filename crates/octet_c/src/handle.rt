@@ -16,7 +16,7 @@ use std::marker::Model;
 use std::mem;
 use std::ptr::null_mut;
 
-/// What C holds: a session, a record, or nothing.
+/// What C holds: a session, a stream, a record, a schedule, or nothing.
 #[repr(C)]
 pub struct Handle {
     at: *mut u8,

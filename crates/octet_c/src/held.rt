@@ -10,10 +10,11 @@ use crate::status::{ANSWERED, NO_SESSION, PENDING, READY, status_of};
 use crate::told::Told;
 use octet_host::{Answer, Misuse, calls};
 use octet_host_long::{Inlet, LongRecorded, LongRepeated, Outlet};
+use octet_schedule::Schedule;
 use octet_session::Access;
 use std::convert::Infallible;
 
-/// What a handle stands for: a thread that is recorded or run again, a stream of one, or what a run has left.
+/// What a handle stands for: a thread that is recorded or run again, a stream of one, what a run has left, or a schedule.
 #[derive(Drop)]
 pub enum Held {
     Recorded(Recorded),
@@ -24,6 +25,7 @@ pub enum Held {
     Inlet(Inlet),
     Kept(Kept),
     Values(Values),
+    Schedule(Schedule),
 }
 
 // What a call without a value comes to.
@@ -186,7 +188,11 @@ impl Held {
             )),
             Held::LongRecorded(it) => done(it.start()),
             Held::LongRepeated(it) => done(it.start()),
-            Held::Outlet(_) | Held::Inlet(_) | Held::Kept(_) | Held::Values(_) => NO_SESSION,
+            Held::Outlet(_)
+            | Held::Inlet(_)
+            | Held::Kept(_)
+            | Held::Values(_)
+            | Held::Schedule(_) => NO_SESSION,
         }
     }
 
@@ -209,7 +215,11 @@ impl Held {
             )),
             Held::LongRecorded(it) => done(it.stop()),
             Held::LongRepeated(it) => done(it.stop()),
-            Held::Outlet(_) | Held::Inlet(_) | Held::Kept(_) | Held::Values(_) => NO_SESSION,
+            Held::Outlet(_)
+            | Held::Inlet(_)
+            | Held::Kept(_)
+            | Held::Values(_)
+            | Held::Schedule(_) => NO_SESSION,
         }
     }
 
@@ -228,7 +238,11 @@ impl Held {
             Held::Repeated(it) => it.end(out),
             Held::LongRecorded(it) => ended(it.end(), out),
             Held::LongRepeated(it) => ended(it.end(), out),
-            Held::Outlet(_) | Held::Inlet(_) | Held::Kept(_) | Held::Values(_) => NO_SESSION,
+            Held::Outlet(_)
+            | Held::Inlet(_)
+            | Held::Kept(_)
+            | Held::Values(_)
+            | Held::Schedule(_) => NO_SESSION,
         }
     }
 
@@ -245,7 +259,11 @@ impl Held {
             }
             Held::LongRecorded(it) => done(it.region()),
             Held::LongRepeated(it) => done(it.region()),
-            Held::Outlet(_) | Held::Inlet(_) | Held::Kept(_) | Held::Values(_) => NO_SESSION,
+            Held::Outlet(_)
+            | Held::Inlet(_)
+            | Held::Kept(_)
+            | Held::Values(_)
+            | Held::Schedule(_) => NO_SESSION,
         }
     }
 
@@ -262,7 +280,11 @@ impl Held {
             }
             Held::LongRecorded(it) => done(it.safe_point()),
             Held::LongRepeated(it) => done(it.safe_point()),
-            Held::Outlet(_) | Held::Inlet(_) | Held::Kept(_) | Held::Values(_) => NO_SESSION,
+            Held::Outlet(_)
+            | Held::Inlet(_)
+            | Held::Kept(_)
+            | Held::Values(_)
+            | Held::Schedule(_) => NO_SESSION,
         }
     }
 
@@ -277,7 +299,11 @@ impl Held {
             Held::Repeated(it) => it.access(wanted, out),
             Held::LongRecorded(it) => told(it.access(wanted), out),
             Held::LongRepeated(it) => told(it.access(wanted), out),
-            Held::Outlet(_) | Held::Inlet(_) | Held::Kept(_) | Held::Values(_) => NO_SESSION,
+            Held::Outlet(_)
+            | Held::Inlet(_)
+            | Held::Kept(_)
+            | Held::Values(_)
+            | Held::Schedule(_) => NO_SESSION,
         }
     }
 
@@ -292,7 +318,11 @@ impl Held {
             Held::Repeated(it) => it.poll(out),
             Held::LongRecorded(it) => told(it.poll(), out),
             Held::LongRepeated(it) => told(it.poll(), out),
-            Held::Outlet(_) | Held::Inlet(_) | Held::Kept(_) | Held::Values(_) => NO_SESSION,
+            Held::Outlet(_)
+            | Held::Inlet(_)
+            | Held::Kept(_)
+            | Held::Values(_)
+            | Held::Schedule(_) => NO_SESSION,
         }
     }
 }

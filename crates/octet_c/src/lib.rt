@@ -28,6 +28,7 @@ mod repeated;
 mod status;
 mod streams;
 mod told;
+mod turns;
 mod words;
 
 use handing::{Threads, put_all, take_all};

@@ -171,6 +171,10 @@ pub const BAD_MARKS: i32 = -25;
 
 pub const OTHER_RUN: i32 = -26;
 
+pub const NO_WAY: i32 = -27;
+
+pub const NO_SCHEDULE: i32 = -28;
+
 /// The status of a call that the state of its thread does not allow.
 pub(crate) fn status_of(misuse: Misuse) -> i32
     ensures { result ≡ status_of misuse }

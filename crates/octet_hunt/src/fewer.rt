@@ -4,8 +4,8 @@ ghost use Rattle.octet_hunt.specs.Hunts.{IsAimAt};
 
 use crate::aim::Aim;
 use crate::runs::{Course, Interleaving};
-use crate::schedule::Schedule;
 use octet_model::{OutOfMemory, Script};
+use octet_schedule::{Draws, Schedule};
 use std::alloc::Global;
 
 /// How many schedules are tried in which a burst comes earlier.
@@ -46,7 +46,8 @@ fn with_fewest_switches(
     let most = found.preemptions.min(MOST_SWITCHES);
     for switches in 0..most {
         for number in 0..TRIES_WITH_SWITCHES {
-            let mut schedule = Schedule::with_switches(number, switches, accesses);
+            let draws = Draws::new(u64::from(number));
+            let mut schedule = Schedule::with_switches(draws, u64::from(switches), accesses);
             if let Some(other) = course.interleaving(alloc, script, aim, &mut schedule)? {
                 if other.preemptions < found.preemptions {
                     return Ok(other);

@@ -4,11 +4,9 @@
 #![tactic(auto)]
 
 mod aim;
-mod draws;
 mod fewer;
 mod limits;
 mod runs;
-mod schedule;
 mod tries;
 
 pub use aim::Aim;

@@ -1,11 +1,12 @@
 //! One run of a script by a schedule.
-ghost use Rattle.std.specs.Prelude.{◌≡◌, length, IfOk, IfSome};
+ghost use Rattle.std.specs.Prelude.{◌≡◌, ◌≤◌, length, IfOk, IfSome};
+ghost use Rattle.octet_model.specs.declared.limits.TheConstants.{MAX_THREADS};
 ghost use Rattle.octet_hunt.specs.Hunts.{IsAimAt, Meets};
 
 use crate::aim::{Aim, Met};
-use crate::schedule::Schedule;
 use octet_machine::{Machine, Rooms, go};
 use octet_model::{MAX_THREADS, OutOfMemory, Script};
+use octet_schedule::Schedule;
 use std::alloc::Global;
 
 /// A thread that makes no access in so many turns lets the others go on.
@@ -34,6 +35,26 @@ pub(crate) struct Hit {
     pub(crate) met: Met,
 }
 
+// Which of these threads have not ended.
+fn running(machine: &Machine, threads: usize) -> [bool; MAX_THREADS]
+    requires few { threads ≤ MAX_THREADS }
+    requires there { threads ≤ length machine.now.runners }
+{
+    let mut running = [false; MAX_THREADS];
+    for thread in 0..threads {
+        running[thread] = !machine.has_ended(thread as u8);
+    }
+    running
+}
+
+// Whether the thread before could have gone on.
+fn preempts(ready: &[bool], at_work: Option<u8>, thread: u8) -> bool {
+    match at_work {
+        Some(before) if before != thread => ready.get(before as usize).copied().unwrap_or(false),
+        _ => false,
+    }
+}
+
 impl Course {
     pub(crate) fn new(alloc: Global) -> Course {
         Course {
@@ -54,19 +75,19 @@ impl Course {
     {
         self.picks.clear();
         let mut preemptions: u32 = 0;
+        let threads = (machine.threads() as usize).min(MAX_THREADS);
+        let mut ready = running(machine, threads);
         let mut at_work = None;
         for _made in 0..(u64::from(fuel) + 2) * MAX_THREADS as u64 {
-            if machine.ended() {
+            let Some(thread) = schedule.pick(&ready[..threads]) else {
                 break;
-            }
-            let thread = schedule.pick(machine);
-            if let Some(before) = at_work {
-                if before != thread && before < machine.threads() && !machine.has_ended(before) {
-                    preemptions = preemptions.saturating_add(1);
-                }
+            };
+            if preempts(&ready, at_work, thread) {
+                preemptions = preemptions.saturating_add(1);
             }
             go(machine, thread, MOST_TURNS);
             self.picks.push(thread)?;
+            ready[thread as usize] = !machine.has_ended(thread);
             at_work = Some(thread);
         }
         Ok(preemptions)

@@ -5,9 +5,9 @@ ghost use Rattle.octet_hunt.specs.Hunts.{IsAimAt, Meets};
 use crate::aim::Aim;
 use crate::fewer::with_fewer_preemptions;
 use crate::runs::Course;
-use crate::schedule::Schedule;
 use octet_model::{List, OutOfMemory, Recorded, Script};
 use octet_regions::Hop;
+use octet_schedule::{Changes, Draws, Schedule};
 use std::alloc::Global;
 
 /// What a hunt has found.
@@ -21,6 +21,25 @@ pub struct Find {
     pub recorded: Recorded,
     /// The hops of the cycle of its regions, where a cycle was looked for, and else none.
     pub hops: List<Hop>,
+}
+
+// The schedule of a try: by bursts, by priorities and uniform in turn.
+fn schedule_of(attempt: u32) -> Schedule {
+    let mut draws = Draws::new(u64::from(attempt));
+    let spread = 1u64 << draws.below(5);
+    match attempt % 3 {
+        0 => Schedule::by_bursts(draws, spread),
+        1 => {
+            let apart = 4 * spread;
+            let changes = Changes {
+                after: draws.below(apart),
+                times: 1 + draws.below(4),
+                apart,
+            };
+            Schedule::by_priorities(draws, changes)
+        }
+        _ => Schedule::uniform(draws),
+    }
 }
 
 /// Runs the script up to so many times, each time by another schedule, and answers the first run that
@@ -40,7 +59,7 @@ pub fn hunt(
 {
     let mut course = Course::new(alloc);
     for before in 0..tries {
-        let mut schedule = Schedule::of_try(before);
+        let mut schedule = schedule_of(before);
         let Some(found) = course.interleaving(alloc, script, aim, &mut schedule)? else {
             continue;
         };

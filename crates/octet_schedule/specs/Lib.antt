@@ -1,0 +1,4 @@
+pub mod Draws
+pub mod Ready
+pub mod Ways
+pub mod Schedules
