@@ -2,7 +2,7 @@
 ghost use Rattle.std.specs.Prelude.{◌≡◌, ◌≤◌, ◌<◌, length, false, get_or, MatchOption, None, Some};
 ghost use Rattle.std.specs.Option.{ForSome};
 ghost use Rattle.octet_model.specs.declared.limits.TheConstants.{MAX_THREADS};
-ghost use Rattle.octet_schedule.specs.Ready.{IsReady, SomeIsReady, IsCandidate, NoneIn, IsFirstIn, IsNearest, IsDrawn};
+ghost use Rattle.octet_schedule.specs.Ready.{IsReady, SomeIsReady, NoneIn, IsFirstIn, IsNearest, IsDrawn};
 
 use crate::draws::Draws;
 

@@ -1,8 +1,8 @@
 //! A schedule of one run.
-ghost use Rattle.std.specs.Prelude.{◌≡◌, ◌≤◌, ◌<◌, length, true, nat_le, MatchOption};
+ghost use Rattle.std.specs.Prelude.{◌≡◌, ◌≤◌, length, MatchOption};
 ghost use Rattle.std.specs.Option.{ForSome};
 ghost use Rattle.octet_model.specs.declared.limits.TheConstants.{MAX_THREADS};
-ghost use Rattle.octet_schedule.specs.Ready.{IsReady, SomeIsReady, NoneIsReady, still_ready};
+ghost use Rattle.octet_schedule.specs.Ready.{IsReady, SomeIsReady, NoneIsReady};
 ghost use Rattle.octet_schedule.specs.Schedules.{begins, by_bursts, uniform, is_tired, ready_worker, Goes, Notes, Picks, Prioritizes, Rests};
 
 use crate::drawn::Drawn;

@@ -1,5 +1,5 @@
 //! A schedule that is written.
-ghost use Rattle.std.specs.Prelude.{◌≡◌, ◌≤◌, length, MatchOption};
+ghost use Rattle.std.specs.Prelude.{◌≤◌, length, MatchOption};
 ghost use Rattle.std.specs.Option.{ForSome};
 ghost use Rattle.octet_model.specs.declared.limits.TheConstants.{MAX_THREADS};
 ghost use Rattle.octet_schedule.specs.Ready.{IsReady, SomeIsReady};
