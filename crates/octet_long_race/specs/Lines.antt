@@ -2,7 +2,7 @@
 use Rattle.std.specs.Prelude.{◌≡◌, ℕ, suc, ◌-◌, nat_lt, Bool, true, false, List, [], ◌∷◌, ◌++◌, codes, Option, IfSome, IsSomeAnd}
 use Rattle.std.specs.Fmt.{decimal}
 use Rattle.octet_base.specs.Desk.{Contents}
-use Rattle.octet_long_race.specs.declared.finding.Span.{Span}
+use Rattle.octet_cut.specs.declared.fronts.Span.{Span}
 use Rattle.octet_long_race.specs.declared.lines.Spans.{Spans}
 use Rattle.octet_long_race.specs.declared.lines.Stop.{Stop}
 use Rattle.octet_long_race.specs.declared.lines.Stops.{Stops}
@@ -28,10 +28,6 @@ run_text stops values = stop_line 0 stops.first ++ stop_line 1 stops.second ++ s
 -- how many accesses each thread has made
 abbrev pub made_in : Stops → List ℕ
 made_in stops = stops.first.way.accesses ∷ stops.second.way.accesses ∷ stops.third.way.accesses ∷ stops.fourth.way.accesses ∷ []
-
--- but for the last ones, so many
-abbrev pub made_but : ℕ → Stops → List ℕ
-made_but last stops = (stops.first.way.accesses - last) ∷ (stops.second.way.accesses - last) ∷ (stops.third.way.accesses - last) ∷ (stops.fourth.way.accesses - last) ∷ []
 
 -- which accesses these are, counted from 0, if there are any
 abbrev pub span_words : Bool → Span → List ℕ

@@ -1,10 +1,11 @@
 //! Why the program ends early.
 use octet_base::DeskFault;
 use octet_blocks::{FeedFault, GatherFault};
+use octet_cut::{CutFault, PartFault, WindowFault};
 use octet_marks::{MarksCause, MarksFault};
 use octet_model::OutOfMemory;
 use octet_stream::Divergence;
-use octet_tail::{Untaken, Unwritten};
+use octet_tail::Untaken;
 use octet_window::Refusal;
 use std::alloc::{AllocError, AllocFailed};
 use thiserror::Error;
@@ -121,6 +122,25 @@ impl From<FeedFault> for Fault {
     }
 }
 
+impl From<CutFault> for Fault {
+    fn from(fault: CutFault) -> Self {
+        match fault {
+            CutFault::OutOfMemory => Fault::Memory,
+            CutFault::Refused { cause, at } => Fault::Refused { cause, at },
+            CutFault::Unwritten => Fault::Amiss,
+        }
+    }
+}
+
+impl From<PartFault> for Fault {
+    fn from(fault: PartFault) -> Self {
+        match fault {
+            PartFault::OutOfMemory => Fault::Memory,
+            PartFault::Apart => Fault::Amiss,
+        }
+    }
+}
+
 impl From<Untaken> for Fault {
     fn from(untaken: Untaken) -> Self {
         match untaken {
@@ -141,11 +161,12 @@ impl From<Refusal> for Fault {
     }
 }
 
-impl From<Unwritten> for Fault {
-    fn from(unwritten: Unwritten) -> Self {
-        match unwritten {
-            Unwritten::TooLong => Fault::TooLong,
-            Unwritten::OutOfMemory => Fault::Memory,
+impl From<WindowFault> for Fault {
+    fn from(fault: WindowFault) -> Self {
+        match fault {
+            WindowFault::OutOfMemory => Fault::Memory,
+            WindowFault::TooLong => Fault::TooLong,
+            WindowFault::Refused { refusal } => Fault::from(refusal),
         }
     }
 }

@@ -1,11 +1,11 @@
 //! What a marks file has of each thread is given to it while the threads run again.
 ghost use Rattle.octet_long_race.specs.Reads.{OnlyReads};
 
-use crate::cutting::Cut;
 use crate::fault::Fault;
 use crate::plan::THREADS;
 use crate::source::{Source, Wanted};
 use octet_base::Desk;
+use octet_cut::Cut;
 use octet_live::Bells;
 use octet_model::{List, OutOfMemory};
 use octet_stream::Feeder;

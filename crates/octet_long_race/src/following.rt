@@ -11,7 +11,6 @@ ghost use Rattle.octet_long_race.specs.Reads.{OnlyReads};
 ghost use Rattle.octet_long_race.specs.Recorded.{numbers};
 
 use crate::beside_again::{Came, Runner, Shared, follow_beside};
-use crate::cutting::Cut;
 use crate::fault::Fault;
 use crate::feeding::Sources;
 use crate::four::{four_of, list_of};
@@ -21,6 +20,7 @@ use crate::recording::{ROOM, head_of, starts};
 use crate::source::Wanted;
 use crate::starting::Start;
 use octet_base::Desk;
+use octet_cut::Cut;
 use octet_live::Bells;
 use octet_model::{List, OutOfMemory};
 use octet_session::NotMade;

@@ -1,13 +1,13 @@
 //! What the program says of a run.
 ghost use Rattle.std.specs.Prelude.{◌≡◌, ◌++◌, OnOk, IfOk};
 ghost use Rattle.std.specs.Fmt.{decimal};
-ghost use Rattle.octet_long_race.specs.Lines.{cut_words, stop_line, value_lines, run_text, span_words, span_line, spans_text, made_in, made_but, Tells};
+ghost use Rattle.octet_long_race.specs.Lines.{cut_words, stop_line, value_lines, run_text, span_words, span_line, spans_text, made_in, Tells};
 
 use crate::fault::Fault;
 use crate::files::say;
-use crate::finding::Span;
 use crate::walking::Way;
 use octet_base::Desk;
+use octet_cut::Span;
 use octet_model::{List, OutOfMemory, push_number};
 use std::alloc::Global;
 
@@ -46,18 +46,6 @@ impl Stops {
             self.second.way.accesses,
             self.third.way.accesses,
             self.fourth.way.accesses,
-        ]
-    }
-
-    /// How many accesses each thread has made, but for the last ones.
-    pub(crate) fn made_but(&self, last: u64) -> [u64; 4]
-        ensures { result ≡ made_but last self.now }
-    {
-        [
-            self.first.way.accesses.saturating_sub(last),
-            self.second.way.accesses.saturating_sub(last),
-            self.third.way.accesses.saturating_sub(last),
-            self.fourth.way.accesses.saturating_sub(last),
         ]
     }
 }

@@ -5,7 +5,6 @@
 
 mod beside;
 mod beside_again;
-mod cutting;
 mod demands;
 mod fault;
 mod feeding;

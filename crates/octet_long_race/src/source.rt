@@ -1,10 +1,10 @@
 //! One thread's way through a marks file: it is fed the file, or the beginning of its recording.
 ghost use Rattle.octet_long_race.specs.Reads.{OnlyReads};
 
-use crate::cutting::{Cut, Cutter, Next};
 use crate::fault::{Fault, unread};
 use octet_base::Desk;
 use octet_blocks::BlockReader;
+use octet_cut::{Cut, Cutter, Next};
 use octet_marks::Head;
 use octet_stream::Feeder;
 use std::alloc::Global;

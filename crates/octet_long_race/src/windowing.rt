@@ -3,20 +3,20 @@ ghost use Rattle.std.specs.Prelude.{◌≡◌, ◌<◌, None, true, IfOk, IfSome
 ghost use Rattle.octet_long_race.specs.BesideAgain.{follower_of, NotesLast};
 ghost use Rattle.octet_long_race.specs.Followed.{HasMade};
 ghost use Rattle.octet_long_race.specs.Reads.{OnlyReads};
-ghost use Rattle.octet_long_race.specs.Windows.{spans_of, HaveComeTo, IsEndOf, AreEnds, AreValuesBefore, IsPrepared, IsPreparedUpTo, WindowsUpTo};
+ghost use Rattle.octet_long_race.specs.Windows.{HaveComeTo, IsEndOf, AreEnds, AreValuesBefore, IsPrepared, IsPreparedUpTo, WindowsUpTo};
 
 use crate::beside_again::Runner;
-use crate::cutting::Cut;
 use crate::fault::Fault;
 use crate::files::{say, write_file};
-use crate::finding::{Fronts, Span, fronts_of};
+use crate::finding::fronts_of;
 use crate::following::{How, closed, run_again, wanted_of};
+use crate::four::list_of;
 use crate::lines::{Spans, Stop, Stops, spans_text};
 use crate::plan::Plan;
 use octet_base::Desk;
-use octet_model::{List, OutOfMemory};
-use octet_tail::{Last, Texts, made_by, marks_of, notes_after, texts_of};
-use octet_window::{Notes, close};
+use octet_cut::{Cut, Fronts, Part};
+use octet_model::List;
+use octet_tail::Texts;
 use std::alloc::Global;
 use std::sync::Wait;
 use std::thread::Threads;
@@ -29,24 +29,16 @@ pub(crate) struct Names<'a> {
     pub(crate) log: &'a str,
 }
 
-/// What a thread makes between the fronts.
-#[derive(Drop)]
-pub(crate) struct Part {
-    pub(crate) span: Span,
-    /// Where the first front is.
-    pub(crate) cut: Cut,
-    pub(crate) last: Last,
-}
-
 /// What all threads make between the fronts.
 #[derive(Drop)]
 pub(crate) struct Parts {
     pub(crate) stops: Stops,
     pub(crate) fronts: Fronts,
-    pub(crate) first: Part,
-    pub(crate) second: Part,
-    pub(crate) third: Part,
-    pub(crate) fourth: Part,
+    /// Which accesses these are.
+    pub(crate) spans: Spans,
+    /// Where each thread stands at the first front.
+    pub(crate) cuts: [Cut; 4],
+    pub(crate) parts: List<Part>,
 }
 
 // What a thread makes between the fronts, which has come so far.
@@ -59,25 +51,13 @@ fn part_of(
     stop: Stop,
     last: u16,
 ) -> Result<Part, Fault>
-    ensures { IfOk result (λ part. (plan : Plan) → HasMade plan number (follower_of runner.now) stop → NotesLast runner.now → IsEndOf plan last number stop.way part.span part.last) }
+    ensures { IfOk result (λ part. (plan : Plan) → HasMade plan number (follower_of runner.now) stop → NotesLast runner.now → IsEndOf plan last number fronts.now stop.way part) }
 {
-    let span = fronts.span(number, stop.way.accesses);
     let Some(tail) = &runner.tail else {
         return Err(Fault::Broken);
     };
-    if span.upto < span.from {
-        return Err(Fault::Amiss);
-    }
-    let many = span.upto - span.from;
-    if many > u64::from(last) || many > tail.len() as u64 {
-        return Err(Fault::Amiss);
-    }
-    let last = tail.last(alloc, many as usize)?;
-    let cut = Cut {
-        events: made_by(&fronts.before, number),
-        digest: last.digest,
-    };
-    Ok(Part { span, cut, last })
+    let part = fronts.part(alloc, number, stop.way.accesses, u64::from(last), tail)?;
+    Ok(part)
 }
 
 // Makes the whole run again. Answers what its threads make between the fronts.
@@ -98,13 +78,20 @@ fn parts_of<R: Threads + Wait + Sync, D: Desk>(
     let second = part_of(alloc, &fronts, 1, &rerun.second, stops.second, last)?;
     let third = part_of(alloc, &fronts, 2, &rerun.third, stops.third, last)?;
     let fourth = part_of(alloc, &fronts, 3, &rerun.fourth, stops.fourth, last)?;
+    let spans = Spans {
+        first: first.span,
+        second: second.span,
+        third: third.span,
+        fourth: fourth.span,
+    };
+    let cuts = [first.cut, second.cut, third.cut, fourth.cut];
+    let parts = list_of(alloc, first, second, third, fourth)?;
     Ok(Parts {
         stops,
         fronts,
-        first,
-        second,
-        third,
-        fourth,
+        spans,
+        cuts,
+        parts,
     })
 }
 
@@ -138,51 +125,6 @@ fn values_of<R: Threads + Wait + Sync, D: Desk>(
     Ok(values)
 }
 
-impl Parts {
-    ghost use Rattle.octet_long_race.specs.Windows.{AreNotes, AreTexts};
-
-    // Which accesses these are.
-    fn spans(&self) -> Spans
-        ensures { result ≡ spans_of self.now }
-    {
-        Spans {
-            first: self.first.span,
-            second: self.second.span,
-            third: self.third.span,
-            fourth: self.fourth.span,
-        }
-    }
-
-    // The notes of a thread.
-    fn notes_of(&self, alloc: Global, number: u8, part: &Part) -> Result<Notes, OutOfMemory>
-        ensures { IfOk result (AreNotes self.now.fronts number part.now.span part.now.last) }
-    {
-        let fronts = &self.fronts;
-        let marks = marks_of(alloc, number, &fronts.behind, fronts.marks.as_slice())?;
-        let accesses = part.last.accesses.as_slice();
-        notes_after(
-            alloc,
-            &fronts.before,
-            part.span.from,
-            accesses,
-            marks.as_slice(),
-        )
-    }
-
-    // The files of the window, whose objects begin with these values.
-    fn texts(&self, alloc: Global, values: &List<u64>) -> Result<Texts, Fault>
-        ensures { IfOk result (AreTexts self.now values.now) }
-    {
-        let first = self.notes_of(alloc, 0, &self.first)?;
-        let second = self.notes_of(alloc, 1, &self.second)?;
-        let third = self.notes_of(alloc, 2, &self.third)?;
-        let fourth = self.notes_of(alloc, 3, &self.fourth)?;
-        let window = close(alloc, values.as_slice(), &[first, second, third, fourth])?;
-        let texts = texts_of(alloc, &window)?;
-        Ok(texts)
-    }
-}
-
 // Makes a run again up to its last accesses, once it was made whole. Answers these and the values before them.
 fn found<R: Threads + Wait + Sync, D: Desk>(
     rt: &R,
@@ -195,7 +137,7 @@ fn found<R: Threads + Wait + Sync, D: Desk>(
     requires some { 0 < last }
     ensures reads { OnlyReads (D.state desk.old) (D.state desk.new) }
     ensures ends { IfOk result (λ found. AreEnds plan last found.0) }
-    ensures values { IfOk result (λ found. AreValuesBefore plan (spans_of found.0) found.1) }
+    ensures values { IfOk result (λ found. AreValuesBefore plan found.0.spans found.1) }
 {
     let wanted = wanted_of(alloc, file, plan)?;
     let whole = How {
@@ -205,19 +147,13 @@ fn found<R: Threads + Wait + Sync, D: Desk>(
         cuts: &[],
     };
     let parts = parts_of(rt, alloc, desk, whole, last)?;
-    let cuts = [
-        parts.first.cut,
-        parts.second.cut,
-        parts.third.cut,
-        parts.fourth.cut,
-    ];
     let early = How {
         wanted: &wanted,
         plan,
         noted: None,
-        cuts: &cuts,
+        cuts: &parts.cuts,
     };
-    let values = values_of(rt, alloc, desk, early, parts.spans())?;
+    let values = values_of(rt, alloc, desk, early, parts.spans)?;
     Ok((parts, values))
 }
 
@@ -243,7 +179,9 @@ fn window_of<R: Threads + Wait + Sync, D: Desk>(
     ensures prepared { IfOk result (IsPrepared plan last) }
 {
     let (parts, values) = found(rt, alloc, desk, file, plan, last)?;
-    let texts = parts.texts(alloc, &values)?;
+    let texts = parts
+        .fronts
+        .window(alloc, parts.parts.as_slice(), values.as_slice())?;
     Ok(Prepared {
         parts,
         values,
@@ -292,7 +230,7 @@ pub(crate) fn window<R: Threads + Wait + Sync, D: Desk>(
     ensures { OnOk result (IfSome (D.state desk.old).contents (λ before. IsSomeAnd (D.state desk.new).contents (WindowsUpTo plan last names.entry.script.now names.entry.log.now before))) }
 {
     let window = window_upto(rt, alloc, desk, names.file, plan, last)?;
-    let said = spans_text(alloc, window.parts.spans())?;
+    let said = spans_text(alloc, window.parts.spans)?;
     write_file(alloc, desk, names.script, window.texts.script.as_slice())?;
     write_file(alloc, desk, names.log, window.texts.log.as_slice())?;
     say(alloc, desk, said.as_slice())

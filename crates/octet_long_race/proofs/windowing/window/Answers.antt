@@ -1,6 +1,5 @@
-use Rattle.std.proofs.Common.{rules, ◌≡◌, ◌∙◌, ℕ, List, OnOk, ap, subst}
-use Rattle.octet_long_race.specs.declared.lines.Spans.{Spans}
-use Rattle.octet_long_race.specs.Lines.{spans_text, Tells}
+use Rattle.std.proofs.Common.{rules, ◌≡◌, ◌∙◌, ℕ, List, OnOk, subst}
+use Rattle.octet_long_race.specs.Lines.{Tells}
 use Rattle.octet_long_race.specs.Written.{HasFile}
 use Rattle.octet_long_race.proofs.Windowed.{windows}
 use Rattle.octet_long_race.proofs.windowing.window.Goals as goal
@@ -18,4 +17,4 @@ returns g c =
     (subst (λ (l : List ℕ). HasFile names.script.now l (state c.window_upto.new.desk).contents (state c.write_file.new.desk).contents) script c.in_ok-write_file.ensures.has)
     (subst (λ (l : List ℕ). HasFile names.log.now l (state c.write_file.new.desk).contents (state c.write_file-2.new.desk).contents) log c.in_ok-write_file-2.ensures.has)
     (subst (λ (l : List ℕ). OnOk c.say.result (Tells l (state c.write_file-2.new.desk).contents (state c.say.new.desk).contents))
-    (said ∙ (c.in_ok-said.ensures ∙ ap (λ (s : Spans). spans_text s) c.spans.ensures)) c.say.ensures.told)
+    (said ∙ c.in_ok-said.ensures) c.say.ensures.told)

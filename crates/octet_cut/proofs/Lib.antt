@@ -1,0 +1,6 @@
+pub mod Fitting
+pub mod Held
+pub mod Counted
+pub mod Noted
+pub mod Windowed
+pub mod Beginnings
