@@ -68,7 +68,8 @@ enum octet_status {
     OCTET_NO_MODE = -8,          /* the mode is none of octet_mode */
     OCTET_NO_MEMORY = -9,
     OCTET_BAD_TEXT = -10,        /* the text is no script */
-    OCTET_OTHER_SESSIONS = -11,  /* not all sessions of one heap, in order */
+    OCTET_OTHER_SESSIONS = -11,  /* not as many sessions as the heap has, or not in order */
+    OCTET_TWO_RUNS = -29,        /* of octet_close: the sessions are in order, but of two heaps */
     OCTET_STILL_RUNNING = -12,   /* a session is not stopped */
     OCTET_TOO_LONG = -13,        /* the run is too long for its files */
     OCTET_NO_RECORD = -14,       /* the handle has no record */

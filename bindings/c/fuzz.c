@@ -6,7 +6,7 @@
 #include <stdlib.h>
 #include <string.h>
 
-enum { HANDLES = 12, ROOM = 4096, LEAST = -28, MOST = 2, RECORDINGS = 4, MARKS = 65536 };
+enum { HANDLES = 12, ROOM = 4096, LEAST = -29, MOST = 2, RECORDINGS = 4, MARKS = 65536 };
 
 static octet_session handles[HANDLES];
 static unsigned long told[MOST - LEAST + 1];
@@ -249,6 +249,17 @@ static void whole_run(void) {
     octet_free(&record);
 }
 
+/* The sessions of two runs, each in its place. */
+static void two_runs(void) {
+    octet_session one[2] = {{0}, {0}}, other[2] = {{0}, {0}}, mixed[2];
+    octet_record record = {0};
+    octet_open((const uint8_t *)TEXTS[0], strlen(TEXTS[0]), one, 2);
+    octet_open((const uint8_t *)TEXTS[0], strlen(TEXTS[0]), other, 2);
+    mixed[0] = one[0], mixed[1] = other[1];
+    told[octet_close(mixed, 2, &record) - LEAST]++;
+    octet_free(&one[1]), octet_free(&other[0]);
+}
+
 static void work_long(octet_session *session) {
     uint64_t out = 0;
     octet_start(session);
@@ -296,15 +307,15 @@ int main(int count, char **words) {
         if (status < LEAST || status > MOST) fail("a status that is none");
         told[status - LEAST]++;
         if (made % 256 == 0) whole_run();
-        if (made % 1024 == 0) whole_long_run();
+        if (made % 1024 == 0) whole_long_run(), two_runs();
     }
     for (int at = 0; at < HANDLES; at++) octet_free(&handles[at]);
     int missing = 0;
     for (int32_t status = MOST; status >= LEAST; status--) {
         unsigned long times = told[status - LEAST];
         printf("status %" PRId32 ": %lu\n", status, times);
-        /* There is memory, and no run here is too long. */
-        missing |= !times && status != OCTET_NO_MEMORY && status != OCTET_TOO_LONG;
+        /* There is memory, no run here is too long, and two numbers are no status. */
+        missing |= !times && status != OCTET_NO_MEMORY && status != OCTET_TOO_LONG && status != -27 && status != -28;
     }
     if (missing) fail("a status was never answered: make more calls");
     printf("fuzz: all as expected\n");

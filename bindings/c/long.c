@@ -293,10 +293,10 @@ static void at_feed(void) {
     octet_free(&t[0]), octet_free(&t[1]), octet_free(&s[0]), octet_free(&s[1]);
 }
 
-/* A script's sessions with a long run's, two long runs' sessions, and a thread that runs. */
+/* A script's sessions with a long run's, two long runs' sessions, too few of one, and a thread that runs. */
 static void at_close(void) {
     static const char text[] = "fuel 9\nobject x 5\nthread\n";
-    octet_session s[2] = {{0}, {0}};
+    octet_session s[2] = {{0}, {0}}, second;
     octet_stream t[2] = {{0}, {0}};
     octet_record r = {0};
     EXPECT(octet_open((const uint8_t *)text, strlen(text), s, 1), OCTET_READY);
@@ -307,7 +307,11 @@ static void at_close(void) {
     EXPECT(octet_close(s, 2, &r), OCTET_OTHER_SESSIONS);
     EXPECT(octet_open_long(STARTS, OBJECTS, s, 2, t, 2), OCTET_READY);
     EXPECT(octet_close(s, 1, &r), OCTET_OTHER_SESSIONS);
+    second = s[1], s[1].at = NULL;
+    EXPECT(octet_open_long(STARTS, OBJECTS, s, 2, t, 2), OCTET_READY);
     octet_free(&s[1]);
+    s[1] = second;
+    EXPECT(octet_close(s, 2, &r), OCTET_TWO_RUNS);
     EXPECT(octet_open_long(STARTS, OBJECTS, s, 1, t, 1), OCTET_READY);
     EXPECT(octet_start(s), OCTET_READY);
     EXPECT(octet_close(s, 1, &r), OCTET_STILL_RUNNING);

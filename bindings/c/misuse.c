@@ -129,14 +129,14 @@ static void while_an_access_waits(void) {
     octet_free(&r);
 }
 
-/* Moves the sessions into a close that refuses them, and those that are left are freed before it or after it. */
-static void close_others(octet_session *a, octet_session *b, octet_session *c, octet_session *d, int before) {
+/* Moves two sessions into a close that refuses them so, and those that are left are freed before it or after it. */
+static void close_others(octet_session *a, octet_session *b, octet_session *c, octet_session *d, int before, int32_t status) {
     octet_session given[2], left[2];
     octet_record r = {0};
     given[0] = *a, given[1] = *b, left[0] = *c, left[1] = *d;
     a->at = b->at = c->at = d->at = NULL;
     if (before) octet_free(&left[0]), octet_free(&left[1]);
-    EXPECT(octet_close(given, 2, &r), OCTET_OTHER_SESSIONS);
+    EXPECT(octet_close(given, 2, &r), status);
     EXPECT(given[0].at == NULL && given[1].at == NULL && r.at == NULL, 1);
     octet_free(&left[0]), octet_free(&left[1]);
 }
@@ -145,12 +145,12 @@ static void at_close(void) {
     octet_session s[2] = {{0}, {0}}, t[2] = {{0}, {0}}, none = {0};
     for (int before = 0; before < 2; before++) {
         EXPECT(open_text(TEXT, s, 2), OCTET_READY);
-        close_others(&s[1], &s[0], &none, &none, before);
+        close_others(&s[1], &s[0], &none, &none, before, OCTET_OTHER_SESSIONS);
         EXPECT(open_text(TEXT, s, 2), OCTET_READY);
         EXPECT(open_text(TEXT, t, 2), OCTET_READY);
-        close_others(&s[0], &t[1], &s[1], &t[0], before);
+        close_others(&s[0], &t[1], &s[1], &t[0], before, OCTET_TWO_RUNS);
         EXPECT(open_text(TEXT, s, 2), OCTET_READY);
-        close_others(&s[0], &none, &s[1], &none, before);
+        close_others(&s[0], &none, &s[1], &none, before, OCTET_OTHER_SESSIONS);
     }
 }
 
@@ -265,12 +265,12 @@ static void close_two_runs(void) {
     for (int before = 0; before < 2; before++) {
         EXPECT(open_text(TEXT, s, 2), OCTET_READY);
         follow_whole(t);
-        close_others(&s[0], &t[1], &s[1], &t[0], before);
+        close_others(&s[0], &t[1], &s[1], &t[0], before, OCTET_OTHER_SESSIONS);
         follow_whole(s);
         follow_whole(t);
-        close_others(&s[0], &t[1], &s[1], &t[0], before);
+        close_others(&s[0], &t[1], &s[1], &t[0], before, OCTET_TWO_RUNS);
         follow_whole(s);
-        close_others(&s[1], &s[0], &t[0], &t[1], before);
+        close_others(&s[1], &s[0], &t[0], &t[1], before, OCTET_OTHER_SESSIONS);
     }
 }
 

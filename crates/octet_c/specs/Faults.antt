@@ -10,8 +10,8 @@ use Rattle.octet_script.specs.declared.cause.ScriptFault.{ScriptFault}
 use Rattle.octet_script.specs.declared.cause.ScriptFault.TheVariants as text
 use Rattle.octet_c.specs.declared.status.Fault.{Fault}
 use Rattle.std.specs.Prelude.{ℤ}
-use Rattle.octet_c.specs.declared.status.Fault.TheVariants.{OutOfMemory, BadText, OtherSessions, StillRunning, TooLong, BadLog, Misfit, Unordered, NotWhole, BadSize}
-use Rattle.octet_c.specs.declared.status.TheConstants.{NO_MEMORY, BAD_TEXT, OTHER_SESSIONS, STILL_RUNNING, TOO_LONG, BAD_LOG, MISFIT, UNORDERED, NOT_WHOLE, BAD_SIZE}
+use Rattle.octet_c.specs.declared.status.Fault.TheVariants.{OutOfMemory, BadText, OtherSessions, StillRunning, TooLong, BadLog, Misfit, Unordered, NotWhole, BadSize, TwoRuns}
+use Rattle.octet_c.specs.declared.status.TheConstants.{NO_MEMORY, BAD_TEXT, OTHER_SESSIONS, STILL_RUNNING, TOO_LONG, BAD_LOG, MISFIT, UNORDERED, NOT_WHOLE, BAD_SIZE, TWO_RUNS}
 
 -- that of a text
 abbrev pub text_fault : ScriptFault → Fault
@@ -34,6 +34,7 @@ abbrev pub close_fault : CloseFault → Fault
 close_fault close.OutOfMemory = OutOfMemory
 close_fault close.OtherSessions = OtherSessions
 close_fault close.StillRunning = StillRunning
+close_fault close.TwoRuns = TwoRuns
 
 -- the status that says it
 abbrev pub fault_status : Fault → ℤ
@@ -47,3 +48,4 @@ fault_status Misfit = MISFIT
 fault_status Unordered = UNORDERED
 fault_status NotWhole = NOT_WHOLE
 fault_status BadSize = BAD_SIZE
+fault_status TwoRuns = TWO_RUNS

@@ -5,7 +5,6 @@ use Rattle.octet_c.specs.declared.held.Held.TheVariants as held
 use Rattle.octet_c.specs.declared.kept.Kept.{Kept}
 use Rattle.octet_c.specs.declared.status.TheConstants as status
 use Rattle.octet_host.specs.Copies.{copied}
-use Rattle.octet_c.specs.Records.{IsGood, AreGood}
 
 -- nothing is copied
 abbrev pub CopiesNothing : {X : Type 0} → ℤ → List X → List X → ℕ → ℕ → Type 0
@@ -25,9 +24,3 @@ abbrev pub CopiesValues : Option Held → ℤ → List ℕ → List ℕ → ℕ 
 CopiesValues (Some (held.Kept kept)) said room out before size = CopiesAll kept.values said room out size
 CopiesValues (Some (held.Values kept)) said room out before size = CopiesAll kept.values said room out size
 CopiesValues _ said room out before size = CopiesNothing said room out before size
-
--- a good record is there
-abbrev pub IsRecord : Option Held → Type 0
-IsRecord (Some (held.Kept kept)) = IsGood kept
-IsRecord (Some (held.Values kept)) = AreGood kept
-IsRecord _ = ⊥

@@ -4,7 +4,6 @@ pub mod Faults
 pub mod Refusals
 pub mod Records
 pub mod Sessions
-pub mod Gathered
 pub mod Opened
 pub mod Statuses
 pub mod Streams
@@ -12,3 +11,4 @@ pub mod Turns
 pub mod Long
 pub mod Names
 pub mod Keeping
+pub mod Closed

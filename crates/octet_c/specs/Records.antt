@@ -1,38 +1,56 @@
 -- What a clause says of a record.
-use Rattle.std.specs.Prelude.{◌≡◌, ◌⊎◌, Some}
+use Rattle.std.specs.Prelude.{◌≡◌, ◌⊎◌, List, length, Some}
 use Rattle.sha2.specs.Sha256.{sha256}
-use Rattle.octet_model.specs.declared.log.Log.{Log}
 use Rattle.octet_model.specs.declared.outcome.Outcome.{Outcome}
-use Rattle.octet_model.specs.declared.script.Script.{Script}
 use Rattle.octet_model.specs.Orders.{IsFaithful}
+use Rattle.octet_parallel.specs.Calls.{script_in, log_in}
+use Rattle.octet_recorder.specs.declared.recorder.Recorder.{Recorder}
+use Rattle.octet_recorder.specs.declared.recording.Recording.{Recording}
+use Rattle.octet_recorder.specs.declared.track.Track.{Track}
+use Rattle.octet_recorder.specs.Recordings.{IsRecordingOf}
+use Rattle.octet_recorder.specs.Tracks.{threads_in, EachRests}
 use Rattle.octet_script.specs.Spelling.{Spells}
 use Rattle.octet_log.specs.Spellings.{IsSpelling}
 use Rattle.octet_host_long.specs.Closed.{IsClosedRecording, IsClosedAgain}
+use Rattle.octet_stream.specs.declared.long_rerun.LongRerun.{LongRerun}
+use Rattle.octet_stream.specs.declared.long_run.LongRun.{LongRun}
 use Rattle.octet_c.specs.declared.kept.Kept.{Kept}
 use Rattle.octet_c.specs.declared.kept.Values.{Values}
+use Rattle.octet_c.specs.declared.repeated.Course.{Course}
 use Rattle.octet_c.specs.Spelled.{IsSpelled}
 
--- the bytes spell a script, and a log with the digest of its text, which are a faithful recording with these final values
-pub record KeepsRecording (kept : Kept) : Type 0 where
-  pub script : Script
-  pub log : Log
-  pub outcome : Outcome
-  pub faithful : IsFaithful script log.threads outcome
-  pub text : Spells kept.script.items script
-  pub bytes : IsSpelling kept.log.items (Some (sha256 kept.script.items)) log.threads
-  pub values : kept.values ≡ outcome.heap
+-- the recording of a recorder: that of all its tracks, which are still
+pub record IsRecordedBy (recorder : Recorder) (recording : Recording) : Type 0 where
+  pub tracks : List Track
+  pub all : length tracks ≡ threads_in recorder
+  pub rest : EachRests recorder tracks
+  pub of : IsRecordingOf recorder.opening tracks recording
+  pub faithful : IsFaithful recording.script recording.log.threads recording.outcome
 
--- the bytes spell a script and a log. Of whatever outcome these are a faithful recording, the values are its final ones
-pub record RepeatsRecording (kept : Kept) : Type 0 where
-  pub script : Script
-  pub log : Log
-  pub spelled : ∥ IsSpelled kept.script.items kept.log.items script log.threads ∥₁
-  pub values : (outcome : Outcome) → IsFaithful script log.threads outcome → kept.values ≡ outcome.heap
+-- the bytes spell the script of a recording, and its log with the digest of the script's text. The values are the final ones
+pub record Keeps (recording : Recording) (kept : Kept) : Type 0 where
+  pub text : Spells kept.script.items recording.script
+  pub bytes : IsSpelling kept.log.items (Some (sha256 kept.script.items)) recording.log.threads
+  pub values : kept.values ≡ recording.outcome.heap
+
+-- the recording of a recorder is kept, which is faithful
+pub record KeepsRecording (recorder : Recorder) (kept : Kept) : Type 0 where
+  pub recording : Recording
+  pub recorded : IsRecordedBy recorder recording
+  pub keeps : Keeps recording kept
+
+-- the bytes are those by which a second run was made. Of whatever outcome they are a faithful recording, the values are its
+-- final ones
+pub record RepeatsRecording (course : Course) (kept : Kept) : Type 0 where
+  pub script_is : kept.script.items ≡ course.script.items
+  pub log_is : kept.log.items ≡ course.log.items
+  pub spelled : ∥ IsSpelled kept.script.items kept.log.items (script_in course.rerun.field) (log_in course.rerun.field).threads ∥₁
+  pub values : (outcome : Outcome) → IsFaithful (script_in course.rerun.field) (log_in course.rerun.field).threads outcome → kept.values ≡ outcome.heap
 
 -- it is of a run that was recorded, or of one that was made again
 abbrev pub IsGood : Kept → Type 0
-IsGood kept = KeepsRecording kept ⊎ RepeatsRecording kept
+IsGood kept = ((recorder : Recorder) × KeepsRecording recorder kept) ⊎ ((course : Course) × RepeatsRecording course kept)
 
 -- they are those of a run of any length that was recorded, or of one that was made again
 abbrev pub AreGood : Values → Type 0
-AreGood kept = IsClosedRecording kept.values ⊎ IsClosedAgain kept.values
+AreGood kept = ((run : LongRun) × IsClosedRecording run kept.values) ⊎ ((rerun : LongRerun) × IsClosedAgain rerun kept.values)

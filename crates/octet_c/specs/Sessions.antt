@@ -11,6 +11,7 @@ use Rattle.octet_session.specs.Recording.{track_standing, TrackRuns, TrackRests}
 use Rattle.octet_c.specs.declared.held.Held.{Held}
 use Rattle.octet_c.specs.declared.held.Held.TheVariants as held
 use Rattle.octet_c.specs.declared.recorded.Recorded.{Recorded}
+use Rattle.octet_c.specs.declared.repeated.Course.{Course}
 use Rattle.octet_c.specs.declared.repeated.Repeated.{Repeated}
 use Rattle.octet_host_long.specs.Threads.{IsLongRecorded, IsLongRepeated}
 use Rattle.octet_c.specs.Records.{IsGood, AreGood}
@@ -26,9 +27,13 @@ pub record IsRecorded (it : Recorded) : Type 0 where
   pub objects : it.objects ≡ objects_in (recorder_of it)
   pub stands : StandsAt (TrackRuns it.track) (TrackRests it.track) (TrackRests it.track) (objects_in (recorder_of it)) it.stage (track_standing (recorder_of it) it.track)
 
--- the second run of a thread that is run again
+-- what a thread that is run again shares with the others
+abbrev pub course_of : Repeated → Course
+course_of it = arc_value it.course
+
+-- its second run
 abbrev pub rerun_of : Repeated → Rerun
-rerun_of it = (arc_value it.course).rerun
+rerun_of it = (course_of it).rerun
 
 -- its follower is one of the second run's, and it stands where the stage says
 pub record IsRepeated (it : Repeated) : Type 0 where

@@ -1,11 +1,15 @@
 //! What a recorded run leaves, once all its threads are handed back.
-ghost use Rattle.std.specs.Prelude.{◌≡◌, ◌≤◌, All, length, true, IfOk};
+ghost use Rattle.std.specs.Prelude.{◌≡◌, ◌<◌, ◌≤◌, ◌⊎◌, All, Any, length, true, false, IfOk, IfErr, IfSome, OnOk};
+ghost use Rattle.std.specs.Arc.{arc_value};
 ghost use Rattle.octet_model.specs.Orders.{IsFaithful};
 ghost use Rattle.octet_log.specs.v2.Pieces.{marks_in};
 ghost use Rattle.octet_recorder.specs.Tracks.{EachRests, IsTrackOf};
+ghost use Rattle.octet_host.specs.HandedBack.{IsAtWork, AreAsOne};
 ghost use Rattle.octet_session.specs.Recording.{TrackRests};
-ghost use Rattle.octet_c.specs.Records.{KeepsRecording};
-ghost use Rattle.octet_c.specs.Sessions.{IsRecorded};
+ghost use Rattle.octet_c.specs.declared.status.Fault.TheVariants.{OutOfMemory as MemoryRefused, TwoRuns as OfTwoRuns};
+ghost use Rattle.octet_c.specs.Closed.{IsRecordedAs, RefusesThread, RefusesToKeep, RefusesRecorded};
+ghost use Rattle.octet_c.specs.Records.{Keeps, KeepsRecording};
+ghost use Rattle.octet_c.specs.Sessions.{recorder_of, IsRecorded};
 
 use crate::kept::Kept;
 use crate::recorded::{Heap, LeftTrack, Place, Recorded};
@@ -19,14 +23,13 @@ use std::alloc::Global;
 use std::sync::Arc;
 
 impl Heap {
-    // Lays a track down. Tells whether its place was there and free.
-    fn lay(&self, number: usize, left: Left<Track>) -> bool
+    // Lays a track down, if its place is there and free.
+    fn lay(&self, number: usize, left: Left<Track>)
         requires own { IsTrackOf self.now.recorder left.loose.value }
         requires rests { TrackRests left.loose.value }
     {
-        match self.desk.get(number) {
-            Some(place) => lay(place, LeftTrack { left }),
-            None => false,
+        if let Some(place) = self.desk.get(number) {
+            lay(place, LeftTrack { left });
         }
     }
 }
@@ -40,6 +43,10 @@ fn hand_in(
     threads: usize,
 ) -> Result<Option<Heap>, Fault>
     requires { IsRecorded recorded }
+    ensures still { OnOk result (IsAtWork recorded.stage → ⊥) }
+    ensures place { OnOk result (IsRecordedAs number threads recorded) }
+    ensures shared { IfOk result (λ last. IfSome last (λ heap. arc_value recorded.heap ≡ heap)) }
+    ensures refused { IfErr result (RefusesThread recorded.stage (IsRecordedAs number threads recorded) ⊥) }
 {
     let Recorded {
         heap,
@@ -47,31 +54,39 @@ fn hand_in(
         stage,
         ..
     } = recorded;
-    let Stage::Resting = stage else {
+    let (Stage::Resting | Stage::Ended) = stage else {
         return Err(Fault::StillRunning);
     };
     if track.thread() as usize != number || heap.desk.len() != threads {
         return Err(Fault::OtherSessions);
     }
     let left = Left::new(alloc, track)?;
-    if !heap.lay(number, left) {
-        return Err(Fault::OtherSessions);
-    }
+    heap.lay(number, left);
     Ok(Arc::into_inner(heap))
 }
 
 // Lays all tracks down. Gives what the threads share, where all of it are here.
 fn hand_in_all(alloc: Global, threads: Vec<Recorded>) -> Result<Heap, Fault>
     requires { All IsRecorded threads.items }
+    ensures as_one { OnOk result (AreAsOne IsRecordedAs threads.items) }
+    ensures still { OnOk result (All (λ it. IsAtWork it.stage → ⊥) threads.items) }
+    ensures shared { IfOk result (λ heap. Any (λ it. arc_value it.heap ≡ heap) threads.items) }
+    ensures refused { IfErr result (RefusesRecorded threads.items) }
 {
     let count = threads.len();
+    if count == 0 {
+        return Err(Fault::OtherSessions);
+    }
     let mut last = None;
     let mut number = 0;
     for recorded in threads {
         last = hand_in(alloc, recorded, number, count)?;
         number += 1;
     }
-    last.ok_or(Fault::OtherSessions)
+    match last {
+        Some(heap) => Ok(heap),
+        None => Err(Fault::TwoRuns),
+    }
 }
 
 // The tracks that lie on a desk, in order.
@@ -79,15 +94,16 @@ fn tracks_on(alloc: Global, recorder: &Recorder, desk: Vec<Place>) -> Result<Lis
     requires tags { All (λ tag. tag ≡ recorder.now) desk.items }
     ensures all { IfOk result (λ tracks. length tracks ≡ length desk.items) }
     ensures rest { IfOk result (EachRests recorder.now) }
+    ensures refused { IfErr result (λ fault. (fault ≡ MemoryRefused) ⊎ (fault ≡ OfTwoRuns)) }
 {
     let mut tracks = List::new(alloc);
     for place in desk {
         let Some(left) = place.into_inner() else {
-            return Err(Fault::OtherSessions);
+            return Err(Fault::TwoRuns);
         };
         let track = left.left.into_inner();
         if track.thread() as usize != tracks.len() {
-            return Err(Fault::OtherSessions);
+            return Err(Fault::TwoRuns);
         }
         tracks.push(track)?;
     }
@@ -96,7 +112,8 @@ fn tracks_on(alloc: Global, recorder: &Recorder, desk: Vec<Place>) -> Result<Lis
 
 // Whether they have no more marks than version 2 of the format may hold.
 fn are_short(logs: &[ThreadLog]) -> bool
-    ensures { result ≡ true → marks_in logs.now ≤ MAX_MARKS }
+    ensures short { result ≡ true → marks_in logs.now ≤ MAX_MARKS }
+    ensures long { result ≡ false → MAX_MARKS < marks_in logs.now }
 {
     let mut total = 0;
     for log in logs {
@@ -112,7 +129,8 @@ fn are_short(logs: &[ThreadLog]) -> bool
 // What is kept of a recording.
 fn kept_of(alloc: Global, recording: Recording) -> Result<Kept, Fault>
     requires { IsFaithful recording.script recording.log.threads recording.outcome }
-    ensures { IfOk result KeepsRecording }
+    ensures keeps { IfOk result (Keeps recording) }
+    ensures refused { IfErr result (RefusesToKeep recording) }
 {
     let Recording {
         script,
@@ -136,7 +154,9 @@ fn kept_of(alloc: Global, recording: Recording) -> Result<Kept, Fault>
 /// are gone.
 pub(crate) fn close(alloc: Global, threads: Vec<Recorded>) -> Result<Kept, Fault>
     requires { All IsRecorded threads.items }
-    ensures { IfOk result KeepsRecording }
+    ensures as_one { OnOk result (AreAsOne IsRecordedAs threads.items) }
+    ensures keeps { IfOk result (λ kept. Any (λ it. KeepsRecording (recorder_of it) kept) threads.items) }
+    ensures refused { IfErr result (RefusesRecorded threads.items) }
 {
     let Heap { recorder, desk } = hand_in_all(alloc, threads)?;
     let tracks = tracks_on(alloc, &recorder, desk)?;

@@ -1,13 +1,16 @@
 //! A recording, from its bytes to the end of a run by it.
-ghost use Rattle.std.specs.Prelude.{◌≡◌, ◌↔◌, [], All, length, true, Some, IfOk, IfErr};
+ghost use Rattle.std.specs.Prelude.{◌≡◌, ◌↔◌, ◌⊎◌, [], All, Any, length, true, Some, IfOk, IfErr, IfSome, OnOk};
 ghost use Rattle.std.specs.Arc.{arc_value};
 ghost use Rattle.std.specs.Option.{option_map};
 ghost use Rattle.octet_parallel.specs.Calls.{script_in, log_in, players_in};
 ghost use Rattle.octet_rerun.specs.Reruns.{made_by, recorded_of, IsFollowerOf, EachAtStart, EachAtEnd};
+ghost use Rattle.octet_host.specs.HandedBack.{IsAtWork, AreAsOne};
+ghost use Rattle.octet_c.specs.declared.status.Fault.TheVariants.{OutOfMemory as MemoryRefused, TwoRuns as OfTwoRuns};
+ghost use Rattle.octet_c.specs.Closed.{IsRepeatedAs, LeavesSome, RefusesThread, RefusesRepeated};
 ghost use Rattle.octet_c.specs.Opened.{EachFirstAgain, Follows, IsFirstAgain, Records};
 ghost use Rattle.octet_c.specs.Records.{RepeatsRecording};
 ghost use Rattle.octet_c.specs.Refusals.{RefusesToFollow};
-ghost use Rattle.octet_c.specs.Sessions.{IsHeld, IsRepeated};
+ghost use Rattle.octet_c.specs.Sessions.{course_of, IsHeld, IsRepeated};
 ghost use Rattle.octet_c.specs.Spelled.{IsOf, IsSpelled};
 
 use crate::held::Held;
@@ -146,14 +149,13 @@ pub(crate) fn follow(
 }
 
 impl Course {
-    // Lays a follower down. Tells whether its place was there and free.
-    fn lay(&self, number: usize, left: Left<Follower>) -> bool
+    // Lays a follower down, if its place is there and free.
+    fn lay(&self, number: usize, left: Left<Follower>)
         requires own { IsFollowerOf self.now.rerun left.loose.value }
         requires ended { made_by left.loose.value ≡ recorded_of self.now.rerun left.loose.value.thread }
     {
-        match self.desk.get(number) {
-            Some(place) => lay(place, LeftFollower { left }),
-            None => false,
+        if let Some(place) = self.desk.get(number) {
+            lay(place, LeftFollower { left });
         }
     }
 }
@@ -167,6 +169,10 @@ fn hand_in(
     threads: usize,
 ) -> Result<Option<Course>, Fault>
     requires { IsRepeated repeated }
+    ensures still { OnOk result (IsAtWork repeated.stage → ⊥) }
+    ensures place { OnOk result (IsRepeatedAs number threads repeated) }
+    ensures shared { IfOk result (λ last. IfSome last (λ course. arc_value repeated.course ≡ course)) }
+    ensures refused { IfErr result (RefusesThread repeated.stage (IsRepeatedAs number threads repeated) (LeavesSome repeated)) }
 {
     let Repeated {
         course,
@@ -181,28 +187,36 @@ fn hand_in(
     if follower.thread() as usize != number || course.desk.len() != threads {
         return Err(Fault::OtherSessions);
     }
-    if course.rerun.finish(&mut follower).is_err() {
+    if let Err(_halt) = course.rerun.finish(&mut follower) {
         return Err(Fault::NotWhole);
     }
     let left = Left::new(alloc, follower)?;
-    if !course.lay(number, left) {
-        return Err(Fault::OtherSessions);
-    }
+    course.lay(number, left);
     Ok(Arc::into_inner(course))
 }
 
 // Lays all followers down. Gives what the threads share, where all of it are here.
 fn hand_in_all(alloc: Global, threads: Vec<Repeated>) -> Result<Course, Fault>
     requires { All IsRepeated threads.items }
+    ensures as_one { OnOk result (AreAsOne IsRepeatedAs threads.items) }
+    ensures still { OnOk result (All (λ it. IsAtWork it.stage → ⊥) threads.items) }
+    ensures shared { IfOk result (λ course. Any (λ it. arc_value it.course ≡ course) threads.items) }
+    ensures refused { IfErr result (RefusesRepeated threads.items) }
 {
     let count = threads.len();
+    if count == 0 {
+        return Err(Fault::OtherSessions);
+    }
     let mut last = None;
     let mut number = 0;
     for repeated in threads {
         last = hand_in(alloc, repeated, number, count)?;
         number += 1;
     }
-    last.ok_or(Fault::OtherSessions)
+    match last {
+        Some(course) => Ok(course),
+        None => Err(Fault::TwoRuns),
+    }
 }
 
 // The followers that lie on a desk, in order.
@@ -210,15 +224,16 @@ fn followers_on(alloc: Global, rerun: &Rerun, desk: Vec<Place>) -> Result<List<F
     requires tags { All (λ tag. tag ≡ rerun.now) desk.items }
     ensures all { IfOk result (λ followers. length followers ≡ length desk.items) }
     ensures ended { IfOk result (EachAtEnd rerun.now) }
+    ensures refused { IfErr result (λ fault. (fault ≡ MemoryRefused) ⊎ (fault ≡ OfTwoRuns)) }
 {
     let mut followers = List::new(alloc);
     for place in desk {
         let Some(left) = place.into_inner() else {
-            return Err(Fault::OtherSessions);
+            return Err(Fault::TwoRuns);
         };
         let follower = left.left.into_inner();
         if follower.thread() as usize != followers.len() {
-            return Err(Fault::OtherSessions);
+            return Err(Fault::TwoRuns);
         }
         followers.push(follower)?;
     }
@@ -228,7 +243,9 @@ fn followers_on(alloc: Global, rerun: &Rerun, desk: Vec<Place>) -> Result<List<F
 /// Ends the run. Every thread of the recording is handed in, in order, off or blocked or over, and has made all of it.
 pub(crate) fn close(alloc: Global, threads: Vec<Repeated>) -> Result<Kept, Fault>
     requires { All IsRepeated threads.items }
-    ensures { IfOk result RepeatsRecording }
+    ensures as_one { OnOk result (AreAsOne IsRepeatedAs threads.items) }
+    ensures repeats { IfOk result (λ kept. Any (λ it. RepeatsRecording (course_of it) kept) threads.items) }
+    ensures refused { IfErr result (RefusesRepeated threads.items) }
 {
     let Course {
         rerun,

@@ -1,22 +1,23 @@
 //! Sessions behind handles, and back from them.
-ghost use Rattle.std.specs.Prelude.{◌≡◌, ◌≢◌, All, length, IfOk, IfSome};
+ghost use Rattle.std.specs.Prelude.{◌≡◌, ◌≢◌, ◌⊎◌, ◌++◌, ◌∷◌, [], All, length, map, Some, None, Ok, Err, IfOk, IfErr, IfSome, IsOk, IsSome, OnOk};
+ghost use Rattle.octet_c.specs.declared.status.Fault.TheVariants.{OutOfMemory as MemoryRefused, OtherSessions as SessionMissing};
 ghost use Rattle.octet_c.specs.declared.status.TheConstants.{READY, OTHER_SESSIONS};
+ghost use Rattle.octet_c.specs.Closed.{first_kind, RefusesToClose};
 ghost use Rattle.octet_c.specs.Opened.{HoldEach};
-ghost use Rattle.octet_c.specs.Sessions.{IsHeld, IsRecorded, IsRepeated};
-ghost use Rattle.octet_c.specs.Gathered.{AreThreads};
-ghost use Rattle.octet_host_long.specs.Threads.{IsLongRecorded, IsLongRepeated};
+ghost use Rattle.octet_c.specs.Sessions.{IsHeld};
 
 use crate::handle::Handle;
 use crate::held::Held;
-use crate::recorded::Recorded;
-use crate::repeated::Repeated;
+use crate::kind::Thread;
 use crate::status::{Fault, OTHER_SESSIONS, READY};
-use octet_host_long::{LongRecorded, LongRepeated};
 use std::alloc::Global;
+
+/// What is behind handles, or is to be.
+pub(crate) type Boxes = Vec<Box<Held, Global>>;
 
 /// Puts one behind each of the handles, in order. What a handle held is freed. Refused where there are more of one than of
 /// the other; then the handles are as before.
-pub(crate) fn put_all(alloc: Global, handles: &mut [Handle], boxes: Vec<Box<Held, Global>>) -> i32
+pub(crate) fn put_all(alloc: Global, handles: &mut [Handle], boxes: Boxes) -> i32
     requires { All (λ held. IsHeld held.value) boxes.items }
     ensures ready { result ≡ READY → HoldEach (λ held. held.value) boxes.items handles.new }
     ensures fits { length handles.old ≡ length boxes.items → result ≡ READY }
@@ -36,93 +37,46 @@ pub(crate) fn put_all(alloc: Global, handles: &mut [Handle], boxes: Vec<Box<Held
     READY
 }
 
-// Adds a thread that is recorded.
-fn add_recorded(all: &mut Vec<Recorded>, it: Recorded) -> Result<(), Fault>
-    requires one { IsRecorded it }
-    requires all { All IsRecorded all.old.items }
-    ensures { All IsRecorded all.new.items }
+// Adds what was behind one more handle, if something was.
+fn add(taken: Result<Boxes, Fault>, held: Option<Box<Held, Global>>) -> Result<Boxes, Fault>
+    ensures had { OnOk result (IsOk taken × IsSome held) }
+    ensures added { IfOk result (λ boxes. IfOk taken (λ before. IfSome held (λ one. boxes.items ≡ before.items ++ one ∷ []))) }
+    ensures refused { IfErr result (λ fault. (taken ≡ Err fault) ⊎ (fault ≡ MemoryRefused) ⊎ ((fault ≡ SessionMissing) × (held ≡ None))) }
 {
-    all.push(it)?;
-    Ok(())
-}
-
-// Adds a thread that is run again.
-fn add_repeated(all: &mut Vec<Repeated>, it: Repeated) -> Result<(), Fault>
-    requires one { IsRepeated it }
-    requires all { All IsRepeated all.old.items }
-    ensures { All IsRepeated all.new.items }
-{
-    all.push(it)?;
-    Ok(())
-}
-
-// Adds a thread that is recorded at any length.
-fn add_long_recorded(all: &mut Vec<LongRecorded>, it: LongRecorded) -> Result<(), Fault>
-    requires one { IsLongRecorded it }
-    requires all { All IsLongRecorded all.old.items }
-    ensures { All IsLongRecorded all.new.items }
-{
-    all.push(it)?;
-    Ok(())
-}
-
-// Adds a thread of such a run that is made again.
-fn add_long_repeated(all: &mut Vec<LongRepeated>, it: LongRepeated) -> Result<(), Fault>
-    requires one { IsLongRepeated it }
-    requires all { All IsLongRepeated all.old.items }
-    ensures { All IsLongRepeated all.new.items }
-{
-    all.push(it)?;
-    Ok(())
-}
-
-/// Threads that were behind handles, by their kinds.
-#[derive(Drop)]
-pub(crate) struct Threads {
-    pub(crate) recorded: Vec<Recorded>,
-    pub(crate) repeated: Vec<Repeated>,
-    pub(crate) long_recorded: Vec<LongRecorded>,
-    pub(crate) long_repeated: Vec<LongRepeated>,
-}
-
-// Adds what was behind a handle to those of its kind.
-fn sort(held: Option<Box<Held, Global>>, threads: &mut Threads) -> Result<(), Fault>
-    requires good { IfSome held (λ held. IsHeld held.value) }
-    requires threads { AreThreads threads.old }
-    ensures { AreThreads threads.new }
-{
+    let mut boxes = taken?;
     let Some(held) = held else {
         return Err(Fault::OtherSessions);
     };
-    match Box::into_inner(held) {
-        Held::Recorded(it) => add_recorded(&mut threads.recorded, it),
-        Held::Repeated(it) => add_repeated(&mut threads.repeated, it),
-        Held::LongRecorded(it) => add_long_recorded(&mut threads.long_recorded, it),
-        Held::LongRepeated(it) => add_long_repeated(&mut threads.long_repeated, it),
-        Held::Outlet(_) | Held::Inlet(_) | Held::Kept(_) | Held::Values(_) | Held::Schedule(_) =>
-            Err(Fault::OtherSessions),
-    }
+    boxes.push(held)?;
+    Ok(boxes)
 }
 
-/// The sessions behind the handles, which then have none, whatever is answered.
-pub(crate) fn take_all(alloc: Global, handles: &mut [Handle]) -> Result<Threads, Fault>
+/// What was behind the handles, which then have nothing, whatever is answered. Refused where one has nothing.
+pub(crate) fn take_all(alloc: Global, handles: &mut [Handle]) -> Result<Boxes, Fault>
     ensures gone { All (λ handle. handle.held ≡ None) handles.new }
-    ensures threads { IfOk result AreThreads }
+    ensures taken { IfOk result (λ boxes. map (λ box. Some box.value) boxes.items ≡ map (λ handle. handle.held) handles.old) }
+    ensures good { IfOk result (λ boxes. All (λ box. IsHeld box.value) boxes.items) }
+    ensures refused { IfErr result (RefusesToClose (map (λ handle. handle.held) handles.old)) }
 {
-    let mut threads = Threads {
-        recorded: Vec::new(alloc),
-        repeated: Vec::new(alloc),
-        long_recorded: Vec::new(alloc),
-        long_repeated: Vec::new(alloc),
-    };
-    let mut fault = None;
+    let mut taken = Ok(Vec::new(alloc));
     for place in handles {
-        if let Err(why) = sort(place.take(alloc), &mut threads) {
-            fault = Some(why);
-        }
+        taken = add(taken, place.take(alloc));
     }
-    match fault {
-        Some(why) => Err(why),
-        None => Ok(threads),
+    taken
+}
+
+/// The threads in boxes, which are all of one kind: that of the first.
+pub(crate) fn threads_of<T: Thread>(alloc: Global, boxes: Boxes) -> Result<Vec<T>, Fault>
+    requires { first_kind (map (λ box. box.value) boxes.items) ≡ Some T.kind }
+    ensures threads { IfOk result (λ threads. map (λ it. T.as_held it) threads.items ≡ map (λ box. box.value) boxes.items) }
+    ensures refused { IfErr result (RefusesToClose (map (λ box. Some box.value) boxes.items)) }
+{
+    let mut threads = Vec::new(alloc);
+    for held in boxes {
+        let Some(it) = T::of_held(Box::into_inner(held)) else {
+            return Err(Fault::OtherSessions);
+        };
+        threads.push(it)?;
     }
+    Ok(threads)
 }

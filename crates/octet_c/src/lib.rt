@@ -3,17 +3,15 @@
 #![tactic(auto)]
 
 ghost use Rattle.octet_c.specs.declared.status.TheConstants.{READY};
-ghost use Rattle.std.specs.Prelude.{◌≡◌, ◌≢◌, All, Some, None, IfOk};
+ghost use Rattle.std.specs.Prelude.{◌≡◌, ◌≢◌, All, map, Some, None, IfOk, IfErr};
 ghost use Rattle.std.specs.Prelude.{length as list_length};
 ghost use Rattle.octet_c.specs.Names.{access_named, update_named};
-ghost use Rattle.octet_c.specs.Gathered.{AreThreads};
 ghost use Rattle.octet_c.specs.Statuses.{Starts, Stops, EndsThread, BeginsRegionNext, Passes, Polls, OnHandle, AsksHandle};
-ghost use Rattle.octet_host_long.specs.Threads.{IsLongRecorded, IsLongRepeated};
-ghost use Rattle.octet_c.specs.Keeping.{CopiesOf, CopiesValues, IsRecord};
-ghost use Rattle.octet_c.specs.Records.{IsGood, AreGood};
+ghost use Rattle.octet_c.specs.Keeping.{CopiesOf, CopiesValues};
+ghost use Rattle.octet_c.specs.Closed.{first_kind, Closes, RefusesToClose, GivesNoRecord};
 ghost use Rattle.octet_c.specs.Opened.{Declares, Records, Opens, Follows, RefusesToOpen, GivesNone};
 ghost use Rattle.octet_c.specs.Refusals.{RefusesToFollow};
-ghost use Rattle.octet_c.specs.Sessions.{IsRecorded, IsRepeated};
+ghost use Rattle.octet_c.specs.Sessions.{IsHeld};
 
 mod closing;
 mod following;
@@ -21,6 +19,7 @@ mod handing;
 mod handle;
 mod held;
 mod kept;
+mod kind;
 mod long;
 mod opening;
 mod recorded;
@@ -31,12 +30,14 @@ mod told;
 mod turns;
 mod words;
 
-use handing::{Threads, put_all, take_all};
+use handing::{Boxes, put_all, take_all, threads_of};
 pub use handle::Handle;
 pub use held::Held;
 pub use kept::{Kept, Values};
+pub use kind::Kind;
+use kind::Thread;
 use octet_host::copy_out;
-use octet_host_long::{LongRecorded, LongRepeated, close_recorded, close_repeated};
+use octet_host_long::{LongRecorded, LongRepeated};
 use octet_recorder::Access;
 pub use recorded::{Heap, Recorded};
 pub use repeated::{Course, Repeated};
@@ -220,75 +221,57 @@ pub extern "C" fn octet_poll(alloc: Global, session: &mut Handle, out: &mut u64)
     }
 }
 
-// The record of a run of a script: of threads that were recorded, or of threads that were run again.
-fn close_scripts(
-    alloc: Global,
-    recorded: Vec<Recorded>,
-    repeated: Vec<Repeated>,
-) -> Result<Kept, Fault>
-    requires recorded { All IsRecorded recorded.items }
-    requires repeated { All IsRepeated repeated.items }
-    ensures { IfOk result IsGood }
+// Ends the run of threads which are all of this kind.
+fn close_kind<T: Thread>(alloc: Global, boxes: Boxes) -> Result<Held, Fault>
+    requires good { All (λ box. IsHeld box.value) boxes.items }
+    requires kind { first_kind (map (λ box. box.value) boxes.items) ≡ Some T.kind }
+    ensures good { IfOk result IsHeld }
+    ensures closes { IfOk result (λ kept. Closes (map (λ box. Some box.value) boxes.items) (Some kept)) }
+    ensures refused { IfErr result (RefusesToClose (map (λ box. Some box.value) boxes.items)) }
 {
-    if repeated.is_empty() {
-        Ok(closing::close(alloc, recorded)?)
-    } else if recorded.is_empty() {
-        Ok(following::close(alloc, repeated)?)
-    } else {
-        Err(Fault::OtherSessions)
+    match threads_of(alloc, boxes) {
+        Ok(threads) => T::close(alloc, threads),
+        Err(fault) => Err(fault),
     }
 }
 
-// The values of a run of any length.
-fn close_long(
-    alloc: Global,
-    recorded: Vec<LongRecorded>,
-    repeated: Vec<LongRepeated>,
-) -> Result<Values, Fault>
-    requires recorded { All IsLongRecorded recorded.items }
-    requires repeated { All IsLongRepeated repeated.items }
-    ensures { IfOk result AreGood }
+// The kind of the first thread, if it is one.
+fn kind_of_first(boxes: &[Box<Held, Global>]) -> Option<Kind>
+    ensures { result ≡ first_kind (map (λ box. box.value) boxes.now) }
 {
-    let closed = if repeated.is_empty() {
-        close_recorded(alloc, recorded)
-    } else if recorded.is_empty() {
-        close_repeated(alloc, repeated)
-    } else {
-        return Err(Fault::OtherSessions);
-    };
-    match closed {
-        Ok(values) => Ok(Values { values }),
-        Err(fault) => Err(Fault::from(fault)),
+    match boxes.first() {
+        Some(first) => first.kind(),
+        None => None,
     }
 }
 
-// What threads leave that are all of one kind.
-fn close_all(alloc: Global, threads: Threads) -> Result<Held, Fault>
-    requires { AreThreads threads }
-    ensures { IfOk result (λ held. IsRecord (Some held)) }
+// Ends the run of threads which are all of one kind.
+fn close_boxes(alloc: Global, boxes: Boxes) -> Result<Held, Fault>
+    requires { All (λ box. IsHeld box.value) boxes.items }
+    ensures good { IfOk result IsHeld }
+    ensures closes { IfOk result (λ kept. Closes (map (λ box. Some box.value) boxes.items) (Some kept)) }
+    ensures refused { IfErr result (RefusesToClose (map (λ box. Some box.value) boxes.items)) }
 {
-    let Threads {
-        recorded,
-        repeated,
-        long_recorded,
-        long_repeated,
-    } = threads;
-    if long_recorded.is_empty() && long_repeated.is_empty() {
-        Ok(Held::Kept(close_scripts(alloc, recorded, repeated)?))
-    } else if recorded.is_empty() && repeated.is_empty() {
-        Ok(Held::Values(close_long(alloc, long_recorded, long_repeated)?))
-    } else {
-        Err(Fault::OtherSessions)
+    match kind_of_first(boxes.as_slice()) {
+        Some(Kind::Recorded) => close_kind::<Recorded>(alloc, boxes),
+        Some(Kind::Repeated) => close_kind::<Repeated>(alloc, boxes),
+        Some(Kind::LongRecorded) => close_kind::<LongRecorded>(alloc, boxes),
+        Some(Kind::LongRepeated) => close_kind::<LongRepeated>(alloc, boxes),
+        None => Err(Fault::OtherSessions),
     }
 }
 
 // Ends the run of the sessions behind the handles.
 fn closed(alloc: Global, sessions: &mut [Handle]) -> Result<Held, Fault>
     ensures gone { All (λ session. session.held ≡ None) sessions.new }
-    ensures good { IfOk result (λ held. IsRecord (Some held)) }
+    ensures good { IfOk result IsHeld }
+    ensures closes { IfOk result (λ kept. Closes (map (λ session. session.held) sessions.old) (Some kept)) }
+    ensures refused { IfErr result (RefusesToClose (map (λ session. session.held) sessions.old)) }
 {
-    let threads = take_all(alloc, sessions)?;
-    close_all(alloc, threads)
+    match take_all(alloc, sessions) {
+        Ok(boxes) => close_boxes(alloc, boxes),
+        Err(fault) => Err(fault),
+    }
 }
 
 /// Ends the run, and puts its record behind `kept`; what that held is freed. The sessions are those that one call gave, in
@@ -297,8 +280,9 @@ fn closed(alloc: Global, sessions: &mut [Handle]) -> Result<Held, Fault>
 #[unsafe(no_mangle)]
 pub extern "C" fn octet_close(alloc: Global, sessions: &mut [Handle], kept: &mut Handle) -> i32
     ensures gone { All (λ session. session.held ≡ None) sessions.new }
-    ensures kept { result ≡ READY → IsRecord kept.new.held }
+    ensures kept { result ≡ READY → Closes (map (λ session. session.held) sessions.old) kept.new.held }
     ensures refused { result ≢ READY → kept.new ≡ kept.old }
+    ensures cause { result ≢ READY → GivesNoRecord (map (λ session. session.held) sessions.old) result }
 {
     match closed(alloc, sessions) {
         Ok(closed) => match Box::new(alloc, closed) {

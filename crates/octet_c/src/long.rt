@@ -1,23 +1,18 @@
 //! The calls by which a run of any length begins.
 ghost use Rattle.octet_c.specs.declared.status.TheConstants.{READY};
 ghost use Rattle.std.specs.Prelude.{◌≡◌, ◌≢◌, ◌↔◌, All, length, map, true, IfOk, IfErr};
-ghost use Rattle.octet_c.specs.declared.held.Held.TheVariants as held;
 ghost use Rattle.octet_c.specs.declared.status.Fault.TheVariants.{OutOfMemory};
 ghost use Rattle.octet_c.specs.Long.{IsSize, Refuses, RefusesLong, OpensLong, FollowsLong, AreOpened, AreFollowing, Holds};
 ghost use Rattle.octet_c.specs.Sessions.{IsHeld};
-ghost use Rattle.octet_host_long.specs.Threads.{IsLongRecorded, IsLongRepeated};
 
-use crate::handing::put_all;
+use crate::handing::{Boxes, put_all};
 use crate::handle::Handle;
-use crate::held::Held;
+use crate::kind::Behind;
 use crate::status::Fault;
-use octet_host_long::{Inlet, LongRecorded, LongRepeated, Outlet, follow, open};
+use octet_host_long::{follow, open};
 use octet_model::MAX_THREADS;
 use octet_rule::MAX_OBJECTS_OF_HEAP;
 use std::alloc::Global;
-
-/// What is to be behind handles.
-type Boxes = Vec<Box<Held, Global>>;
 
 /// Whether a run of any length may have so many threads and objects.
 pub(crate) fn is_size(threads: usize, objects: usize) -> bool
@@ -40,50 +35,14 @@ fn sized(objects: usize, sessions: usize, streams: usize) -> Result<(), Fault>
     Ok(())
 }
 
-// Threads that are recorded, each in a box.
-fn box_recorded(alloc: Global, threads: Vec<LongRecorded>) -> Result<Boxes, Fault>
-    ensures each { IfOk result (λ boxes. map (λ box. box.value) boxes.items ≡ map (λ it. held.LongRecorded it) threads.items) }
+// Threads or streams, each in a box.
+fn box_all<T: Behind>(alloc: Global, all: Vec<T>) -> Result<Boxes, Fault>
+    ensures each { IfOk result (λ boxes. map (λ box. box.value) boxes.items ≡ map (λ it. T.as_held it) all.items) }
     ensures memory { IfErr result (λ fault. fault ≡ OutOfMemory) }
 {
     let mut boxes = Vec::new(alloc);
-    for it in threads {
-        boxes.push(Box::new(alloc, Held::LongRecorded(it))?)?;
-    }
-    Ok(boxes)
-}
-
-// Threads that are made again, each in a box.
-fn box_repeated(alloc: Global, threads: Vec<LongRepeated>) -> Result<Boxes, Fault>
-    ensures each { IfOk result (λ boxes. map (λ box. box.value) boxes.items ≡ map (λ it. held.LongRepeated it) threads.items) }
-    ensures memory { IfErr result (λ fault. fault ≡ OutOfMemory) }
-{
-    let mut boxes = Vec::new(alloc);
-    for it in threads {
-        boxes.push(Box::new(alloc, Held::LongRepeated(it))?)?;
-    }
-    Ok(boxes)
-}
-
-// Streams that give, each in a box.
-fn box_outlets(alloc: Global, outlets: Vec<Outlet>) -> Result<Boxes, Fault>
-    ensures each { IfOk result (λ boxes. map (λ box. box.value) boxes.items ≡ map (λ it. held.Outlet it) outlets.items) }
-    ensures memory { IfErr result (λ fault. fault ≡ OutOfMemory) }
-{
-    let mut boxes = Vec::new(alloc);
-    for it in outlets {
-        boxes.push(Box::new(alloc, Held::Outlet(it))?)?;
-    }
-    Ok(boxes)
-}
-
-// Streams that are fed, each in a box.
-fn box_inlets(alloc: Global, inlets: Vec<Inlet>) -> Result<Boxes, Fault>
-    ensures each { IfOk result (λ boxes. map (λ box. box.value) boxes.items ≡ map (λ it. held.Inlet it) inlets.items) }
-    ensures memory { IfErr result (λ fault. fault ≡ OutOfMemory) }
-{
-    let mut boxes = Vec::new(alloc);
-    for it in inlets {
-        boxes.push(Box::new(alloc, Held::Inlet(it))?)?;
+    for it in all {
+        boxes.push(Box::new(alloc, it.into_held())?)?;
     }
     Ok(boxes)
 }
@@ -101,8 +60,10 @@ fn opened(
     ensures refused { IfErr result (Refuses (length starts.now) sessions streams) }
 {
     sized(starts.len(), sessions, streams)?;
-    let (threads, outlets) = open(alloc, sessions as u8, starts)?;
-    Ok((box_recorded(alloc, threads)?, box_outlets(alloc, outlets)?))
+    let (recorded, outlets) = open(alloc, sessions as u8, starts)?;
+    let threads = box_all(alloc, recorded)?;
+    let ends = box_all(alloc, outlets)?;
+    Ok((threads, ends))
 }
 
 // The threads of a run that is made again and their streams.
@@ -119,8 +80,10 @@ fn following(
     ensures refused { IfErr result (Refuses (length starts.now) sessions streams) }
 {
     sized(starts.len(), sessions, streams)?;
-    let (threads, inlets) = follow(alloc, sessions as u8, starts, declared)?;
-    Ok((box_repeated(alloc, threads)?, box_inlets(alloc, inlets)?))
+    let (repeated, inlets) = follow(alloc, sessions as u8, starts, declared)?;
+    let threads = box_all(alloc, repeated)?;
+    let ends = box_all(alloc, inlets)?;
+    Ok((threads, ends))
 }
 
 // Puts threads behind the one handles, and their streams behind the others.

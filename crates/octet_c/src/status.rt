@@ -20,7 +20,7 @@ pub enum Fault {
     OutOfMemory,
     /// The text is no script.
     BadText,
-    /// Sessions are missing, in another order, or of two heaps.
+    /// Sessions are missing, in another order, or of two kinds.
     OtherSessions,
     /// A thread runs.
     StillRunning,
@@ -36,6 +36,8 @@ pub enum Fault {
     NotWhole,
     /// A run of any length has 1 to 16 threads and 1 to 65,535 objects.
     BadSize,
+    /// Sessions are as many as a run has, in order, and yet of two runs.
+    TwoRuns,
 }
 
 impl From<AllocError> for Fault {
@@ -104,6 +106,7 @@ impl From<CloseFault> for Fault {
             CloseFault::OutOfMemory => Fault::OutOfMemory,
             CloseFault::OtherSessions => Fault::OtherSessions,
             CloseFault::StillRunning => Fault::StillRunning,
+            CloseFault::TwoRuns => Fault::TwoRuns,
         }
     }
 }
@@ -175,6 +178,8 @@ pub const NO_WAY: i32 = -27;
 
 pub const NO_SCHEDULE: i32 = -28;
 
+pub const TWO_RUNS: i32 = -29;
+
 /// The status of a call that the state of its thread does not allow.
 pub(crate) fn status_of(misuse: Misuse) -> i32
     ensures { result ≡ status_of misuse }
@@ -205,6 +210,7 @@ impl Fault {
             Fault::Unordered => UNORDERED,
             Fault::NotWhole => NOT_WHOLE,
             Fault::BadSize => BAD_SIZE,
+            Fault::TwoRuns => TWO_RUNS,
         }
     }
 }

@@ -11,18 +11,16 @@ use Rattle.octet_stream.specs.declared.track.Track.{Track}
 use Rattle.octet_stream.specs.Followers.{followers_of, EachOf}
 use Rattle.octet_stream.specs.Runs.{journals_of, EachRests}
 
--- the tracks of a run are all still. With what they have made, these last values are a faithful recording
-pub record IsClosedRecording (values : List ℕ) : Type 0 where
-  pub run : LongRun
+-- the tracks of this run are all still. With what they have made, these last values are a faithful recording
+pub record IsClosedRecording (run : LongRun) (values : List ℕ) : Type 0 where
   pub tracks : List Track
   pub all : length tracks ≡ (heap_model run.heap).threads
   pub rest : EachRests run tracks
   pub recorded : IsRecorded (heap_model run.heap).starts (journals_of tracks) values
 
--- the threads of a run that was made again have these last values. Where they were fed a recording, they have repeated it, or
--- its beginning
-pub record IsClosedAgain (values : List ℕ) : Type 0 where
-  pub rerun : LongRerun
+-- the threads of this run that was made again have these last values. Where they were fed a recording, they have repeated it,
+-- or its beginning
+pub record IsClosedAgain (rerun : LongRerun) (values : List ℕ) : Type 0 where
   pub threads : List LongFollower
   pub all : length threads ≡ followers_in rerun.course
   pub each : EachOf rerun threads

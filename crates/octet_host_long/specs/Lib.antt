@@ -2,3 +2,4 @@ pub mod Threads
 pub mod Streams
 pub mod Opened
 pub mod Closed
+pub mod HandedBack

@@ -1,10 +1,14 @@
 //! What a recorded run of any length leaves, once all its threads are handed back.
-ghost use Rattle.std.specs.Prelude.{◌≡◌, All, length, IfOk};
+ghost use Rattle.std.specs.Prelude.{◌≡◌, ◌⊎◌, All, Any, length, IfOk, IfErr, IfSome, OnOk};
+ghost use Rattle.std.specs.Arc.{arc_value};
 ghost use Rattle.octet_heap.specs.Markers.{Rests};
 ghost use Rattle.octet_stream.specs.Runs.{EachRests};
 ghost use Rattle.octet_stream.specs.Tracks.{IsTrackOf};
+ghost use Rattle.octet_host.specs.HandedBack.{IsAtWork, AreAsOne};
+ghost use Rattle.octet_host_long.specs.declared.fault.CloseFault.TheVariants.{OutOfMemory as MemoryRefused, TwoRuns as OfTwoRuns};
 ghost use Rattle.octet_host_long.specs.Closed.{IsClosedRecording};
-ghost use Rattle.octet_host_long.specs.Threads.{IsLongRecorded};
+ghost use Rattle.octet_host_long.specs.HandedBack.{IsRecordedAs, RefusesThread, RefusesToClose};
+ghost use Rattle.octet_host_long.specs.Threads.{run_of, IsLongRecorded};
 
 use crate::fault::CloseFault;
 use crate::recorded::{LeftTrack, LongHeap, LongRecorded, Place};
@@ -15,14 +19,13 @@ use std::alloc::Global;
 use std::sync::Arc;
 
 impl LongHeap {
-    // Lays a track down. Tells whether its place was there and free.
-    fn lay(&self, number: usize, left: Left<Track>) -> bool
+    // Lays a track down, if its place is there and free.
+    fn lay(&self, number: usize, left: Left<Track>)
         requires own { IsTrackOf self.now.run left.loose.value }
         requires rests { Rests left.loose.value.marker }
     {
-        match self.desk.get(number) {
-            Some(place) => lay(place, LeftTrack { left }),
-            None => false,
+        if let Some(place) = self.desk.get(number) {
+            lay(place, LeftTrack { left });
         }
     }
 }
@@ -36,6 +39,10 @@ fn hand_in(
     threads: usize,
 ) -> Result<Option<LongHeap>, CloseFault>
     requires { IsLongRecorded recorded }
+    ensures still { OnOk result (IsAtWork recorded.stage → ⊥) }
+    ensures place { OnOk result (IsRecordedAs number threads recorded) }
+    ensures shared { IfOk result (λ last. IfSome last (λ heap. arc_value recorded.heap ≡ heap)) }
+    ensures refused { IfErr result (RefusesThread recorded.stage (IsRecordedAs number threads recorded)) }
 {
     let LongRecorded {
         heap,
@@ -50,24 +57,32 @@ fn hand_in(
         return Err(CloseFault::OtherSessions);
     }
     let left = Left::new(alloc, track)?;
-    if !heap.lay(number, left) {
-        return Err(CloseFault::OtherSessions);
-    }
+    heap.lay(number, left);
     Ok(Arc::into_inner(heap))
 }
 
 // Lays all tracks down. Gives what the threads share, where all of it are here.
 fn hand_in_all(alloc: Global, threads: Vec<LongRecorded>) -> Result<LongHeap, CloseFault>
     requires { All IsLongRecorded threads.items }
+    ensures as_one { OnOk result (AreAsOne IsRecordedAs threads.items) }
+    ensures still { OnOk result (All (λ it. IsAtWork it.stage → ⊥) threads.items) }
+    ensures shared { IfOk result (λ heap. Any (λ it. arc_value it.heap ≡ heap) threads.items) }
+    ensures refused { IfErr result (RefusesToClose (λ it. it.stage) IsRecordedAs threads.items) }
 {
     let count = threads.len();
+    if count == 0 {
+        return Err(CloseFault::OtherSessions);
+    }
     let mut last = None;
     let mut number = 0;
     for recorded in threads {
         last = hand_in(alloc, recorded, number, count)?;
         number += 1;
     }
-    last.ok_or(CloseFault::OtherSessions)
+    match last {
+        Some(heap) => Ok(heap),
+        None => Err(CloseFault::TwoRuns),
+    }
 }
 
 // The tracks that lie on a desk, in order.
@@ -75,15 +90,16 @@ fn tracks_on(alloc: Global, run: &LongRun, desk: Vec<Place>) -> Result<List<Trac
     requires tags { All (λ tag. tag ≡ run.now) desk.items }
     ensures all { IfOk result (λ tracks. length tracks ≡ length desk.items) }
     ensures rest { IfOk result (EachRests run.now) }
+    ensures refused { IfErr result (λ fault. (fault ≡ MemoryRefused) ⊎ (fault ≡ OfTwoRuns)) }
 {
     let mut tracks = List::new(alloc);
     for place in desk {
         let Some(left) = place.into_inner() else {
-            return Err(CloseFault::OtherSessions);
+            return Err(CloseFault::TwoRuns);
         };
         let track = left.left.into_inner();
         if track.thread() as usize != tracks.len() {
-            return Err(CloseFault::OtherSessions);
+            return Err(CloseFault::TwoRuns);
         }
         tracks.push(track)?;
     }
@@ -94,7 +110,9 @@ fn tracks_on(alloc: Global, run: &LongRun, desk: Vec<Place>) -> Result<List<Trac
 /// ended; else the threads are gone.
 pub fn close_recorded(alloc: Global, threads: Vec<LongRecorded>) -> Result<List<u64>, CloseFault>
     requires { All IsLongRecorded threads.items }
-    ensures { IfOk result IsClosedRecording }
+    ensures as_one { OnOk result (AreAsOne IsRecordedAs threads.items) }
+    ensures closed { IfOk result (λ values. Any (λ it. IsClosedRecording (run_of it) values) threads.items) }
+    ensures refused { IfErr result (RefusesToClose (λ it. it.stage) IsRecordedAs threads.items) }
 {
     let LongHeap { run, desk } = hand_in_all(alloc, threads)?;
     let tracks = tracks_on(alloc, &run, desk)?;

@@ -8,10 +8,12 @@ use octet_model::OutOfMemory;
 #[derive(Clone, Copy, Debug, PartialEq, Eq)]
 pub enum CloseFault {
     OutOfMemory,
-    /// Threads are missing, in another order, or of two runs.
+    /// Threads are missing, or in another order.
     OtherSessions,
     /// A thread runs.
     StillRunning,
+    /// They are as many as a run has, in order, and yet of two runs.
+    TwoRuns,
 }
 
 impl From<OutOfMemory> for CloseFault {

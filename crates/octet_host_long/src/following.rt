@@ -1,14 +1,17 @@
 //! A run of any length that is made again, from its beginning to its end.
-ghost use Rattle.std.specs.Prelude.{◌≡◌, ◌<◌, ◌≤◌, All, length, map, IfOk};
+ghost use Rattle.std.specs.Prelude.{◌≡◌, ◌<◌, ◌≤◌, ◌⊎◌, All, Any, length, map, IfOk, IfErr, IfSome, OnOk};
 ghost use Rattle.std.specs.Arc.{arc_value};
 ghost use Rattle.octet_model.specs.declared.limits.TheConstants.{MAX_THREADS};
 ghost use Rattle.octet_rule.specs.declared.limits.TheConstants.{MAX_OBJECTS_OF_HEAP};
 ghost use Rattle.octet_marks.specs.declared.piece.Head.{Head};
 ghost use Rattle.octet_follow.specs.Calls.{followers_in};
 ghost use Rattle.octet_stream.specs.Followers.{IsLongFollowerOf, EachOf};
+ghost use Rattle.octet_host.specs.HandedBack.{IsAtWork, AreAsOne};
+ghost use Rattle.octet_host_long.specs.declared.fault.CloseFault.TheVariants.{OutOfMemory as MemoryRefused, TwoRuns as OfTwoRuns};
 ghost use Rattle.octet_host_long.specs.Closed.{IsClosedAgain};
+ghost use Rattle.octet_host_long.specs.HandedBack.{IsRepeatedAs, RefusesThread, RefusesToClose};
 ghost use Rattle.octet_host_long.specs.Opened.{head_with, IsSeatAgain, IsInlet, Follows};
-ghost use Rattle.octet_host_long.specs.Threads.{IsLongRepeated};
+ghost use Rattle.octet_host_long.specs.Threads.{rerun_of, IsLongRepeated};
 
 use crate::fault::CloseFault;
 use crate::inlet::Inlet;
@@ -142,13 +145,12 @@ pub fn follow(
 }
 
 impl LongCourse {
-    // Lays a follower down. Tells whether its place was there and free.
-    fn lay(&self, number: usize, left: Left<LongFollower>) -> bool
+    // Lays a follower down, if its place is there and free.
+    fn lay(&self, number: usize, left: Left<LongFollower>)
         requires { IsLongFollowerOf self.now.rerun left.loose.value }
     {
-        match self.desk.get(number) {
-            Some(place) => lay(place, LeftFollower { left }),
-            None => false,
+        if let Some(place) = self.desk.get(number) {
+            lay(place, LeftFollower { left });
         }
     }
 }
@@ -162,6 +164,10 @@ fn hand_in(
     threads: usize,
 ) -> Result<Option<LongCourse>, CloseFault>
     requires { IsLongRepeated repeated }
+    ensures still { OnOk result (IsAtWork repeated.stage → ⊥) }
+    ensures place { OnOk result (IsRepeatedAs number threads repeated) }
+    ensures shared { IfOk result (λ last. IfSome last (λ course. arc_value repeated.course ≡ course)) }
+    ensures refused { IfErr result (RefusesThread repeated.stage (IsRepeatedAs number threads repeated)) }
 {
     let LongRepeated {
         course,
@@ -176,24 +182,32 @@ fn hand_in(
         return Err(CloseFault::OtherSessions);
     }
     let left = Left::new(alloc, thread)?;
-    if !course.lay(number, left) {
-        return Err(CloseFault::OtherSessions);
-    }
+    course.lay(number, left);
     Ok(Arc::into_inner(course))
 }
 
 // Lays all followers down. Gives what the threads share, where all of it are here.
 fn hand_in_all(alloc: Global, threads: Vec<LongRepeated>) -> Result<LongCourse, CloseFault>
     requires { All IsLongRepeated threads.items }
+    ensures as_one { OnOk result (AreAsOne IsRepeatedAs threads.items) }
+    ensures still { OnOk result (All (λ it. IsAtWork it.stage → ⊥) threads.items) }
+    ensures shared { IfOk result (λ course. Any (λ it. arc_value it.course ≡ course) threads.items) }
+    ensures refused { IfErr result (RefusesToClose (λ it. it.stage) IsRepeatedAs threads.items) }
 {
     let count = threads.len();
+    if count == 0 {
+        return Err(CloseFault::OtherSessions);
+    }
     let mut last = None;
     let mut number = 0;
     for repeated in threads {
         last = hand_in(alloc, repeated, number, count)?;
         number += 1;
     }
-    last.ok_or(CloseFault::OtherSessions)
+    match last {
+        Some(course) => Ok(course),
+        None => Err(CloseFault::TwoRuns),
+    }
 }
 
 // The followers that lie on a desk, in order.
@@ -205,15 +219,16 @@ fn followers_on(
     requires tags { All (λ tag. tag ≡ rerun.now) desk.items }
     ensures all { IfOk result (λ followers. length followers ≡ length desk.items) }
     ensures each { IfOk result (EachOf rerun.now) }
+    ensures refused { IfErr result (λ fault. (fault ≡ MemoryRefused) ⊎ (fault ≡ OfTwoRuns)) }
 {
     let mut followers = List::new(alloc);
     for place in desk {
         let Some(left) = place.into_inner() else {
-            return Err(CloseFault::OtherSessions);
+            return Err(CloseFault::TwoRuns);
         };
         let follower = left.left.into_inner();
         if follower.thread() as usize != followers.len() {
-            return Err(CloseFault::OtherSessions);
+            return Err(CloseFault::TwoRuns);
         }
         followers.push(follower)?;
     }
@@ -224,7 +239,9 @@ fn followers_on(
 /// or ended; else the threads are gone.
 pub fn close_repeated(alloc: Global, threads: Vec<LongRepeated>) -> Result<List<u64>, CloseFault>
     requires { All IsLongRepeated threads.items }
-    ensures { IfOk result IsClosedAgain }
+    ensures as_one { OnOk result (AreAsOne IsRepeatedAs threads.items) }
+    ensures closed { IfOk result (λ values. Any (λ it. IsClosedAgain (rerun_of it) values) threads.items) }
+    ensures refused { IfErr result (RefusesToClose (λ it. it.stage) IsRepeatedAs threads.items) }
 {
     let LongCourse { rerun, desk } = hand_in_all(alloc, threads)?;
     let followers = followers_on(alloc, &rerun, desk)?;

@@ -1,12 +1,20 @@
-use Rattle.std.proofs.Common.{ap}
+use Rattle.std.proofs.Common.{◌≡◌, refl, sym, ap, subst}
 use Rattle.octet_model.specs.declared.outcome.Outcome.{Outcome}
-use Rattle.octet_parallel.specs.Calls.{script_in, log_in}
+use Rattle.octet_c.specs.declared.kept.Kept.{Kept}
+use Rattle.octet_c.specs.declared.repeated.Course.{Course}
+use Rattle.octet_c.specs.Records.{RepeatsRecording}
+use Rattle.octet_c.specs.Sessions.{course_of}
+use Rattle.octet_c.proofs.Leaving.{any_more}
 use Rattle.octet_c.proofs.following.close.Goals as goal
 
-pub returns : goal.returns
-returns c = let course = c.in_ok-rerun.field-0 in record {
-  script = script_in course.rerun.field;
-  log = log_in course.rerun.field;
-  spelled = course.spelled;
-  values = λ outcome faithful. ap (λ (o : Outcome). o.heap) (c.in_ok-heap.ensures.outcome outcome faithful);
-}
+pub returns-clause-repeats : goal.returns-clause-repeats
+returns-clause-repeats c =
+    let course = c.in_ok-rerun.field-0 in
+    let kept : Kept = record { script = course.script; log = course.log; values = c.in_ok-heap.field-0.outcome.heap } in
+    let repeats : RepeatsRecording course kept = record {
+      script_is = refl;
+      log_is = refl;
+      spelled = course.spelled;
+      values = λ outcome faithful. ap (λ (o : Outcome). o.heap) (c.in_ok-heap.ensures.outcome outcome faithful);
+    } in
+    any_more (λ it. it.course.value ≡ course) (λ it. RepeatsRecording (course_of it) kept) (λ it same. subst (λ (h : Course). RepeatsRecording h kept) (sym same) repeats) c.args.threads.items c.in_ok-rerun.ensures.shared

@@ -1,9 +1,15 @@
-use Rattle.std.proofs.Common.{◌≡◌, ◌+◌, All, length}
+use Rattle.std.proofs.Common.{◌≡◌, ◌<◌, All, length}
+use Rattle.std.specs.Prelude.{Any, IfSome}
+use Rattle.octet_host.specs.HandedBack.{IsAtWork}
+use Rattle.octet_host.proofs.lemmas.Taking.{AreTaken}
+use Rattle.octet_host_long.specs.HandedBack.{IsRecordedAs}
 use Rattle.octet_host_long.specs.Threads.{IsLongRecorded}
 use Rattle.octet_host_long.proofs.closing.hand_in_all.Given as goal
 
 abbrev pub invariant-loop-recorded : goal.invariant-loop-recorded
 invariant-loop-recorded l = record {
-  rest : All IsLongRecorded l.recorded-iterator.rest.items;
-  number : l.number + length l.recorded-iterator.rest.items ≡ length l.fn.threads.items;
+  good : All IsLongRecorded l.recorded-iterator.rest.items;
+  taken : AreTaken (λ it. IsAtWork it.stage → ⊥) IsRecordedAs l.fn.threads.items l.number l.recorded-iterator.rest.items;
+  shared : IfSome l.last (λ heap. Any (λ it. it.heap.value ≡ heap) l.fn.threads.items);
+  some_are : 0 < length l.fn.threads.items;
 }

@@ -1,11 +1,31 @@
-use Rattle.std.proofs.Common.{rules, ◌≡◌, ◌∷◌, All, length, ap, subst, arith, suc}
+use Rattle.std.proofs.Common.{rules, ◌≡◌, ◌+◌, ◌∷◌, All, Err, length, sym, subst, arith, suc}
+use Rattle.std.specs.Prelude.{IfErr}
+use Rattle.octet_host.specs.HandedBack.{IsAtWork}
+use Rattle.octet_host.proofs.lemmas.Taking.{AreTaken, one_more}
+use Rattle.octet_host_long.specs.HandedBack.{IsRepeatedAs, RefusesToClose}
 use Rattle.octet_host_long.specs.Threads.{IsLongRepeated}
+use Rattle.octet_host_long.proofs.Refusing.{refuses_all, shared_by_one}
 use Rattle.octet_host_long.proofs.following.hand_in_all.Goals as goal
+
+pub returns-in_err-last-clause-refused : goal.returns-in_err-last-clause-refused
+returns-in_err-last-clause-refused c =
+    let l = c.loop-repeated in let it = c.in-Some.repeated in let threads = c.args.threads.items in let others = c.next.new.self.rest.items in let fault = c.in_err-last.field-0.0 in
+    let next : l.repeated-iterator.rest.items ≡ it ∷ others = search rules in
+    let count : c.len-count.result ≡ length threads = search rules in
+    let same : c.from_residual.result ≡ Err fault = search rules in
+    subst (λ r. IfErr r (RefusesToClose (λ x. x.stage) IsRepeatedAs threads)) (sym same)
+    (refuses_all (λ x. x.stage) IsRepeatedAs threads l.number l.repeated-iterator.rest.items others it next l.invariant.taken c.len-count.result count fault c.in_err-last.ensures.refused)
 
 pub loop-repeated-preserved : goal.loop-repeated-preserved
 loop-repeated-preserved c =
-    let next : c.loop-repeated.repeated-iterator.rest.items ≡ c.in-Some.repeated ∷ c.next.new.self.rest.items = search rules in
-    let all : All IsLongRepeated (c.in-Some.repeated ∷ c.next.new.self.rest.items) = subst (All IsLongRepeated) next c.loop-repeated.invariant.rest in record {
-      rest = λ k d lt. all (suc k) d (omega (arith, lt));
-      number = omega (arith, c.loop-repeated.invariant.number, ap length next);
+    let l = c.loop-repeated in let it = c.in-Some.repeated in let threads = c.args.threads.items in let others = c.next.new.self.rest.items in
+    let next : l.repeated-iterator.rest.items ≡ it ∷ others = search rules in
+    let all : All IsLongRepeated (it ∷ others) = subst (All IsLongRepeated) next l.invariant.good in
+    let count : c.len-count.result ≡ length threads = search rules in
+    let place : IsRepeatedAs l.number (length threads) it = subst (λ n. IsRepeatedAs l.number n it) count c.in_ok-last.ensures.place in record {
+      good = λ k d lt. all (suc k) d (omega (arith, lt));
+      taken = subst (λ n. AreTaken (λ x. IsAtWork x.stage → ⊥) IsRepeatedAs threads n others) (omega arith)
+          (one_more (λ x. IsAtWork x.stage → ⊥) IsRepeatedAs threads l.number l.repeated-iterator.rest.items others it next l.invariant.taken place c.in_ok-last.ensures.still);
+      shared = shared_by_one (λ x. x.stage) IsRepeatedAs threads l.number l.repeated-iterator.rest.items others it next l.invariant.taken (λ x. x.course.value) c.in_ok-last.last c.in_ok-last.ensures.shared;
+      some_are = l.invariant.some_are;
     }

@@ -1,0 +1,30 @@
+-- Threads that are taken back, or are refused.
+use Rattle.std.proofs.Common.{◌≡◌, ℕ, ◌∷◌, List, length, Option, Some, None, subst}
+use Rattle.std.specs.Prelude.{Any, IfSome}
+use Rattle.octet_host.specs.declared.stage.Stage.{Stage}
+use Rattle.octet_host.specs.HandedBack.{IsAtWork}
+use Rattle.octet_host.proofs.lemmas.Taking.{AreTaken, any_of, not_as_one}
+use Rattle.octet_host_long.specs.declared.fault.CloseFault.{CloseFault}
+use Rattle.octet_host_long.specs.declared.fault.CloseFault.TheVariants as fault
+use Rattle.octet_host_long.specs.HandedBack.{RefusesThread, RefusesToClose}
+
+module _ {X : Type 0} (stage : X → Stage) (Is : ℕ → ℕ → X → Type 0) (all : List X) (number : ℕ) (rest others : List X) (it : X) (next : rest ≡ it ∷ others)
+    (taken : AreTaken (λ x. IsAtWork (stage x) → ⊥) Is all number rest) where
+  refuses_next : (why : CloseFault) → RefusesThread (stage it) (Is number (length all) it) why → RefusesToClose stage Is all why
+  refuses_next fault.OutOfMemory is = tt
+  refuses_next fault.OtherSessions is = not_as_one (λ x. IsAtWork (stage x) → ⊥) Is all number rest others it next taken is
+  refuses_next fault.StillRunning is = any_of (λ x. IsAtWork (stage x) → ⊥) Is all number rest others it next taken (λ x. IsAtWork (stage x)) is
+  refuses_next fault.TwoRuns is = absurd is
+
+  -- where the next one is refused, all are
+  pub refuses_all : (count : ℕ) → count ≡ length all → (why : CloseFault) → RefusesThread (stage it) (Is number count it) why → RefusesToClose stage Is all why
+  refuses_all count same why is = refuses_next why (subst (λ n. RefusesThread (stage it) (Is number n it) why) same is)
+
+  -- what the next one shares is shared by one of all
+  pub shared_by_one : {H : Type 0} (share : X → H) (last : Option H) → IfSome last (λ heap. share it ≡ heap) → IfSome last (λ heap. Any (λ x. share x ≡ heap) all)
+  shared_by_one share None is = tt
+  shared_by_one share (Some heap) is = any_of (λ x. IsAtWork (stage x) → ⊥) Is all number rest others it next taken (λ x. share x ≡ heap) is
+
+-- what follows for each holds of some one
+pub any_more : {X : Type 0} (P Q : X → Type 0) → ((x : X) → P x → Q x) → (xs : List X) → Any P xs → Any Q xs
+any_more P Q more xs (k, x, lt, at, is) = (k, x, lt, at, more x is)
