@@ -1,5 +1,5 @@
 -- What threads leave that were taken back.
-use Rattle.std.proofs.Common.{◌≡◌, ◌⊎◌, All, List, map, Some, Result, Ok, Err, refl, sym, subst, inl, inr}
+use Rattle.std.proofs.Common.{◌≡◌, List, map, Some, Result, Ok, Err, refl, sym, subst, inl, inr}
 use Rattle.std.specs.Prelude.{Any, IfOk, IfErr}
 use Rattle.octet_recorder.specs.declared.recording.Recording.{Recording}
 use Rattle.octet_host.specs.declared.stage.Stage.{Stage}
@@ -11,7 +11,6 @@ use Rattle.octet_host_long.specs.declared.repeated.LongRepeated.{LongRepeated}
 use Rattle.octet_host_long.specs.Closed.{IsClosedRecording, IsClosedAgain}
 use Rattle.octet_host_long.specs.HandedBack as long
 use Rattle.octet_host_long.specs.Threads as of
-use Rattle.octet_c.specs.declared.held.Held.{Held}
 use Rattle.octet_c.specs.declared.held.Held.TheVariants as held
 use Rattle.octet_c.specs.declared.kept.Kept.{Kept}
 use Rattle.octet_c.specs.declared.kept.Values.{Values}
@@ -30,12 +29,6 @@ use Rattle.octet_c.proofs.Ended.{any_map, run_behind, refused_behind}
 -- what follows for each holds of some one
 pub any_more : {X : Type 0} (P Q : X → Type 0) → ((x : X) → P x → Q x) → (xs : List X) → Any P xs → Any Q xs
 any_more P Q more xs (k, x, lt, at, is) = (k, x, lt, at, more x is)
-
-module _ {X : Type 0} (AsOne : Type 0) (Works Halts TooLong_ : X → Type 0) (threads : List X) (one : AsOne) (still : All (λ it. Works it → ⊥) threads) where
-  -- threads that were all taken back are refused for want of memory, or since one is missing
-  pub refused_late : (fault : Fault) → (fault ≡ OutOfMemory) ⊎ (fault ≡ TwoRuns) → Refuses AsOne Works Halts TooLong_ threads fault
-  refused_late fault (inl same) = subst (Refuses AsOne Works Halts TooLong_ threads) (sym same) tt
-  refused_late fault (inr same) = subst (Refuses AsOne Works Halts TooLong_ threads) (sym same) (one, still)
 
 module _ (threads : List Recorded) (heap : Heap) (shared : Any (λ it. it.heap.value ≡ heap) threads) (recording : Recording) (recorded : IsRecordedBy heap.recorder recording) where
   kept_by : (kept : Kept) → Keeps recording kept → Any (λ it. KeepsRecording (recorder_of it) kept) threads

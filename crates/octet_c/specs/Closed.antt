@@ -125,15 +125,15 @@ RefusesToKeep recording OutOfMemory = Unit {0}
 RefusesToKeep recording TooLong = HasTooMany recording
 RefusesToKeep recording _ = ⊥
 
--- that of recorded threads
+-- why the run of recorded threads is not ended
 abbrev pub RefusesRecorded : List Recorded → Fault → Type 0
 RefusesRecorded threads = Refuses (AreAsOne IsRecordedAs threads) (λ it. IsAtWork it.stage) (λ it. ⊥) (λ it. RecordsTooMany (recorder_of it)) threads
 
--- that of threads that are run again
+-- why that of threads that are run again is not
 abbrev pub RefusesRepeated : List Repeated → Fault → Type 0
 RefusesRepeated threads = Refuses (AreAsOne IsRepeatedAs threads) (λ it. IsAtWork it.stage) LeavesSome (λ it. ⊥) threads
 
--- that of the sessions behind handles
+-- why that of the sessions behind handles is not
 abbrev pub RefusesToClose : List (Option Held) → Fault → Type 0
 RefusesToClose sessions = Refuses (AreOneRun sessions) Runs IsNotWhole IsTooLong sessions
 

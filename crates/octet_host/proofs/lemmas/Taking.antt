@@ -1,5 +1,5 @@
 -- Threads that are taken back one after the other.
-use Rattle.std.proofs.Common.{◌≡◌, ◌∙◌, ℕ, suc, ◌+◌, ◌<◌, All, List, [], ◌∷◌, length, slice_index_or, sym, ap, subst, inl, inr, arith}
+use Rattle.std.proofs.Common.{◌≡◌, ◌∙◌, ℕ, suc, ◌+◌, ◌<◌, List, ◌∷◌, length, slice_index_or, sym, ap, subst, inl, inr, arith}
 use Rattle.std.specs.Prelude.{Any}
 use Rattle.std.proofs.lemmas.Bool.{cases_eq}
 use Rattle.octet_host.specs.HandedBack.{AreAsOne}
@@ -11,51 +11,33 @@ pub record AreTaken {X : Type 0} (Still : X → Type 0) (Is : ℕ → ℕ → X 
   pub placed : (k : ℕ) (d : X) → k < number → Is k (length all) (slice_index_or all k d)
   pub still : (k : ℕ) (d : X) → k < number → Still (slice_index_or all k d)
 
-module _ {X : Type 0} (Still : X → Type 0) (Is : ℕ → ℕ → X → Type 0) (all : List X) where
-  -- none was taken back yet
-  pub none_taken : AreTaken Still Is all 0 all
-  none_taken = record {
-    count = omega arith;
-    left = λ k d. ap (λ n. slice_index_or all n d) (omega arith);
-    placed = λ k d lt. absurd (omega (arith, lt));
-    still = λ k d lt. absurd (omega (arith, lt));
+module _ {X : Type 0} (Still : X → Type 0) (Is : ℕ → ℕ → X → Type 0) (all : List X) (number : ℕ) (rest others : List X) (it : X) (next : rest ≡ it ∷ others) (taken : AreTaken Still Is all number rest) where
+  -- the next one is that of its place
+  pub next_is : (d : X) → slice_index_or all number d ≡ it
+  next_is d = sym (ap (λ xs. slice_index_or xs 0 d) (sym next) ∙ (taken.left 0 d ∙ ap (λ n. slice_index_or all n d) (omega arith)))
+
+  pub next_in : number < length all
+  next_in = omega (arith, taken.count, ap length next)
+
+  -- what holds of it holds of one of all
+  pub any_of : (P : X → Type 0) → P it → Any P all
+  any_of P is = (number, it, next_in, next_is it, is)
+
+  -- it is taken back too
+  pub one_more : Is number (length all) it → Still it → AreTaken Still Is all (suc number) others
+  one_more is still = record {
+    count = omega (arith, taken.count, ap length next);
+    left = λ k d. ap (λ xs. slice_index_or xs (suc k) d) (sym next) ∙ (taken.left (suc k) d ∙ ap (λ n. slice_index_or all n d) (omega arith));
+    placed = λ k d lt. elim (cases_eq k number) [
+      | inl same ↦ subst (λ n. Is n (length all) (slice_index_or all n d)) (sym same) (subst (Is number (length all)) (sym (next_is d)) is)
+      | inr apart ↦ taken.placed k d (omega (arith, lt, apart))
+    ];
+    still = λ k d lt. elim (cases_eq k number) [
+      | inl same ↦ subst (λ n. Still (slice_index_or all n d)) (sym same) (subst Still (sym (next_is d)) still)
+      | inr apart ↦ taken.still k d (omega (arith, lt, apart))
+    ];
   }
 
-  module _ (number : ℕ) (rest others : List X) (it : X) (next : rest ≡ it ∷ others) (taken : AreTaken Still Is all number rest) where
-    -- the next one is that of its place
-    pub next_is : (d : X) → slice_index_or all number d ≡ it
-    next_is d = sym (ap (λ xs. slice_index_or xs 0 d) (sym next) ∙ (taken.left 0 d ∙ ap (λ n. slice_index_or all n d) (omega arith)))
-
-    pub next_in : number < length all
-    next_in = omega (arith, taken.count, ap length next)
-
-    -- what holds of it holds of one of all
-    pub any_of : (P : X → Type 0) → P it → Any P all
-    any_of P is = (number, it, next_in, next_is it, is)
-
-    -- it is taken back too
-    pub one_more : Is number (length all) it → Still it → AreTaken Still Is all (suc number) others
-    one_more is still = record {
-      count = omega (arith, taken.count, ap length next);
-      left = λ k d. ap (λ xs. slice_index_or xs (suc k) d) (sym next) ∙ (taken.left (suc k) d ∙ ap (λ n. slice_index_or all n d) (omega arith));
-      placed = λ k d lt. elim (cases_eq k number) [
-        | inl same ↦ subst (λ n. Is n (length all) (slice_index_or all n d)) (sym same) (subst (Is number (length all)) (sym (next_is d)) is)
-        | inr apart ↦ taken.placed k d (omega (arith, lt, apart))
-      ];
-      still = λ k d lt. elim (cases_eq k number) [
-        | inl same ↦ subst (λ n. Still (slice_index_or all n d)) (sym same) (subst Still (sym (next_is d)) still)
-        | inr apart ↦ taken.still k d (omega (arith, lt, apart))
-      ];
-    }
-
-    -- one that has another number, or is of a run of more or fewer, is of no run of these
-    pub not_as_one : (Is number (length all) it → ⊥) → AreAsOne Is all → ⊥
-    not_as_one other as_one = other (subst (Is number (length all)) (next_is it) (as_one.each number it next_in))
-
-  module _ (number : ℕ) (rest : List X) (none : rest ≡ []) (taken : AreTaken Still Is all number rest) where
-    -- all were taken back
-    pub all_as_one : 0 < length all → AreAsOne Is all
-    all_as_one any = record { at_least_one = any; each = λ place d lt. taken.placed place d (omega (arith, lt, taken.count, ap length none)) }
-
-    pub all_still : All Still all
-    all_still k d lt = taken.still k d (omega (arith, lt, taken.count, ap length none))
+  -- one that has another number, or is of a run of more or fewer, is of no run of these
+  pub not_as_one : (Is number (length all) it → ⊥) → AreAsOne Is all → ⊥
+  not_as_one other as_one = other (subst (Is number (length all)) (next_is it) (as_one.each number it next_in))

@@ -1,4 +1,4 @@
-use Rattle.std.proofs.Common.{rules, ◌≡◌, ◌+◌, ◌∷◌, All, Err, length, sym, subst, arith, suc}
+use Rattle.std.proofs.Common.{rules, ◌≡◌, ◌∷◌, All, Err, length, sym, subst, arith, suc}
 use Rattle.std.specs.Prelude.{IfErr}
 use Rattle.octet_host.specs.HandedBack.{IsAtWork}
 use Rattle.octet_host.proofs.lemmas.Taking.{AreTaken, one_more}
