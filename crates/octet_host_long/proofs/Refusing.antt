@@ -1,6 +1,5 @@
 -- Threads that are taken back, or are refused.
-use Rattle.std.proofs.Common.{◌≡◌, ℕ, ◌∷◌, List, length, Option, Some, None, subst}
-use Rattle.std.specs.Prelude.{Any, IfSome}
+use Rattle.std.proofs.Common.{◌≡◌, ℕ, ◌∷◌, List, length, subst}
 use Rattle.octet_host.specs.declared.stage.Stage.{Stage}
 use Rattle.octet_host.specs.HandedBack.{IsAtWork}
 use Rattle.octet_host.proofs.lemmas.Taking.{AreTaken, any_of, not_as_one}
@@ -19,12 +18,3 @@ module _ {X : Type 0} (stage : X → Stage) (Is : ℕ → ℕ → X → Type 0) 
   -- where the next one is refused, all are
   pub refuses_all : (count : ℕ) → count ≡ length all → (why : CloseFault) → RefusesThread (stage it) (Is number count it) why → RefusesToClose stage Is all why
   refuses_all count same why is = refuses_next why (subst (λ n. RefusesThread (stage it) (Is number n it) why) same is)
-
-  -- what the next one shares is shared by one of all
-  pub shared_by_one : {H : Type 0} (share : X → H) (last : Option H) → IfSome last (λ heap. share it ≡ heap) → IfSome last (λ heap. Any (λ x. share x ≡ heap) all)
-  shared_by_one share None is = tt
-  shared_by_one share (Some heap) is = any_of (λ x. IsAtWork (stage x) → ⊥) Is all number rest others it next taken (λ x. share x ≡ heap) is
-
--- what follows for each holds of some one
-pub any_more : {X : Type 0} (P Q : X → Type 0) → ((x : X) → P x → Q x) → (xs : List X) → Any P xs → Any Q xs
-any_more P Q more xs (k, x, lt, at, is) = (k, x, lt, at, more x is)

@@ -1,6 +1,6 @@
 -- Threads that are taken back one after the other.
-use Rattle.std.proofs.Common.{◌≡◌, ◌∙◌, ℕ, suc, ◌+◌, ◌<◌, List, ◌∷◌, length, slice_index_or, sym, ap, subst, inl, inr, arith}
-use Rattle.std.specs.Prelude.{Any}
+use Rattle.std.proofs.Common.{◌≡◌, ◌∙◌, ℕ, suc, ◌+◌, ◌<◌, List, ◌∷◌, length, slice_index_or, Option, Some, None, sym, ap, subst, inl, inr, arith}
+use Rattle.std.specs.Prelude.{Any, IfSome}
 use Rattle.std.proofs.lemmas.Bool.{cases_eq}
 use Rattle.octet_host.specs.HandedBack.{AreAsOne}
 
@@ -23,6 +23,11 @@ module _ {X : Type 0} (Still : X → Type 0) (Is : ℕ → ℕ → X → Type 0)
   pub any_of : (P : X → Type 0) → P it → Any P all
   any_of P is = (number, it, next_in, next_is it, is)
 
+  -- what it shares is shared by one of all
+  pub shared_by_one : {H : Type 0} (share : X → H) (last : Option H) → IfSome last (λ whole. share it ≡ whole) → IfSome last (λ whole. Any (λ x. share x ≡ whole) all)
+  shared_by_one share None is = tt
+  shared_by_one share (Some whole) is = any_of (λ x. share x ≡ whole) is
+
   -- it is taken back too
   pub one_more : Is number (length all) it → Still it → AreTaken Still Is all (suc number) others
   one_more is still = record {
@@ -41,3 +46,7 @@ module _ {X : Type 0} (Still : X → Type 0) (Is : ℕ → ℕ → X → Type 0)
   -- one that has another number, or is of a run of more or fewer, is of no run of these
   pub not_as_one : (Is number (length all) it → ⊥) → AreAsOne Is all → ⊥
   not_as_one other as_one = other (subst (Is number (length all)) (next_is it) (as_one.each number it next_in))
+
+-- what follows for each holds of some one
+pub any_more : {X : Type 0} (P Q : X → Type 0) → ((x : X) → P x → Q x) → (xs : List X) → Any P xs → Any Q xs
+any_more P Q more xs (k, x, lt, at, is) = (k, x, lt, at, more x is)

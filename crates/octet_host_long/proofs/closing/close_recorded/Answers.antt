@@ -1,8 +1,8 @@
 use Rattle.std.proofs.Common.{◌≡◌, ◌∙◌, sym, subst}
+use Rattle.octet_host.proofs.lemmas.Taking.{any_more}
 use Rattle.octet_host_long.specs.declared.recorded.LongHeap.{LongHeap}
 use Rattle.octet_host_long.specs.Closed.{IsClosedRecording}
 use Rattle.octet_host_long.specs.Threads.{run_of}
-use Rattle.octet_host_long.proofs.Refusing.{any_more}
 use Rattle.octet_host_long.proofs.closing.close_recorded.Goals as goal
 
 pub returns-clause-closed : goal.returns-clause-closed

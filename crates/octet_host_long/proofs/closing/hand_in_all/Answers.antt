@@ -1,10 +1,10 @@
 use Rattle.std.proofs.Common.{rules, ◌≡◌, ◌∷◌, All, Err, length, sym, subst, arith, suc}
 use Rattle.std.specs.Prelude.{IfErr}
 use Rattle.octet_host.specs.HandedBack.{IsAtWork}
-use Rattle.octet_host.proofs.lemmas.Taking.{AreTaken, one_more}
+use Rattle.octet_host.proofs.lemmas.Taking.{AreTaken, one_more, shared_by_one}
 use Rattle.octet_host_long.specs.HandedBack.{IsRecordedAs, RefusesToClose}
 use Rattle.octet_host_long.specs.Threads.{IsLongRecorded}
-use Rattle.octet_host_long.proofs.Refusing.{refuses_all, shared_by_one}
+use Rattle.octet_host_long.proofs.Refusing.{refuses_all}
 use Rattle.octet_host_long.proofs.closing.hand_in_all.Goals as goal
 
 pub returns-in_err-last-clause-refused : goal.returns-in_err-last-clause-refused
@@ -26,6 +26,6 @@ loop-recorded-preserved c =
       good = λ k d lt. all (suc k) d (omega (arith, lt));
       taken = subst (λ n. AreTaken (λ x. IsAtWork x.stage → ⊥) IsRecordedAs threads n others) (omega arith)
           (one_more (λ x. IsAtWork x.stage → ⊥) IsRecordedAs threads l.number l.recorded-iterator.rest.items others it next l.invariant.taken place c.in_ok-last.ensures.still);
-      shared = shared_by_one (λ x. x.stage) IsRecordedAs threads l.number l.recorded-iterator.rest.items others it next l.invariant.taken (λ x. x.heap.value) c.in_ok-last.last c.in_ok-last.ensures.shared;
+      shared = shared_by_one (λ x. IsAtWork x.stage → ⊥) IsRecordedAs threads l.number l.recorded-iterator.rest.items others it next l.invariant.taken (λ x. x.heap.value) c.in_ok-last.last c.in_ok-last.ensures.shared;
       some_are = l.invariant.some_are;
     }

@@ -1,8 +1,8 @@
 use Rattle.std.proofs.Common.{◌≡◌, ◌∙◌, sym, subst}
+use Rattle.octet_host.proofs.lemmas.Taking.{any_more}
 use Rattle.octet_host_long.specs.declared.repeated.LongCourse.{LongCourse}
 use Rattle.octet_host_long.specs.Closed.{IsClosedAgain}
 use Rattle.octet_host_long.specs.Threads.{rerun_of}
-use Rattle.octet_host_long.proofs.Refusing.{any_more}
 use Rattle.octet_host_long.proofs.following.close_repeated.Goals as goal
 
 pub returns-clause-closed : goal.returns-clause-closed
