@@ -1,33 +1,39 @@
 -- What a refusal is in the words of this library.
 use Rattle.octet_host_long.specs.declared.fault.CloseFault.{CloseFault}
 use Rattle.octet_host_long.specs.declared.fault.CloseFault.TheVariants as close
-use Rattle.octet_log.specs.declared.cause.LogFault.{LogFault}
-use Rattle.octet_log.specs.declared.cause.LogFault.TheVariants as log
-use Rattle.octet_replay.specs.declared.fault.ReplayFault.TheVariants as replay
-use Rattle.octet_rerun.specs.declared.fault.RerunFault.{RerunFault}
-use Rattle.octet_rerun.specs.declared.fault.RerunFault.TheVariants as rerun
-use Rattle.octet_script.specs.declared.cause.ScriptFault.{ScriptFault}
-use Rattle.octet_script.specs.declared.cause.ScriptFault.TheVariants as text
+use Rattle.octet_host_script.specs.declared.fault.CloseFault.{CloseFault as ScriptCloseFault}
+use Rattle.octet_host_script.specs.declared.fault.CloseFault.TheVariants as script
+use Rattle.octet_host_script.specs.declared.fault.FollowFault.{FollowFault}
+use Rattle.octet_host_script.specs.declared.fault.FollowFault.TheVariants as follow
+use Rattle.octet_host_script.specs.declared.fault.OpenFault.{OpenFault}
+use Rattle.octet_host_script.specs.declared.fault.OpenFault.TheVariants as opening
 use Rattle.octet_c.specs.declared.status.Fault.{Fault}
 use Rattle.std.specs.Prelude.{ℤ}
 use Rattle.octet_c.specs.declared.status.Fault.TheVariants.{OutOfMemory, BadText, OtherSessions, StillRunning, TooLong, BadLog, Misfit, Unordered, NotWhole, BadSize, TwoRuns}
 use Rattle.octet_c.specs.declared.status.TheConstants.{NO_MEMORY, BAD_TEXT, OTHER_SESSIONS, STILL_RUNNING, TOO_LONG, BAD_LOG, MISFIT, UNORDERED, NOT_WHOLE, BAD_SIZE, TWO_RUNS}
 
--- that of a text
-abbrev pub text_fault : ScriptFault → Fault
-text_fault (text.Refused line cause) = BadText
-text_fault text.OutOfMemory = OutOfMemory
-
--- that of a log
-abbrev pub log_fault : LogFault → Fault
-log_fault (log.Refused cause) = BadLog
-log_fault log.OutOfMemory = OutOfMemory
+-- that of a text that is to declare a heap
+abbrev pub open_fault : OpenFault → Fault
+open_fault opening.OutOfMemory = OutOfMemory
+open_fault opening.BadText = BadText
 
 -- that of a script and its log
-abbrev pub rerun_fault : RerunFault → Fault
-rerun_fault (rerun.Replay replay.OutOfMemory) = OutOfMemory
-rerun_fault (rerun.Replay fault) = Misfit
-rerun_fault (rerun.Unordered first second) = Unordered
+abbrev pub follow_fault : FollowFault → Fault
+follow_fault follow.OutOfMemory = OutOfMemory
+follow_fault follow.TooLong = TooLong
+follow_fault follow.BadText = BadText
+follow_fault follow.BadLog = BadLog
+follow_fault follow.Misfit = Misfit
+follow_fault follow.Unordered = Unordered
+
+-- that of a run kept as a script that is not ended
+abbrev pub script_close_fault : ScriptCloseFault → Fault
+script_close_fault script.OutOfMemory = OutOfMemory
+script_close_fault script.OtherSessions = OtherSessions
+script_close_fault script.StillRunning = StillRunning
+script_close_fault script.NotWhole = NotWhole
+script_close_fault script.TooLong = TooLong
+script_close_fault script.TwoRuns = TwoRuns
 
 -- that of a run of any length that is not ended
 abbrev pub close_fault : CloseFault → Fault

@@ -2,9 +2,9 @@
 use Rattle.std.specs.Prelude.{◌≡◌, ℕ, ℤ, List, length, Option, Some}
 use Rattle.octet_c.specs.declared.held.Held.{Held}
 use Rattle.octet_c.specs.declared.held.Held.TheVariants as held
-use Rattle.octet_c.specs.declared.kept.Kept.{Kept}
 use Rattle.octet_c.specs.declared.status.TheConstants as status
 use Rattle.octet_host.specs.Copies.{copied}
+use Rattle.octet_host_script.specs.declared.kept.Kept.{Kept}
 
 -- nothing is copied
 abbrev pub CopiesNothing : {X : Type 0} → ℤ → List X → List X → ℕ → ℕ → Type 0

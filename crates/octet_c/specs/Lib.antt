@@ -1,7 +1,5 @@
 pub mod Owned
-pub mod Spelled
 pub mod Faults
-pub mod Refusals
 pub mod Records
 pub mod Sessions
 pub mod Opened

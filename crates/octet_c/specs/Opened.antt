@@ -1,38 +1,35 @@
 -- What a clause says of handles that were given sessions.
-use Rattle.std.specs.Prelude.{◌≡◌, ◌≢◌, ◌⊎◌, ℕ, ◌<◌, ℤ, false, List, [], length, Option, Some, None, slice_index_or}
-use Rattle.octet_model.specs.declared.limits.TheConstants.{MAX_SCRIPT_FILE}
+use Rattle.std.specs.Prelude.{◌≡◌, ◌≢◌, ◌⊎◌, ℕ, ◌<◌, ℤ, List, length, map, Some, slice_index_or}
 use Rattle.octet_model.specs.declared.log.ThreadLog.{ThreadLog}
 use Rattle.octet_model.specs.declared.script.Script.{Script}
-use Rattle.octet_parallel.specs.Calls.{script_in, log_in}
-use Rattle.octet_recorder.specs.declared.recorder.Recorder.{Recorder}
-use Rattle.octet_recorder.specs.Tracks.{lines_in, threads_in}
-use Rattle.octet_rerun.specs.declared.rerun.Rerun.{Rerun}
 use Rattle.octet_script.specs.Spelling.{Spells}
-use Rattle.octet_session.specs.Again.{second_standing}
-use Rattle.octet_session.specs.Recording.{track_standing}
-use Rattle.octet_session.specs.Standing.{Standing}
+use Rattle.octet_host_script.specs.declared.fault.FollowFault.{FollowFault}
+use Rattle.octet_host_script.specs.declared.fault.OpenFault.{OpenFault}
+use Rattle.octet_host_script.specs.declared.recorded.Recorded.{Recorded}
+use Rattle.octet_host_script.specs.declared.repeated.Repeated.{Repeated}
+use Rattle.octet_host_script.specs.Opened as script
+use Rattle.octet_host_script.specs.Refusals as refusals
+use Rattle.octet_host_script.specs.Spelled.{IsSpelled}
 use Rattle.octet_c.specs.declared.handle.Handle.{Handle}
 use Rattle.octet_c.specs.declared.held.Held.{Held}
 use Rattle.octet_c.specs.declared.held.Held.TheVariants as held
-use Rattle.octet_host.specs.declared.stage.Stage.TheVariants.{Resting}
 use Rattle.octet_c.specs.declared.status.Fault.{Fault}
-use Rattle.octet_c.specs.declared.status.Fault.TheVariants.{OutOfMemory, BadText}
 use Rattle.octet_c.specs.declared.status.TheConstants.{OTHER_SESSIONS}
-use Rattle.octet_c.specs.Faults.{fault_status}
-use Rattle.octet_c.specs.Refusals.{SpellsNoScript}
-use Rattle.octet_c.specs.Sessions.{recorder_of, rerun_of}
-use Rattle.octet_c.specs.Spelled.{IsSpelled}
+use Rattle.octet_c.specs.Faults.{open_fault, follow_fault, fault_status}
+use Rattle.octet_c.specs.Long.{Holds}
 
 -- each handle has what stands in its place, which `value` tells
 pub record HoldEach {X : Type 0} (value : X → Held) (given : List X) (handles : List Handle) : Type 0 where
   pub count : length handles ≡ length given
   pub each : (place : ℕ) (handle : Handle) (none : X) → place < length handles → (slice_index_or handles place handle).held ≡ Some (value (slice_index_or given place none))
 
--- why no heap is opened as a text declares it
+-- why no heap is opened as a text declares it, in the words of this library
 abbrev pub RefusesToOpen : List ℕ → Fault → Type 0
-RefusesToOpen text OutOfMemory = Unit {0}
-RefusesToOpen text BadText = (MAX_SCRIPT_FILE < length text) ⊎ SpellsNoScript text
-RefusesToOpen text _ = ⊥
+RefusesToOpen text fault = (why : OpenFault) × refusals.RefusesToOpen text why × (fault ≡ open_fault why)
+
+-- likewise why a recording is not followed
+abbrev pub RefusesToFollow : List ℕ → List ℕ → Fault → Type 0
+RefusesToFollow text bytes fault = (why : FollowFault) × refusals.RefusesToFollow text bytes why × (fault ≡ follow_fault why)
 
 -- the text spells a script of so many threads
 pub record Declares (text : List ℕ) (threads : ℕ) : Type 0 where
@@ -47,45 +44,29 @@ pub record Records (text bytes : List ℕ) (threads : ℕ) : Type 0 where
   pub spelled : IsSpelled text bytes script log
   pub count : threads ≡ length log
 
--- the thread of this number has made nothing, and may have so many lines in its recording
-pub record IsFirst (thread lines : ℕ) (v : Standing) : Type 0 where
-  pub number : v.number ≡ thread
-  pub journal : v.journal ≡ []
-  pub begun : v.begun ≡ None
-  pub region : v.region ≡ false
-  pub left : v.left ≡ Some lines
+-- the threads of a new run of the script that the text spells
+pub record AreOpened (text : List ℕ) (sessions : List Held) : Type 0 where
+  pub recorded : List Recorded
+  pub opens : script.Opens text recorded
+  pub sessions_are : sessions ≡ map (λ it. held.Recorded it) recorded
 
--- this thread of a recorder, which is off and has made nothing
-abbrev pub IsFirstOf : Recorder → ℕ → Option Held → Type 0
-IsFirstOf recorder thread (Some (held.Recorded it)) = (recorder_of it ≡ recorder) × (it.stage ≡ Resting) × IsFirst thread (lines_in recorder) (track_standing (recorder_of it) it.track)
-IsFirstOf recorder thread _ = ⊥
+-- the same behind handles, in order
+pub record Opens (text : List ℕ) (sessions : List Handle) : Type 0 where
+  pub threads_held : List Held
+  pub opened : AreOpened text threads_held
+  pub sessions_hold : Holds threads_held sessions
 
--- this thread of a second run, which is off and has made nothing
-abbrev pub IsFirstAgain : Rerun → ℕ → Option Held → Type 0
-IsFirstAgain rerun thread (Some (held.Repeated it)) = (rerun_of it ≡ rerun) × (it.stage ≡ Resting) × IsFirst thread (script_in rerun.field).fuel (second_standing it.thread)
-IsFirstAgain rerun thread _ = ⊥
+-- the threads of a second run by the script and the log that the bytes spell
+pub record AreFollowing (text bytes : List ℕ) (sessions : List Held) : Type 0 where
+  pub repeated : List Repeated
+  pub follows : script.Follows text bytes repeated
+  pub sessions_are : sessions ≡ map (λ it. held.Repeated it) repeated
 
--- what stands in each place is that thread of a recorder. `has` tells what stands there
-abbrev pub EachFirst : {X : Type 0} → (X → Option Held) → Recorder → List X → Type 0
-EachFirst {X} has recorder threads = (thread : ℕ) (none : X) → thread < length threads → IsFirstOf recorder thread (has (slice_index_or threads thread none))
-
--- what stands in each place is that thread of a second run
-abbrev pub EachFirstAgain : {X : Type 0} → (X → Option Held) → Rerun → List X → Type 0
-EachFirstAgain {X} has rerun threads = (thread : ℕ) (none : X) → thread < length threads → IsFirstAgain rerun thread (has (slice_index_or threads thread none))
-
--- the threads of a new run of the script that the text spells, in order
-pub record Opens {X : Type 0} (has : X → Option Held) (text : List ℕ) (threads : List X) : Type 0 where
-  pub recorder : Recorder
-  pub spelled : Spells text recorder.opening
-  pub count : length threads ≡ threads_in recorder
-  pub each : EachFirst has recorder threads
-
--- the threads of a second run by the script and the log that the bytes spell, in order
-pub record Follows {X : Type 0} (has : X → Option Held) (text bytes : List ℕ) (threads : List X) : Type 0 where
-  pub rerun : Rerun
-  pub spelled : IsSpelled text bytes (script_in rerun.field) (log_in rerun.field).threads
-  pub count : length threads ≡ length (log_in rerun.field).threads
-  pub each : EachFirstAgain has rerun threads
+-- the same behind handles, in order
+pub record Follows (text bytes : List ℕ) (sessions : List Handle) : Type 0 where
+  pub threads_held : List Held
+  pub following : AreFollowing text bytes threads_held
+  pub sessions_hold : Holds threads_held sessions
 
 -- why handles are given no sessions: there is a fault, or there are more or fewer of them than there are threads
 abbrev pub GivesNone : (Fault → Type 0) → (ℕ → Type 0) → ℕ → ℤ → Type 0

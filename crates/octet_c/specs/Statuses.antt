@@ -1,13 +1,11 @@
 -- The statuses, and what C is told with them.
 use Rattle.std.specs.Prelude.{◌≡◌, ℕ, ℤ, Bool, true, false, Option, Some, None, Result, Ok, Err}
 use Rattle.std.specs.declared.convert.Infallible.{Infallible}
-use Rattle.octet_heap.specs.Workers.{seat_of}
 use Rattle.octet_rerun.specs.Reruns.{made_by, recorded_of, Begins}
 use Rattle.octet_rerun.specs.declared.halt.Halt.{Halt}
 use Rattle.octet_rerun.specs.declared.halt.Halt.TheVariants as halt
 use Rattle.octet_recorder.specs.declared.access.Access.{Access}
 use Rattle.octet_session.specs.Standing.{Standing}
-use Rattle.octet_safe.specs.Replies.{PassesSafePoint}
 use Rattle.octet_session.specs.Again.{second_standing, HasMadeAll, IsSecondReason}
 use Rattle.octet_session.specs.Recording.{track_standing, IsTrackReason}
 use Rattle.octet_host.specs.declared.answer.Answer.{Answer}
@@ -20,17 +18,17 @@ use Rattle.octet_stream.specs.Followers.{follower_standing, IsFollowerReason, Ha
 use Rattle.octet_host_long.specs.declared.recorded.LongRecorded.{LongRecorded}
 use Rattle.octet_host_long.specs.declared.repeated.LongRepeated.{LongRepeated}
 use Rattle.octet_host_long.specs.Threads as threads
+use Rattle.octet_host_script.specs.declared.recorded.Recorded.{Recorded}
+use Rattle.octet_host_script.specs.declared.repeated.Repeated.{Repeated}
+use Rattle.octet_host_script.specs.Threads.{recorder_of, rerun_of, Glances}
 use Rattle.octet_c.specs.declared.held.Held.{Held}
 use Rattle.octet_c.specs.declared.held.Held.TheVariants as held
-use Rattle.octet_c.specs.declared.recorded.Recorded.{Recorded}
-use Rattle.octet_c.specs.declared.repeated.Repeated.{Repeated}
 use Rattle.octet_host.specs.declared.stage.Stage.{Stage}
 use Rattle.octet_host.specs.declared.stage.Stage.TheVariants.{Resting, Idle}
 use Rattle.octet_host.specs.declared.misuse.Misuse.{Misuse}
 use Rattle.octet_host.specs.declared.misuse.Misuse.TheVariants as misuse
 use Rattle.octet_c.specs.declared.status.TheConstants as status
 use Rattle.octet_host.specs.Calls.{Reasons, Goes, BeginsNext, IsNoRest, IsNotIdle, Does, Accesses, GoesOn, Ends}
-use Rattle.octet_c.specs.Sessions.{recorder_of, rerun_of}
 
 -- the status of a call that the state of its thread does not allow
 abbrev pub status_of : Misuse → ℤ
@@ -124,12 +122,6 @@ abbrev pub status_asked : Result Bool Misuse → ℤ
 status_asked (Ok false) = status.READY
 status_asked (Ok true) = status.ANSWERED
 status_asked (Err said) = status_of said
-
--- a recorded thread that runs looks whether another one has asked, and answers it. It has made nothing
-abbrev pub Glances : Result Bool Misuse → Recorded → Recorded → Type 0
-Glances (Ok answered) it that =
-    Goes Idle Idle it.stage (track_standing (recorder_of it) it.track) that.stage (track_standing (recorder_of that) that.track) × PassesSafePoint (seat_of it.track.worker) answered (seat_of that.track.worker)
-Glances (Err said) it that = IsNotIdle it.stage said × (that ≡ it)
 
 -- a safe point of a thread that is recorded
 abbrev pub PassesRecorded : Recorded → ℤ → Recorded → Type 0

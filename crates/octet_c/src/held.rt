@@ -1,15 +1,14 @@
 //! What a handle stands for.
 ghost use Rattle.std.specs.Prelude.{◌≡◌};
-ghost use Rattle.octet_c.specs.Sessions.{IsHeld, IsRecorded, IsRepeated};
-ghost use Rattle.octet_c.specs.Statuses.{status_done, status_asked, Tells, TellsEnd, NeverHalts, Halts, Accessed, Polled, Glances, OnRecorded, OnRepeated, EndsRepeated, Starts, Stops, EndsThread, BeginsRegionNext, Passes, AccessesNext, Polls};
+ghost use Rattle.octet_c.specs.Sessions.{IsHeld};
+ghost use Rattle.octet_c.specs.Statuses.{status_done, status_asked, Tells, TellsEnd, NeverHalts, Starts, Stops, EndsThread, BeginsRegionNext, Passes, AccessesNext, Polls};
 
-use crate::kept::{Kept, Values};
-use crate::recorded::Recorded;
-use crate::repeated::Repeated;
+use crate::kept::Values;
 use crate::status::{ANSWERED, NO_SESSION, PENDING, READY, status_of};
 use crate::told::Told;
-use octet_host::{Answer, Misuse, calls};
+use octet_host::{Answer, Misuse};
 use octet_host_long::{Inlet, LongRecorded, LongRepeated, Outlet};
+use octet_host_script::{Kept, Recorded, Repeated};
 use octet_schedule::Schedule;
 use octet_session::Access;
 use std::convert::Infallible;
@@ -91,83 +90,6 @@ fn ended<H: Told>(answer: Answer<H>, out: &mut u64) -> i32
     }
 }
 
-impl Recorded {
-    // Begins an access, and makes it if it can be made at once.
-    fn access(&mut self, wanted: Access, out: &mut u64) -> i32
-        requires { IsRecorded self.old }
-        ensures good { IsRecorded self.new }
-        ensures does { OnRecorded (Accessed NeverHalts wanted out.old out.new) self.old result self.new }
-    {
-        let answer = calls::access(
-            &self.heap.recorder,
-            &mut self.track,
-            &mut self.stage,
-            self.objects,
-            wanted,
-        );
-        told_recorded(answer, out)
-    }
-
-    // Answers the threads that have asked this one. Tells whether any has.
-    fn safe_point(&mut self) -> Result<bool, Misuse>
-        requires { IsRecorded self.old }
-        ensures good { IsRecorded self.new }
-        ensures run { self.new.heap ≡ self.old.heap }
-        ensures does { Glances result self.old self.new }
-    {
-        self.stage.idle()?;
-        Ok(self.heap.recorder.safe_point(&mut self.track))
-    }
-
-    // Goes on with the access that was begun.
-    fn poll(&mut self, out: &mut u64) -> i32
-        requires { IsRecorded self.old }
-        ensures good { IsRecorded self.new }
-        ensures does { OnRecorded (Polled NeverHalts out.old out.new) self.old result self.new }
-    {
-        let answer = calls::poll(&self.heap.recorder, &mut self.track, &mut self.stage);
-        told_recorded(answer, out)
-    }
-}
-
-impl Repeated {
-    // Begins an access, and makes it if it can be made at once.
-    fn access(&mut self, wanted: Access, out: &mut u64) -> i32
-        requires { IsRepeated self.old }
-        ensures good { IsRepeated self.new }
-        ensures does { OnRepeated (Accessed Halts wanted out.old out.new) self.old result self.new }
-    {
-        let answer = calls::access(
-            &self.course.rerun,
-            &mut self.thread,
-            &mut self.stage,
-            self.objects,
-            wanted,
-        );
-        told(answer, out)
-    }
-
-    // Goes on with the access that was begun.
-    fn poll(&mut self, out: &mut u64) -> i32
-        requires { IsRepeated self.old }
-        ensures good { IsRepeated self.new }
-        ensures does { OnRepeated (Polled Halts out.old out.new) self.old result self.new }
-    {
-        let answer = calls::poll(&self.course.rerun, &mut self.thread, &mut self.stage);
-        told(answer, out)
-    }
-
-    // Ends the thread.
-    fn end(&mut self, out: &mut u64) -> i32
-        requires { IsRepeated self.old }
-        ensures good { IsRepeated self.new }
-        ensures does { EndsRepeated out.old out.new self.old result self.new }
-    {
-        let answer = calls::end(&self.course.rerun, &mut self.thread, &mut self.stage);
-        ended(answer, out)
-    }
-}
-
 impl Held {
     /// Marks the thread as running.
     pub(crate) fn start(&mut self) -> i32
@@ -176,16 +98,8 @@ impl Held {
         ensures does { Starts self.old result self.new }
     {
         match self {
-            Held::Recorded(it) => done(calls::start(
-                &it.heap.recorder,
-                &mut it.track,
-                &mut it.stage,
-            )),
-            Held::Repeated(it) => done(calls::start(
-                &it.course.rerun,
-                &mut it.thread,
-                &mut it.stage,
-            )),
+            Held::Recorded(it) => done(it.start()),
+            Held::Repeated(it) => done(it.start()),
             Held::LongRecorded(it) => done(it.start()),
             Held::LongRepeated(it) => done(it.start()),
             Held::Outlet(_)
@@ -203,16 +117,8 @@ impl Held {
         ensures does { Stops self.old result self.new }
     {
         match self {
-            Held::Recorded(it) => done(calls::stop(
-                &it.heap.recorder,
-                &mut it.track,
-                &mut it.stage,
-            )),
-            Held::Repeated(it) => done(calls::stop(
-                &it.course.rerun,
-                &mut it.thread,
-                &mut it.stage,
-            )),
+            Held::Recorded(it) => done(it.stop()),
+            Held::Repeated(it) => done(it.stop()),
             Held::LongRecorded(it) => done(it.stop()),
             Held::LongRepeated(it) => done(it.stop()),
             Held::Outlet(_)
@@ -230,12 +136,8 @@ impl Held {
         ensures does { EndsThread out.old out.new self.old result self.new }
     {
         match self {
-            Held::Recorded(it) => done(calls::stop(
-                &it.heap.recorder,
-                &mut it.track,
-                &mut it.stage,
-            )),
-            Held::Repeated(it) => it.end(out),
+            Held::Recorded(it) => done(it.end()),
+            Held::Repeated(it) => ended(it.end(), out),
             Held::LongRecorded(it) => ended(it.end(), out),
             Held::LongRepeated(it) => ended(it.end(), out),
             Held::Outlet(_)
@@ -253,10 +155,8 @@ impl Held {
         ensures does { BeginsRegionNext self.old result self.new }
     {
         match self {
-            Held::Recorded(it) => done(calls::region(&it.heap.recorder, &mut it.track, it.stage)),
-            Held::Repeated(it) => {
-                done(calls::region(&it.course.rerun, &mut it.thread, it.stage))
-            }
+            Held::Recorded(it) => done(it.region()),
+            Held::Repeated(it) => done(it.region()),
             Held::LongRecorded(it) => done(it.region()),
             Held::LongRepeated(it) => done(it.region()),
             Held::Outlet(_)
@@ -275,9 +175,7 @@ impl Held {
     {
         match self {
             Held::Recorded(it) => asked(it.safe_point()),
-            Held::Repeated(it) => {
-                done(calls::safe_point(&it.course.rerun, &mut it.thread, it.stage))
-            }
+            Held::Repeated(it) => done(it.safe_point()),
             Held::LongRecorded(it) => done(it.safe_point()),
             Held::LongRepeated(it) => done(it.safe_point()),
             Held::Outlet(_)
@@ -295,8 +193,8 @@ impl Held {
         ensures does { AccessesNext wanted out.old out.new self.old result self.new }
     {
         match self {
-            Held::Recorded(it) => it.access(wanted, out),
-            Held::Repeated(it) => it.access(wanted, out),
+            Held::Recorded(it) => told_recorded(it.access(wanted), out),
+            Held::Repeated(it) => told(it.access(wanted), out),
             Held::LongRecorded(it) => told(it.access(wanted), out),
             Held::LongRepeated(it) => told(it.access(wanted), out),
             Held::Outlet(_)
@@ -314,8 +212,8 @@ impl Held {
         ensures does { Polls out.old out.new self.old result self.new }
     {
         match self {
-            Held::Recorded(it) => it.poll(out),
-            Held::Repeated(it) => it.poll(out),
+            Held::Recorded(it) => told_recorded(it.poll(), out),
+            Held::Repeated(it) => told(it.poll(), out),
             Held::LongRecorded(it) => told(it.poll(), out),
             Held::LongRepeated(it) => told(it.poll(), out),
             Held::Outlet(_)

@@ -9,11 +9,9 @@ ghost use Rattle.octet_c.specs.Sessions.{IsHeld};
 
 use crate::held::Held;
 use crate::kept::Values;
-use crate::recorded::Recorded;
-use crate::repeated::Repeated;
 use crate::status::Fault;
-use crate::{closing, following};
 use octet_host_long::{Inlet, LongRecorded, LongRepeated, Outlet, close_recorded, close_repeated};
+use octet_host_script::{Recorded, Repeated};
 use std::alloc::Global;
 
 /// The kinds of threads.
@@ -129,9 +127,9 @@ impl Thread for Recorded {
         ensures closes { IfOk result (λ kept. Closes (map (λ it. Some (held.Recorded it)) threads.items) (Some kept)) }
         ensures refused { IfErr result (RefusesToClose (map (λ it. Some (held.Recorded it)) threads.items)) }
     {
-        match closing::close(alloc, threads) {
+        match octet_host_script::close_recorded(alloc, threads) {
             Ok(kept) => Ok(Held::Kept(kept)),
-            Err(fault) => Err(fault),
+            Err(fault) => Err(Fault::from(fault)),
         }
     }
 }
@@ -152,9 +150,9 @@ impl Thread for Repeated {
         ensures closes { IfOk result (λ kept. Closes (map (λ it. Some (held.Repeated it)) threads.items) (Some kept)) }
         ensures refused { IfErr result (RefusesToClose (map (λ it. Some (held.Repeated it)) threads.items)) }
     {
-        match following::close(alloc, threads) {
+        match octet_host_script::close_repeated(alloc, threads) {
             Ok(again) => Ok(Held::Kept(again)),
-            Err(fault) => Err(fault),
+            Err(fault) => Err(Fault::from(fault)),
         }
     }
 }

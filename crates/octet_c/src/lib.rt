@@ -9,21 +9,16 @@ ghost use Rattle.octet_c.specs.Names.{access_named, update_named};
 ghost use Rattle.octet_c.specs.Statuses.{Starts, Stops, EndsThread, BeginsRegionNext, Passes, Polls, OnHandle, AsksHandle};
 ghost use Rattle.octet_c.specs.Keeping.{CopiesOf, CopiesValues};
 ghost use Rattle.octet_c.specs.Closed.{first_kind, Closes, RefusesToClose, GivesNoRecord};
-ghost use Rattle.octet_c.specs.Opened.{Declares, Records, Opens, Follows, RefusesToOpen, GivesNone};
-ghost use Rattle.octet_c.specs.Refusals.{RefusesToFollow};
+ghost use Rattle.octet_c.specs.Opened.{Declares, Records, Opens, Follows, RefusesToOpen, RefusesToFollow, GivesNone};
 ghost use Rattle.octet_c.specs.Sessions.{IsHeld};
 
-mod closing;
-mod following;
 mod handing;
 mod handle;
 mod held;
 mod kept;
 mod kind;
 mod long;
-mod opening;
-mod recorded;
-mod repeated;
+mod scripts;
 mod status;
 mod streams;
 mod told;
@@ -33,14 +28,13 @@ mod words;
 use handing::{Boxes, put_all, take_all, threads_of};
 pub use handle::Handle;
 pub use held::Held;
-pub use kept::{Kept, Values};
+pub use kept::Values;
 pub use kind::Kind;
 use kind::Thread;
 use octet_host::copy_out;
 use octet_host_long::{LongRecorded, LongRepeated};
+use octet_host_script::{Recorded, Repeated};
 use octet_recorder::Access;
-pub use recorded::{Heap, Recorded};
-pub use repeated::{Course, Repeated};
 use status::{Fault, NO_CHANGE, NO_MEMORY, NO_MODE, NO_RECORD, NO_SESSION, READY};
 use std::alloc::Global;
 use words::{access_of, update_of};
@@ -49,11 +43,11 @@ use words::{access_of, update_of};
 /// a handle held is freed.
 #[unsafe(no_mangle)]
 pub extern "C" fn octet_open(alloc: Global, text: &[u8], sessions: &mut [Handle]) -> i32
-    ensures ready { result ≡ READY → Opens (λ session. session.held) text.now sessions.new }
+    ensures ready { result ≡ READY → Opens text.now sessions.new }
     ensures kept { result ≢ READY → sessions.new ≡ sessions.old }
     ensures cause { result ≢ READY → GivesNone (RefusesToOpen text.now) (Declares text.now) (list_length sessions.old) result }
 {
-    match opening::open(alloc, text) {
+    match scripts::opened(alloc, text) {
         Ok(opened) => put_all(alloc, sessions, opened),
         Err(fault) => fault.status(),
     }
@@ -69,11 +63,11 @@ pub extern "C" fn octet_follow(
     log: &[u8],
     sessions: &mut [Handle],
 ) -> i32
-    ensures ready { result ≡ READY → Follows (λ session. session.held) script.now log.now sessions.new }
+    ensures ready { result ≡ READY → Follows script.now log.now sessions.new }
     ensures kept { result ≢ READY → sessions.new ≡ sessions.old }
     ensures cause { result ≢ READY → GivesNone (RefusesToFollow script.now log.now) (Records script.now log.now) (list_length sessions.old) result }
 {
-    match following::follow(alloc, script, log) {
+    match scripts::followed(alloc, script, log) {
         Ok(opened) => put_all(alloc, sessions, opened),
         Err(fault) => fault.status(),
     }

@@ -35,8 +35,8 @@ fn sized(objects: usize, sessions: usize, streams: usize) -> Result<(), Fault>
     Ok(())
 }
 
-// Threads or streams, each in a box.
-fn box_all<T: Behind>(alloc: Global, all: Vec<T>) -> Result<Boxes, Fault>
+/// Threads or streams, each in a box.
+pub(crate) fn box_all<T: Behind>(alloc: Global, all: Vec<T>) -> Result<Boxes, Fault>
     ensures each { IfOk result (λ boxes. map (λ box. box.value) boxes.items ≡ map (λ it. T.as_held it) all.items) }
     ensures memory { IfErr result (λ fault. fault ≡ OutOfMemory) }
 {

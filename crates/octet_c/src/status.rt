@@ -2,16 +2,13 @@
 ghost use Rattle.std.specs.Prelude.{◌≡◌, ◌≢◌};
 ghost use Rattle.octet_c.specs.declared.status.TheConstants.{READY};
 ghost use Rattle.octet_c.specs.declared.status.Fault.TheVariants.{OutOfMemory as MemoryRefused};
-ghost use Rattle.octet_c.specs.Faults.{text_fault, log_fault, rerun_fault, close_fault, fault_status};
+ghost use Rattle.octet_c.specs.Faults.{open_fault, follow_fault, script_close_fault, close_fault, fault_status};
 ghost use Rattle.octet_c.specs.Statuses.{status_of};
 
 use octet_host::Misuse;
 use octet_host_long::CloseFault;
-use octet_log::LogFault;
+use octet_host_script::{FollowFault, OpenFault};
 use octet_model::OutOfMemory;
-use octet_replay::ReplayFault;
-use octet_rerun::RerunFault;
-use octet_script::ScriptFault;
 use std::alloc::{AllocError, AllocFailed};
 
 /// Why no heap was opened, or no record was made.
@@ -64,36 +61,43 @@ impl<T: Drop> From<AllocFailed<T>> for Fault {
     }
 }
 
-impl From<ScriptFault> for Fault {
-    ghost from_gives = { λ fault e. e ≡ text_fault fault };
+impl From<OpenFault> for Fault {
+    ghost from_gives = { λ fault e. e ≡ open_fault fault };
 
-    fn from(fault: ScriptFault) -> Fault {
+    fn from(fault: OpenFault) -> Fault {
         match fault {
-            ScriptFault::OutOfMemory => Fault::OutOfMemory,
-            ScriptFault::Refused { .. } => Fault::BadText,
+            OpenFault::OutOfMemory => Fault::OutOfMemory,
+            OpenFault::BadText => Fault::BadText,
         }
     }
 }
 
-impl From<LogFault> for Fault {
-    ghost from_gives = { λ fault e. e ≡ log_fault fault };
+impl From<FollowFault> for Fault {
+    ghost from_gives = { λ fault e. e ≡ follow_fault fault };
 
-    fn from(fault: LogFault) -> Fault {
+    fn from(fault: FollowFault) -> Fault {
         match fault {
-            LogFault::OutOfMemory => Fault::OutOfMemory,
-            LogFault::Refused { .. } => Fault::BadLog,
+            FollowFault::OutOfMemory => Fault::OutOfMemory,
+            FollowFault::TooLong => Fault::TooLong,
+            FollowFault::BadText => Fault::BadText,
+            FollowFault::BadLog => Fault::BadLog,
+            FollowFault::Misfit => Fault::Misfit,
+            FollowFault::Unordered => Fault::Unordered,
         }
     }
 }
 
-impl From<RerunFault> for Fault {
-    ghost from_gives = { λ fault e. e ≡ rerun_fault fault };
+impl From<octet_host_script::CloseFault> for Fault {
+    ghost from_gives = { λ fault e. e ≡ script_close_fault fault };
 
-    fn from(fault: RerunFault) -> Fault {
+    fn from(fault: octet_host_script::CloseFault) -> Fault {
         match fault {
-            RerunFault::Replay(ReplayFault::OutOfMemory) => Fault::OutOfMemory,
-            RerunFault::Replay(_) => Fault::Misfit,
-            RerunFault::Unordered { .. } => Fault::Unordered,
+            octet_host_script::CloseFault::OutOfMemory => Fault::OutOfMemory,
+            octet_host_script::CloseFault::OtherSessions => Fault::OtherSessions,
+            octet_host_script::CloseFault::StillRunning => Fault::StillRunning,
+            octet_host_script::CloseFault::NotWhole => Fault::NotWhole,
+            octet_host_script::CloseFault::TooLong => Fault::TooLong,
+            octet_host_script::CloseFault::TwoRuns => Fault::TwoRuns,
         }
     }
 }

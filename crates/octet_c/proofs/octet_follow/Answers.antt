@@ -1,9 +1,13 @@
-use Rattle.std.proofs.Common.{rules, length, inr}
-use Rattle.octet_c.proofs.First.{follows_of}
+use Rattle.std.proofs.Common.{rules, length, map, inr}
+use Rattle.octet_c.proofs.Pairs.{holds_of}
 use Rattle.octet_c.proofs.octet_follow.Goals as goal
 
 pub returns-in-Ok-clause-ready : goal.returns-in-Ok-clause-ready
-returns-in-Ok-clause-ready c = λ ready. follows_of (λ held. held.value) c.args.script.now c.args.log.now c.in-Ok.opened.items c.put_all.new.handles (c.put_all.ensures.ready (search (rules, ready))) c.in-Ok.ensures.follows
+returns-in-Ok-clause-ready c = λ ready. record {
+  threads_held = map (λ box. box.value) c.in-Ok.opened.items;
+  following = c.in-Ok.ensures.follows;
+  sessions_hold = holds_of (λ box. box.value) c.in-Ok.opened.items c.put_all.new.handles (c.put_all.ensures.ready (search (rules, ready)));
+}
 
 pub returns-in-Ok-clause-cause : goal.returns-in-Ok-clause-cause
 returns-in-Ok-clause-cause c = λ unready.

@@ -1,0 +1,4 @@
+pub mod First
+pub mod Refused
+pub mod Refusing
+pub mod Keeping

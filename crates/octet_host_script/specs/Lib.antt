@@ -1,0 +1,7 @@
+pub mod Spelled
+pub mod Faults
+pub mod Refusals
+pub mod Records
+pub mod Threads
+pub mod Opened
+pub mod HandedBack
