@@ -15,6 +15,16 @@ use std::time::Instant;
 type Caller = &'static Location<'static>;
 
 /// An object of one heap: a number of 64 bits that its threads share.
+///
+/// ```
+/// octet::Heap::builder().object("x", 0).run(|threads| {
+///     threads.spawn(|session| {
+///         let x: octet::Object = session.object("x")?;
+///         session.store(x, 1)
+///     });
+/// })?;
+/// # Ok::<(), octet::Error>(())
+/// ```
 #[derive(Clone, Copy, Debug, PartialEq, Eq)]
 pub struct Object {
     pub(crate) heap: u64,
@@ -102,11 +112,30 @@ impl Session {
     }
 
     /// The number of its thread, from 0.
+    ///
+    /// ```
+    /// let run = octet::Heap::builder().run(|threads| {
+    ///     threads.spawn(|session| Ok(session.number()));
+    ///     threads.spawn(|session| Ok(session.number()));
+    /// })?;
+    /// assert_eq!(run.values(), [0, 1]);
+    /// # Ok::<(), octet::Error>(())
+    /// ```
     pub fn number(&self) -> usize {
         self.number
     }
 
     /// The object of this name.
+    ///
+    /// ```
+    /// # octet::Heap::builder().object("x", 12).run(|threads| threads.spawn(|session| {
+    /// # let x = session.object("x")?;
+    /// assert_eq!(session.object("x")?, x);
+    /// assert!(matches!(session.object("y"), Err(octet::Error::NoName { name }) if name == "y"));
+    /// # Ok(())
+    /// # }))?;
+    /// # Ok::<(), octet::Error>(())
+    /// ```
     ///
     /// # Errors
     /// `NoName` where there is none.
@@ -115,6 +144,15 @@ impl Session {
     }
 
     /// Starts the thread. Those of `Builder::run` are started.
+    ///
+    /// ```
+    /// let (heap, mut sessions) = octet::Heap::builder().object("x", 0).build()?;
+    /// let x = heap.object("x")?;
+    /// assert!(matches!(sessions[0].load(x), Err(octet::Error::Resting)));
+    /// sessions[0].start()?;
+    /// assert_eq!(sessions[0].load(x)?, 0);
+    /// # Ok::<(), octet::Error>(())
+    /// ```
     ///
     /// # Errors
     /// `Running` where it is started; `Resting` where it has ended. By a schedule those of waiting: `Deadlock` and `Patience`.
@@ -127,6 +165,16 @@ impl Session {
     }
 
     /// Ends the thread: no other one waits for it any more. In a second run it must have made all that was recorded of it.
+    ///
+    /// ```
+    /// let (heap, mut sessions) = octet::Heap::builder().object("x", 0).build()?;
+    /// let x = heap.object("x")?;
+    /// sessions[0].start()?;
+    /// sessions[0].store(x, 1)?;
+    /// sessions[0].stop()?;
+    /// assert_eq!(heap.finish(sessions)?.value("x"), Some(1));
+    /// # Ok::<(), octet::Error>(())
+    /// ```
     ///
     /// # Errors
     /// `Resting` where it does not run. In a second run `Diverged`, `Halted` and `Patience`. It is stopped all the same.
@@ -269,6 +317,23 @@ impl Session {
 
     /// Answers the threads that wait for this one. Call it in long stretches without accesses. Fails with `Resting` where the
     /// thread does not run.
+    ///
+    /// ```
+    /// # octet::Heap::builder().object("x", 12).run(|threads| threads.spawn(|session| {
+    /// # let x = session.object("x")?;
+    /// session.store(x, 1)?;
+    /// let mut sum = 0_u64;
+    /// for number in 0..1_000_000 {
+    ///     if number % 1_000 == 0 {
+    ///         session.safe_point()?;
+    ///     }
+    ///     sum = sum.wrapping_mul(31) + number;
+    /// }
+    /// session.store(x, sum)?;
+    /// # Ok(())
+    /// # }))?;
+    /// # Ok::<(), octet::Error>(())
+    /// ```
     #[inline]
     pub fn safe_point(&mut self) -> Result<(), Error> {
         checked(self.handle.safe_point(), self.number)
@@ -276,6 +341,18 @@ impl Session {
 
     /// Begins a region with the next access, and the one before ends there. `octet regions` tells whether the regions could have
     /// run one after another. Fails with `Resting` where the thread does not run.
+    ///
+    /// ```
+    /// # octet::Heap::builder().object("x", 100).run(|threads| threads.spawn(|session| {
+    /// # let x = session.object("x")?;
+    /// // The two belong together.
+    /// session.region()?;
+    /// let found = session.load(x)?;
+    /// session.store(x, found + 30)?;
+    /// # Ok(())
+    /// # }))?;
+    /// # Ok::<(), octet::Error>(())
+    /// ```
     #[inline]
     pub fn region(&mut self) -> Result<(), Error> {
         checked(self.handle.region(), self.number)
@@ -285,31 +362,6 @@ impl Session {
 /// Accesses. Each fails with `OtherHeap` at an object of another heap, `Resting` where the thread does not run, `Spent` where it
 /// has made all that its heap allows, and `Patience` where it has waited too long. In a second run it may fail with `Diverged` or
 /// `Halted`, and by a schedule with `Deadlock`.
-///
-/// ```
-/// use octet::{Error, Heap};
-///
-/// let run = Heap::builder().object("x", 12).run(|threads| {
-///     threads.spawn(|session| {
-///         let x = session.object("x")?;
-///         assert_eq!(session.load(x)?, 12);
-///         session.store(x, 10)?;
-///         assert_eq!(session.swap(x, 6)?, 10);
-///         assert_eq!(session.compare_exchange(x, 5, 0)?, Err(6));
-///         assert_eq!(session.compare_exchange(x, 6, 8)?, Ok(6));
-///         assert_eq!(session.fetch_add(x, 4)?, 8);
-///         assert_eq!(session.fetch_sub(x, 2)?, 12);
-///         assert_eq!(session.fetch_and(x, 6)?, 10);
-///         assert_eq!(session.fetch_or(x, 5)?, 2);
-///         assert_eq!(session.fetch_xor(x, 3)?, 7);
-///         assert_eq!(session.fetch_max(x, 9)?, 4);
-///         assert_eq!(session.fetch_min(x, 1)?, 9);
-///         Ok(())
-///     });
-/// })?;
-/// assert_eq!(run.value("x"), Some(1));
-/// # Ok::<(), Error>(())
-/// ```
 impl Session {
     // An access from this place. Where it is written which one it is, this comes to one call of the library.
     #[inline(always)]
@@ -364,6 +416,15 @@ impl Session {
     }
 
     /// The object's value.
+    ///
+    /// ```
+    /// # octet::Heap::builder().object("x", 12).run(|threads| threads.spawn(|session| {
+    /// # let x = session.object("x")?;
+    /// assert_eq!(session.load(x)?, 12);
+    /// # Ok(())
+    /// # }))?;
+    /// # Ok::<(), octet::Error>(())
+    /// ```
     #[inline]
     #[track_caller]
     pub fn load(&mut self, object: Object) -> Result<u64, Error> {
@@ -371,6 +432,16 @@ impl Session {
     }
 
     /// Gives the object a value.
+    ///
+    /// ```
+    /// # octet::Heap::builder().object("x", 12).run(|threads| threads.spawn(|session| {
+    /// # let x = session.object("x")?;
+    /// session.store(x, 5)?;
+    /// assert_eq!(session.load(x)?, 5);
+    /// # Ok(())
+    /// # }))?;
+    /// # Ok::<(), octet::Error>(())
+    /// ```
     #[inline]
     #[track_caller]
     pub fn store(&mut self, object: Object, value: u64) -> Result<(), Error> {
@@ -378,6 +449,16 @@ impl Session {
     }
 
     /// Gives the object a value, and answers the one before.
+    ///
+    /// ```
+    /// # octet::Heap::builder().object("x", 12).run(|threads| threads.spawn(|session| {
+    /// # let x = session.object("x")?;
+    /// assert_eq!(session.swap(x, 5)?, 12);
+    /// assert_eq!(session.load(x)?, 5);
+    /// # Ok(())
+    /// # }))?;
+    /// # Ok::<(), octet::Error>(())
+    /// ```
     #[inline]
     #[track_caller]
     pub fn swap(&mut self, object: Object, value: u64) -> Result<u64, Error> {
@@ -386,6 +467,17 @@ impl Session {
 
     /// Stores the new value where the object has the current one. The inner answer is that of `AtomicU64`: the value found, as
     /// `Ok` where it was the current one, else as `Err`.
+    ///
+    /// ```
+    /// # octet::Heap::builder().object("x", 12).run(|threads| threads.spawn(|session| {
+    /// # let x = session.object("x")?;
+    /// assert_eq!(session.compare_exchange(x, 5, 0)?, Err(12));
+    /// assert_eq!(session.compare_exchange(x, 12, 8)?, Ok(12));
+    /// assert_eq!(session.load(x)?, 8);
+    /// # Ok(())
+    /// # }))?;
+    /// # Ok::<(), octet::Error>(())
+    /// ```
     #[inline]
     #[track_caller]
     pub fn compare_exchange(&mut self, object: Object, current: u64, new: u64) -> Result<Result<u64, u64>, Error> {
@@ -394,7 +486,34 @@ impl Session {
         Ok(if found == current { Ok(found) } else { Err(found) })
     }
 
+    /// The same: it fails only where another value is found.
+    ///
+    /// ```
+    /// # octet::Heap::builder().object("x", 12).run(|threads| threads.spawn(|session| {
+    /// # let x = session.object("x")?;
+    /// assert_eq!(session.compare_exchange_weak(x, 12, 8)?, Ok(12));
+    /// assert_eq!(session.load(x)?, 8);
+    /// # Ok(())
+    /// # }))?;
+    /// # Ok::<(), octet::Error>(())
+    /// ```
+    #[inline]
+    #[track_caller]
+    pub fn compare_exchange_weak(&mut self, object: Object, current: u64, new: u64) -> Result<Result<u64, u64>, Error> {
+        self.compare_exchange(object, current, new)
+    }
+
     /// Adds, modulo 2^64, and answers the value before.
+    ///
+    /// ```
+    /// # octet::Heap::builder().object("x", 12).run(|threads| threads.spawn(|session| {
+    /// # let x = session.object("x")?;
+    /// assert_eq!(session.fetch_add(x, 4)?, 12);
+    /// assert_eq!(session.load(x)?, 16);
+    /// # Ok(())
+    /// # }))?;
+    /// # Ok::<(), octet::Error>(())
+    /// ```
     #[inline]
     #[track_caller]
     pub fn fetch_add(&mut self, object: Object, value: u64) -> Result<u64, Error> {
@@ -402,6 +521,16 @@ impl Session {
     }
 
     /// Subtracts, modulo 2^64, and answers the value before.
+    ///
+    /// ```
+    /// # octet::Heap::builder().object("x", 12).run(|threads| threads.spawn(|session| {
+    /// # let x = session.object("x")?;
+    /// assert_eq!(session.fetch_sub(x, 13)?, 12);
+    /// assert_eq!(session.load(x)?, u64::MAX);
+    /// # Ok(())
+    /// # }))?;
+    /// # Ok::<(), octet::Error>(())
+    /// ```
     #[inline]
     #[track_caller]
     pub fn fetch_sub(&mut self, object: Object, value: u64) -> Result<u64, Error> {
@@ -409,13 +538,51 @@ impl Session {
     }
 
     /// Keeps the bits that the mask has too, and answers the value before.
+    ///
+    /// ```
+    /// # octet::Heap::builder().object("x", 0b1100).run(|threads| threads.spawn(|session| {
+    /// # let x = session.object("x")?;
+    /// assert_eq!(session.fetch_and(x, 0b1001)?, 0b1100);
+    /// assert_eq!(session.load(x)?, 0b1000);
+    /// # Ok(())
+    /// # }))?;
+    /// # Ok::<(), octet::Error>(())
+    /// ```
     #[inline]
     #[track_caller]
     pub fn fetch_and(&mut self, object: Object, mask: u64) -> Result<u64, Error> {
         self.update(object, Change::And, mask)
     }
 
+    /// Clears the bits that the mask has too and sets all others, and answers the value before. It is made of several accesses, as
+    /// `fetch_update` is.
+    ///
+    /// ```
+    /// # octet::Heap::builder().object("x", 0b1100).run(|threads| threads.spawn(|session| {
+    /// # let x = session.object("x")?;
+    /// assert_eq!(session.fetch_nand(x, 0b1001)?, 0b1100);
+    /// assert_eq!(session.load(x)?, !0b1000);
+    /// # Ok(())
+    /// # }))?;
+    /// # Ok::<(), octet::Error>(())
+    /// ```
+    #[inline]
+    #[track_caller]
+    pub fn fetch_nand(&mut self, object: Object, mask: u64) -> Result<u64, Error> {
+        self.fetch_update(object, |value| Some(!(value & mask))).map(|done| done.unwrap_or_else(|found| found))
+    }
+
     /// Sets the bits of the mask, and answers the value before.
+    ///
+    /// ```
+    /// # octet::Heap::builder().object("x", 0b1100).run(|threads| threads.spawn(|session| {
+    /// # let x = session.object("x")?;
+    /// assert_eq!(session.fetch_or(x, 0b1001)?, 0b1100);
+    /// assert_eq!(session.load(x)?, 0b1101);
+    /// # Ok(())
+    /// # }))?;
+    /// # Ok::<(), octet::Error>(())
+    /// ```
     #[inline]
     #[track_caller]
     pub fn fetch_or(&mut self, object: Object, mask: u64) -> Result<u64, Error> {
@@ -423,6 +590,16 @@ impl Session {
     }
 
     /// Turns the bits of the mask, and answers the value before.
+    ///
+    /// ```
+    /// # octet::Heap::builder().object("x", 0b1100).run(|threads| threads.spawn(|session| {
+    /// # let x = session.object("x")?;
+    /// assert_eq!(session.fetch_xor(x, 0b1001)?, 0b1100);
+    /// assert_eq!(session.load(x)?, 0b0101);
+    /// # Ok(())
+    /// # }))?;
+    /// # Ok::<(), octet::Error>(())
+    /// ```
     #[inline]
     #[track_caller]
     pub fn fetch_xor(&mut self, object: Object, mask: u64) -> Result<u64, Error> {
@@ -430,6 +607,16 @@ impl Session {
     }
 
     /// Keeps the greater of the two values, and answers the one before.
+    ///
+    /// ```
+    /// # octet::Heap::builder().object("x", 12).run(|threads| threads.spawn(|session| {
+    /// # let x = session.object("x")?;
+    /// assert_eq!(session.fetch_max(x, 20)?, 12);
+    /// assert_eq!(session.load(x)?, 20);
+    /// # Ok(())
+    /// # }))?;
+    /// # Ok::<(), octet::Error>(())
+    /// ```
     #[inline]
     #[track_caller]
     pub fn fetch_max(&mut self, object: Object, value: u64) -> Result<u64, Error> {
@@ -437,10 +624,51 @@ impl Session {
     }
 
     /// Keeps the lesser of the two values, and answers the one before.
+    ///
+    /// ```
+    /// # octet::Heap::builder().object("x", 12).run(|threads| threads.spawn(|session| {
+    /// # let x = session.object("x")?;
+    /// assert_eq!(session.fetch_min(x, 20)?, 12);
+    /// assert_eq!(session.load(x)?, 12);
+    /// # Ok(())
+    /// # }))?;
+    /// # Ok::<(), octet::Error>(())
+    /// ```
     #[inline]
     #[track_caller]
     pub fn fetch_min(&mut self, object: Object, value: u64) -> Result<u64, Error> {
         self.update(object, Change::Min, value)
+    }
+
+    /// Gives the object what the change makes of its value, if it makes anything of it. The inner answer is the value before, as
+    /// `Ok` where it was changed. This is a read, and then a `compare_exchange` as often as another thread comes between: each time
+    /// the change is asked again.
+    ///
+    /// ```
+    /// # octet::Heap::builder().object("x", 12).run(|threads| threads.spawn(|session| {
+    /// # let x = session.object("x")?;
+    /// assert_eq!(session.fetch_update(x, |value| value.checked_sub(20))?, Err(12));
+    /// assert_eq!(session.fetch_update(x, |value| value.checked_sub(5))?, Ok(12));
+    /// assert_eq!(session.load(x)?, 7);
+    /// # Ok(())
+    /// # }))?;
+    /// # Ok::<(), octet::Error>(())
+    /// ```
+    #[inline]
+    #[track_caller]
+    pub fn fetch_update(
+        &mut self,
+        object: Object,
+        mut change: impl FnMut(u64) -> Option<u64>,
+    ) -> Result<Result<u64, u64>, Error> {
+        let mut found = self.load(object)?;
+        while let Some(new) = change(found) {
+            match self.compare_exchange(object, found, new)? {
+                Ok(before) => return Ok(Ok(before)),
+                Err(other) => found = other,
+            }
+        }
+        Ok(Err(found))
     }
 }
 
@@ -592,11 +820,51 @@ impl Session {
     }
 
     /// Wakes the thread that has waited longest for the condition, if there is one.
+    ///
+    /// ```
+    /// use octet::{Heap, Session};
+    ///
+    /// Heap::builder().object("open", 0).lock("door").condition("opened").run(|threads| {
+    ///     threads.spawn(|session| {
+    ///         session.locked("door", |session: &mut Session| {
+    ///             while session.load(session.object("open")?)? == 0 {
+    ///                 session.wait("opened")?;
+    ///             }
+    ///             Ok(())
+    ///         })
+    ///     });
+    ///     threads.spawn(|session| {
+    ///         session.locked("door", |session| session.store(session.object("open")?, 1))?;
+    ///         session.notify_one("opened")
+    ///     });
+    /// })?;
+    /// # Ok::<(), octet::Error>(())
+    /// ```
     pub fn notify_one(&mut self, condition: &str) -> Result<(), Error> {
         self.notify(condition, false)
     }
 
     /// Wakes all threads that wait for the condition.
+    ///
+    /// ```
+    /// use octet::{Heap, Session};
+    ///
+    /// Heap::builder().object("open", 0).lock("door").condition("opened").run(|threads| {
+    ///     threads.spawn(|session| {
+    ///         session.locked("door", |session: &mut Session| {
+    ///             while session.load(session.object("open")?)? == 0 {
+    ///                 session.wait("opened")?;
+    ///             }
+    ///             Ok(())
+    ///         })
+    ///     });
+    ///     threads.spawn(|session| {
+    ///         session.locked("door", |session| session.store(session.object("open")?, 1))?;
+    ///         session.notify_all("opened")
+    ///     });
+    /// })?;
+    /// # Ok::<(), octet::Error>(())
+    /// ```
     pub fn notify_all(&mut self, condition: &str) -> Result<(), Error> {
         self.notify(condition, true)
     }

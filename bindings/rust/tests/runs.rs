@@ -2,6 +2,7 @@
 use octet::{Builder, Error, Heap, Recording, Run, Schedule, Session};
 use std::error::Error as _;
 use std::path::PathBuf;
+use std::sync::atomic::{AtomicU64, Ordering::SeqCst};
 use std::sync::mpsc;
 use std::thread;
 use std::time::Duration;
@@ -286,4 +287,60 @@ fn threads_that_race_see_the_same_again() {
         assert!(second.recording() == first.recording(), "another recording");
     }
     assert!(runs.windows(2).any(|pair| pair[0].values() != pair[1].values()));
+}
+
+#[test]
+fn accesses_answer_as_those_of_an_atomic_word() {
+    let run = Heap::builder().object("x", 12).run(|threads| {
+        threads.spawn(|session| {
+            let (x, word, mut number) = (session.object("x")?, AtomicU64::new(12), 1_u64);
+            for round in 0..1_400 {
+                number = number.wrapping_mul(0x5851_f42d_4c95_7f2d).wrapping_add(0x1405_7b7e_f767_814f);
+                let current = if number >> 63 == 0 { number } else { word.load(SeqCst) };
+                let odd = |value: u64| (value % 2 == 1).then_some(value / 2);
+                let answers = match round % 14 {
+                    0 => (Ok(session.load(x)?), Ok(word.load(SeqCst))),
+                    1 => {
+                        word.store(number, SeqCst);
+                        session.store(x, number)?;
+                        (Ok(session.load(x)?), Ok(number))
+                    }
+                    2 => (Ok(session.swap(x, number)?), Ok(word.swap(number, SeqCst))),
+                    3 => (session.compare_exchange(x, current, 5)?, word.compare_exchange(current, 5, SeqCst, SeqCst)),
+                    4 => (session.compare_exchange_weak(x, current, 6)?, word.compare_exchange(current, 6, SeqCst, SeqCst)),
+                    5 => (Ok(session.fetch_add(x, number)?), Ok(word.fetch_add(number, SeqCst))),
+                    6 => (Ok(session.fetch_sub(x, number)?), Ok(word.fetch_sub(number, SeqCst))),
+                    7 => (Ok(session.fetch_and(x, number)?), Ok(word.fetch_and(number, SeqCst))),
+                    8 => (Ok(session.fetch_nand(x, number)?), Ok(word.fetch_nand(number, SeqCst))),
+                    9 => (Ok(session.fetch_or(x, number)?), Ok(word.fetch_or(number, SeqCst))),
+                    10 => (Ok(session.fetch_xor(x, number)?), Ok(word.fetch_xor(number, SeqCst))),
+                    11 => (Ok(session.fetch_max(x, number)?), Ok(word.fetch_max(number, SeqCst))),
+                    12 => (Ok(session.fetch_min(x, number)?), Ok(word.fetch_min(number, SeqCst))),
+                    _ => (session.fetch_update(x, odd)?, word.fetch_update(SeqCst, SeqCst, odd)),
+                };
+                assert_eq!(answers.0, answers.1, "round {round}");
+            }
+            Ok(word.into_inner())
+        });
+    });
+    let run = run.unwrap();
+    assert_eq!(run.value("x"), Some(run.values()[0]));
+}
+
+#[test]
+fn updates_of_all_threads_are_made_and_repeated() {
+    let run = |heap: Builder| {
+        heap.object("x", 0).run(|threads| {
+            for _ in 0..3 {
+                threads.spawn(|session| {
+                    let x = session.object("x")?;
+                    (0..300).try_for_each(|_| session.fetch_update(x, |value| Some(value + 2)).map(|_| ()))
+                });
+            }
+        })
+    };
+    let first = run(Heap::builder()).unwrap();
+    assert_eq!(first.value("x"), Some(1_800));
+    assert!(first.place(0, 1).unwrap().file().ends_with("runs.rs"));
+    assert_eq!(run(Heap::builder().rerun(&first)).unwrap().recording(), first.recording());
 }
