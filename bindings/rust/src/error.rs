@@ -74,6 +74,17 @@ pub enum Error {
 }
 
 /// A thread that waits, in a deadlock.
+///
+/// ```
+/// use octet::{Error, Heap, Schedule};
+///
+/// let run = Heap::builder().lock("door").condition("opened").schedule(Schedule::new(0)).run(|threads| {
+///     threads.spawn(|session| session.locked("door", |session| session.wait("opened")));
+/// });
+/// let Err(Error::Deadlock { waits }) = run else { panic!("nobody opens the door") };
+/// assert_eq!((waits[0].thread, waits[0].name.as_str(), waits[0].holder), (0, "opened", None));
+/// assert_eq!(waits[0].to_string(), "thread 0 waits for opened");
+/// ```
 #[derive(Clone, Debug, PartialEq, Eq)]
 pub struct Wait {
     /// The thread.

@@ -8,6 +8,15 @@ use std::path::Path;
 use std::{error, fmt, mem};
 
 /// Why an exploration ended.
+///
+/// ```
+/// use octet::{Cause, Error, explore};
+///
+/// let failure = explore([0], |_| panic!("at once")).expect_err("it panics");
+/// assert!(matches!(failure.cause(), Cause::Panic(message) if message == "at once"));
+/// let failure = explore([0], |_| Err(Error::Resting)).expect_err("it fails");
+/// assert!(matches!(failure.cause(), Cause::Error(Error::Resting)));
+/// ```
 #[derive(Debug)]
 pub enum Cause {
     /// An assertion failed, in a thread or after the run, with this message.
@@ -17,6 +26,23 @@ pub enum Cause {
 }
 
 /// A schedule that failed: its seed, why it failed, and its run, which is shrunk to few preemptions.
+///
+/// ```
+/// use octet::{Heap, explore};
+///
+/// let failure = explore(0..100, |schedule| {
+///     let run = Heap::builder().object("x", 0).schedule(schedule).run(|threads| {
+///         for number in 1..=2 {
+///             threads.spawn(move |session| session.store(session.object("x")?, number));
+///         }
+///     })?;
+///     assert_eq!(run.value("x"), Some(2), "the first thread writes last");
+///     Ok(())
+/// })
+/// .expect_err("some schedule does so");
+/// println!("{failure}");
+/// # assert!(failure.to_string().contains("the first thread writes last"));
+/// ```
 #[derive(Debug)]
 pub struct Failure {
     seed: u64,
@@ -27,26 +53,79 @@ pub struct Failure {
 
 impl Failure {
     /// The seed of the schedule, before it was shrunk.
+    ///
+    /// ```
+    /// let failure = octet::explore(3..9, |_| panic!("always")).expect_err("it panics");
+    /// assert_eq!(failure.seed(), 3);
+    /// ```
     pub fn seed(&self) -> u64 {
         self.seed
     }
 
     /// Why it failed.
+    ///
+    /// ```
+    /// let failure = octet::explore([0], |_| panic!("always")).expect_err("it panics");
+    /// assert!(matches!(failure.cause(), octet::Cause::Panic(message) if message == "always"));
+    /// ```
     pub fn cause(&self) -> &Cause {
         &self.cause
     }
 
     /// How often a thread was picked though the one before could have gone on.
+    ///
+    /// ```
+    /// # use octet::{Heap, explore};
+    /// # let failure = explore(0..100, |schedule| {
+    /// #     let run = Heap::builder().object("x", 0).schedule(schedule).run(|threads| {
+    /// #         (1..=2).for_each(|number| threads.spawn(move |session| session.store(session.object("x")?, number)));
+    /// #     })?;
+    /// #     assert_eq!(run.value("x"), Some(2), "the first thread writes last");
+    /// #     Ok(())
+    /// # })
+    /// # .expect_err("some schedule does so");
+    /// // The second thread goes first, and then the first one. No thread is stopped.
+    /// assert_eq!(failure.preemptions(), 0);
+    /// ```
     pub fn preemptions(&self) -> usize {
         self.picks.iter().filter(|pick| pick.preempts).count()
     }
 
     /// The run by the schedule, as far as it came. None where no run of it has ended.
+    ///
+    /// ```
+    /// # use octet::{Heap, explore};
+    /// # let failure = explore(0..100, |schedule| {
+    /// #     let run = Heap::builder().object("x", 0).schedule(schedule).run(|threads| {
+    /// #         (1..=2).for_each(|number| threads.spawn(move |session| session.store(session.object("x")?, number)));
+    /// #     })?;
+    /// #     assert_eq!(run.value("x"), Some(2), "the first thread writes last");
+    /// #     Ok(())
+    /// # })
+    /// # .expect_err("some schedule does so");
+    /// assert_eq!(failure.recording().expect("its run has ended").value("x"), Some(1));
+    /// ```
     pub fn recording(&self) -> Option<&Recording> {
         self.recording.as_ref()
     }
 
     /// Saves the run under this stem. Fails with `NoRecording` where there is none, and as `Recording::save` does.
+    ///
+    /// ```
+    /// # use octet::{Heap, explore};
+    /// # let failure = explore(0..100, |schedule| {
+    /// #     let run = Heap::builder().object("x", 0).schedule(schedule).run(|threads| {
+    /// #         (1..=2).for_each(|number| threads.spawn(move |session| session.store(session.object("x")?, number)));
+    /// #     })?;
+    /// #     assert_eq!(run.value("x"), Some(2), "the first thread writes last");
+    /// #     Ok(())
+    /// # })
+    /// # .expect_err("some schedule does so");
+    /// # let stem = std::env::temp_dir().join(format!("octet-failure-{}", std::process::id()));
+    /// failure.save(&stem)?;
+    /// assert_eq!(Some(&octet::Recording::load(&stem)?), failure.recording());
+    /// # Ok::<(), octet::Error>(())
+    /// ```
     pub fn save(&self, stem: impl AsRef<Path>) -> Result<(), Error> {
         self.recording.as_ref().ok_or(Error::NoRecording)?.save(stem)
     }

@@ -57,18 +57,41 @@ pub struct Builder {
 
 impl Builder {
     /// An object of this name, and the value that it starts with.
+    ///
+    /// ```
+    /// let run = octet::Heap::builder().object("x", 5).run(|threads| {
+    ///     threads.spawn(|session| session.load(session.object("x")?));
+    /// })?;
+    /// assert_eq!(run.values(), [5]);
+    /// # Ok::<(), octet::Error>(())
+    /// ```
     pub fn object(mut self, name: &str, start: u64) -> Builder {
         self.objects.push((name.to_string(), start));
         self
     }
 
     /// A lock for `Session::locked`. It is an object of this name too.
+    ///
+    /// ```
+    /// let run = octet::Heap::builder().object("x", 0).lock("door").run(|threads| {
+    ///     threads.spawn(|session| session.locked("door", |session| session.store(session.object("x")?, 1)));
+    /// })?;
+    /// assert_eq!(run.value("x"), Some(1));
+    /// # Ok::<(), octet::Error>(())
+    /// ```
     pub fn lock(mut self, name: &str) -> Builder {
         self.locks.push(Lock { name: name.to_string(), object: self.objects.len() as u16 });
         self.object(name, 0)
     }
 
     /// A condition for `Session::wait`.
+    ///
+    /// ```
+    /// octet::Heap::builder().condition("opened").run(|threads| {
+    ///     threads.spawn(|session| session.notify_all("opened"));
+    /// })?;
+    /// # Ok::<(), octet::Error>(())
+    /// ```
     pub fn condition(mut self, name: &str) -> Builder {
         self.conditions.push(name.to_string());
         self
@@ -76,6 +99,16 @@ impl Builder {
 
     /// A barrier for so many threads, for `Session::arrive`. It has a lock, a condition and objects, whose names begin with its
     /// own.
+    ///
+    /// ```
+    /// let run = octet::Heap::builder().barrier("start", 2).run(|threads| {
+    ///     for _ in 0..2 {
+    ///         threads.spawn(|session| session.arrive("start"));
+    ///     }
+    /// })?;
+    /// assert_eq!(run.values().iter().filter(|&&is_last| is_last).count(), 1);
+    /// # Ok::<(), octet::Error>(())
+    /// ```
     pub fn barrier(mut self, name: &str, threads: u64) -> Builder {
         // One for no thread lets each pass, as one for one thread does.
         self.barriers.push((name.to_string(), threads.max(1)));
@@ -86,6 +119,15 @@ impl Builder {
 
     /// A channel that holds up to so many values, for `Session::send` and `Session::receive`. It has a lock, conditions and
     /// objects, whose names begin with its own.
+    ///
+    /// ```
+    /// let run = octet::Heap::builder().channel("numbers", 1).run(|threads| {
+    ///     threads.spawn(|session| session.send("numbers", 7).map(|_| None));
+    ///     threads.spawn(|session| session.receive("numbers"));
+    /// })?;
+    /// assert_eq!(run.values(), [None, Some(7)]);
+    /// # Ok::<(), octet::Error>(())
+    /// ```
     pub fn channel(mut self, name: &str, room: u64) -> Builder {
         // One of no room would let no value pass.
         let room = room.max(1);
@@ -97,6 +139,12 @@ impl Builder {
     }
 
     /// How many threads there are, 1 to 16. `run` counts them itself.
+    ///
+    /// ```
+    /// let (_heap, sessions) = octet::Heap::builder().threads(3).build()?;
+    /// assert_eq!(sessions.len(), 3);
+    /// # Ok::<(), octet::Error>(())
+    /// ```
     pub fn threads(mut self, threads: usize) -> Builder {
         self.threads = threads;
         self
@@ -104,12 +152,40 @@ impl Builder {
 
     /// How many accesses each thread may make at least. As many as there may be, if nothing is said: 87,381 divided by the
     /// number of threads.
+    ///
+    /// ```
+    /// use octet::{Error, Heap};
+    ///
+    /// let run = Heap::builder().object("x", 0).accesses(1).run(|threads| {
+    ///     threads.spawn(|session| {
+    ///         let x = session.object("x")?;
+    ///         session.store(x, 1)?;
+    ///         session.store(x, 2)
+    ///     });
+    /// });
+    /// assert!(matches!(run, Err(Error::Spent { thread: 0 })));
+    /// ```
     pub fn accesses(mut self, accesses: u32) -> Builder {
         self.accesses = Some(accesses);
         self
     }
 
     /// The threads take turns by this schedule, one access at a time.
+    ///
+    /// ```
+    /// use octet::{Error, Heap, Schedule};
+    ///
+    /// let last = |seed| -> Result<Option<u64>, Error> {
+    ///     let run = Heap::builder().object("x", 0).schedule(Schedule::new(seed)).run(|threads| {
+    ///         for number in 1..=9 {
+    ///             threads.spawn(move |session| session.store(session.object("x")?, number));
+    ///         }
+    ///     })?;
+    ///     Ok(run.value("x"))
+    /// };
+    /// assert_eq!(last(7)?, last(7)?);
+    /// # Ok::<(), Error>(())
+    /// ```
     pub fn schedule(mut self, schedule: Schedule) -> Builder {
         self.schedule = Some(schedule);
         self
@@ -140,16 +216,58 @@ impl Builder {
     }
 
     /// The run may have any length, and its marks go into this file while it goes on.
+    ///
+    /// ```
+    /// # let file = std::env::temp_dir().join(format!("octet-record-{}.octm", std::process::id()));
+    /// let run = octet::Heap::builder().object("x", 0).record(&file).run(|threads| {
+    ///     threads.spawn(|session| {
+    ///         let x = session.object("x")?;
+    ///         (1..=100_000).try_for_each(|number| session.store(x, number))
+    ///     });
+    /// })?;
+    /// assert_eq!(run.value("x"), Some(100_000));
+    /// # std::fs::remove_file(&file).expect("the file is there");
+    /// # Ok::<(), octet::Error>(())
+    /// ```
     pub fn record(self, path: impl Into<PathBuf>) -> LongBuilder {
         LongBuilder::new(self, Way::Record, path.into())
     }
 
     /// The threads run again by the file of marks that `record` has written.
+    ///
+    /// ```
+    /// use octet::{Error, Heap, Threads};
+    ///
+    /// fn threads(threads: &mut Threads<'_, u64, Error>) {
+    ///     for number in 1..=2 {
+    ///         threads.spawn(move |session| session.swap(session.object("x")?, number));
+    ///     }
+    /// }
+    ///
+    /// # let file = std::env::temp_dir().join(format!("octet-follow-{}.octm", std::process::id()));
+    /// let heap = Heap::builder().object("x", 0);
+    /// let first = heap.clone().record(&file).run(threads)?;
+    /// let second = heap.follow(&file).run(threads)?;
+    /// assert_eq!(second.values(), first.values());
+    /// # std::fs::remove_file(&file).expect("the file is there");
+    /// # Ok::<(), Error>(())
+    /// ```
     pub fn follow(self, path: impl Into<PathBuf>) -> LongBuilder {
         LongBuilder::new(self, Way::Follow, path.into())
     }
 
     /// For how long a thread waits for others before it fails; ten seconds if nothing is said.
+    ///
+    /// ```
+    /// use octet::{Error, Heap};
+    /// use std::time::Duration;
+    ///
+    /// let heap = Heap::builder().lock("door").condition("opened").patience(Duration::from_millis(10));
+    /// let run = heap.run(|threads| {
+    ///     threads.spawn(|session| session.locked("door", |session| session.wait("opened")));
+    /// });
+    /// assert!(matches!(run, Err(Error::Patience { thread: 0 })), "nobody opens the door");
+    /// ```
     pub fn patience(mut self, patience: Duration) -> Builder {
         self.patience = patience;
         self
@@ -157,6 +275,18 @@ impl Builder {
 
     /// Where a thread of `run` fails or panics, the run is saved under this stem, as far as it came. Of an exploration this is the
     /// run before it is shrunk.
+    ///
+    /// ```
+    /// use octet::{Heap, Recording};
+    ///
+    /// # let stem = std::env::temp_dir().join(format!("octet-keep-{}", std::process::id()));
+    /// let run = Heap::builder().object("x", 0).keep_failing(&stem).run(|threads| {
+    ///     threads.spawn(|session| session.load(session.object("y")?));
+    /// });
+    /// assert!(run.is_err(), "there is no y");
+    /// assert!(Recording::load(&stem)?.script().contains("object x 0"));
+    /// # Ok::<(), octet::Error>(())
+    /// ```
     pub fn keep_failing(mut self, stem: impl Into<PathBuf>) -> Builder {
         self.failing = Some(stem.into());
         self
@@ -223,6 +353,13 @@ impl Builder {
 
     /// The heap, and a session for each of its threads, for threads that the program starts itself.
     ///
+    /// ```
+    /// let (heap, mut sessions) = octet::Heap::builder().object("x", 0).build()?;
+    /// sessions[0].running(|session| session.store(session.object("x")?, 3))?;
+    /// assert_eq!(heap.finish(sessions)?.value("x"), Some(3));
+    /// # Ok::<(), octet::Error>(())
+    /// ```
+    ///
     /// # Errors
     /// `BadName`, `NamedTwice` and `BadSize` of what the heap is to have. Of a recording `OtherRecording`, `NoRecording`,
     /// `Unordered` and `TooLong`. `NoMemory`.
@@ -254,6 +391,17 @@ impl Builder {
 
     /// Starts the threads that `spawn` is called for, waits for all of them, and gives what they gave back and the recording
     /// of their run.
+    ///
+    /// ```
+    /// let run = octet::Heap::builder().object("x", 0).run(|threads| {
+    ///     for _ in 0..2 {
+    ///         threads.spawn(|session| session.fetch_add(session.object("x")?, 1));
+    ///     }
+    /// })?;
+    /// assert_eq!(run.value("x"), Some(2));
+    /// assert_eq!(run.values().iter().sum::<u64>(), 1);
+    /// # Ok::<(), octet::Error>(())
+    /// ```
     ///
     /// # Errors
     /// Those of `build`, and else that of the first thread that failed by itself, and not for another one's failure. Where no
@@ -383,6 +531,21 @@ pub(crate) fn values_of<T, E>(
 }
 
 /// The threads of a run.
+///
+/// ```
+/// use octet::{Error, Heap, Threads};
+///
+/// fn both(threads: &mut Threads<'_, u64, Error>) {
+///     for number in 1..=2 {
+///         threads.spawn(move |session| session.swap(session.object("x")?, number));
+///     }
+/// }
+///
+/// let heap = Heap::builder().object("x", 0);
+/// let first = heap.clone().run(both)?;
+/// assert_eq!(heap.rerun(&first).run(both)?.values(), first.values());
+/// # Ok::<(), Error>(())
+/// ```
 pub struct Threads<'a, T, E> {
     pub(crate) works: Vec<Work<'a, T, E>>,
 }
@@ -395,12 +558,31 @@ impl<'a, T, E> Threads<'a, T, E> {
     }
 
     /// One more thread, which does this. It starts once all are named.
+    ///
+    /// ```
+    /// let names = ["x", "y"];
+    /// let run = octet::Heap::builder().object("x", 1).object("y", 2).run(|threads| {
+    ///     for name in &names {
+    ///         threads.spawn(move |session| session.load(session.object(name)?));
+    ///     }
+    /// })?;
+    /// assert_eq!(run.values(), [1, 2]);
+    /// # Ok::<(), octet::Error>(())
+    /// ```
     pub fn spawn(&mut self, work: impl FnOnce(&mut Session) -> Result<T, E> + Send + 'a) {
         self.works.push(Box::new(work));
     }
 }
 
 /// A run that has ended: its recording, and what its threads gave back.
+///
+/// ```
+/// let run = octet::Heap::builder().object("x", 5).run(|threads| {
+///     threads.spawn(|session| session.fetch_add(session.object("x")?, 2));
+/// })?;
+/// assert_eq!((run.values(), run.value("x")), (&[5][..], Some(7)));
+/// # Ok::<(), octet::Error>(())
+/// ```
 #[derive(Clone, Debug)]
 pub struct Run<T> {
     recording: Recording,
@@ -409,16 +591,38 @@ pub struct Run<T> {
 
 impl<T> Run<T> {
     /// What the threads gave back, in the order in which they were named.
+    ///
+    /// ```
+    /// let run = octet::Heap::builder().run(|threads| {
+    ///     threads.spawn(|session| Ok(session.number()));
+    ///     threads.spawn(|session| Ok(session.number()));
+    /// })?;
+    /// assert_eq!(run.values(), [0, 1]);
+    /// # Ok::<(), octet::Error>(())
+    /// ```
     pub fn values(&self) -> &[T] {
         &self.values
     }
 
     /// The same, by value.
+    ///
+    /// ```
+    /// let run = octet::Heap::builder().run(|threads| threads.spawn(|_| Ok("done".to_string())))?;
+    /// let done: Vec<String> = run.into_values();
+    /// assert_eq!(done, ["done"]);
+    /// # Ok::<(), octet::Error>(())
+    /// ```
     pub fn into_values(self) -> Vec<T> {
         self.values
     }
 
     /// Its recording. A run may stand wherever a recording is borrowed.
+    ///
+    /// ```
+    /// let run = octet::Heap::builder().object("x", 0).run(|threads| threads.spawn(|_| Ok(())))?;
+    /// assert_eq!(run.recording().value("x"), Some(0));
+    /// # Ok::<(), octet::Error>(())
+    /// ```
     pub fn recording(&self) -> &Recording {
         &self.recording
     }
@@ -433,6 +637,19 @@ impl<T> Deref for Run<T> {
 }
 
 /// A heap whose threads the program starts itself. It has none of the objects: the sessions have.
+///
+/// ```
+/// let (heap, mut sessions) = octet::Heap::builder().object("x", 0).threads(2).build()?;
+/// let x = heap.object("x")?;
+/// std::thread::scope(|scope| {
+///     for session in &mut sessions {
+///         scope.spawn(move || session.running(|session| session.fetch_add(x, 1)));
+///     }
+/// });
+/// let recording = heap.finish(sessions)?;
+/// assert_eq!(recording.value("x"), Some(2));
+/// # Ok::<(), octet::Error>(())
+/// ```
 pub struct Heap {
     threads: usize,
     shared: Arc<Shared>,
@@ -440,6 +657,12 @@ pub struct Heap {
 
 impl Heap {
     /// A heap without an object, of one thread.
+    ///
+    /// ```
+    /// let run = octet::Heap::builder().run(|threads| threads.spawn(|_| Ok(1)))?;
+    /// assert_eq!(run.values(), [1]);
+    /// # Ok::<(), octet::Error>(())
+    /// ```
     pub fn builder() -> Builder {
         Builder {
             objects: Vec::new(),
@@ -458,6 +681,14 @@ impl Heap {
 
     /// The object of this name.
     ///
+    /// ```
+    /// let (heap, mut sessions) = octet::Heap::builder().object("x", 4).build()?;
+    /// let x = heap.object("x")?;
+    /// assert_eq!(sessions[0].running(|session| session.load(x))?, 4);
+    /// assert!(matches!(heap.object("y"), Err(octet::Error::NoName { name }) if name == "y"));
+    /// # Ok::<(), octet::Error>(())
+    /// ```
+    ///
     /// # Errors
     /// `NoName` where there is none.
     pub fn object(&self, name: &str) -> Result<Object, Error> {
@@ -466,6 +697,14 @@ impl Heap {
 
     /// Ends the run. All sessions of the heap are given back, in any order, each stopped. Threads that were run again must have
     /// made all that was recorded of them.
+    ///
+    /// ```
+    /// let (heap, mut sessions) = octet::Heap::builder().object("x", 0).build()?;
+    /// sessions[0].running(|session| session.store(session.object("x")?, 1))?;
+    /// let recording = heap.finish(sessions)?;
+    /// assert!(recording.script().ends_with("write x r0\n"), "{}", recording.script());
+    /// # Ok::<(), octet::Error>(())
+    /// ```
     ///
     /// # Errors
     /// `OtherSessions`, `NotWhole`, `TooLong` and `NoMemory`. The sessions are gone then.

@@ -33,7 +33,7 @@
 //! ```
 //!
 //! A run is repeated as far as its accesses decide what its threads do. Clocks, files and other locks are not recorded.
-#![warn(missing_docs)]
+#![deny(missing_docs)]
 
 mod error;
 mod explore;

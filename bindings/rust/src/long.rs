@@ -161,6 +161,17 @@ impl LongBuilder {
 
     /// Starts the threads that `spawn` is called for, and waits for all of them. Meanwhile the file is written, or read.
     ///
+    /// ```
+    /// # let file = std::env::temp_dir().join(format!("octet-long-run-{}.octm", std::process::id()));
+    /// let run = octet::Heap::builder().object("x", 0).record(&file).run(|threads| {
+    ///     threads.spawn(|session| session.fetch_add(session.object("x")?, 1));
+    ///     threads.spawn(|session| session.fetch_add(session.object("x")?, 1));
+    /// })?;
+    /// assert_eq!(run.value("x"), Some(2));
+    /// # std::fs::remove_file(&file).expect("the file is there");
+    /// # Ok::<(), octet::Error>(())
+    /// ```
+    ///
     /// # Errors
     /// Those of `build`; of a file that is followed `OtherRecording` and `BadMarks`. Else that of the first thread that failed by
     /// itself, and not for another one's failure.
@@ -172,6 +183,29 @@ impl LongBuilder {
     }
 
     /// As `run`, with threads that fail with errors of their own.
+    ///
+    /// ```
+    /// use octet::{Error, Heap};
+    ///
+    /// #[derive(Debug)]
+    /// struct Fault(String);
+    ///
+    /// impl From<Error> for Fault {
+    ///     fn from(error: Error) -> Fault {
+    ///         Fault(error.to_string())
+    ///     }
+    /// }
+    ///
+    /// # let file = std::env::temp_dir().join(format!("octet-long-fault-{}.octm", std::process::id()));
+    /// let run = Heap::builder().object("purse", 0).record(&file).try_run(|threads| {
+    ///     threads.spawn(|session| match session.load(session.object("purse")?)? {
+    ///         0 => Err(Fault("the purse is empty".to_string())),
+    ///         coins => Ok(coins),
+    ///     });
+    /// });
+    /// assert_eq!(run.expect_err("it is empty").0, "the purse is empty");
+    /// # std::fs::remove_file(&file).expect("the file is there");
+    /// ```
     ///
     /// # Errors
     /// As `run`.
@@ -200,6 +234,15 @@ impl LongBuilder {
 
 /// A heap whose run may have any length, and whose threads the program starts itself. It has none of the objects: the sessions
 /// have. Where it is dropped the file has what was written until then.
+///
+/// ```
+/// # let file = std::env::temp_dir().join(format!("octet-long-heap-{}.octm", std::process::id()));
+/// let (heap, mut sessions) = octet::Heap::builder().object("x", 0).record(&file).build()?;
+/// sessions[0].running(|session| session.store(session.object("x")?, 1))?;
+/// assert_eq!(heap.finish(sessions)?.value("x"), Some(1));
+/// # std::fs::remove_file(&file).expect("the file is there");
+/// # Ok::<(), octet::Error>(())
+/// ```
 pub struct LongHeap {
     heap: Heap,
     names: Vec<String>,
@@ -209,6 +252,16 @@ pub struct LongHeap {
 impl LongHeap {
     /// The object of this name.
     ///
+    /// ```
+    /// # let file = std::env::temp_dir().join(format!("octet-long-object-{}.octm", std::process::id()));
+    /// let (heap, mut sessions) = octet::Heap::builder().object("x", 0).record(&file).build()?;
+    /// let x = heap.object("x")?;
+    /// sessions[0].running(|session| session.store(x, 1))?;
+    /// # heap.finish(sessions)?;
+    /// # std::fs::remove_file(&file).expect("the file is there");
+    /// # Ok::<(), octet::Error>(())
+    /// ```
+    ///
     /// # Errors
     /// `NoName` where there is none.
     pub fn object(&self, name: &str) -> Result<Object, Error> {
@@ -217,6 +270,16 @@ impl LongHeap {
 
     /// Ends the run. All sessions of the heap are given back, in any order, each stopped. A thread gives nothing back, so
     /// `LongRun::values` tells only which of them have come to their ends.
+    ///
+    /// ```
+    /// # let file = std::env::temp_dir().join(format!("octet-long-finish-{}.octm", std::process::id()));
+    /// let (heap, mut sessions) = octet::Heap::builder().object("x", 0).record(&file).build()?;
+    /// sessions[0].running(|session| session.fetch_add(session.object("x")?, 1))?;
+    /// let run = heap.finish(sessions)?;
+    /// assert_eq!((run.values(), run.value("x")), (&[Some(())][..], Some(1)));
+    /// # std::fs::remove_file(&file).expect("the file is there");
+    /// # Ok::<(), octet::Error>(())
+    /// ```
     ///
     /// # Errors
     /// `File` and `NoMemory`; of a file that is followed `OtherRecording` and `BadMarks`. `OtherSessions`. The sessions are gone
@@ -239,6 +302,16 @@ impl LongHeap {
 }
 
 /// A run of any length that has ended: what its threads gave back, and the objects' values.
+///
+/// ```
+/// # let file = std::env::temp_dir().join(format!("octet-long-ended-{}.octm", std::process::id()));
+/// let run = octet::Heap::builder().object("x", 5).record(&file).run(|threads| {
+///     threads.spawn(|session| session.fetch_add(session.object("x")?, 1));
+/// })?;
+/// assert_eq!((run.values(), run.value("x")), (&[Some(5)][..], Some(6)));
+/// # std::fs::remove_file(&file).expect("the file is there");
+/// # Ok::<(), octet::Error>(())
+/// ```
 #[derive(Clone, Debug)]
 pub struct LongRun<T> {
     names: Vec<String>,
@@ -249,21 +322,69 @@ pub struct LongRun<T> {
 impl<T> LongRun<T> {
     /// What the threads gave back, in the order in which they were named. None of a thread that was run again, and whose
     /// recording ends before it does: the recorded run was stopped, or its file was cut.
+    ///
+    /// ```
+    /// # let file = std::env::temp_dir().join(format!("octet-long-values-{}.octm", std::process::id()));
+    /// let run = octet::Heap::builder().object("x", 5).record(&file).run(|threads| {
+    ///     threads.spawn(|session| session.fetch_add(session.object("x")?, 1));
+    /// })?;
+    /// assert_eq!(run.values(), [Some(5)]);
+    /// # std::fs::remove_file(&file).expect("the file is there");
+    /// # Ok::<(), octet::Error>(())
+    /// ```
     pub fn values(&self) -> &[Option<T>] {
         &self.values
     }
 
     /// The same, by value.
+    ///
+    /// ```
+    /// # let file = std::env::temp_dir().join(format!("octet-long-into-{}.octm", std::process::id()));
+    /// let run = octet::Heap::builder().object("x", 5).record(&file).run(|threads| {
+    ///     threads.spawn(|session| session.fetch_add(session.object("x")?, 1));
+    /// })?;
+    /// let values: Vec<Option<u64>> = run.into_values();
+    /// assert_eq!(values, [Some(5)]);
+    /// # std::fs::remove_file(&file).expect("the file is there");
+    /// # Ok::<(), octet::Error>(())
+    /// ```
     pub fn into_values(self) -> Vec<Option<T>> {
         self.values
     }
 
     /// Whether each thread has come to its end.
+    ///
+    /// ```
+    /// use octet::{Error, Heap, Threads};
+    ///
+    /// fn threads(threads: &mut Threads<'_, u64, Error>) {
+    ///     threads.spawn(|session| session.fetch_add(session.object("x")?, 1));
+    /// }
+    ///
+    /// # let file = std::env::temp_dir().join(format!("octet-long-whole-{}.octm", std::process::id()));
+    /// let heap = Heap::builder().object("x", 5);
+    /// assert!(heap.clone().record(&file).run(threads)?.is_whole());
+    /// // Nothing is left of the file.
+    /// std::fs::write(&file, "").expect("it may be written");
+    /// assert!(!heap.follow(&file).run(threads)?.is_whole());
+    /// # std::fs::remove_file(&file).expect("the file is there");
+    /// # Ok::<(), Error>(())
+    /// ```
     pub fn is_whole(&self) -> bool {
         self.values.iter().all(Option::is_some)
     }
 
     /// The object's value at the end, or where the recording ends.
+    ///
+    /// ```
+    /// # let file = std::env::temp_dir().join(format!("octet-long-value-{}.octm", std::process::id()));
+    /// let run = octet::Heap::builder().object("x", 5).record(&file).run(|threads| {
+    ///     threads.spawn(|session| session.fetch_add(session.object("x")?, 1));
+    /// })?;
+    /// assert_eq!((run.value("x"), run.value("y")), (Some(6), None));
+    /// # std::fs::remove_file(&file).expect("the file is there");
+    /// # Ok::<(), octet::Error>(())
+    /// ```
     pub fn value(&self, name: &str) -> Option<u64> {
         let place = self.names.iter().position(|other| other == name)?;
         self.last.get(place).copied()

@@ -96,6 +96,19 @@ impl Session {
     }
 
     /// Takes the value that was sent first, and waits while there is none. None where the channel is closed and empty.
+    ///
+    /// ```
+    /// let run = octet::Heap::builder().channel("numbers", 1).run(|threads| {
+    ///     threads.spawn(|session| {
+    ///         session.send("numbers", 3)?;
+    ///         session.close("numbers")?;
+    ///         Ok(vec![])
+    ///     });
+    ///     threads.spawn(|session| Ok(vec![session.receive("numbers")?, session.receive("numbers")?]));
+    /// })?;
+    /// assert_eq!(run.values()[1], [Some(3), None]);
+    /// # Ok::<(), octet::Error>(())
+    /// ```
     #[track_caller]
     pub fn receive(&mut self, channel: &str) -> Result<Option<u64>, Error> {
         let room = self.shared.channel(channel)?;
@@ -122,6 +135,17 @@ impl Session {
     }
 
     /// Closes the channel: no value is sent any more, and those that were sent may be received.
+    ///
+    /// ```
+    /// let run = octet::Heap::builder().channel("numbers", 1).run(|threads| {
+    ///     threads.spawn(|session| {
+    ///         session.close("numbers")?;
+    ///         session.send("numbers", 3)
+    ///     });
+    /// })?;
+    /// assert_eq!(run.values(), [false]);
+    /// # Ok::<(), octet::Error>(())
+    /// ```
     #[track_caller]
     pub fn close(&mut self, channel: &str) -> Result<(), Error> {
         let [_, _, closed] = self.parts(channel)?;

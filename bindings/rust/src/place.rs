@@ -24,11 +24,30 @@ pub struct Place {
 
 impl Place {
     /// The file, as the compiler was given it.
+    ///
+    /// ```
+    /// let run = octet::Heap::builder().object("x", 0).run(|threads| {
+    ///     threads.spawn(|session| session.store(session.object("x")?, 1));
+    /// })?;
+    /// let place = run.place(0, 0).expect("thread 0 has made an access");
+    /// assert_eq!(place.file(), file!());
+    /// # Ok::<(), octet::Error>(())
+    /// ```
     pub fn file(&self) -> &str {
         &self.file
     }
 
     /// The line, counted from 1.
+    ///
+    /// ```
+    /// let before = line!();
+    /// let run = octet::Heap::builder().object("x", 0).run(|threads| {
+    ///     threads.spawn(|session| session.store(session.object("x")?, 1));
+    /// })?;
+    /// let place = run.place(0, 0).expect("thread 0 has made an access");
+    /// assert_eq!(place.line(), before + 2);
+    /// # Ok::<(), octet::Error>(())
+    /// ```
     pub fn line(&self) -> u32 {
         self.line
     }

@@ -83,28 +83,76 @@ fn places_of(text: &str) -> Vec<Vec<Place>> {
 
 impl Recording {
     /// The text of the script.
+    ///
+    /// ```
+    /// let run = octet::Heap::builder().object("x", 5).run(|threads| {
+    ///     threads.spawn(|session| session.store(session.object("x")?, 7));
+    /// })?;
+    /// assert!(run.script().contains("object x 5\nthread\nset r0 7\nwrite x r0\n"), "{}", run.script());
+    /// # Ok::<(), octet::Error>(())
+    /// ```
     pub fn script(&self) -> &str {
         &self.script
     }
 
     /// The bytes of the log, with the digest of the script's text.
+    ///
+    /// ```
+    /// let run = octet::Heap::builder().object("x", 5).run(|threads| {
+    ///     threads.spawn(|session| session.store(session.object("x")?, 7));
+    /// })?;
+    /// assert!(run.log().starts_with(b"OCTL"));
+    /// # Ok::<(), octet::Error>(())
+    /// ```
     pub fn log(&self) -> &[u8] {
         &self.log
     }
 
     /// The object's value at the end. A recording that was loaded has none before it is run again.
+    ///
+    /// ```
+    /// let run = octet::Heap::builder().object("x", 5).run(|threads| {
+    ///     threads.spawn(|session| session.store(session.object("x")?, 7));
+    /// })?;
+    /// assert_eq!((run.value("x"), run.value("y")), (Some(7), None));
+    /// # Ok::<(), octet::Error>(())
+    /// ```
     pub fn value(&self, name: &str) -> Option<u64> {
         let at = self.objects().position(|(object, _)| object == name)?;
         self.values.as_ref()?.get(at).copied()
     }
 
     /// Where in the program this access of the thread stands. Both count from 0.
+    ///
+    /// ```
+    /// let run = octet::Heap::builder().object("x", 5).run(|threads| {
+    ///     threads.spawn(|session| session.store(session.object("x")?, 7));
+    /// })?;
+    /// let place = run.place(0, 0).expect("thread 0 has made an access");
+    /// assert_eq!(place.file(), file!());
+    /// assert_eq!(run.place(0, 1), None);
+    /// # Ok::<(), octet::Error>(())
+    /// ```
     pub fn place(&self, thread: usize, access: usize) -> Option<&Place> {
         self.places.get(thread)?.get(access)
     }
 
     /// Writes `STEM.octet`, `STEM.log`, and `STEM.places` with a line of source for each access. Fails with `TooLong` where
     /// `octet` does not read such long files, and with `File`.
+    ///
+    /// ```
+    /// # let stem = std::env::temp_dir().join(format!("octet-save-{}", std::process::id()));
+    /// let run = octet::Heap::builder().object("x", 5).run(|threads| {
+    ///     threads.spawn(|session| session.store(session.object("x")?, 7));
+    /// })?;
+    /// run.save(&stem)?;
+    /// # for ending in [".octet", ".log", ".places"] {
+    /// #     let mut name = stem.clone().into_os_string();
+    /// #     name.push(ending);
+    /// #     assert!(std::path::Path::new(&name).exists());
+    /// # }
+    /// # Ok::<(), octet::Error>(())
+    /// ```
     pub fn save(&self, stem: impl AsRef<Path>) -> Result<(), Error> {
         if self.script.len() > MAX_SCRIPT || self.log.len() > MAX_LOG {
             return Err(Error::TooLong);
@@ -117,6 +165,16 @@ impl Recording {
 
     /// Reads `STEM.octet` and `STEM.log`, and `STEM.places` if it is there. Whether they are a recording is judged when they
     /// are run again. Fails with `File`, and with `NoRecording` where the script is no text.
+    ///
+    /// ```
+    /// # let stem = std::env::temp_dir().join(format!("octet-load-{}", std::process::id()));
+    /// let run = octet::Heap::builder().object("x", 5).run(|threads| {
+    ///     threads.spawn(|session| session.store(session.object("x")?, 7));
+    /// })?;
+    /// run.save(&stem)?;
+    /// assert_eq!(&octet::Recording::load(&stem)?, run.recording());
+    /// # Ok::<(), octet::Error>(())
+    /// ```
     pub fn load(stem: impl AsRef<Path>) -> Result<Recording, Error> {
         let stem = stem.as_ref();
         let script = String::from_utf8(read(with_ending(stem, ".octet"))?).map_err(|_| Error::NoRecording)?;

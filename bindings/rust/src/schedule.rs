@@ -61,6 +61,18 @@ impl Schedule {
 
     /// Even seeds pick any thread before each access. Odd ones let a thread make up to 8 accesses in a row, so that threads
     /// change less often.
+    ///
+    /// ```
+    /// use octet::{Heap, Schedule};
+    ///
+    /// let run = Heap::builder().object("x", 0).schedule(Schedule::new(7)).run(|threads| {
+    ///     for number in 1..=2 {
+    ///         threads.spawn(move |session| session.store(session.object("x")?, number));
+    ///     }
+    /// })?;
+    /// assert!(run.value("x") > Some(0));
+    /// # Ok::<(), octet::Error>(())
+    /// ```
     pub fn new(seed: u64) -> Schedule {
         if seed % 2 == 0 {
             return Schedule::uniform(seed);
@@ -99,6 +111,10 @@ impl Schedule {
     }
 
     /// Its seed.
+    ///
+    /// ```
+    /// assert_eq!(octet::Schedule::new(7).pct(3).seed(), 7);
+    /// ```
     pub fn seed(&self) -> u64 {
         self.seed
     }
