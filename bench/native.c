@@ -1,7 +1,8 @@
 // Threads that make the same accesses by Octet's C library, on atomic words, or behind a mutex for each word. bench/run --native
 // builds and calls it: `native HOW KIND THREADS ACCESSES RUNS` says how many nanoseconds an access takes its thread, in the
-// mean over runs of so many accesses each. HOW is octet, atomic or mutex. KIND is read or update, of a word for each thread;
-// shared, reads of one word by all; wanted, updates of one word by all. An update adds 1.
+// mean over runs of so many accesses each. HOW is marks, a run of any length, which goes into a file meanwhile; script, a run that
+// is kept as one, of 87,381 accesses at most; atomic or mutex. KIND is read or update, of a word for each thread; shared, reads of
+// one word by all; wanted, updates of one word by all. An update adds 1.
 #include <pthread.h>
 #include <sched.h>
 #include <stdatomic.h>
@@ -31,7 +32,7 @@ struct worker {
 
 static struct word words[MAX_THREADS];
 static pthread_barrier_t all;
-static const char *how;
+static enum { MARKS, SCRIPT, ATOMIC, MUTEX } how;
 static int is_update, is_shared;
 static uint64_t count, kept[MAX_THREADS];
 
@@ -71,11 +72,33 @@ static uint64_t in_session(int number) {
     return 0;
 }
 
+static void start_session(int number) { (void)number; }
+
+static void end_session(int number) { (void)number; }
+
 static void open_heap(int threads) { (void)threads; }
+
+static void take_marks(int threads) { (void)threads; }
 
 static void close_heap(int threads) { (void)threads; }
 #else
 static octet_session sessions[MAX_THREADS];
+static octet_stream streams[MAX_THREADS];
+static FILE *file;
+
+static void start_session(int number) {
+    if (octet_start(&sessions[number]) != OCTET_READY) fail("no start");
+}
+
+static void end_session(int number) {
+    uint64_t made = 0;
+    int32_t status = octet_end(&sessions[number], &made);
+    while (status == OCTET_PENDING) {
+        sched_yield();
+        status = octet_end(&sessions[number], &made);
+    }
+    if (status != OCTET_READY) fail("no end");
+}
 
 static uint64_t in_session(int number) {
     octet_session *session = &sessions[number];
@@ -94,7 +117,7 @@ static uint64_t in_session(int number) {
     return sum;
 }
 
-static void open_heap(int threads) {
+static void open_script(int threads) {
     char text[2048];
     int length = sprintf(text, "fuel %d\n", 262144 / threads);
     for (int object = 0; object < threads; object++) length += sprintf(text + length, "object x%d 0\n", object);
@@ -102,34 +125,64 @@ static void open_heap(int threads) {
     if (octet_open((const uint8_t *)text, (size_t)length, sessions, (size_t)threads) != OCTET_READY) fail("no heap");
 }
 
+static void open_marks(int threads) {
+    static const uint64_t starts[MAX_THREADS];
+    static const uint8_t declared[] = "native";
+    uint8_t head[256];
+    size_t objects = (size_t)threads, length = 0;
+    file = tmpfile();
+    if (!file) fail("no file");
+    if (octet_head(starts, objects, (uint8_t)threads, declared, sizeof declared, head, sizeof head, &length) != OCTET_READY ||
+        fwrite(head, 1, length, file) != length)
+        fail("no head");
+    if (octet_open_long(starts, objects, sessions, objects, streams, objects) != OCTET_READY) fail("no heap");
+}
+
+static void open_heap(int threads) { how == MARKS ? open_marks(threads) : open_script(threads); }
+
+// Until the threads have ended.
+static void take_marks(int threads) {
+    static uint8_t piece[65536];
+    const struct timespec rest = {0, 200000};
+    for (int over = 0; over < threads;) {
+        int some = over = 0;
+        for (int thread = 0; thread < threads; thread++) {
+            size_t length = 0;
+            int32_t status = octet_take(&streams[thread], piece, sizeof piece, &length);
+            if (status == OCTET_READY) some = fwrite(piece, 1, length, file) == length;
+            else if (status == OCTET_OVER) over++;
+            else if (status != OCTET_PENDING) fail("no marks");
+        }
+        if (!some) nanosleep(&rest, NULL);
+    }
+}
+
 static void close_heap(int threads) {
     octet_record record = {0};
     if (octet_close(sessions, (size_t)threads, &record) != OCTET_READY) fail("no record");
     octet_free(&record);
+    if (how == MARKS && fclose(file)) fail("the file could not be written");
 }
 #endif
 
 static void *work(void *argument) {
     struct worker *worker = argument;
-    int number = worker->number;
+    int number = worker->number, is_recorded = how == MARKS || how == SCRIPT;
     struct word *word = &words[is_shared ? 0 : number];
-    int is_octet = !strcmp(how, "octet"), is_atomic = !strcmp(how, "atomic");
-#ifndef PLAIN
-    if (is_octet && octet_start(&sessions[number]) != OCTET_READY) fail("no start");
-#endif
+    if (is_recorded) start_session(number);
     pthread_barrier_wait(&all);
     uint64_t start = now();
-    kept[number] += is_octet ? in_session(number) : is_atomic ? on_atomic(word) : behind_mutex(word);
+    kept[number] += is_recorded ? in_session(number) : how == ATOMIC ? on_atomic(word) : behind_mutex(word);
     worker->nanoseconds += now() - start;
-#ifndef PLAIN
-    if (is_octet && octet_stop(&sessions[number]) != OCTET_READY) fail("no stop");
-#endif
+    if (is_recorded) end_session(number);
     return NULL;
 }
 
 int main(int arguments, char **argument) {
     if (arguments != 6) fail("native HOW KIND THREADS ACCESSES RUNS");
-    how = argument[1];
+    static const char *const ways[] = {"marks", "script", "atomic", "mutex"};
+    for (how = MARKS; strcmp(argument[1], ways[how]); how++)
+        if (how == MUTEX) fail("no such HOW");
     is_shared = !strcmp(argument[2], "shared") || !strcmp(argument[2], "wanted");
     is_update = !strcmp(argument[2], "update") || !strcmp(argument[2], "wanted");
     int threads = atoi(argument[3]), runs = atoi(argument[5]);
@@ -139,13 +192,14 @@ int main(int arguments, char **argument) {
     if (threads < 1 || threads > MAX_THREADS || pthread_barrier_init(&all, NULL, (unsigned)threads)) fail("no such threads");
     for (int word = 0; word < MAX_THREADS; word++) pthread_mutex_init(&words[word].mutex, NULL);
     for (int run = 0; run < runs; run++) {
-        if (!strcmp(how, "octet")) open_heap(threads);
+        if (how == MARKS || how == SCRIPT) open_heap(threads);
         for (int thread = 0; thread < threads; thread++) {
             workers[thread].number = thread;
             if (pthread_create(&started[thread], NULL, work, &workers[thread])) fail("no thread");
         }
+        if (how == MARKS) take_marks(threads);
         for (int thread = 0; thread < threads; thread++) pthread_join(started[thread], NULL);
-        if (!strcmp(how, "octet")) close_heap(threads);
+        if (how == MARKS || how == SCRIPT) close_heap(threads);
     }
     double nanoseconds = 0;
     for (int thread = 0; thread < threads; thread++) nanoseconds += (double)workers[thread].nanoseconds;

@@ -4,7 +4,7 @@ use octet::{Error, Heap, Session};
 use std::sync::atomic::{AtomicU64, Ordering};
 use std::sync::{Barrier, Mutex};
 use std::time::{Duration, Instant};
-use std::{env, error, thread};
+use std::{env, error, fs, process, thread};
 
 const MAX_THREADS: usize = 16;
 
@@ -48,7 +48,7 @@ fn timed<E>(all: &Barrier, accesses: u64, mut access: impl FnMut() -> Result<u64
     Ok(start.elapsed())
 }
 
-fn in_sessions(kind: Kind, threads: usize, accesses: u64) -> Result<Duration, Error> {
+fn in_sessions(by_marks: bool, kind: Kind, threads: usize, accesses: u64) -> Result<Duration, Error> {
     let all = &Barrier::new(threads);
     let names: Vec<String> = (0..threads).map(|number| format!("x{number}")).collect();
     let heap = names.iter().fold(Heap::builder(), |heap, name| heap.object(name, 0));
@@ -60,6 +60,12 @@ fn in_sessions(kind: Kind, threads: usize, accesses: u64) -> Result<Duration, Er
             timed(all, accesses, || session.load(object))
         }
     };
+    if by_marks {
+        let file = env::temp_dir().join(format!("octet-native-{}.octm", process::id()));
+        let run = heap.record(&file).run(|running| (0..threads).for_each(|_| running.spawn(work)))?;
+        fs::remove_file(&file).map_err(|source| Error::File { path: file, source })?;
+        return Ok(run.values().iter().flatten().sum());
+    }
     let run = heap.run(|running| (0..threads).for_each(|_| running.spawn(work)))?;
     Ok(run.values().iter().sum())
 }
@@ -80,7 +86,7 @@ fn on_words<T: Default + Sync>(kind: Kind, threads: usize, accesses: u64, access
 
 fn run(how: &str, kind: Kind, threads: usize, accesses: u64) -> Result<Duration, Error> {
     Ok(match (how, kind.is_update) {
-        ("octet", _) => in_sessions(kind, threads, accesses)?,
+        ("marks" | "script", _) => in_sessions(how == "marks", kind, threads, accesses)?,
         ("atomic", true) => on_words(kind, threads, accesses, |word: &AtomicU64| word.fetch_add(1, Ordering::SeqCst)),
         ("atomic", false) => on_words(kind, threads, accesses, |word: &AtomicU64| word.load(Ordering::SeqCst)),
         (_, is_update) => on_words(kind, threads, accesses, |word: &Mutex<u64>| {
