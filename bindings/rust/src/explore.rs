@@ -91,7 +91,8 @@ impl Failure {
         self.picks.iter().filter(|pick| pick.preempts).count()
     }
 
-    /// The run by the schedule, as far as it came. None where no run of it has ended.
+    /// The run by the schedule, as far as it came: after a deadlock, threads that run again leave it where they waited. None where no
+    /// run of it has ended, or where `Builder::record` has kept it.
     ///
     /// ```
     /// # use octet::{Heap, explore};
@@ -191,7 +192,8 @@ pub(crate) fn play(program: &mut dyn FnMut(Schedule) -> Result<(), Error>, sched
 ///
 /// A failure is shrunk: the program runs up to 200 times more, for ten seconds at most, by schedules with fewer preemptions, and
 /// the failure of the same kind with the fewest is kept. Panics are of the same kind where their messages differ in numbers alone.
-/// Those of the runs that shrink are not printed.
+/// Those of the runs that shrink are not printed. Where the program keeps its runs by `Builder::record`, its file is of the
+/// failure that is told.
 ///
 /// ```
 /// use octet::{Builder, Error, Heap, Run, explore};

@@ -40,7 +40,7 @@ pub struct Object {
 ///
 /// No two threads may use it at once:
 ///
-/// ```compile_fail
+/// ```compile_fail,E0277
 /// fn is_sync<T: Sync>() {}
 /// is_sync::<octet::Session>();
 /// ```

@@ -1,5 +1,5 @@
 //! Runs of any length, recorded by their marks alone and run again.
-use octet::{Builder, Error, Heap, LongRun, Session, Threads};
+use octet::{Builder, Error, Heap, LongRun, Session, Threads, explore};
 use std::fs;
 use std::path::{Path, PathBuf};
 use std::sync::atomic::{AtomicU64, Ordering};
@@ -163,6 +163,70 @@ fn locks_are_recorded_too() {
     for heap in [bank.clone().record(file.as_ref()), bank.follow(file.as_ref())] {
         assert_eq!(heap.run(threads).unwrap().value("balance"), Some(4_000));
     }
+}
+
+// What each thread received, or sent.
+fn hand_over(threads: &mut Threads<'_, Vec<u64>, Error>) {
+    for first in [0, 10_000] {
+        threads.spawn(move |session| {
+            session.arrive("start")?;
+            (first..first + 500).try_for_each(|number| session.send("numbers", number).map(|_| ()))?;
+            if session.arrive("end")? {
+                session.close("numbers")?;
+            }
+            Ok(Vec::new())
+        });
+    }
+    for _ in 0..2 {
+        threads.spawn(|session| {
+            let mut all = Vec::new();
+            session.arrive("start")?;
+            while let Some(number) = session.receive("numbers")? {
+                all.push(number);
+            }
+            Ok(all)
+        });
+    }
+}
+
+#[test]
+fn barriers_and_channels_are_recorded_too() {
+    let file = Kept::new("meeting");
+    let heap = Heap::builder().barrier("start", 4).barrier("end", 2).channel("numbers", 3);
+    let first = heap.clone().record(file.as_ref()).run(hand_over).unwrap();
+    let mut all = first.values().iter().flatten().flatten().copied().collect::<Vec<_>>();
+    all.sort_unstable();
+    assert!(all.into_iter().eq((0..500).chain(10_000..10_500)));
+    for _ in 0..3 {
+        assert_eq!(heap.clone().follow(file.as_ref()).run(hand_over).unwrap().values(), first.values());
+    }
+}
+
+#[test]
+fn the_file_of_an_exploration_is_of_the_failure_that_is_told() {
+    let file = Kept::new("explored");
+    let add = |threads: &mut Threads<'_, (), Error>| {
+        for _ in 0..2 {
+            threads.spawn(|session| {
+                let x = session.object("x")?;
+                let found = session.load(x)?;
+                session.store(x, found + 1)
+            });
+        }
+    };
+    let heap = Heap::builder().object("x", 0);
+    let failures = (0..20).filter_map(|seed| {
+        let program = |schedule| {
+            let run = heap.clone().schedule(schedule).record(file.as_ref()).run(add)?;
+            assert_eq!(run.value("x"), Some(2));
+            Ok(())
+        };
+        explore([seed], program).err().inspect(|failure| {
+            assert_eq!((failure.preemptions(), failure.recording()), (1, None));
+            assert_eq!(heap.clone().follow(file.as_ref()).run(add).unwrap().value("x"), Some(1));
+        })
+    });
+    assert!(failures.count() > 3);
 }
 
 #[test]

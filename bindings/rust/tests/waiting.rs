@@ -104,20 +104,21 @@ fn a_deadlock_tells_who_waits_for_whom() {
     fn both(session: &mut Session, first: &str, second: &str) -> Result<(), Error> {
         session.locked(first, |session| session.locked(second, |_| Ok(())))
     }
-    let failure = explore(0..100, |schedule| {
-        Heap::builder().lock("a").lock("b").schedule(schedule).run(|threads| {
+    let run = |heap: Builder| {
+        heap.lock("a").lock("b").run(|threads| {
             threads.spawn(|session| both(session, "a", "b"));
             threads.spawn(|session| both(session, "b", "a"));
-        })?;
-        Ok(())
-    });
-    let failure = failure.unwrap_err();
+        })
+    };
+    let failure = explore(0..100, |schedule| run(Heap::builder().schedule(schedule)).map(|_| ())).unwrap_err();
     let Cause::Error(Error::Deadlock { waits }) = failure.cause() else { panic!("{failure}") };
     let told: Vec<_> = waits.iter().map(|wait| (wait.thread, wait.name.as_str(), wait.holder)).collect();
     assert_eq!(told, [(0, "b", Some(1)), (1, "a", Some(0))]);
     let message = "deadlock: thread 0 waits for b, which thread 1 holds; thread 1 waits for a, which thread 0 holds";
     assert!(failure.to_string().ends_with(message), "{failure}");
-    assert!(failure.recording().is_some());
+    // Where they waited, nothing is recorded.
+    let again = run(Heap::builder().rerun(failure.recording().unwrap())).unwrap_err();
+    assert!(matches!(&again, Error::Diverged { accesses: 1, place: Some(_), .. }), "{again}");
 }
 
 #[test]
