@@ -75,36 +75,37 @@ impl Failure {
     /// How often a thread was picked though the one before could have gone on.
     ///
     /// ```
-    /// # use octet::{Heap, explore};
-    /// # let failure = explore(0..100, |schedule| {
-    /// #     let run = Heap::builder().object("x", 0).schedule(schedule).run(|threads| {
-    /// #         (1..=2).for_each(|number| threads.spawn(move |session| session.store(session.object("x")?, number)));
-    /// #     })?;
-    /// #     assert_eq!(run.value("x"), Some(2), "the first thread writes last");
-    /// #     Ok(())
-    /// # })
-    /// # .expect_err("some schedule does so");
-    /// // The second thread goes first, and then the first one. No thread is stopped.
-    /// assert_eq!(failure.preemptions(), 0);
+    /// use octet::{Heap, explore};
+    ///
+    /// let failure = explore(0..100, |schedule| {
+    ///     let run = Heap::builder().object("x", 0).schedule(schedule).run(|threads| {
+    ///         for _ in 0..2 {
+    ///             threads.spawn(|session| {
+    ///                 let x = session.object("x")?;
+    ///                 let found = session.load(x)?;
+    ///                 session.store(x, found + 1)
+    ///             });
+    ///         }
+    ///     })?;
+    ///     assert_eq!(run.value("x"), Some(2));
+    ///     Ok(())
+    /// });
+    /// assert_eq!(failure.expect_err("some schedule loses an addition").preemptions(), 1);
     /// ```
     pub fn preemptions(&self) -> usize {
         self.picks.iter().filter(|pick| pick.preempts).count()
     }
 
-    /// The run by the schedule, as far as it came: after a deadlock, threads that run again leave it where they waited. None where no
-    /// run of it has ended, or where `Builder::record` has kept it.
+    /// The run by the schedule, as far as it came. Threads of a deadlock, run again, leave it where they waited. None where no run
+    /// of it has ended, or where `Builder::record` has kept it.
     ///
     /// ```
-    /// # use octet::{Heap, explore};
-    /// # let failure = explore(0..100, |schedule| {
-    /// #     let run = Heap::builder().object("x", 0).schedule(schedule).run(|threads| {
-    /// #         (1..=2).for_each(|number| threads.spawn(move |session| session.store(session.object("x")?, number)));
-    /// #     })?;
-    /// #     assert_eq!(run.value("x"), Some(2), "the first thread writes last");
-    /// #     Ok(())
-    /// # })
-    /// # .expect_err("some schedule does so");
-    /// assert_eq!(failure.recording().expect("its run has ended").value("x"), Some(1));
+    /// let failure = octet::explore([0], |schedule| {
+    ///     octet::Heap::builder().object("x", 5).schedule(schedule).run(|threads| threads.spawn(|_| Ok(())))?;
+    ///     panic!("always")
+    /// })
+    /// .expect_err("it panics");
+    /// assert_eq!(failure.recording().expect("its run has ended").value("x"), Some(5));
     /// ```
     pub fn recording(&self) -> Option<&Recording> {
         self.recording.as_ref()
@@ -113,15 +114,11 @@ impl Failure {
     /// Saves the run under this stem. Fails with `NoRecording` where there is none, and as `Recording::save` does.
     ///
     /// ```
-    /// # use octet::{Heap, explore};
-    /// # let failure = explore(0..100, |schedule| {
-    /// #     let run = Heap::builder().object("x", 0).schedule(schedule).run(|threads| {
-    /// #         (1..=2).for_each(|number| threads.spawn(move |session| session.store(session.object("x")?, number)));
-    /// #     })?;
-    /// #     assert_eq!(run.value("x"), Some(2), "the first thread writes last");
-    /// #     Ok(())
-    /// # })
-    /// # .expect_err("some schedule does so");
+    /// let failure = octet::explore([0], |schedule| {
+    ///     octet::Heap::builder().object("x", 5).schedule(schedule).run(|threads| threads.spawn(|_| Ok(())))?;
+    ///     panic!("always")
+    /// })
+    /// .expect_err("it panics");
     /// # let stem = std::env::temp_dir().join(format!("octet-failure-{}", std::process::id()));
     /// failure.save(&stem)?;
     /// assert_eq!(Some(&octet::Recording::load(&stem)?), failure.recording());
