@@ -149,9 +149,9 @@ static void take_marks(int threads) {
         for (int thread = 0; thread < threads; thread++) {
             size_t length = 0;
             int32_t status = octet_take(&streams[thread], piece, sizeof piece, &length);
-            if (status == OCTET_READY) some = fwrite(piece, 1, length, file) == length;
-            else if (status == OCTET_OVER) over++;
-            else if (status != OCTET_PENDING) fail("no marks");
+            if (status == OCTET_OVER) over++;
+            else if (status == OCTET_READY && fwrite(piece, 1, length, file) == length) some = 1;
+            else if (status != OCTET_PENDING) fail("the marks could not be taken, or not be written");
         }
         if (!some) nanosleep(&rest, NULL);
     }
@@ -161,7 +161,7 @@ static void close_heap(int threads) {
     octet_record record = {0};
     if (octet_close(sessions, (size_t)threads, &record) != OCTET_READY) fail("no record");
     octet_free(&record);
-    if (how == MARKS && fclose(file)) fail("the file could not be written");
+    if (how == MARKS && fclose(file)) fail("the marks could not be written");
 }
 #endif
 
