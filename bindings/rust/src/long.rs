@@ -185,25 +185,17 @@ impl LongBuilder {
     /// As `run`, with threads that fail with errors of their own.
     ///
     /// ```
-    /// use octet::{Error, Heap};
-    ///
-    /// #[derive(Debug)]
-    /// struct Fault(String);
-    ///
-    /// impl From<Error> for Fault {
-    ///     fn from(error: Error) -> Fault {
-    ///         Fault(error.to_string())
-    ///     }
-    /// }
+    /// use std::error::Error;
     ///
     /// # let file = std::env::temp_dir().join(format!("octet-long-fault-{}.octm", std::process::id()));
-    /// let run = Heap::builder().object("purse", 0).record(&file).try_run(|threads| {
+    /// let heap = octet::Heap::builder().object("purse", 0).record(&file);
+    /// let run = heap.try_run::<u64, Box<dyn Error + Send + Sync>>(|threads| {
     ///     threads.spawn(|session| match session.load(session.object("purse")?)? {
-    ///         0 => Err(Fault("the purse is empty".to_string())),
+    ///         0 => Err("the purse is empty".into()),
     ///         coins => Ok(coins),
     ///     });
     /// });
-    /// assert_eq!(run.expect_err("it is empty").0, "the purse is empty");
+    /// assert_eq!(run.expect_err("it is empty").to_string(), "the purse is empty");
     /// # std::fs::remove_file(&file).expect("the file is there");
     /// ```
     ///
