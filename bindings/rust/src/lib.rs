@@ -33,7 +33,7 @@
 //! ```
 //!
 //! A run is repeated as far as its accesses decide what its threads do. Clocks, files and other locks are not recorded.
-#![deny(missing_docs)]
+#![deny(missing_docs, unsafe_code)]
 
 mod error;
 mod explore;
@@ -44,6 +44,7 @@ mod marks_file;
 mod meeting;
 mod place;
 mod quiet;
+#[allow(unsafe_code)]
 mod raw;
 mod recording;
 mod schedule;
