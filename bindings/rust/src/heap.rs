@@ -451,15 +451,12 @@ impl Builder {
     {
         let threads = Threads::named_by(spawn);
         self.threads = threads.works.len();
-        let (schedule, failing) = (self.schedule.clone(), self.failing.take());
-        let shrinks = schedule.as_ref().is_some_and(Schedule::is_given);
+        let failing = self.failing.take();
+        let shrinks = self.schedule.as_ref().is_some_and(Schedule::is_given);
         let (heap, mut sessions) = self.build()?;
         let ended = all_ended(&mut sessions, threads.works, shrinks);
         let follows: Vec<bool> = sessions.iter().map(Session::follows).collect();
         let recording = heap.finish(sessions);
-        if let (Some(schedule), Ok(recording)) = (&schedule, &recording) {
-            schedule.keep(recording);
-        }
         match values_of(ended, &follows) {
             Ok(values) => Ok(Run { recording: recording?, values }),
             Err(failed) => {
@@ -709,8 +706,13 @@ impl Heap {
     /// # Errors
     /// `OtherSessions`, `NotWhole`, `TooLong` and `NoMemory`. The sessions are gone then.
     pub fn finish(self, sessions: Vec<Session>) -> Result<Recording, Error> {
+        let shared = Arc::clone(&self.shared);
         let (record, places) = self.closed(sessions)?;
-        Recording::of(record, places)
+        let recording = Recording::of(record, places)?;
+        if let Order::Turns(turnstile) = &shared.order {
+            turnstile.keep(&recording);
+        }
+        Ok(recording)
     }
 
     pub(crate) fn closed(self, mut sessions: Vec<Session>) -> Result<(raw::Handle, Vec<Vec<Place>>), Error> {

@@ -1,6 +1,6 @@
 //! One thread moves at a time, and a schedule picks which.
 use crate::schedule::{Pick, Picker};
-use crate::{Error, Schedule};
+use crate::{Error, Recording, Schedule};
 use std::sync::{Condvar, Mutex, MutexGuard, PoisonError};
 use std::time::{Duration, Instant};
 
@@ -198,6 +198,11 @@ impl Turnstile {
 
     pub(crate) fn block(&self, thread: usize) {
         drop(self.go(self.state(), thread, Place::Blocked));
+    }
+
+    /// For whoever made the schedule.
+    pub(crate) fn keep(&self, recording: &Recording) {
+        self.state().schedule.keep(recording);
     }
 
     pub(crate) fn end(&self, thread: usize) {

@@ -41,6 +41,24 @@ fn a_lost_update_needs_one_preemption() {
 }
 
 #[test]
+fn threads_that_the_program_starts_itself_are_explored_too() {
+    let failures = shrunk(20, |schedule| {
+        let (heap, mut sessions) = Heap::builder().object("x", 0).threads(2).schedule(schedule).build()?;
+        let x = heap.object("x")?;
+        let add = |session: &mut Session| {
+            let found = session.load(x)?;
+            session.store(x, found + 1)
+        };
+        std::thread::scope(|scope| sessions.iter_mut().for_each(|session| drop(scope.spawn(|| session.running(add)))));
+        assert_eq!(heap.finish(sessions)?.value("x"), Some(2));
+        Ok(())
+    });
+    assert!(failures.len() > 3);
+    assert_eq!(preemptions(&failures), vec![1; failures.len()]);
+    assert!(failures.iter().all(|failure| failure.recording().and_then(|run| run.value("x")) == Some(1)));
+}
+
+#[test]
 fn a_deadlock_needs_one_preemption() {
     let both =
         |session: &mut Session, first: &str, second: &str| session.locked(first, |session| session.locked(second, |_| Ok(())));
