@@ -334,13 +334,15 @@ fn updates_of_all_threads_are_made_and_repeated() {
             for _ in 0..3 {
                 threads.spawn(|session| {
                     let x = session.object("x")?;
-                    (0..300).try_for_each(|_| session.fetch_update(x, |value| Some(value + 2)).map(|_| ()))
+                    (0..10).try_for_each(|_| session.fetch_update(x, |value| Some(value + 2)).map(|_| ()))
                 });
             }
         })
     };
-    let first = run(Heap::builder()).unwrap();
-    assert_eq!(first.value("x"), Some(1_800));
-    assert!(first.place(0, 1).unwrap().file().ends_with("runs.rs"));
-    assert_eq!(run(Heap::builder().rerun(&first)).unwrap().recording(), first.recording());
+    for seed in 0..10 {
+        let first = run(Heap::builder().schedule(Schedule::new(seed))).unwrap();
+        assert_eq!(first.value("x"), Some(60));
+        assert!(first.place(0, 1).unwrap().file().ends_with("runs.rs"));
+        assert_eq!(run(Heap::builder().rerun(&first)).unwrap().recording(), first.recording());
+    }
 }
