@@ -100,6 +100,38 @@ fn a_channel_gives_each_value_once_and_in_order() {
 }
 
 #[test]
+fn one_notice_wakes_the_thread_that_came_first_and_no_other() {
+    let run = |heap: Builder| {
+        heap.lock("door").condition("opened").object("came", 0).object("left", 0).run(|threads| {
+            for _ in 0..2 {
+                threads.spawn(|session| {
+                    session.locked("door", |session| {
+                        let before = session.fetch_add(session.object("came")?, 1)?;
+                        session.wait("opened")?;
+                        session.fetch_add(session.object("left")?, before + 1)
+                    })
+                });
+            }
+            threads.spawn(|session| {
+                let (came, left) = (session.object("came")?, session.object("left")?);
+                let pause = || std::thread::sleep(Duration::from_millis(1));
+                while session.load(came)? < 2 {
+                    session.blocked(pause)?;
+                }
+                session.locked("door", |session| session.notify_one("opened"))?;
+                while session.load(left)? == 0 {
+                    session.blocked(pause)?;
+                }
+                let most = (0..20).try_fold(0, |most, _| session.load(left).map(|found| found.max(most)))?;
+                session.locked("door", |session| session.notify_all("opened"))?;
+                Ok(most)
+            });
+        })
+    };
+    repeats(run, |run| run.values()[2] == 1 && run.value("left") == Some(3));
+}
+
+#[test]
 fn a_deadlock_tells_who_waits_for_whom() {
     fn both(session: &mut Session, first: &str, second: &str) -> Result<(), Error> {
         session.locked(first, |session| session.locked(second, |_| Ok(())))
