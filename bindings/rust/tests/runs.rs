@@ -89,6 +89,22 @@ fn files_are_read_and_judged() {
 }
 
 #[test]
+fn what_octet_would_not_read_is_not_saved() {
+    let stores = |count: u64| {
+        Heap::builder().object("x", 0).run(|threads| {
+            threads.spawn(move |session| {
+                let x = session.object("x")?;
+                (0..count).try_for_each(|number| session.store(x, u64::MAX - number))
+            });
+        })
+    };
+    let stem = stem("long");
+    assert!(matches!(stores(40_000).unwrap().save(&stem), Err(Error::TooLong)));
+    assert!(Recording::load(&stem).is_err());
+    stores(20_000).unwrap().save(&stem).unwrap();
+}
+
+#[test]
 fn each_access_has_its_place() {
     let first = run(bank(), 50, 2).unwrap();
     let lines = |thread| (0..6).map(|access| first.place(thread, access).unwrap().line()).collect::<Vec<_>>();

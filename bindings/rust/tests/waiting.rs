@@ -27,6 +27,8 @@ fn repeats<T: PartialEq + std::fmt::Debug>(run: impl Fn(Builder) -> Result<Run<T
     runs.extend((0..60).map(|seed| run(Heap::builder().schedule(Schedule::new(seed))).unwrap()));
     for (number, first) in runs.iter().enumerate() {
         assert!(is_right(first), "run {number}");
+        let mut places = (0..).map_while(|access| first.place(0, access));
+        assert!(places.all(|place| place.file().ends_with("waiting.rs")), "run {number}");
         let second = run(Heap::builder().rerun(first)).unwrap();
         assert_eq!(second.recording(), first.recording(), "run {number}");
         assert_eq!(second.values(), first.values(), "run {number}");
