@@ -59,6 +59,16 @@ fn threads_that_the_program_starts_itself_are_explored_too() {
 }
 
 #[test]
+fn of_two_heaps_by_one_schedule_the_last_one_is_told() {
+    let failures = shrunk(40, |schedule| {
+        add(Heap::builder().schedule(schedule.clone()))?;
+        loses(schedule)
+    });
+    assert!(failures.len() > 3);
+    assert_eq!(preemptions(&failures), vec![1; failures.len()]);
+}
+
+#[test]
 fn a_deadlock_needs_one_preemption() {
     let both =
         |session: &mut Session, first: &str, second: &str| session.locked(first, |session| session.locked(second, |_| Ok(())));
