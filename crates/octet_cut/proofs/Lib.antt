@@ -4,3 +4,4 @@ pub mod Counted
 pub mod Noted
 pub mod Windowed
 pub mod Beginnings
+pub mod Searching

@@ -1,8 +1,10 @@
 pub mod Blocks
+pub mod Faults
 pub mod Files
 pub mod Marks
 pub mod Fronts
 pub mod Noting
 pub mod Parts
 pub mod Windows
+pub mod Searches
 pub mod Laws

@@ -1,5 +1,5 @@
-//! What a thread is fed that is to come just to a front: its blocks up to there, the last one cut.
-ghost use Rattle.std.specs.Prelude.{◌≡◌, ℕ, None, Ok, OnOk, OnErr, IfOk, IfErr};
+//! A marks file up to a front: the blocks of each thread up to there, the last one cut.
+ghost use Rattle.std.specs.Prelude.{◌≡◌, [], List, None, Ok, OnOk, OnErr, IfOk, IfErr, slice_get};
 ghost use Rattle.octet_marks.specs.declared.piece.Piece.TheVariants as pieces;
 ghost use Rattle.octet_marks.specs.Files.{Unread, unfed, fed_with, IsRefusedAt};
 ghost use Rattle.octet_marks.specs.Reading.{piece_at};
@@ -14,33 +14,31 @@ use octet_marks::{
 use octet_model::{MAX_THREADS, OutOfMemory};
 use std::alloc::Global;
 
-/// What comes next of a recording that is cut.
+/// What comes next of a file that is cut.
 #[derive(Debug, Drop)]
 pub enum Next {
-    /// These bytes are fed next. They are none where a piece of the file tells nothing of the thread.
+    /// These bytes come next. They are none where a piece of the file has nothing before its thread's cut.
     Bytes { bytes: Vec<u8> },
     /// More bytes of the file are wanted.
     More,
-    /// The thread has nothing more before the cut.
-    Through,
 }
 
-/// Reads a marks file up to where the recording of a thread is cut.
+/// Reads a marks file, and gives it up to where the recordings of its threads are cut.
 #[derive(Drop)]
 pub struct Cutter {
-    pub(crate) thread: u8,
-    pub(crate) cut: Cut,
+    // Of each thread, in order.
+    pub(crate) cuts: Vec<Cut>,
     pub(crate) reader: Reader,
     // A piece that was read, of which nothing was given yet.
     pub(crate) held: Option<Piece>,
 }
 
-ghost use Rattle.octet_cut.specs.Files.{Gives, GivesBlock, HasFault, StandsAt, Cuts};
+ghost use Rattle.octet_cut.specs.Files.{AreGiven, Gives, GivesBlock, HasFault, IsNotCut, StandsAt, Cuts};
 
 // The bytes of a head.
 fn next_of_head(alloc: Global, declared: &Head) -> Result<Next, CutFault>
-    ensures gives { (thread : ℕ) (at : Cut) → IfOk result (Gives thread at (pieces.Head declared.now)) }
-    ensures fault { (at : Cut) → IfErr result (HasFault at (pieces.Head declared.now)) }
+    ensures gives { (cuts : List Cut) → IfOk result (Gives cuts (pieces.Head declared.now)) }
+    ensures fault { (cuts : List Cut) → IfErr result (HasFault cuts (pieces.Head declared.now)) }
 {
     let threads = declared.threads;
     if threads == 0 || threads as usize > MAX_THREADS {
@@ -54,13 +52,22 @@ fn next_of_head(alloc: Global, declared: &Head) -> Result<Next, CutFault>
     })
 }
 
-// The bytes of a block of the thread, up to the cut.
-fn next_of_block(alloc: Global, cut: Cut, whole: &Block) -> Result<Next, CutFault>
+// Nothing of a piece.
+fn no_bytes(alloc: Global) -> Next
+    ensures { AreGiven [] result }
+{
+    Next::Bytes {
+        bytes: Vec::new(alloc),
+    }
+}
+
+// The bytes of a block, up to the cut.
+fn block_upto(alloc: Global, cut: Cut, whole: &Block) -> Result<Next, CutFault>
     ensures gives { IfOk result (GivesBlock cut whole.now) }
-    ensures fault { IfErr result (HasFault cut (pieces.Block whole.now)) }
+    ensures fault { IfErr result (IsNotCut cut whole.now) }
 {
     let Some(beginning) = block_before(cut, whole) else {
-        return Ok(Next::Through);
+        return Ok(no_bytes(alloc));
     };
     if beginning.marks > MAX_BLOCK_MARKS {
         return Err(CutFault::Unwritten);
@@ -78,30 +85,44 @@ fn next_of_block(alloc: Global, cut: Cut, whole: &Block) -> Result<Next, CutFaul
     })
 }
 
-// What a piece of a file tells the thread up to the cut.
-fn next_of(alloc: Global, thread: u8, cut: Cut, piece: &Piece) -> Result<Next, CutFault>
-    ensures gives { IfOk result (Gives thread cut piece.now) }
-    ensures fault { IfErr result (HasFault cut piece.now) }
+// Where the recording of a thread is cut.
+fn cut_of(cuts: &[Cut], thread: u8) -> Option<Cut>
+    ensures { result ≡ slice_get cuts.now thread }
+{
+    cuts.get(usize::from(thread)).copied()
+}
+
+// The bytes of a block, up to its thread's cut.
+fn next_of_block(alloc: Global, cuts: &[Cut], whole: &Block) -> Result<Next, CutFault>
+    ensures gives { IfOk result (Gives cuts.now (pieces.Block whole.now)) }
+    ensures fault { IfErr result (HasFault cuts.now (pieces.Block whole.now)) }
+{
+    match cut_of(cuts, whole.thread) {
+        Some(cut) => block_upto(alloc, cut, whole),
+        None => Ok(no_bytes(alloc)),
+    }
+}
+
+// What a piece of a file has up to the cuts.
+fn next_of(alloc: Global, cuts: &[Cut], piece: &Piece) -> Result<Next, CutFault>
+    ensures gives { IfOk result (Gives cuts.now piece.now) }
+    ensures fault { IfErr result (HasFault cuts.now piece.now) }
 {
     match piece {
         Piece::Head { head } => next_of_head(alloc, head),
-        Piece::Block { block } if block.thread == thread => next_of_block(alloc, cut, block),
-        Piece::End { end } if end.thread == thread => Ok(Next::Through),
-        Piece::Block { .. } | Piece::End { .. } => Ok(Next::Bytes {
-            bytes: Vec::new(alloc),
-        }),
+        Piece::Block { block } => next_of_block(alloc, cuts, block),
+        Piece::End { .. } => Ok(no_bytes(alloc)),
     }
 }
 
 impl Cutter {
-    /// Of the thread, fed nothing of the file.
-    pub fn new(alloc: Global, thread: u8, cut: Cut) -> Cutter
-        ensures of { (result.thread ≡ thread) × (result.cut ≡ cut) }
+    /// Fed nothing of the file. The recording of thread k is cut at `cuts[k]`, and nothing is given of a thread without a cut.
+    pub fn new(alloc: Global, cuts: Vec<Cut>) -> Cutter
+        ensures of { result.cuts ≡ cuts }
         ensures start { StandsAt unfed result }
     {
         Cutter {
-            thread,
-            cut,
+            cuts,
             reader: Reader::new(alloc),
             held: None,
         }
@@ -109,7 +130,7 @@ impl Cutter {
 
     /// Takes the next bytes of the file.
     pub fn feed(&mut self, alloc: Global, bytes: &[u8]) -> Result<(), OutOfMemory>
-        ensures of { (self.new.thread ≡ self.old.thread) × (self.new.cut ≡ self.old.cut) }
+        ensures of { self.new.cuts ≡ self.old.cuts }
         ensures fed { OnOk result ((file : Unread) → StandsAt file self.old → StandsAt (fed_with bytes.now file) self.new) }
         ensures same { OnErr result ((file : Unread) → StandsAt file self.old → StandsAt file self.new) }
     {
@@ -119,7 +140,7 @@ impl Cutter {
 
     // Reads the next piece, unless one is held.
     fn hold(&mut self, alloc: Global) -> Result<(), MarksFault>
-        ensures of { (self.new.thread ≡ self.old.thread) × (self.new.cut ≡ self.old.cut) }
+        ensures of { self.new.cuts ≡ self.old.cuts }
         ensures stands { (file : Unread) → StandsAt file self.old → StandsAt file self.new }
         ensures none { OnOk result (self.new.held ≡ None → (file : Unread) → StandsAt file self.old → piece_at file.threads file.bytes ≡ Ok None) }
         ensures fault { IfErr result (λ fault. (file : Unread) → StandsAt file self.old → IsRefusedAt file fault) }
@@ -131,16 +152,16 @@ impl Cutter {
         Ok(())
     }
 
-    /// What comes next of the file for the thread, up to the cut. After an error it stands where it stood.
+    /// What comes next of the file up to the cuts. After an error it stands where it stood.
     pub fn next(&mut self, alloc: Global) -> Result<Next, CutFault>
-        ensures of { (self.new.thread ≡ self.old.thread) × (self.new.cut ≡ self.old.cut) }
+        ensures of { self.new.cuts ≡ self.old.cuts }
         ensures cuts { (file : Unread) → StandsAt file self.old → Cuts file result self.new }
     {
         self.hold(alloc)?;
         let Some(piece) = &self.held else {
             return Ok(Next::More);
         };
-        let next = next_of(alloc, self.thread, self.cut, piece)?;
+        let next = next_of(alloc, self.cuts.as_slice(), piece)?;
         self.held = None;
         Ok(next)
     }

@@ -34,8 +34,7 @@ impl Sources {
     ) -> Result<Sources, OutOfMemory> {
         let mut sources = Vec::new(alloc);
         for feeder in feeders.into_vec() {
-            let cut = cuts.get(sources.len()).copied();
-            sources.push(Source::new(alloc, feeder, cut))?;
+            sources.push(Source::new(alloc, feeder, cuts)?)?;
         }
         Ok(Sources {
             alloc,

@@ -1,4 +1,4 @@
-//! One thread's way through a marks file: it is fed the file, or the beginning of its recording.
+//! One thread's way through a marks file: it is fed the file, or the file up to a front.
 ghost use Rattle.octet_long_race.specs.Reads.{OnlyReads};
 
 use crate::fault::{Fault, unread};
@@ -6,6 +6,7 @@ use octet_base::Desk;
 use octet_blocks::BlockReader;
 use octet_cut::{Cut, Cutter, Next};
 use octet_marks::Head;
+use octet_model::OutOfMemory;
 use octet_stream::Feeder;
 use std::alloc::Global;
 
@@ -26,7 +27,7 @@ pub(crate) struct Wanted {
 #[derive(Drop)]
 pub(crate) struct Source {
     reader: BlockReader,
-    // Where the recording of the thread is cut, if it is.
+    // What gives the file up to a front, if it is not fed the whole.
     cutter: Option<Cutter>,
     // Where the bytes begin that are taken next.
     from: u64,
@@ -40,22 +41,22 @@ pub(crate) struct Source {
 }
 
 impl Source {
-    /// The way of the thread that this feeds, from the file's begin on, up to the cut, if there is one.
-    pub(crate) fn new(alloc: Global, feeder: Feeder, cut: Option<Cut>) -> Source {
-        let reader = BlockReader::new(alloc, feeder);
-        let cutter = match cut {
-            Some(cut) => Some(Cutter::new(alloc, reader.thread(), cut)),
-            None => None,
+    /// The way of the thread that this feeds, from the file's begin on, up to these cuts of all threads, if there are any.
+    pub(crate) fn new(alloc: Global, feeder: Feeder, cuts: &[Cut]) -> Result<Source, OutOfMemory> {
+        let cutter = if cuts.is_empty() {
+            None
+        } else {
+            Some(Cutter::new(alloc, Vec::from_slice(alloc, cuts)?))
         };
-        Source {
-            reader,
+        Ok(Source {
+            reader: BlockReader::new(alloc, feeder),
             cutter,
             from: 0,
             bytes: Vec::new(alloc),
             fed: 0,
             is_through: false,
             is_over: false,
-        }
+        })
     }
 
     /// Whether all is given that the file has.
@@ -92,7 +93,7 @@ impl Source {
         Ok(())
     }
 
-    // Takes what comes next of a recording that is cut. Tells whether there was anything.
+    // Takes what comes next of a file that is cut. Tells whether there was anything.
     fn cut_next(&mut self, alloc: Global) -> Result<bool, Fault> {
         let Some(cutter) = &mut self.cutter else {
             return Ok(false);
@@ -101,11 +102,10 @@ impl Source {
             Next::Bytes { bytes } => {
                 self.bytes = bytes;
                 self.fed = 0;
+                Ok(true)
             }
-            Next::Through => self.is_through = true,
-            Next::More => return Ok(false),
+            Next::More => Ok(false),
         }
-        Ok(true)
     }
 
     // Feeds the thread what was taken, or takes more. Tells whether it could.

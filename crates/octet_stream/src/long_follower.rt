@@ -1,6 +1,7 @@
 //! One thread of a long run that is made again.
 ghost use Rattle.std.specs.Prelude.{◌≡◌};
-ghost use Rattle.octet_follow.specs.Calls.{IsUpTo};
+ghost use Rattle.octet_model.specs.Journals.{access_count};
+ghost use Rattle.octet_follow.specs.Calls.{journal_in, IsUpTo};
 
 use crate::item::Item;
 use crate::quiet::Watch;
@@ -32,5 +33,13 @@ impl LongFollower {
         ensures { result ≡ self.now.follower.number }
     {
         self.follower.thread()
+    }
+
+    /// How many accesses it has made.
+    pub fn accesses(&self) -> u64
+        requires { IsUpTo self.now.follower }
+        ensures { result ≡ access_count (journal_in self.now.follower) }
+    {
+        self.follower.accesses()
     }
 }

@@ -1,9 +1,10 @@
 -- The last accesses of a thread.
-use Rattle.std.specs.Prelude.{◌≡◌, ◌⊎◌, ℕ, ◌<◌, ◌≤◌, List, [], ◌++◌, length}
+use Rattle.std.specs.Prelude.{◌≡◌, ◌⊎◌, ℕ, ◌<◌, ◌≤◌, List, [], ◌++◌, length, IfSome}
 use Rattle.std.specs.Vec.{vec_capacity}
 use Rattle.octet_digest.specs.Digests.{bits_of, digest_of}
 use Rattle.octet_model.specs.declared.event.Event.{Event}
 use Rattle.octet_tail.specs.declared.tail.Last.{Last}
+use Rattle.octet_tail.specs.declared.tail.Made.{Made}
 use Rattle.octet_tail.specs.declared.tail.Tail.{Tail}
 
 -- the accesses that are kept
@@ -29,3 +30,8 @@ pub record IsLast (accesses : List Event) (many : ℕ) (last : Last) : Type 0 wh
   pub all : accesses ≡ earlier ++ last.accesses
   pub count : length last.accesses ≡ many
   pub digest : last.digest ≡ digest_of earlier
+
+-- so many are these accesses, and the last ones are noted, if any are
+pub record HasMade (accesses : List Event) (made : Made) : Type 0 where
+  pub count : made.accesses ≡ length accesses
+  pub noted : IfSome made.tail (IsTail accesses)

@@ -16,6 +16,6 @@ pub use finder::{Found, FrontFinder, Untaken};
 pub use merging::{made_by, marks_of, notes_after};
 pub use placed::Placed;
 pub use places::{Come, Places};
-pub use tail::{Last, Tail};
+pub use tail::{Last, Made, Tail};
 pub use tailed::{Tailed, TailedThread};
 pub use texts::{Texts, Unwritten, texts_of};

@@ -19,6 +19,13 @@ pub struct Tail {
     pub(crate) gone: Digest,
 }
 
+/// What a thread has made: how many accesses, and the last ones of them, if they were noted.
+#[derive(Drop)]
+pub struct Made {
+    pub accesses: u64,
+    pub tail: Option<Tail>,
+}
+
 /// The last accesses of a thread.
 #[derive(Debug, Drop)]
 pub struct Last {

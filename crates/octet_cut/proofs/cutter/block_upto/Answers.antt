@@ -2,7 +2,7 @@ use Rattle.std.proofs.Common.{rules, ◌≡◌, ◌∙◌, List, Some, take, ap}
 use Rattle.octet_model.specs.declared.log.Gapped.{Gapped}
 use Rattle.octet_marks.specs.declared.piece.Piece.TheVariants as pieces
 use Rattle.octet_marks.specs.Reading.{piece_bytes}
-use Rattle.octet_cut.proofs.cutter.next_of_block.Goals as goal
+use Rattle.octet_cut.proofs.cutter.block_upto.Goals as goal
 
 pub returns-clause-gives : goal.returns-clause-gives
 returns-clause-gives c =
