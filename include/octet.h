@@ -88,6 +88,8 @@ enum octet_status {
     OCTET_NO_ROOM = -24,         /* there are more bytes than there is room for */
     OCTET_BAD_MARKS = -25,       /* the bytes are no marks file */
     OCTET_OTHER_RUN = -26,       /* the marks file is of another run */
+    OCTET_NO_NOTES = -30,        /* the record has no accesses that were noted */
+    OCTET_NOT_THERE = -31,       /* the record is not of a run that came just to the window */
     /* Of schedules: */
     OCTET_NO_WAY = -27,          /* the way is none of octet_way */
     OCTET_NO_SCHEDULE = -28      /* the handle has no schedule */
@@ -140,8 +142,8 @@ int32_t octet_poll(octet_session *session, uint64_t *out);
 int32_t octet_close(octet_session *sessions, size_t count, octet_record *record);
 
 /* What the record has: the text of the script, the bytes of the log with the text's digest, the objects' values at
- * the end. That of a long run has values alone. Each call copies as much as there is room for; `length` is how much
- * there is. */
+ * the end. That of a long run has values alone, and a window has none. Each call copies as much as there is room for;
+ * `length` is how much there is. */
 int32_t octet_script(octet_record *record, uint8_t *out, size_t room, size_t *length);
 int32_t octet_log(octet_record *record, uint8_t *out, size_t room, size_t *length);
 int32_t octet_values(octet_record *record, uint64_t *out, size_t room, size_t *length);
@@ -172,9 +174,11 @@ int32_t octet_take(octet_stream *stream, uint8_t *out, size_t room, size_t *leng
 /* Opens a long run that is made again by a marks file, which begins as `octet_head` says. An access is pending until
  * the thread was fed enough, and all is made that was recorded before it. OCTET_OVER: the recording ends here, since
  * the file was cut; this is no divergence. OCTET_DIVERGED: `out` is how many accesses the thread had made where it
- * was found, which may be later than it left its recording. */
+ * was found, which may be later than it left its recording. Each thread notes its last accesses, `last` of them, for a
+ * window; or none, where that is 0. */
 int32_t octet_follow_long(const uint64_t *starts, size_t objects, const uint8_t *declared, size_t declared_length,
-                          octet_session *sessions, size_t count, octet_stream *streams, size_t stream_count);
+                          uint16_t last, octet_session *sessions, size_t count, octet_stream *streams,
+                          size_t stream_count);
 
 /* Feeds a thread the next bytes of the file; `taken` is how many of them were taken. 0: the thread has no room yet,
  * so feed it again later. What the bytes have of the thread comes to it with the next call, which may have none.
@@ -185,6 +189,27 @@ int32_t octet_feed(octet_stream *stream, const uint8_t *bytes, size_t length, ui
 /* Says that the file has no more. Call it until it answers OCTET_READY: OCTET_PENDING, while the thread has no room;
  * OCTET_BAD_MARKS, once, where the file is refused at the place `at`, and the thread's recording ends there. */
 int32_t octet_feed_end(octet_stream *stream, uint64_t *at);
+
+/* A window has the last accesses of a long run as a script and its log. The run is made again twice by
+ * `octet_follow_long`: whole, with `last`, and then up to the window, by the bytes that `octet_cut` gives. With any
+ * status but OCTET_READY the next three calls leave all handles as they are, but that after OCTET_NO_MEMORY
+ * `octet_search` may have freed the notes.
+ *
+ * Begins a search, by the record of the first of these runs. Its notes go to the search, its values stay. A search is
+ * a stream: feed it the whole marks file by `octet_feed`, which takes all bytes, and then `octet_feed_end` finds the
+ * window. It finds none after OCTET_BAD_MARKS or OCTET_NO_MEMORY, nor after OCTET_OTHER_RUN: the threads cannot have
+ * been made again by this file. */
+int32_t octet_search(octet_record *record, octet_stream *search);
+
+/* Puts a stream behind the handle `cut`. It is fed the marks file by `octet_feed`, and gives it up to the window by
+ * `octet_take`, of which OCTET_PENDING says that it wants more of the file. `search` has found the window. Threads
+ * that are made again by these bytes have OCTET_OVER there. */
+int32_t octet_cut(octet_stream *search, octet_stream *cut);
+
+/* Puts a record with the window's script and log behind the handle `window`. `record` is that of the run up to there.
+ * OCTET_NOT_THERE: its threads have not come just to the window. OCTET_TOO_LONG: make a window of fewer accesses.
+ * OCTET_OTHER_RUN: the accesses and the marks do not make a run. */
+int32_t octet_window(octet_stream *search, octet_record *record, octet_record *window);
 
 /* Puts a new schedule behind the handle; what it held is freed. With any status but OCTET_READY the handle stays as
  * it is. By a schedule the threads go on one at a time: before each access pick one, and let that one alone make it.

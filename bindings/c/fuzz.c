@@ -6,7 +6,7 @@
 #include <stdlib.h>
 #include <string.h>
 
-enum { HANDLES = 12, ROOM = 4096, LEAST = -29, MOST = 2, RECORDINGS = 4, MARKS = 65536 };
+enum { HANDLES = 12, ROOM = 4096, LEAST = -31, MOST = 2, RECORDINGS = 4, MARKS = 65536 };
 
 static octet_session handles[HANDLES];
 static unsigned long told[MOST - LEAST + 1];
@@ -138,7 +138,7 @@ static int32_t open_long_any(int again) {
         if (status == OCTET_READY) begin_marks(count);
         return status;
     }
-    int32_t status = octet_follow_long(STARTS, objects, DECLARED, words, first, count, second, streams);
+    int32_t status = octet_follow_long(STARTS, objects, DECLARED, words, (uint16_t)pick(3), first, count, second, streams);
     if (status == OCTET_READY) memset(&fed[HANDLES / 2 + at], 0, count * sizeof *fed);
     return status;
 }
@@ -175,6 +175,17 @@ static int32_t stream_any(void) {
     case 0: return octet_feed_end(&handles[at], &place);
     case 1: case 2: case 3: return feed(at);
     default: return take(&handles[at]);
+    }
+}
+
+/* No two of the handles are the same one. */
+static int32_t window_any(void) {
+    size_t at = pick(HANDLES), next = 1 + pick(HANDLES - 2);
+    octet_stream *search = &handles[at], *second = &handles[(at + next) % HANDLES];
+    switch (pick(3)) {
+    case 0: return octet_search(search, second);
+    case 1: return octet_cut(search, second);
+    default: return octet_window(search, second, &handles[(at + next + 1) % HANDLES]);
     }
 }
 
@@ -221,6 +232,7 @@ static int32_t call(void) {
     case 17: case 18: return open_long_any(0);
     case 19: return open_long_any(1);
     case 20: case 21: case 22: case 23: return schedule_any();
+    case 24: return window_any();
     default: return kind < 64 ? stream_any() : ask();
     }
 }
@@ -271,11 +283,45 @@ static void work_long(octet_session *session) {
     if (octet_end(session, &out) != OCTET_READY && octet_end(session, &out) != OCTET_READY) octet_stop(session);
 }
 
+/* The threads of a long run are made again by these bytes. */
+static void again_by(const uint8_t *bytes, size_t length, uint16_t last, octet_record *record) {
+    octet_session *first = handles, *streams = &handles[HANDLES / 2];
+    uint64_t place = 0;
+    if (octet_follow_long(STARTS, 2, DECLARED, sizeof DECLARED, last, first, 2, streams, 2) != OCTET_READY) fail("a long run is not made again");
+    for (int thread = 0; thread < 2; thread++) {
+        if (octet_feed(&streams[thread], bytes, length, &place) != OCTET_READY || place != length) fail("a file that is not taken");
+        if (octet_feed_end(&streams[thread], &place) != OCTET_READY) fail("a file that does not end");
+    }
+    for (int thread = 0; thread < 2; thread++) work_long(&first[thread]);
+    told[octet_close(first, 2, record) - LEAST]++;
+}
+
+/* Its last accesses are searched, come to once more, and made a script. */
+static void last_accesses(octet_record *noted, size_t whole) {
+    static uint8_t front[MARKS];
+    octet_stream search = {0}, cut = {0};
+    octet_record there = {0}, window = {0};
+    uint64_t place = 0;
+    size_t length = 0, front_length = 0;
+    told[octet_search(noted, &search) - LEAST]++;
+    told[octet_feed(&search, marks, whole, &place) - LEAST]++;
+    told[octet_feed_end(&search, &place) - LEAST]++;
+    told[octet_window(&search, noted, &window) - LEAST]++;
+    if (octet_cut(&search, &cut) == OCTET_READY) {
+        if (octet_feed(&cut, marks, whole, &place) != OCTET_READY || place != whole) fail("a file that is not cut");
+        while (octet_take(&cut, front + front_length, MARKS - front_length, &length) == OCTET_READY) front_length += length;
+        again_by(front, front_length, 0, &there);
+        int32_t made = octet_window(&search, &there, &window);
+        if ((made == OCTET_READY) != (window.at != NULL)) fail("a window after a refusal, or none");
+        told[made - LEAST]++;
+    }
+    octet_free(&search), octet_free(&cut), octet_free(&there), octet_free(&window);
+}
+
 /* The same of a long run, which is recorded, and then made again by its file or by the half of it. */
 static void whole_long_run(void) {
     octet_session *first = handles, *streams = &handles[HANDLES / 2];
     octet_record record = {0};
-    uint64_t place = 0;
     told[octet_open_long(STARTS, 2, first, 2, streams, 2) - LEAST]++;
     begin_marks(2);
     for (int thread = 0; thread < 2; thread++) {
@@ -285,14 +331,9 @@ static void whole_long_run(void) {
     }
     if (octet_close(first, 2, &record) != OCTET_READY) fail("a long run that is not closed");
     octet_free(&record);
-    if (octet_follow_long(STARTS, 2, DECLARED, sizeof DECLARED, first, 2, streams, 2) != OCTET_READY) fail("a long run is not made again");
     size_t whole = pick(2) ? marks_length : pick(marks_length);
-    for (int thread = 0; thread < 2; thread++) {
-        if (octet_feed(&streams[thread], marks, whole, &place) != OCTET_READY || place != whole) fail("a file that is not taken");
-        if (octet_feed_end(&streams[thread], &place) != OCTET_READY) fail("a file that does not end");
-    }
-    for (int thread = 0; thread < 2; thread++) work_long(&first[thread]);
-    told[octet_close(first, 2, &record) - LEAST]++;
+    again_by(marks, whole, (uint16_t)pick(4), &record);
+    last_accesses(&record, whole);
     octet_free(&record);
 }
 

@@ -1,6 +1,6 @@
 /* A run of two threads, of 100,000 accesses each, is recorded by its marks, which the main thread takes meanwhile. The
- * run is made again by them, with equal values. Then each call of long runs is misused. Says every answer that is not as
- * it should be. */
+ * run is made again by them, with equal values, and its last accesses become a script and its log, which go to STEM.octet
+ * and STEM.log if a stem is given. Then each call of long runs is misused. Says every answer that is not as it should be. */
 #include "octet.h"
 #include <inttypes.h>
 #include <pthread.h>
@@ -8,13 +8,17 @@
 #include <stdlib.h>
 #include <string.h>
 
-enum { THREADS = 2, OBJECTS = 4, ACCESSES = 100000 };
+enum { THREADS = 2, OBJECTS = 4, ACCESSES = 100000, LAST = 200 };
+
+struct bytes {
+    uint8_t *at;
+    size_t length, room;
+};
 
 static int wrong;
 static const uint64_t STARTS[OBJECTS] = {5, 6, 7, 8};
 static const uint8_t DECLARED[] = "two threads";
-static uint8_t *file;
-static size_t file_length, file_room;
+static struct bytes file;
 
 static void check(int line, const char *call, uint64_t found, uint64_t wanted) {
     if (found == wanted) return;
@@ -72,14 +76,14 @@ static void join_all(struct worker *workers, octet_session *sessions) {
     }
 }
 
-static void add(const uint8_t *bytes, size_t length) {
-    if (file_length + length > file_room) {
-        file_room = 2 * (file_length + length);
-        file = (uint8_t *)realloc(file, file_room);
-        if (!file) exit(64);
+static void add(struct bytes *to, const uint8_t *from, size_t length) {
+    if (to->length + length > to->room) {
+        to->room = 2 * (to->length + length);
+        to->at = (uint8_t *)realloc(to->at, to->room);
+        if (!to->at) exit(64);
     }
-    memcpy(file + file_length, bytes, length);
-    file_length += length;
+    if (length) memcpy(to->at + to->length, from, length);
+    to->length += length;
 }
 
 /* Takes what the streams have into the file, until the threads have ended. */
@@ -90,15 +94,15 @@ static void take_all(octet_stream *streams) {
         for (int i = 0; i < THREADS; i++) {
             size_t length = 0;
             int32_t status = octet_take(&streams[i], piece, sizeof piece, &length);
-            if (status == OCTET_READY) add(piece, length);
+            if (status == OCTET_READY) add(&file, piece, length);
             else if (status == OCTET_OVER) over++;
             else if (status != OCTET_PENDING) EXPECT(status, OCTET_PENDING), exit(1);
         }
     }
 }
 
-/* Feeds each thread the first bytes of the file, so many. */
-static void feed_all(octet_stream *streams, size_t whole) {
+/* Feeds each thread these bytes. */
+static void feed_all(octet_stream *streams, const uint8_t *bytes, size_t whole) {
     size_t fed[THREADS] = {0};
     int32_t ends[THREADS] = {OCTET_PENDING, OCTET_PENDING};
     for (int over = 0; over < THREADS;) {
@@ -106,7 +110,7 @@ static void feed_all(octet_stream *streams, size_t whole) {
         for (int i = 0; i < THREADS; i++) {
             uint64_t taken = 0;
             if (fed[i] < whole) {
-                EXPECT(octet_feed(&streams[i], file + fed[i], whole - fed[i], &taken), OCTET_READY);
+                EXPECT(octet_feed(&streams[i], bytes + fed[i], whole - fed[i], &taken), OCTET_READY);
                 fed[i] += taken;
             } else if (ends[i] == OCTET_PENDING) ends[i] = octet_feed_end(&streams[i], &taken);
             else over++;
@@ -116,16 +120,14 @@ static void feed_all(octet_stream *streams, size_t whole) {
     EXPECT(ends[1], OCTET_READY);
 }
 
-static void values_of(octet_session *sessions, uint64_t *values) {
-    octet_record record = {0};
+static void values_of(octet_record *record, uint64_t *values) {
     size_t length = 0;
     uint8_t byte;
-    EXPECT(octet_close(sessions, THREADS, &record), OCTET_READY);
-    EXPECT(octet_script(&record, &byte, 1, &length), OCTET_NO_RECORD);
-    EXPECT(octet_log(&record, &byte, 1, &length), OCTET_NO_RECORD);
-    EXPECT(octet_values(&record, values, OBJECTS, &length), OCTET_READY);
+    EXPECT(octet_script(record, &byte, 1, &length), OCTET_NO_RECORD);
+    EXPECT(octet_log(record, &byte, 1, &length), OCTET_NO_RECORD);
+    EXPECT(octet_values(record, values, OBJECTS, &length), OCTET_READY);
     EXPECT(length, OBJECTS);
-    octet_free(&record);
+    octet_free(record);
 }
 
 static void begin_file(void) {
@@ -135,12 +137,13 @@ static void begin_file(void) {
     EXPECT(octet_head(STARTS, OBJECTS, THREADS, DECLARED, sizeof DECLARED, head, sizeof head, &again), OCTET_READY);
     EXPECT(again, length);
     EXPECT(memcmp(head, "OCTM", 4), 0);
-    add(head, length);
+    add(&file, head, length);
 }
 
 static void record(struct worker *workers, uint64_t *values) {
     octet_session sessions[THREADS] = {{0}, {0}};
-    octet_stream streams[THREADS] = {{0}, {0}};
+    octet_stream streams[THREADS] = {{0}, {0}}, none = {0};
+    octet_record record = {0};
     size_t length = 0;
     uint8_t byte;
     begin_file();
@@ -153,50 +156,115 @@ static void record(struct worker *workers, uint64_t *values) {
         EXPECT(workers[i].status, OCTET_READY);
         EXPECT(octet_start(&sessions[i]), OCTET_RESTING);
     }
-    values_of(sessions, values);
+    EXPECT(octet_close(sessions, THREADS, &record), OCTET_READY);
+    EXPECT(octet_search(&record, &none), OCTET_NO_RECORD);
+    values_of(&record, values);
     EXPECT(octet_take(&streams[1], &byte, 1, &length), OCTET_OVER);
     octet_free(&streams[0]), octet_free(&streams[1]);
 }
 
-static void again(const struct worker *before, const uint64_t *values) {
+/* Makes the run again by these bytes, and gives its record. Each thread comes to this status. */
+static octet_record made_again(struct worker *workers, const uint8_t *bytes, size_t length, uint16_t last, int32_t status) {
     octet_session sessions[THREADS] = {{0}, {0}};
     octet_stream streams[THREADS] = {{0}, {0}};
+    octet_record record = {0};
+    EXPECT(octet_follow_long(STARTS, OBJECTS, DECLARED, sizeof DECLARED, last, sessions, THREADS, streams, THREADS), OCTET_READY);
+    start_all(workers, sessions, ACCESSES);
+    feed_all(streams, bytes, length);
+    join_all(workers, sessions);
+    for (int i = 0; i < THREADS; i++) EXPECT(workers[i].status, status);
+    EXPECT(octet_close(sessions, THREADS, &record), OCTET_READY);
+    octet_free(&streams[0]), octet_free(&streams[1]);
+    return record;
+}
+
+static void again(const struct worker *before, const uint64_t *values) {
     struct worker workers[THREADS];
     uint64_t found[OBJECTS] = {0};
-    EXPECT(octet_follow_long(STARTS, OBJECTS, DECLARED, sizeof DECLARED, sessions, THREADS, streams, THREADS), OCTET_READY);
-    start_all(workers, sessions, ACCESSES);
-    feed_all(streams, file_length);
-    join_all(workers, sessions);
-    for (int i = 0; i < THREADS; i++) {
-        EXPECT(workers[i].status, OCTET_READY);
-        EXPECT(workers[i].told, before[i].told);
-    }
-    values_of(sessions, found);
+    octet_record record = made_again(workers, file.at, file.length, 0, OCTET_READY);
+    for (int i = 0; i < THREADS; i++) EXPECT(workers[i].told, before[i].told);
+    values_of(&record, found);
     EXPECT(memcmp(found, values, sizeof found), 0);
-    octet_free(&streams[0]), octet_free(&streams[1]);
 }
 
 /* Half of the file: each thread comes to where its recording ends, and it is closed all the same. */
 static void again_by_half(void) {
-    octet_session sessions[THREADS] = {{0}, {0}};
-    octet_stream streams[THREADS] = {{0}, {0}};
     struct worker workers[THREADS];
     uint64_t found[OBJECTS] = {0};
-    EXPECT(octet_follow_long(STARTS, OBJECTS, DECLARED, sizeof DECLARED, sessions, THREADS, streams, THREADS), OCTET_READY);
-    start_all(workers, sessions, ACCESSES);
-    feed_all(streams, file_length / 2);
-    join_all(workers, sessions);
-    for (int i = 0; i < THREADS; i++) EXPECT(workers[i].status, OCTET_OVER);
+    octet_record record = made_again(workers, file.at, file.length / 2, 0, OCTET_OVER);
     EXPECT(workers[0].made < ACCESSES, 1);
-    values_of(sessions, found);
-    octet_free(&streams[0]), octet_free(&streams[1]);
+    values_of(&record, found);
+}
+
+/* The file up to what the search has found. */
+static struct bytes front_of(octet_stream *search) {
+    static uint8_t piece[65536];
+    struct bytes front = {NULL, 0, 0};
+    octet_stream cut = {0};
+    uint64_t taken = 0;
+    size_t length = 7;
+    EXPECT(octet_cut(search, &cut), OCTET_READY);
+    EXPECT(octet_take(&cut, piece, sizeof piece, &length), OCTET_PENDING);
+    for (size_t fed = 0; fed < file.length; fed += taken) {
+        EXPECT(octet_feed(&cut, file.at + fed, file.length - fed < 999 ? file.length - fed : 999, &taken), OCTET_READY);
+        int32_t status = octet_take(&cut, piece, fed ? sizeof piece : 0, &length);
+        if (!fed) EXPECT(status, OCTET_NO_ROOM), status = octet_take(&cut, piece, sizeof piece, &length);
+        for (; status == OCTET_READY; status = octet_take(&cut, piece, sizeof piece, &length)) add(&front, piece, length);
+        EXPECT(status, OCTET_PENDING);
+    }
+    EXPECT(octet_feed_end(&cut, &taken), OCTET_NO_STREAM);
+    octet_free(&cut);
+    return front;
+}
+
+static void keep(const char *stem, const char *ending, const uint8_t *bytes, size_t length) {
+    char name[4096];
+    if (!stem) return;
+    snprintf(name, sizeof name, "%s%s", stem, ending);
+    FILE *to = fopen(name, "wb");
+    if (!to || fwrite(bytes, 1, length, to) != length || fclose(to)) exit(64);
+}
+
+/* Its last accesses: it is made again whole, and then up to there. */
+static void window(const char *stem) {
+    static uint8_t text[1 << 20], bytes[1 << 20];
+    struct worker workers[THREADS];
+    octet_record whole = made_again(workers, file.at, file.length, LAST, OCTET_READY), there, made = {0};
+    octet_stream search = {0}, none = {0};
+    uint64_t place = 0, value = 0;
+    size_t length = 7, log_length = 7, accesses = 0;
+    EXPECT(octet_search(&none, &search), OCTET_NO_RECORD);
+    EXPECT(octet_search(&whole, &search), OCTET_READY);
+    EXPECT(octet_search(&whole, &none), OCTET_NO_NOTES);
+    EXPECT(octet_cut(&search, &none), OCTET_NO_STREAM);
+    EXPECT(octet_window(&search, &whole, &made), OCTET_NO_STREAM);
+    EXPECT(octet_feed(&search, file.at, file.length, &place), OCTET_READY);
+    EXPECT(place, file.length);
+    EXPECT(octet_feed_end(&search, &place), OCTET_READY);
+    EXPECT(octet_feed(&search, file.at, 1, &place), OCTET_NO_STREAM);
+    struct bytes front = front_of(&search);
+    there = made_again(workers, front.at, front.length, 0, OCTET_OVER);
+    EXPECT(octet_window(&search, &none, &made), OCTET_NO_RECORD);
+    EXPECT(octet_window(&search, &whole, &made), OCTET_NOT_THERE);
+    EXPECT(made.at == NULL && none.at == NULL, 1);
+    EXPECT(octet_window(&search, &there, &made), OCTET_READY);
+    EXPECT(octet_script(&made, text, sizeof text - 1, &length), OCTET_READY);
+    EXPECT(octet_log(&made, bytes, sizeof bytes, &log_length), OCTET_READY);
+    EXPECT(length < sizeof text && log_length <= sizeof bytes, 1);
+    keep(stem, ".octet", text, length), keep(stem, ".log", bytes, log_length);
+    EXPECT(octet_values(&made, &value, 1, &length), OCTET_READY);
+    EXPECT(length, 0);
+    for (const char *at = (const char *)text; (at = strstr(at, " o")); at++) accesses++;
+    EXPECT(accesses > OBJECTS && accesses <= OBJECTS + THREADS * LAST, 1);
+    free(front.at);
+    octet_free(&whole), octet_free(&there), octet_free(&made), octet_free(&search);
 }
 
 /* Feeds a thread as much of the file as it has room for. */
 static void feed_some(octet_stream *stream) {
     uint64_t taken = 1;
-    for (size_t fed = 0; fed < file_length && taken > 0; fed += taken)
-        EXPECT(octet_feed(stream, file + fed, file_length - fed, &taken), OCTET_READY);
+    for (size_t fed = 0; fed < file.length && taken > 0; fed += taken)
+        EXPECT(octet_feed(stream, file.at + fed, file.length - fed, &taken), OCTET_READY);
     octet_feed_end(stream, &taken);
 }
 
@@ -205,7 +273,7 @@ static void leave_the_recording(void) {
     octet_session sessions[THREADS] = {{0}, {0}};
     octet_stream streams[THREADS] = {{0}, {0}};
     struct worker workers[THREADS];
-    EXPECT(octet_follow_long(STARTS, OBJECTS, DECLARED, sizeof DECLARED, sessions, THREADS, streams, THREADS), OCTET_READY);
+    EXPECT(octet_follow_long(STARTS, OBJECTS, DECLARED, sizeof DECLARED, 0, sessions, THREADS, streams, THREADS), OCTET_READY);
     start_all(workers, sessions, 9);
     feed_some(&streams[0]), feed_some(&streams[1]);
     join_all(workers, sessions);
@@ -228,9 +296,9 @@ static void at_open(void) {
     EXPECT(octet_open_long(STARTS, OBJECTS, s, 0, t, 0), OCTET_BAD_SIZE);
     EXPECT(octet_open_long(STARTS, OBJECTS, s, 17, t, 17), OCTET_BAD_SIZE);
     EXPECT(octet_open_long(STARTS, OBJECTS, s, 2, t, 1), OCTET_OTHER_SESSIONS);
-    EXPECT(octet_follow_long(STARTS, 0, DECLARED, 1, s, 1, t, 1), OCTET_BAD_SIZE);
-    EXPECT(octet_follow_long(STARTS, OBJECTS, DECLARED, 1, s, 17, t, 17), OCTET_BAD_SIZE);
-    EXPECT(octet_follow_long(STARTS, OBJECTS, DECLARED, 1, s, 1, t, 2), OCTET_OTHER_SESSIONS);
+    EXPECT(octet_follow_long(STARTS, 0, DECLARED, 1, 0, s, 1, t, 1), OCTET_BAD_SIZE);
+    EXPECT(octet_follow_long(STARTS, OBJECTS, DECLARED, 1, 0, s, 17, t, 17), OCTET_BAD_SIZE);
+    EXPECT(octet_follow_long(STARTS, OBJECTS, DECLARED, 1, 0, s, 1, t, 2), OCTET_OTHER_SESSIONS);
     EXPECT(octet_head(STARTS, OBJECTS, 0, DECLARED, 1, &byte, 1, &length), OCTET_BAD_SIZE);
     EXPECT(octet_head(STARTS, 0, 1, DECLARED, 1, &byte, 1, &length), OCTET_BAD_SIZE);
     EXPECT(length, 7);
@@ -244,10 +312,10 @@ static void without_a_stream(void) {
     uint64_t taken = 7;
     uint8_t bytes[64];
     EXPECT(octet_take(&none, bytes, 1, &length), OCTET_NO_STREAM);
-    EXPECT(octet_feed(&none, file, 1, &taken), OCTET_NO_STREAM);
+    EXPECT(octet_feed(&none, file.at, 1, &taken), OCTET_NO_STREAM);
     EXPECT(octet_feed_end(&none, &taken), OCTET_NO_STREAM);
     EXPECT(octet_open_long(STARTS, OBJECTS, &s, 1, &t, 1), OCTET_READY);
-    EXPECT(octet_feed(&t, file, 1, &taken), OCTET_NO_STREAM);
+    EXPECT(octet_feed(&t, file.at, 1, &taken), OCTET_NO_STREAM);
     EXPECT(octet_take(&s, bytes, 1, &length), OCTET_NO_STREAM);
     EXPECT(octet_start(&t), OCTET_NO_SESSION);
     EXPECT(octet_take(&t, bytes, sizeof bytes, &length), OCTET_PENDING);
@@ -274,11 +342,11 @@ static void at_feed(void) {
     uint64_t out = 7;
     size_t length = 0;
     uint8_t byte;
-    EXPECT(octet_follow_long(STARTS, OBJECTS, DECLARED, 3, s, THREADS, t, THREADS), OCTET_READY);
+    EXPECT(octet_follow_long(STARTS, OBJECTS, DECLARED, 3, 0, s, THREADS, t, THREADS), OCTET_READY);
     EXPECT(octet_take(&t[0], &byte, 1, &length), OCTET_NO_STREAM);
-    EXPECT(octet_feed(&t[0], file, 200, &out), OCTET_READY);
+    EXPECT(octet_feed(&t[0], file.at, 200, &out), OCTET_READY);
     EXPECT(out, 200);
-    EXPECT(octet_feed(&t[0], file + 200, 1, &out), OCTET_OTHER_RUN);
+    EXPECT(octet_feed(&t[0], file.at + 200, 1, &out), OCTET_OTHER_RUN);
     EXPECT(octet_feed(&t[1], DECLARED, sizeof DECLARED, &out), OCTET_READY);
     EXPECT(octet_feed(&t[1], DECLARED, sizeof DECLARED, &out), OCTET_BAD_MARKS);
     EXPECT(out, 0);
@@ -316,25 +384,26 @@ static void at_close(void) {
     EXPECT(octet_start(s), OCTET_READY);
     EXPECT(octet_close(s, 1, &r), OCTET_STILL_RUNNING);
     EXPECT(octet_open_long(STARTS, OBJECTS, s, 1, t, 1), OCTET_READY);
-    EXPECT(octet_follow_long(STARTS, OBJECTS, DECLARED, 1, s + 1, 1, t + 1, 1), OCTET_READY);
+    EXPECT(octet_follow_long(STARTS, OBJECTS, DECLARED, 1, 0, s + 1, 1, t + 1, 1), OCTET_READY);
     EXPECT(octet_close(s, 2, &r), OCTET_OTHER_SESSIONS);
     EXPECT(octet_close(t, 1, &r), OCTET_OTHER_SESSIONS);
     EXPECT(r.at == NULL && t[0].at == NULL, 1);
     octet_free(&t[1]);
 }
 
-int main(void) {
+int main(int count, char **words) {
     static struct worker workers[THREADS];
     uint64_t values[OBJECTS] = {0};
     record(workers, values);
     again(workers, values);
     again_by_half();
+    window(count > 1 ? words[1] : NULL);
     leave_the_recording();
     at_open();
     without_a_stream();
     at_feed();
     at_close();
-    free(file);
+    free(file.at);
     if (!wrong) printf("long: all as expected\n");
     return wrong;
 }

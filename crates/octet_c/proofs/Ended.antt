@@ -8,7 +8,7 @@ use Rattle.octet_host.specs.HandedBack.{AreAsOne}
 use Rattle.octet_c.specs.declared.held.Held.{Held}
 use Rattle.octet_c.specs.declared.kind.Kind.{Kind}
 use Rattle.octet_c.specs.declared.status.Fault.{Fault}
-use Rattle.octet_c.specs.declared.status.Fault.TheVariants.{OutOfMemory, BadText, OtherSessions, StillRunning, TooLong, BadLog, Misfit, Unordered, NotWhole, BadSize, TwoRuns}
+use Rattle.octet_c.specs.declared.status.Fault.TheVariants.{OutOfMemory, BadText, OtherSessions, StillRunning, TooLong, BadLog, Misfit, Unordered, NotWhole, BadSize, TwoRuns, NoRecord, NoStream, NoNotes, NotThere, OtherRun}
 use Rattle.octet_c.specs.Closed.{kind_of, first_kind, IsNumbered, IsThread, AreOneRun, Runs, IsNotWhole, IsTooLong, Refuses, RefusesToClose}
 
 module _ {X Z : Type 0} (f : X → Z) (P : Z → Type 0) where
@@ -83,6 +83,11 @@ module _ {X : Type 0} (wrap : X → Held) (kind : Kind) (Is : ℕ → ℕ → X 
     refused_behind xs Misfit why = absurd why
     refused_behind xs Unordered why = absurd why
     refused_behind xs BadSize why = absurd why
+    refused_behind xs NoRecord why = absurd why
+    refused_behind xs NoStream why = absurd why
+    refused_behind xs NoNotes why = absurd why
+    refused_behind xs NotThere why = absurd why
+    refused_behind xs OtherRun why = absurd why
 
 module _ {B : Type 0} (value : B → Held) where
   -- where the first is no thread, the sessions are of no run

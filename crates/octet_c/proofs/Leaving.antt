@@ -5,6 +5,7 @@ use Rattle.octet_host.specs.declared.stage.Stage.{Stage}
 use Rattle.octet_host.specs.HandedBack.{IsAtWork, AreAsOne}
 use Rattle.octet_host_long.specs.declared.fault.CloseFault.{CloseFault}
 use Rattle.octet_host_long.specs.declared.fault.CloseFault.TheVariants as close
+use Rattle.octet_host_long.specs.declared.following.ClosedAgain.{ClosedAgain}
 use Rattle.octet_host_long.specs.declared.recorded.LongRecorded.{LongRecorded}
 use Rattle.octet_host_long.specs.declared.repeated.LongRepeated.{LongRepeated}
 use Rattle.octet_host_long.specs.Closed.{IsClosedRecording, IsClosedAgain}
@@ -25,6 +26,7 @@ use Rattle.octet_c.specs.declared.status.Fault.{Fault}
 use Rattle.octet_c.specs.Closed.{Refuses, RefusesToClose, IsRecordOf, Closes}
 use Rattle.octet_c.specs.Faults.{script_close_fault, close_fault}
 use Rattle.octet_c.specs.Records.{IsGood, AreGood}
+use Rattle.octet_c.specs.Sessions.{IsLeftOf}
 use Rattle.octet_c.proofs.Ended.{any_map, run_behind, refused_behind}
 
 -- a run kept as a script that is not ended, in the words of this library
@@ -92,7 +94,7 @@ module _ (threads : List LongRecorded) where
   }
 
   pub good_long : (kept : Values) → Any (λ it. IsClosedRecording (of.run_of it) kept.values) threads → AreGood kept
-  good_long kept (k, it, lt, at, closed) = inl (of.run_of it, closed)
+  good_long kept (k, it, lt, at, closed) = (of.run_of it, closed)
 
   pub refused_long : (fault : CloseFault) (given : Fault) → long.RefusesToClose (λ it. it.stage) long.IsRecordedAs threads fault → given ≡ close_fault fault → RefusesToClose (map (λ it. Some (held.LongRecorded it)) threads) given
   refused_long fault given why is =
@@ -102,14 +104,14 @@ module _ (threads : List LongRecorded) where
 
 module _ (threads : List LongRepeated) where
   -- likewise of threads of such a run that is made again
-  pub closes_again : (kept : Values) → AreAsOne long.IsRepeatedAs threads → Any (λ it. IsClosedAgain (of.rerun_of it) kept.values) threads → Closes (map (λ it. Some (held.LongRepeated it)) threads) (Some (held.Values kept))
+  pub closes_again : (kept : ClosedAgain) → AreAsOne long.IsRepeatedAs threads → Any (λ it. IsClosedAgain (of.course_of it) kept) threads → Closes (map (λ it. Some (held.LongRepeated it)) threads) (Some (held.Again kept))
   closes_again kept one closed = record {
     one_run = run_behind (λ it. held.LongRepeated it) kinds.LongRepeated long.IsRepeatedAs (λ it. refl) (λ n m it is. is) (λ n m it is. is) threads one;
-    of = any_map (λ it. Some (held.LongRepeated it)) (λ s. IsRecordOf s (Some (held.Values kept))) threads closed;
+    of = any_map (λ it. Some (held.LongRepeated it)) (λ s. IsRecordOf s (Some (held.Again kept))) threads closed;
   }
 
-  pub good_again : (kept : Values) → Any (λ it. IsClosedAgain (of.rerun_of it) kept.values) threads → AreGood kept
-  good_again kept (k, it, lt, at, closed) = inr (of.rerun_of it, closed)
+  pub good_again : (kept : ClosedAgain) → Any (λ it. IsClosedAgain (of.course_of it) kept) threads → IsLeftOf kept
+  good_again kept (k, it, lt, at, closed) = (of.course_of it, kept, closed, refl)
 
   pub refused_again : (fault : CloseFault) (given : Fault) → long.RefusesToClose (λ it. it.stage) long.IsRepeatedAs threads fault → given ≡ close_fault fault → RefusesToClose (map (λ it. Some (held.LongRepeated it)) threads) given
   refused_again fault given why is =

@@ -3,3 +3,4 @@ pub mod Pairs
 pub mod Ended
 pub mod Taken
 pub mod Leaving
+pub mod Windowing

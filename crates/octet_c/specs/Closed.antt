@@ -88,7 +88,7 @@ abbrev pub IsRecordOf : Option Held → Option Held → Type 0
 IsRecordOf (Some (held.Recorded it)) (Some (held.Kept kept)) = KeepsRecording (recorder_of it) kept
 IsRecordOf (Some (held.Repeated it)) (Some (held.Kept kept)) = RepeatsRecording (course_of it) kept
 IsRecordOf (Some (held.LongRecorded it)) (Some (held.Values kept)) = IsClosedRecording (threads.run_of it) kept.values
-IsRecordOf (Some (held.LongRepeated it)) (Some (held.Values kept)) = IsClosedAgain (threads.rerun_of it) kept.values
+IsRecordOf (Some (held.LongRepeated it)) (Some (held.Again again)) = IsClosedAgain (threads.course_of it) again
 IsRecordOf _ _ = ⊥
 
 -- the sessions are as those of one run, and what is kept is of the run of one of them

@@ -9,8 +9,8 @@ use Rattle.octet_host_script.specs.declared.fault.OpenFault.{OpenFault}
 use Rattle.octet_host_script.specs.declared.fault.OpenFault.TheVariants as opening
 use Rattle.octet_c.specs.declared.status.Fault.{Fault}
 use Rattle.std.specs.Prelude.{ℤ}
-use Rattle.octet_c.specs.declared.status.Fault.TheVariants.{OutOfMemory, BadText, OtherSessions, StillRunning, TooLong, BadLog, Misfit, Unordered, NotWhole, BadSize, TwoRuns}
-use Rattle.octet_c.specs.declared.status.TheConstants.{NO_MEMORY, BAD_TEXT, OTHER_SESSIONS, STILL_RUNNING, TOO_LONG, BAD_LOG, MISFIT, UNORDERED, NOT_WHOLE, BAD_SIZE, TWO_RUNS}
+use Rattle.octet_c.specs.declared.status.Fault.TheVariants.{OutOfMemory, BadText, OtherSessions, StillRunning, TooLong, BadLog, Misfit, Unordered, NotWhole, BadSize, TwoRuns, NoRecord, NoStream, NoNotes, NotThere, OtherRun}
+use Rattle.octet_c.specs.declared.status.TheConstants.{NO_MEMORY, BAD_TEXT, OTHER_SESSIONS, STILL_RUNNING, TOO_LONG, BAD_LOG, MISFIT, UNORDERED, NOT_WHOLE, BAD_SIZE, TWO_RUNS, NO_RECORD, NO_STREAM, NO_NOTES, NOT_THERE, OTHER_RUN}
 
 -- that of a text that is to declare a heap
 abbrev pub open_fault : OpenFault → Fault
@@ -55,3 +55,8 @@ fault_status Unordered = UNORDERED
 fault_status NotWhole = NOT_WHOLE
 fault_status BadSize = BAD_SIZE
 fault_status TwoRuns = TWO_RUNS
+fault_status NoRecord = NO_RECORD
+fault_status NoStream = NO_STREAM
+fault_status NoNotes = NO_NOTES
+fault_status NotThere = NOT_THERE
+fault_status OtherRun = OTHER_RUN

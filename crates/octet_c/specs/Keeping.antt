@@ -1,8 +1,10 @@
 -- What is kept of a run, and copied of it.
-use Rattle.std.specs.Prelude.{◌≡◌, ℕ, ℤ, List, length, Option, Some}
+use Rattle.std.specs.Prelude.{◌≡◌, ℕ, ℤ, List, [], length, Option, Some}
 use Rattle.octet_c.specs.declared.held.Held.{Held}
 use Rattle.octet_c.specs.declared.held.Held.TheVariants as held
 use Rattle.octet_c.specs.declared.status.TheConstants as status
+use Rattle.octet_c.specs.declared.window.Window.TheVariants as window
+use Rattle.octet_tail.specs.declared.texts.Texts.{Texts}
 use Rattle.octet_host.specs.Copies.{copied}
 use Rattle.octet_host_script.specs.declared.kept.Kept.{Kept}
 
@@ -15,12 +17,15 @@ abbrev pub CopiesAll : {X : Type 0} → List X → ℤ → List X → List X →
 CopiesAll all said room out size = (said ≡ status.READY) × (out ≡ copied all room) × (size ≡ length all)
 
 -- what is copied of a script and its log, if they are there
-abbrev pub CopiesOf : (Kept → List ℕ) → Option Held → ℤ → List ℕ → List ℕ → ℕ → ℕ → Type 0
-CopiesOf part (Some (held.Kept kept)) said room out before size = CopiesAll (part kept) said room out size
-CopiesOf part _ said room out before size = CopiesNothing said room out before size
+abbrev pub CopiesOf : (Kept → List ℕ) → (Texts → List ℕ) → Option Held → ℤ → List ℕ → List ℕ → ℕ → ℕ → Type 0
+CopiesOf part text (Some (held.Kept kept)) said room out before size = CopiesAll (part kept) said room out size
+CopiesOf part text (Some (held.Window (window.Made texts))) said room out before size = CopiesAll (text texts) said room out size
+CopiesOf part text _ said room out before size = CopiesNothing said room out before size
 
 -- what is copied of values, if they are there
 abbrev pub CopiesValues : Option Held → ℤ → List ℕ → List ℕ → ℕ → ℕ → Type 0
 CopiesValues (Some (held.Kept kept)) said room out before size = CopiesAll kept.values said room out size
 CopiesValues (Some (held.Values kept)) said room out before size = CopiesAll kept.values said room out size
+CopiesValues (Some (held.Again again)) said room out before size = CopiesAll again.values said room out size
+CopiesValues (Some (held.Window (window.Made texts))) said room out before size = CopiesAll [] said room out size
 CopiesValues _ said room out before size = CopiesNothing said room out before size

@@ -10,3 +10,4 @@ pub mod Long
 pub mod Names
 pub mod Keeping
 pub mod Closed
+pub mod Windows

@@ -54,17 +54,17 @@ pub record OpensLong (threads : ℕ) (starts : List ℕ) (sessions streams : Lis
   pub streams_hold : Holds streams_held streams
 
 -- the threads of a run that is made again, with the streams by which they are fed
-pub record AreFollowing (threads : ℕ) (starts declared : List ℕ) (sessions streams : List Held) : Type 0 where
+pub record AreFollowing (threads : ℕ) (starts declared : List ℕ) (last : ℕ) (sessions streams : List Held) : Type 0 where
   pub repeated : List LongRepeated
   pub inlets : List Inlet
-  pub follows : long.Follows threads starts declared repeated inlets
+  pub follows : long.Follows threads starts declared last repeated inlets
   pub sessions_are : sessions ≡ map (λ it. held.LongRepeated it) repeated
   pub streams_are : streams ≡ map (λ it. held.Inlet it) inlets
 
 -- the same behind handles, one of each for each thread, in order
-pub record FollowsLong (threads : ℕ) (starts declared : List ℕ) (sessions streams : List Handle) : Type 0 where
+pub record FollowsLong (threads : ℕ) (starts declared : List ℕ) (last : ℕ) (sessions streams : List Handle) : Type 0 where
   pub threads_held : List Held
   pub streams_held : List Held
-  pub following : AreFollowing threads starts declared threads_held streams_held
+  pub following : AreFollowing threads starts declared last threads_held streams_held
   pub sessions_hold : Holds threads_held sessions
   pub streams_hold : Holds streams_held streams

@@ -135,7 +135,7 @@ OnLongRecorded Has it said that =
 -- a call of a thread of such a run that is made again. It stays in its run
 abbrev pub OnLongRepeated : Effect LongHalt → LongRepeated → ℤ → LongRepeated → Type 0
 OnLongRepeated Has it said that =
-    (that.course ≡ it.course) × Has it.objects (λ asked. IsFollowerReason (threads.rerun_of that) asked that.thread) said it.stage (follower_standing it.thread) that.stage (follower_standing that.thread)
+    (that.course ≡ it.course) × Has it.objects (λ asked. IsFollowerReason (threads.rerun_of that) asked that.thread.thread) said it.stage (follower_standing it.thread.thread) that.stage (follower_standing that.thread.thread)
 
 -- a thread that is recorded at any length ends. It has handed on all that it has made, and its end, where it is ready
 abbrev pub EndsLongRecorded : ℕ → ℕ → LongRecorded → ℤ → LongRecorded → Type 0
@@ -145,7 +145,7 @@ EndsLongRecorded before out it said that =
 -- a thread of such a run that is made again ends. It has made all that was recorded of it where it is ready
 abbrev pub EndsLongRepeated : ℕ → ℕ → LongRepeated → ℤ → LongRepeated → Type 0
 EndsLongRepeated before out it said that =
-    OnLongRepeated (λ objects Why said s v t w. (given : Answer LongHalt) × TellsEnd LongHalts given said before out × Ends Why (HasFollowed that.thread) s v given t w) it said that
+    OnLongRepeated (λ objects Why said s v t w. (given : Answer LongHalt) × TellsEnd LongHalts given said before out × Ends Why (HasFollowed that.thread.thread) s v given t w) it said that
 
 -- a call for the thread that is held, if one is
 abbrev pub OnThread : (Recorded → ℤ → Recorded → Type 0) → (Repeated → ℤ → Repeated → Type 0) → (LongRecorded → ℤ → LongRecorded → Type 0) → (LongRepeated → ℤ → LongRepeated → Type 0) → Held → ℤ → Held → Type 0
@@ -157,6 +157,8 @@ OnThread Records Repeats Tracks Follows (held.Outlet it) said that = (said ≡ s
 OnThread Records Repeats Tracks Follows (held.Inlet it) said that = (said ≡ status.NO_SESSION) × (that ≡ held.Inlet it)
 OnThread Records Repeats Tracks Follows (held.Kept it) said that = (said ≡ status.NO_SESSION) × (that ≡ held.Kept it)
 OnThread Records Repeats Tracks Follows (held.Values it) said that = (said ≡ status.NO_SESSION) × (that ≡ held.Values it)
+OnThread Records Repeats Tracks Follows (held.Again it) said that = (said ≡ status.NO_SESSION) × (that ≡ held.Again it)
+OnThread Records Repeats Tracks Follows (held.Window it) said that = (said ≡ status.NO_SESSION) × (that ≡ held.Window it)
 OnThread Records Repeats Tracks Follows (held.Schedule it) said that = (said ≡ status.NO_SESSION) × (that ≡ held.Schedule it)
 OnThread Records Repeats Tracks Follows _ said _ = ⊥
 

@@ -6,14 +6,16 @@ ghost use Rattle.octet_c.specs.Statuses.{status_done, status_asked, Tells, Tells
 use crate::kept::Values;
 use crate::status::{ANSWERED, NO_SESSION, PENDING, READY, status_of};
 use crate::told::Told;
+use crate::window::Window;
 use octet_host::{Answer, Misuse};
-use octet_host_long::{Inlet, LongRecorded, LongRepeated, Outlet};
+use octet_host_long::{ClosedAgain, Inlet, LongRecorded, LongRepeated, Outlet};
 use octet_host_script::{Kept, Recorded, Repeated};
 use octet_schedule::Schedule;
 use octet_session::Access;
 use std::convert::Infallible;
 
-/// What a handle stands for: a thread that is recorded or run again, a stream of one, what a run has left, or a schedule.
+/// What a handle stands for: a thread that is recorded or run again, a stream of one, what a run has
+/// left, its last accesses, or a schedule.
 #[derive(Drop)]
 pub enum Held {
     Recorded(Recorded),
@@ -24,6 +26,8 @@ pub enum Held {
     Inlet(Inlet),
     Kept(Kept),
     Values(Values),
+    Again(ClosedAgain),
+    Window(Window),
     Schedule(Schedule),
 }
 
@@ -106,6 +110,8 @@ impl Held {
             | Held::Inlet(_)
             | Held::Kept(_)
             | Held::Values(_)
+            | Held::Again(_)
+            | Held::Window(_)
             | Held::Schedule(_) => NO_SESSION,
         }
     }
@@ -125,6 +131,8 @@ impl Held {
             | Held::Inlet(_)
             | Held::Kept(_)
             | Held::Values(_)
+            | Held::Again(_)
+            | Held::Window(_)
             | Held::Schedule(_) => NO_SESSION,
         }
     }
@@ -144,6 +152,8 @@ impl Held {
             | Held::Inlet(_)
             | Held::Kept(_)
             | Held::Values(_)
+            | Held::Again(_)
+            | Held::Window(_)
             | Held::Schedule(_) => NO_SESSION,
         }
     }
@@ -163,6 +173,8 @@ impl Held {
             | Held::Inlet(_)
             | Held::Kept(_)
             | Held::Values(_)
+            | Held::Again(_)
+            | Held::Window(_)
             | Held::Schedule(_) => NO_SESSION,
         }
     }
@@ -182,6 +194,8 @@ impl Held {
             | Held::Inlet(_)
             | Held::Kept(_)
             | Held::Values(_)
+            | Held::Again(_)
+            | Held::Window(_)
             | Held::Schedule(_) => NO_SESSION,
         }
     }
@@ -201,6 +215,8 @@ impl Held {
             | Held::Inlet(_)
             | Held::Kept(_)
             | Held::Values(_)
+            | Held::Again(_)
+            | Held::Window(_)
             | Held::Schedule(_) => NO_SESSION,
         }
     }
@@ -220,6 +236,8 @@ impl Held {
             | Held::Inlet(_)
             | Held::Kept(_)
             | Held::Values(_)
+            | Held::Again(_)
+            | Held::Window(_)
             | Held::Schedule(_) => NO_SESSION,
         }
     }

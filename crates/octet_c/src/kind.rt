@@ -197,7 +197,7 @@ impl Thread for LongRepeated {
         ensures refused { IfErr result (RefusesToClose (map (λ it. Some (held.LongRepeated it)) threads.items)) }
     {
         match close_repeated(alloc, threads) {
-            Ok(values) => Ok(Held::Values(Values { values })),
+            Ok(again) => Ok(Held::Again(again)),
             Err(fault) => Err(Fault::from(fault)),
         }
     }

@@ -23,6 +23,7 @@ mod status;
 mod streams;
 mod told;
 mod turns;
+mod window;
 mod words;
 
 use handing::{Boxes, put_all, take_all, threads_of};
@@ -37,6 +38,7 @@ use octet_host_script::{Recorded, Repeated};
 use octet_recorder::Access;
 use status::{Fault, NO_CHANGE, NO_MEMORY, NO_MODE, NO_RECORD, NO_SESSION, READY};
 use std::alloc::Global;
+pub use window::Window;
 use words::{access_of, update_of};
 
 /// Opens a heap as the text declares it, and puts a session behind each of the handles, one for each thread, in order. What
@@ -300,7 +302,7 @@ pub extern "C" fn octet_script(
     length: &mut usize,
 ) -> i32
     ensures keeps { kept.new.held ≡ kept.old.held }
-    ensures copies { CopiesOf (λ kept. kept.script.items) kept.old.held result out.old out.new length.old length.new }
+    ensures copies { CopiesOf (λ kept. kept.script.items) (λ texts. texts.script.items) kept.old.held result out.old out.new length.old length.new }
 {
     match kept.take(alloc) {
         None => NO_RECORD,
@@ -308,6 +310,10 @@ pub extern "C" fn octet_script(
             let status = match &*held {
                 Held::Kept(record) => {
                     *length = copy_out(record.script.as_slice(), out);
+                    READY
+                }
+                Held::Window(Window::Made(texts)) => {
+                    *length = copy_out(texts.script.as_slice(), out);
                     READY
                 }
                 _ => NO_RECORD,
@@ -327,7 +333,7 @@ pub extern "C" fn octet_log(
     length: &mut usize,
 ) -> i32
     ensures keeps { kept.new.held ≡ kept.old.held }
-    ensures copies { CopiesOf (λ kept. kept.log.items) kept.old.held result out.old out.new length.old length.new }
+    ensures copies { CopiesOf (λ kept. kept.log.items) (λ texts. texts.log.items) kept.old.held result out.old out.new length.old length.new }
 {
     match kept.take(alloc) {
         None => NO_RECORD,
@@ -335,6 +341,10 @@ pub extern "C" fn octet_log(
             let status = match &*held {
                 Held::Kept(record) => {
                     *length = copy_out(record.log.as_slice(), out);
+                    READY
+                }
+                Held::Window(Window::Made(texts)) => {
+                    *length = copy_out(texts.log.as_slice(), out);
                     READY
                 }
                 _ => NO_RECORD,
@@ -366,6 +376,14 @@ pub extern "C" fn octet_values(
                 }
                 Held::Values(kept) => {
                     *length = copy_out(kept.values.as_slice(), out);
+                    READY
+                }
+                Held::Again(again) => {
+                    *length = copy_out(again.values.as_slice(), out);
+                    READY
+                }
+                Held::Window(Window::Made(_)) => {
+                    *length = copy_out(&[], out);
                     READY
                 }
                 _ => NO_RECORD,

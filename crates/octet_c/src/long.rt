@@ -71,16 +71,17 @@ fn following(
     alloc: Global,
     starts: &[u64],
     declared: &[u8],
+    last: u16,
     sessions: usize,
     streams: usize,
 ) -> Result<(Boxes, Boxes), Fault>
-    ensures follows { IfOk result (λ boxes. AreFollowing sessions starts.now declared.now (map (λ box. box.value) boxes.0.items) (map (λ box. box.value) boxes.1.items)) }
+    ensures follows { IfOk result (λ boxes. AreFollowing sessions starts.now declared.now last (map (λ box. box.value) boxes.0.items) (map (λ box. box.value) boxes.1.items)) }
     ensures good { IfOk result (λ boxes. All (λ box. IsHeld box.value) boxes.0.items × All (λ box. IsHeld box.value) boxes.1.items) }
     ensures count { IfOk result (λ boxes. (length boxes.0.items ≡ sessions) × (length boxes.1.items ≡ streams)) }
     ensures refused { IfErr result (Refuses (length starts.now) sessions streams) }
 {
     sized(starts.len(), sessions, streams)?;
-    let (repeated, inlets) = follow(alloc, sessions as u8, starts, declared)?;
+    let (repeated, inlets) = follow(alloc, sessions as u8, starts, declared, last)?;
     let threads = box_all(alloc, repeated)?;
     let ends = box_all(alloc, inlets)?;
     Ok((threads, ends))
@@ -125,20 +126,21 @@ pub extern "C" fn octet_open_long(
 
 /// Opens a run of any length that is made again, over objects with these starting values, and puts a session and its stream
 /// behind the handles, one of each for each thread, in order. Each stream is fed a marks file, whose head has to be that of
-/// `octet_head`. What a handle held is freed.
+/// `octet_head`. Each thread notes its last accesses, so many. What a handle held is freed.
 #[unsafe(no_mangle)]
 pub extern "C" fn octet_follow_long(
     alloc: Global,
     starts: &[u64],
     declared: &[u8],
+    last: u16,
     sessions: &mut [Handle],
     streams: &mut [Handle],
 ) -> i32
-    ensures ready { result ≡ READY → FollowsLong (length sessions.old) starts.now declared.now sessions.new streams.new }
+    ensures ready { result ≡ READY → FollowsLong (length sessions.old) starts.now declared.now last sessions.new streams.new }
     ensures kept { result ≢ READY → (sessions.new ≡ sessions.old) × (streams.new ≡ streams.old) }
     ensures cause { result ≢ READY → RefusesLong (length starts.now) (length sessions.old) (length streams.old) result }
 {
-    match following(alloc, starts, declared, sessions.len(), streams.len()) {
+    match following(alloc, starts, declared, last, sessions.len(), streams.len()) {
         Ok(boxes) => put_both(alloc, sessions, streams, boxes),
         Err(fault) => fault.status(),
     }

@@ -4,11 +4,14 @@ ghost use Rattle.octet_c.specs.declared.status.TheConstants.{READY};
 ghost use Rattle.octet_c.specs.declared.status.Fault.TheVariants.{OutOfMemory as MemoryRefused};
 ghost use Rattle.octet_c.specs.Faults.{open_fault, follow_fault, script_close_fault, close_fault, fault_status};
 ghost use Rattle.octet_c.specs.Statuses.{status_of};
+ghost use Rattle.octet_c.specs.Windows.{window_fault};
 
+use octet_cut::WindowFault;
 use octet_host::Misuse;
 use octet_host_long::CloseFault;
 use octet_host_script::{FollowFault, OpenFault};
 use octet_model::OutOfMemory;
+use octet_window::Refusal;
 use std::alloc::{AllocError, AllocFailed};
 
 /// Why no heap was opened, or no record was made.
@@ -35,6 +38,16 @@ pub enum Fault {
     BadSize,
     /// Sessions are as many as a run has, in order, and yet of two runs.
     TwoRuns,
+    /// The handle has no record of this kind.
+    NoRecord,
+    /// The handle has no stream of this kind.
+    NoStream,
+    /// The record has no accesses that were noted.
+    NoNotes,
+    /// The record is not of a run that came just to the window.
+    NotThere,
+    /// What was fed is not the marks file of the run.
+    OtherRun,
 }
 
 impl From<AllocError> for Fault {
@@ -115,6 +128,22 @@ impl From<CloseFault> for Fault {
     }
 }
 
+impl From<WindowFault> for Fault {
+    ghost from_gives = { λ fault e. e ≡ window_fault fault };
+
+    fn from(fault: WindowFault) -> Fault {
+        match fault {
+            WindowFault::OutOfMemory => Fault::OutOfMemory,
+            WindowFault::TooLong => Fault::TooLong,
+            WindowFault::Refused { refusal } => match refusal {
+                Refusal::ManyObjects { .. } | Refusal::ManyLines { .. } => Fault::TooLong,
+                Refusal::OutOfMemory => Fault::OutOfMemory,
+                Refusal::NoObject { .. } | Refusal::NoHistory => Fault::OtherRun,
+            },
+        }
+    }
+}
+
 /// The statuses that the calls answer. They stand in `include/octet.h` too.
 pub const READY: i32 = 0;
 
@@ -184,6 +213,10 @@ pub const NO_SCHEDULE: i32 = -28;
 
 pub const TWO_RUNS: i32 = -29;
 
+pub const NO_NOTES: i32 = -30;
+
+pub const NOT_THERE: i32 = -31;
+
 /// The status of a call that the state of its thread does not allow.
 pub(crate) fn status_of(misuse: Misuse) -> i32
     ensures { result ≡ status_of misuse }
@@ -215,6 +248,11 @@ impl Fault {
             Fault::NotWhole => NOT_WHOLE,
             Fault::BadSize => BAD_SIZE,
             Fault::TwoRuns => TWO_RUNS,
+            Fault::NoRecord => NO_RECORD,
+            Fault::NoStream => NO_STREAM,
+            Fault::NoNotes => NO_NOTES,
+            Fault::NotThere => NOT_THERE,
+            Fault::OtherRun => OTHER_RUN,
         }
     }
 }

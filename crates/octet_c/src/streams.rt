@@ -4,17 +4,20 @@ ghost use Rattle.octet_marks.specs.declared.piece.Piece.TheVariants as pieces;
 ghost use Rattle.octet_marks.specs.Reading.{piece_bytes};
 ghost use Rattle.octet_host_long.specs.Opened.{head_with};
 ghost use Rattle.octet_c.specs.Long.{IsSize};
-ghost use Rattle.octet_c.specs.Streams.{FitsTaken, FitsFault, TakesHeld, FeedsInlet, FeedsHeld, EndsInlet, EndsHeld, HeadCopied};
+ghost use Rattle.octet_c.specs.Sessions.{IsOnTheWay};
+ghost use Rattle.octet_c.specs.Streams.{FitsCut, FitsTaken, FitsFault, FitsSearchFault, FeedsCut, FeedsSearch, FeedsWindow, FindsWindow, TakesHeld, FeedsInlet, FeedsHeld, EndsInlet, EndsHeld, HeadCopied};
 
 use crate::handle::Handle;
 use crate::held::Held;
 use crate::long::is_size;
 use crate::status::{
-    BAD_MARKS, BAD_SIZE, NO_MEMORY, NO_ROOM, NO_STREAM, OTHER_RUN, OVER, PENDING, READY,
+    BAD_MARKS, BAD_SIZE, NO_MEMORY, NO_NOTES, NO_ROOM, NO_STREAM, OTHER_RUN, OVER, PENDING, READY,
 };
+use crate::window::Window;
 use octet_blocks::{FeedFault, GatherFault};
+use octet_cut::{CutFault, Search, SearchFault};
 use octet_host::copy_out;
-use octet_host_long::{Inlet, Outlet, Taken, head_of};
+use octet_host_long::{CutStream, Inlet, Taken, head_of};
 use octet_marks::head;
 use octet_model::OutOfMemory;
 use std::alloc::Global;
@@ -77,8 +80,28 @@ fn taken(taken: Result<Taken, GatherFault>, length: &mut usize) -> i32
     }
 }
 
+// What a stream comes to that gives a file up to a window.
+fn taken_of_cut(taken: Result<Taken, CutFault>, length: &mut usize) -> i32
+    ensures { FitsCut taken result length.old length.new }
+{
+    match taken {
+        Ok(Taken::Copied { length: copied }) => {
+            *length = copied;
+            READY
+        }
+        Ok(Taken::NoRoom { length: needed }) => {
+            *length = needed;
+            NO_ROOM
+        }
+        Ok(Taken::Waits) => PENDING,
+        Ok(Taken::Ended) => OVER,
+        Err(CutFault::Refused { .. } | CutFault::Unwritten) => BAD_MARKS,
+        Err(CutFault::OutOfMemory) => NO_MEMORY,
+    }
+}
+
 /// Copies the next block of the thread, or its end, and says how long it is: 0 where it was copied, 1 where nothing is whole
-/// yet, 2 where the thread's end was taken before.
+/// yet, 2 where the thread's end was taken before. Of a file up to a window it copies what the next piece has.
 #[unsafe(no_mangle)]
 pub extern "C" fn octet_take(
     alloc: Global,
@@ -93,6 +116,7 @@ pub extern "C" fn octet_take(
         Some(mut held) => {
             let status = match &mut *held {
                 Held::Outlet(outlet) => taken(outlet.take(alloc, out), length),
+                Held::Window(Window::Cut(cut)) => taken_of_cut(cut.take(alloc, out), length),
                 _ => NO_STREAM,
             };
             stream.put(held);
@@ -140,8 +164,82 @@ fn fed_all(alloc: Global, inlet: &mut Inlet, at: &mut u64) -> i32
     }
 }
 
+// Why a search goes on no more, with the place of the file that is refused if there is one.
+fn unsearched(fault: SearchFault, place: &mut u64) -> i32
+    ensures { FitsSearchFault fault result place.old place.new }
+{
+    match fault {
+        SearchFault::OutOfMemory => NO_MEMORY,
+        SearchFault::Refused { at, .. } => {
+            *place = at;
+            BAD_MARKS
+        }
+        SearchFault::ManyEvents => BAD_MARKS,
+        SearchFault::NotNoted => NO_NOTES,
+        SearchFault::Apart => OTHER_RUN,
+    }
+}
+
+// Feeds a search. All bytes are taken, or none.
+fn searched(alloc: Global, search: &mut Search, bytes: &[u8], taken: &mut u64) -> i32
+    ensures { FeedsSearch bytes.now search.old result taken.old taken.new search.new }
+{
+    match search.feed(alloc, bytes) {
+        Ok(()) => {
+            *taken = bytes.len() as u64;
+            READY
+        }
+        Err(fault) => unsearched(fault, taken),
+    }
+}
+
+// Feeds what gives a file up to a window. All bytes are taken, or none.
+fn fed_to_cut(alloc: Global, cut: &mut CutStream, bytes: &[u8], taken: &mut u64) -> i32
+    ensures { FeedsCut bytes.now cut.old result taken.old taken.new cut.new }
+{
+    match cut.feed(alloc, bytes) {
+        Ok(()) => {
+            *taken = bytes.len() as u64;
+            READY
+        }
+        Err(_) => NO_MEMORY,
+    }
+}
+
+// What comes of the last accesses is fed, if it is to be.
+fn fed_to_window(alloc: Global, window: &mut Window, bytes: &[u8], taken: &mut u64) -> i32
+    requires { IsOnTheWay window.old }
+    ensures feeds { FeedsWindow bytes.now window.old result taken.old taken.new window.new }
+    ensures good { IsOnTheWay window.new }
+{
+    match window {
+        Window::Search(search) => searched(alloc, search, bytes, taken),
+        Window::Cut(cut) => fed_to_cut(alloc, cut, bytes, taken),
+        Window::Found(_) | Window::Made(_) => NO_STREAM,
+    }
+}
+
+// The file has no more, so a search finds what it can.
+fn found(alloc: Global, window: &mut Window, at: &mut u64) -> i32
+    requires { IsOnTheWay window.old }
+    ensures finds { FindsWindow window.old result at.old at.new window.new }
+    ensures good { IsOnTheWay window.new }
+{
+    let found = match window {
+        Window::Search(search) => search.find(alloc),
+        _ => return NO_STREAM,
+    };
+    match found {
+        Ok(found) => {
+            *window = Window::Found(found);
+            READY
+        }
+        Err(fault) => unsearched(fault, at),
+    }
+}
+
 /// Feeds the thread the next bytes of a marks file, and says how many were taken: none where the thread has no room yet.
-/// Where the file is refused, `taken` is the place.
+/// Where the file is refused, `taken` is the place. So is a search fed, and a stream that gives the file up to a window.
 #[unsafe(no_mangle)]
 pub extern "C" fn octet_feed(
     alloc: Global,
@@ -156,6 +254,7 @@ pub extern "C" fn octet_feed(
         Some(mut held) => {
             let status = match &mut *held {
                 Held::Inlet(inlet) => fed(alloc, inlet, bytes, taken),
+                Held::Window(window) => fed_to_window(alloc, window, bytes, taken),
                 _ => NO_STREAM,
             };
             stream.put(held);
@@ -165,7 +264,7 @@ pub extern "C" fn octet_feed(
 }
 
 /// Says that the file has no more: 1 where the thread has no room for what is left, and the call is to be made again. Where
-/// the file is refused, `at` is the place.
+/// the file is refused, `at` is the place. A search finds the window.
 #[unsafe(no_mangle)]
 pub extern "C" fn octet_feed_end(alloc: Global, stream: &mut Handle, at: &mut u64) -> i32
     ensures { EndsHeld stream.old.held result at.old at.new stream.new.held }
@@ -175,6 +274,7 @@ pub extern "C" fn octet_feed_end(alloc: Global, stream: &mut Handle, at: &mut u6
         Some(mut held) => {
             let status = match &mut *held {
                 Held::Inlet(inlet) => fed_all(alloc, inlet, at),
+                Held::Window(window) => found(alloc, window, at),
                 _ => NO_STREAM,
             };
             stream.put(held);

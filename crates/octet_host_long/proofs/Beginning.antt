@@ -1,5 +1,5 @@
 -- Threads and streams of a run at its beginning.
-use Rattle.std.proofs.Common.{◌≡◌, ◌∙◌, ℕ, ◌<◌, All, List, [], ◌∷◌, ◌++◌, length, map, slice_index_or, refl, sym, ap, subst, arith}
+use Rattle.std.proofs.Common.{◌≡◌, ◌∙◌, ℕ, zero, suc, ◌<◌, All, Option, Some, None, IfSome, List, [], ◌∷◌, ◌++◌, length, map, slice_index_or, refl, sym, ap, subst, arith}
 use Rattle.std.proofs.lemmas.List.{get_or-map, length-map}
 use Rattle.octet_follow.specs.Calls.{starts_in}
 use Rattle.octet_heap.specs.Models.{heap_model}
@@ -11,7 +11,7 @@ use Rattle.octet_stream.specs.declared.long_run.LongRun.{LongRun}
 use Rattle.octet_stream.specs.declared.receiver.Receiver.{Receiver}
 use Rattle.octet_stream.specs.declared.track.Track.{Track}
 use Rattle.octet_stream.specs.Accesses.{track_standing, TrackRuns, TrackRests, TrackHasEnded}
-use Rattle.octet_stream.specs.Followers.{follower_standing, IsLongFollowerOf, IsFedAt, EachAtStart, HasFollowed}
+use Rattle.octet_stream.specs.Followers.{follower_standing, IsFedAt, EachAtStart, HasFollowed}
 use Rattle.octet_stream.specs.Runs.{IsNew, EachNew}
 use Rattle.octet_stream.specs.Tracks.{IsTrackOf, wanted_in}
 use Rattle.octet_host.specs.declared.stage.Stage.{Stage}
@@ -21,6 +21,11 @@ use Rattle.octet_host_long.specs.declared.outlet.Outlet.{Outlet}
 use Rattle.octet_host_long.specs.declared.recorded.LongRecorded.{LongRecorded}
 use Rattle.octet_host_long.specs.declared.repeated.LongRepeated.{LongRepeated}
 use Rattle.octet_host_long.specs.Opened.{IsSeat, IsOutlet, IsOpened, IsSeatAgain, IsInlet, IsFollowing}
+use Rattle.octet_tail.specs.declared.tail.Tail.{Tail}
+use Rattle.octet_tail.specs.Tails.{IsTail}
+use Rattle.octet_window.specs.Ordering.{accesses_in}
+use Rattle.octet_model.specs.declared.event.Event.{Event}
+use Rattle.octet_host_long.specs.Tailed.{made_by, HasRoom, IsTailedOf}
 use Rattle.octet_host_long.specs.Threads.{run_of, rerun_of, IsLongRecorded, IsLongRepeated}
 
 map_end : {X Y : Type 0} (f : X → Y) (xs : List X) (x : X) → map f (xs ++ x ∷ []) ≡ map f xs ++ f x ∷ []
@@ -71,19 +76,19 @@ module _ (run : LongRun) (objects : ℕ) (sessions : List LongRecorded) (streams
   pub all_recorded : All IsLongRecorded sessions
   all_recorded k none lt = with_stream k none lt streams refl
 
-module _ (rerun : LongRerun) (head : Head) (sessions : List LongRepeated) (streams : List Inlet) (seats : All (IsSeatAgain rerun (length head.starts)) sessions) (inlets : All (IsInlet head) streams)
-    (start : EachAtStart rerun (map (λ it. it.thread) sessions) (map (λ inlet. inlet.reader.feeder) streams)) (same : length sessions ≡ length streams) where
+module _ (rerun : LongRerun) (head : Head) (last : ℕ) (sessions : List LongRepeated) (streams : List Inlet) (seats : All (IsSeatAgain rerun (length head.starts) last) sessions) (inlets : All (IsInlet head) streams)
+    (start : EachAtStart rerun (map (λ it. it.thread.thread) sessions) (map (λ inlet. inlet.reader.feeder) streams)) (same : length sessions ≡ length streams) where
   fed_at : (thread : ℕ) (none : LongRepeated) (nobody : Inlet) → thread < length sessions
-      → IsFedAt rerun thread (slice_index_or sessions thread none).thread (slice_index_or streams thread nobody).reader.feeder
+      → IsFedAt rerun thread (slice_index_or sessions thread none).thread.thread (slice_index_or streams thread nobody).reader.feeder
   fed_at thread none nobody lt =
-      subst (λ (t : LongFollower). IsFedAt rerun thread t (slice_index_or streams thread nobody).reader.feeder) (get_or-map (λ (it : LongRepeated). it.thread) sessions thread none none.thread lt)
-      (subst (λ (f : Feeder). IsFedAt rerun thread (slice_index_or (map (λ (it : LongRepeated). it.thread) sessions) thread none.thread) f)
+      subst (λ (t : LongFollower). IsFedAt rerun thread t (slice_index_or streams thread nobody).reader.feeder) (get_or-map (λ (it : LongRepeated). it.thread.thread) sessions thread none none.thread.thread lt)
+      (subst (λ (f : Feeder). IsFedAt rerun thread (slice_index_or (map (λ (it : LongRepeated). it.thread.thread) sessions) thread none.thread.thread) f)
       (get_or-map (λ (inlet : Inlet). inlet.reader.feeder) streams thread nobody nobody.reader.feeder (omega (arith, lt, same)))
-      (start thread none.thread nobody.reader.feeder (omega (arith, lt, length-map sessions (λ (it : LongRepeated). it.thread)))))
+      (start thread none.thread.thread nobody.reader.feeder (omega (arith, lt, length-map sessions (λ (it : LongRepeated). it.thread.thread)))))
 
   -- each thread that is made again has its stream
   pub each_following : (thread : ℕ) (none : LongRepeated) (nobody : Inlet) → thread < length sessions
-      → IsFollowing rerun head thread (slice_index_or sessions thread none) (slice_index_or streams thread nobody)
+      → IsFollowing rerun head last thread (slice_index_or sessions thread none) (slice_index_or streams thread nobody)
   each_following thread none nobody lt = let at = fed_at thread none nobody lt in let inlet = inlets thread nobody (omega (arith, lt, same)) in record {
     seat = seats thread none lt;
     fed = at;
@@ -91,21 +96,27 @@ module _ (rerun : LongRerun) (head : Head) (sessions : List LongRepeated) (strea
     nothing = inlet.nothing at.feeder_is.sent_none;
   }
 
+-- a thread that has made nothing has noted that
+tail_of_none : (last : ℕ) (tail : Option Tail) (made : List Event) → made ≡ [] → HasRoom last tail → IfSome tail (IsTail made)
+tail_of_none zero tail made is room = subst (λ (t : Option Tail). IfSome t (IsTail made)) (sym room) tt
+tail_of_none (suc last) (Some tail) made is room = subst (λ (l : List Event). IsTail l tail) (sym is) room.0
+tail_of_none (suc last) None made is room = absurd room
+
 -- a new follower in its seat stands where its stage says
-pub repeated_of_new : (rerun : LongRerun) (objects thread : ℕ) (it : LongRepeated) (feeder : Feeder) → IsSeatAgain rerun objects it → length (starts_in rerun.course) ≡ objects → IsFedAt rerun thread it.thread feeder → IsLongRepeated it
-repeated_of_new rerun objects thread it feeder seat count fed = record {
-  own = subst (λ (r : LongRerun). IsLongFollowerOf r it.thread) (sym seat.run_is) fed.start.own;
+pub repeated_of_new : (rerun : LongRerun) (objects last thread : ℕ) (it : LongRepeated) (feeder : Feeder) → IsSeatAgain rerun objects last it → length (starts_in rerun.course) ≡ objects → IsFedAt rerun thread it.thread.thread feeder → IsLongRepeated it
+repeated_of_new rerun objects last thread it feeder seat count fed = record {
+  own = subst (λ (r : LongRerun). IsTailedOf r it.thread) (sym seat.run_is) (fed.start.own, tail_of_none last it.thread.tail (made_by it.thread.thread) (ap accesses_in fed.start.journal) seat.room);
   objects = seat.objects_are ∙ (sym count ∙ ap (λ (r : LongRerun). length (starts_in r.course)) (sym seat.run_is));
-  stands = subst (λ (s : Stage). StandsAt (Unit {0}) (Unit {0}) (HasFollowed it.thread) (length (starts_in (rerun_of it).course)) s (follower_standing it.thread)) (sym seat.stage) (tt, fed.start.begun);
+  stands = subst (λ (s : Stage). StandsAt (Unit {0}) (Unit {0}) (HasFollowed it.thread.thread) (length (starts_in (rerun_of it).course)) s (follower_standing it.thread.thread)) (sym seat.stage) (tt, fed.start.begun);
 }
 
-module _ (rerun : LongRerun) (head : Head) (sessions : List LongRepeated) (streams : List Inlet) (seats : All (IsSeatAgain rerun (length head.starts)) sessions) (inlets : All (IsInlet head) streams)
-    (start : EachAtStart rerun (map (λ it. it.thread) sessions) (map (λ inlet. inlet.reader.feeder) streams)) (same : length sessions ≡ length streams) (count : length (starts_in rerun.course) ≡ length head.starts) where
+module _ (rerun : LongRerun) (head : Head) (last : ℕ) (sessions : List LongRepeated) (streams : List Inlet) (seats : All (IsSeatAgain rerun (length head.starts) last) sessions) (inlets : All (IsInlet head) streams)
+    (start : EachAtStart rerun (map (λ it. it.thread.thread) sessions) (map (λ inlet. inlet.reader.feeder) streams)) (same : length sessions ≡ length streams) (count : length (starts_in rerun.course) ≡ length head.starts) where
   fed_by : (k : ℕ) (none : LongRepeated) → k < length sessions → (streams_are : List Inlet) → streams_are ≡ streams → IsLongRepeated (slice_index_or sessions k none)
   fed_by k none lt [] is = absurd (omega (arith, lt, same, ap length is))
   fed_by k none lt (nobody ∷ others) is =
-      let at = each_following rerun head sessions streams seats inlets start same k none nobody lt in
-      repeated_of_new rerun (length head.starts) k (slice_index_or sessions k none) (slice_index_or streams k nobody).reader.feeder at.seat count at.fed
+      let at = each_following rerun head last sessions streams seats inlets start same k none nobody lt in
+      repeated_of_new rerun (length head.starts) last k (slice_index_or sessions k none) (slice_index_or streams k nobody).reader.feeder at.seat count at.fed
 
   -- all threads that are made again stand where their stages say
   pub all_repeated : All IsLongRepeated sessions

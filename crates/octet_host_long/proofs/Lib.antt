@@ -1,3 +1,4 @@
 pub mod Beginning
+pub mod Making
 pub mod Passing
 pub mod Refusing

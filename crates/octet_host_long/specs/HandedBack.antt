@@ -17,7 +17,7 @@ IsRecordedAs number threads it = (number_of it.track ≡ number) × ((heap_model
 
 -- a thread that is made again has this number, in a run of so many
 abbrev pub IsRepeatedAs : ℕ → ℕ → LongRepeated → Type 0
-IsRepeatedAs number threads it = (it.thread.follower.number ≡ number) × (followers_in (rerun_of it).course ≡ threads)
+IsRepeatedAs number threads it = (it.thread.thread.follower.number ≡ number) × (followers_in (rerun_of it).course ≡ threads)
 
 -- why a thread is not taken back: it is not that of its place, or it runs
 abbrev pub RefusesThread : Stage → Type 0 → CloseFault → Type 0

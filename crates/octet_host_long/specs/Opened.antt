@@ -17,7 +17,8 @@ use Rattle.octet_host_long.specs.declared.outlet.Outlet.{Outlet}
 use Rattle.octet_host_long.specs.declared.recorded.LongRecorded.{LongRecorded}
 use Rattle.octet_host_long.specs.declared.repeated.LongRepeated.{LongRepeated}
 use Rattle.octet_host_long.specs.Streams.{head_of}
-use Rattle.octet_host_long.specs.Threads.{run_of, rerun_of}
+use Rattle.octet_host_long.specs.Tailed.{HasRoom}
+use Rattle.octet_host_long.specs.Threads.{run_of, course_of, rerun_of}
 
 -- a thread of this run, which has so many objects. It is off
 pub record IsSeat (run : LongRun) (objects : ℕ) (it : LongRecorded) : Type 0 where
@@ -48,11 +49,13 @@ pub record Opens (threads : ℕ) (starts : List ℕ) (sessions : List LongRecord
 abbrev pub head_with : ℕ → List ℕ → List ℕ → Head
 head_with threads starts declared = record { threads = threads; starts = starts; declared = record { bytes = sha256 declared } }
 
--- a thread of this run, which has so many objects. It is off
-pub record IsSeatAgain (rerun : LongRerun) (objects : ℕ) (it : LongRepeated) : Type 0 where
+-- a thread of this run, which has so many objects. It is off, and there is room for so many last accesses, of which none was noted
+pub record IsSeatAgain (rerun : LongRerun) (objects last : ℕ) (it : LongRepeated) : Type 0 where
   pub run_is : rerun_of it ≡ rerun
   pub stage : it.stage ≡ Resting
   pub objects_are : it.objects ≡ objects
+  pub last_is : (course_of it).last ≡ last
+  pub room : HasRoom last it.thread.tail
 
 -- a stream for files with this head. It was fed nothing, if nothing was given to its thread
 pub record IsInlet (head : Head) (inlet : Inlet) : Type 0 where
@@ -60,18 +63,19 @@ pub record IsInlet (head : Head) (inlet : Inlet) : Type 0 where
   pub nothing : sent inlet.reader.feeder.end ≡ [] → HasFed head inlet.reader [] []
 
 -- the thread of this number of a run, which is off and has made nothing, and its stream for files with this head
-pub record IsFollowing (rerun : LongRerun) (head : Head) (thread : ℕ) (it : LongRepeated) (inlet : Inlet) : Type 0 where
-  pub seat : IsSeatAgain rerun (length head.starts) it
-  pub fed : IsFedAt rerun thread it.thread inlet.reader.feeder
+pub record IsFollowing (rerun : LongRerun) (head : Head) (last thread : ℕ) (it : LongRepeated) (inlet : Inlet) : Type 0 where
+  pub seat : IsSeatAgain rerun (length head.starts) last it
+  pub fed : IsFedAt rerun thread it.thread.thread inlet.reader.feeder
   pub head_is : head_of inlet ≡ head
   pub nothing : HasFed head inlet.reader [] []
 
--- the threads of a run that is made again, in order, with their streams. Each stream is the other end of its thread's ring
-pub record Follows (threads : ℕ) (starts declared : List ℕ) (sessions : List LongRepeated) (streams : List Inlet) : Type 0 where
+-- the threads of a run that is made again, in order, with their streams. Each stream is the other end of its thread's ring, and each
+-- thread notes so many of its last accesses
+pub record Follows (threads : ℕ) (starts declared : List ℕ) (last : ℕ) (sessions : List LongRepeated) (streams : List Inlet) : Type 0 where
   pub rerun : LongRerun
   pub starts_are : starts_in rerun.course ≡ starts
   pub followers : followers_in rerun.course ≡ threads
   pub sessions_count : length sessions ≡ threads
   pub streams_count : length streams ≡ threads
   pub each : (thread : ℕ) (none : LongRepeated) (nobody : Inlet) → thread < length sessions
-      → IsFollowing rerun (head_with threads starts declared) thread (slice_index_or sessions thread none) (slice_index_or streams thread nobody)
+      → IsFollowing rerun (head_with threads starts declared) last thread (slice_index_or sessions thread none) (slice_index_or streams thread nobody)

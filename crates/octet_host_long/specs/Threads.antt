@@ -7,12 +7,14 @@ use Rattle.octet_session.specs.Standing.{Standing}
 use Rattle.octet_stream.specs.declared.long_run.LongRun.{LongRun}
 use Rattle.octet_stream.specs.declared.long_rerun.LongRerun.{LongRerun}
 use Rattle.octet_stream.specs.Accesses.{track_standing, TrackRuns, TrackRests, TrackHasEnded}
-use Rattle.octet_stream.specs.Followers.{follower_standing, IsLongFollowerOf, HasFollowed}
+use Rattle.octet_stream.specs.Followers.{follower_standing, HasFollowed}
 use Rattle.octet_stream.specs.Tracks.{IsTrackOf}
 use Rattle.octet_host.specs.declared.stage.Stage.{Stage}
 use Rattle.octet_host.specs.Stages.{StandsAt}
 use Rattle.octet_host_long.specs.declared.recorded.LongRecorded.{LongRecorded}
+use Rattle.octet_host_long.specs.declared.repeated.LongCourse.{LongCourse}
 use Rattle.octet_host_long.specs.declared.repeated.LongRepeated.{LongRepeated}
+use Rattle.octet_host_long.specs.Tailed.{IsTailedOf}
 
 -- the run of a thread that is recorded
 abbrev pub run_of : LongRecorded → LongRun
@@ -24,15 +26,19 @@ pub record IsLongRecorded (it : LongRecorded) : Type 0 where
   pub objects : it.objects ≡ (heap_model (run_of it).heap).objects
   pub stands : StandsAt (TrackRuns it.track) (TrackRests it.track) (TrackHasEnded it.track) (heap_model (run_of it).heap).objects it.stage (track_standing it.track)
 
--- the run of a thread that is made again
+-- what a thread that is made again shares with the others of its run
+abbrev pub course_of : LongRepeated → LongCourse
+course_of it = arc_value it.course
+
+-- its run
 abbrev pub rerun_of : LongRepeated → LongRerun
-rerun_of it = (arc_value it.course).rerun
+rerun_of it = (course_of it).rerun.session
 
 -- its follower is one of the run's, and stands where the stage says
 pub record IsLongRepeated (it : LongRepeated) : Type 0 where
-  pub own : IsLongFollowerOf (rerun_of it) it.thread
+  pub own : IsTailedOf (rerun_of it) it.thread
   pub objects : it.objects ≡ length (starts_in (rerun_of it).course)
-  pub stands : StandsAt (Unit {0}) (Unit {0}) (HasFollowed it.thread) (length (starts_in (rerun_of it).course)) it.stage (follower_standing it.thread)
+  pub stands : StandsAt (Unit {0}) (Unit {0}) (HasFollowed it.thread.thread) (length (starts_in (rerun_of it).course)) it.stage (follower_standing it.thread.thread)
 
 -- what a call does to a recorded thread. It stays in its run
 abbrev pub OnTrack : (Stage → Standing → Stage → Standing → Type 0) → LongRecorded → LongRecorded → Type 0
@@ -40,4 +46,4 @@ OnTrack Does it that = (that.heap ≡ it.heap) × Does it.stage (track_standing 
 
 -- what a call does to a thread that is made again. It stays in its run
 abbrev pub OnFollower : (Stage → Standing → Stage → Standing → Type 0) → LongRepeated → LongRepeated → Type 0
-OnFollower Does it that = (that.course ≡ it.course) × Does it.stage (follower_standing it.thread) that.stage (follower_standing that.thread)
+OnFollower Does it that = (that.course ≡ it.course) × Does it.stage (follower_standing it.thread.thread) that.stage (follower_standing that.thread.thread)

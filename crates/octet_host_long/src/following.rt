@@ -1,28 +1,32 @@
 //! A run of any length that is made again, from its beginning to its end.
-ghost use Rattle.std.specs.Prelude.{◌≡◌, ◌<◌, ◌≤◌, ◌⊎◌, All, Any, length, map, IfOk, IfErr, IfSome, OnOk};
+ghost use Rattle.std.specs.Prelude.{◌≡◌, ◌<◌, ◌≤◌, ◌⊎◌, [], All, Any, length, map, IfOk, IfErr, IfSome, OnOk};
 ghost use Rattle.std.specs.Arc.{arc_value};
 ghost use Rattle.octet_model.specs.declared.limits.TheConstants.{MAX_THREADS};
 ghost use Rattle.octet_rule.specs.declared.limits.TheConstants.{MAX_OBJECTS_OF_HEAP};
 ghost use Rattle.octet_marks.specs.declared.piece.Head.{Head};
 ghost use Rattle.octet_follow.specs.Calls.{followers_in};
-ghost use Rattle.octet_stream.specs.Followers.{IsLongFollowerOf, EachOf};
+ghost use Rattle.octet_stream.specs.Followers.{EachOf};
+ghost use Rattle.octet_tail.specs.Tails.{IsTail};
 ghost use Rattle.octet_host.specs.HandedBack.{IsAtWork, AreAsOne};
 ghost use Rattle.octet_host_long.specs.declared.fault.CloseFault.TheVariants.{OutOfMemory as MemoryRefused, TwoRuns as OfTwoRuns};
-ghost use Rattle.octet_host_long.specs.Closed.{IsClosedAgain};
+ghost use Rattle.octet_host_long.specs.Closed.{HaveMade, IsClosedAgain};
 ghost use Rattle.octet_host_long.specs.HandedBack.{IsRepeatedAs, RefusesThread, RefusesToClose};
 ghost use Rattle.octet_host_long.specs.Opened.{head_with, IsSeatAgain, IsInlet, Follows};
-ghost use Rattle.octet_host_long.specs.Threads.{rerun_of, IsLongRepeated};
+ghost use Rattle.octet_host_long.specs.Tailed.{HasRoom, IsTailedOf};
+ghost use Rattle.octet_host_long.specs.Threads.{course_of, IsLongRepeated};
 
 use crate::fault::CloseFault;
 use crate::inlet::Inlet;
 use crate::opening::ROOM;
-use crate::repeated::{LeftFollower, LongCourse, LongRepeated, Place};
+use crate::repeated::{Follower, LeftFollower, LongCourse, LongRepeated, Place};
 use octet_host::{Left, Stage, lay, places};
 use octet_log::digest;
 use octet_marks::Head;
 use octet_model::{List, OutOfMemory};
 use octet_stream::{Feeder, LongFollower, LongRerun};
+use octet_tail::{Made, Tail, Tailed};
 use std::alloc::Global;
+use std::mem;
 use std::sync::Arc;
 
 // What the threads of a run share that is made again.
@@ -30,29 +34,45 @@ fn shared(
     alloc: Global,
     rerun: LongRerun,
     threads: usize,
+    last: u16,
 ) -> Result<Arc<LongCourse, Global>, OutOfMemory>
     requires { threads ≡ followers_in rerun.course }
-    ensures { IfOk result (λ course. (arc_value course).rerun ≡ rerun) }
+    ensures rerun { IfOk result (λ course. (arc_value course).rerun.session ≡ rerun) }
+    ensures last { IfOk result (λ course. (arc_value course).last ≡ last) }
 {
     let desk = places(alloc, threads, &rerun)?;
-    match Arc::new(alloc, LongCourse { rerun, desk }) {
+    let rerun = Tailed { session: rerun };
+    match Arc::new(alloc, LongCourse { rerun, last, desk }) {
         Ok(course) => Ok(course),
         Err(_) => Err(OutOfMemory),
     }
 }
 
+// Room for so many last accesses of a thread, if any are to be noted.
+fn tail_of(alloc: Global, last: u16) -> Result<Option<Tail>, OutOfMemory>
+    ensures room { IfOk result (HasRoom last) }
+    ensures none { IfOk result (λ tail. IfSome tail (IsTail [])) }
+{
+    if last == 0 {
+        return Ok(None);
+    }
+    Ok(Some(Tail::new(alloc, usize::from(last))?))
+}
+
 // The thread of a follower, which is off.
 fn seat(
+    alloc: Global,
     course: &Arc<LongCourse, Global>,
     objects: u16,
     thread: LongFollower,
 ) -> Result<LongRepeated, OutOfMemory>
-    ensures seat { IfOk result (IsSeatAgain (arc_value course.now).rerun objects) }
-    ensures thread { IfOk result (λ it. it.thread ≡ thread) }
+    ensures seat { IfOk result (IsSeatAgain (arc_value course.now).rerun.session objects (arc_value course.now).last) }
+    ensures thread { IfOk result (λ it. it.thread.thread ≡ thread) }
 {
+    let tail = tail_of(alloc, course.last)?;
     Ok(LongRepeated {
         course: Arc::try_clone(course)?,
-        thread,
+        thread: Follower { thread, tail },
         stage: Stage::Resting,
         objects,
     })
@@ -65,12 +85,12 @@ fn seat_all(
     objects: u16,
     followers: Vec<LongFollower>,
 ) -> Result<Vec<LongRepeated>, OutOfMemory>
-    ensures seats { IfOk result (λ threads. All (IsSeatAgain (arc_value course.now).rerun objects) threads.items) }
-    ensures followers { IfOk result (λ threads. map (λ it. it.thread) threads.items ≡ followers.items) }
+    ensures seats { IfOk result (λ threads. All (IsSeatAgain (arc_value course.now).rerun.session objects (arc_value course.now).last) threads.items) }
+    ensures followers { IfOk result (λ threads. map (λ it. it.thread.thread) threads.items ≡ followers.items) }
 {
     let mut threads = Vec::new(alloc);
     for follower in followers {
-        threads.push(seat(course, objects, follower)?)?;
+        threads.push(seat(alloc, course, objects, follower)?)?;
     }
     Ok(threads)
 }
@@ -124,21 +144,23 @@ fn inlets_of(
 }
 
 /// The threads of a run that is made again, off, over objects with these starting values, and the stream of each. Each is
-/// fed a marks file, whose head has to be of such a run with the digest of the declared bytes. Refused only where memory is.
+/// fed a marks file, whose head has to be of such a run with the digest of the declared bytes, and notes so many of its last
+/// accesses. Refused only where memory is.
 pub fn follow(
     alloc: Global,
     threads: u8,
     starts: &[u64],
     declared: &[u8],
+    last: u16,
 ) -> Result<(Vec<LongRepeated>, Vec<Inlet>), OutOfMemory>
     requires threads { (0 < threads) × (threads ≤ MAX_THREADS) }
     requires objects { length starts.now ≤ MAX_OBJECTS_OF_HEAP }
     ensures good { IfOk result (λ opened. All IsLongRepeated opened.0.items) }
-    ensures follows { IfOk result (λ opened. Follows threads starts.now declared.now opened.0.items opened.1.items) }
+    ensures follows { IfOk result (λ opened. Follows threads starts.now declared.now last opened.0.items opened.1.items) }
 {
     let head = shared_head(alloc, threads, starts, declared)?;
     let (rerun, followers, feeders) = LongRerun::new(alloc, threads, &head.starts, ROOM)?;
-    let course = shared(alloc, rerun, usize::from(threads))?;
+    let course = shared(alloc, rerun, usize::from(threads), last)?;
     let sessions = seat_all(alloc, &course, starts.len() as u16, followers.into_vec())?;
     let inlets = inlets_of(alloc, &head, feeders.into_vec())?;
     Ok((sessions, inlets))
@@ -146,8 +168,8 @@ pub fn follow(
 
 impl LongCourse {
     // Lays a follower down, if its place is there and free.
-    fn lay(&self, number: usize, left: Left<LongFollower>)
-        requires { IsLongFollowerOf self.now.rerun left.loose.value }
+    fn lay(&self, number: usize, left: Left<Follower>)
+        requires { IsTailedOf self.now.rerun.session left.loose.value }
     {
         if let Some(place) = self.desk.get(number) {
             lay(place, LeftFollower { left });
@@ -178,7 +200,7 @@ fn hand_in(
     let (Stage::Resting | Stage::Ended) = stage else {
         return Err(CloseFault::StillRunning);
     };
-    if thread.thread() as usize != number || course.desk.len() != threads {
+    if thread.thread.thread() as usize != number || course.desk.len() != threads {
         return Err(CloseFault::OtherSessions);
     }
     let left = Left::new(alloc, thread)?;
@@ -210,40 +232,67 @@ fn hand_in_all(alloc: Global, threads: Vec<LongRepeated>) -> Result<LongCourse, 
     }
 }
 
-// The followers that lie on a desk, in order.
+// What the threads of a run leave on its desk, in order, and what each has made.
 fn followers_on(
     alloc: Global,
     rerun: &LongRerun,
     desk: Vec<Place>,
-) -> Result<List<LongFollower>, CloseFault>
+) -> Result<(List<LongFollower>, List<Made>), CloseFault>
     requires tags { All (λ tag. tag ≡ rerun.now) desk.items }
-    ensures all { IfOk result (λ followers. length followers ≡ length desk.items) }
-    ensures each { IfOk result (EachOf rerun.now) }
+    ensures all { IfOk result (λ left. length left.0 ≡ length desk.items) }
+    ensures each { IfOk result (λ left. EachOf rerun.now left.0) }
+    ensures made { IfOk result (λ left. HaveMade left.0 left.1) }
     ensures refused { IfErr result (λ fault. (fault ≡ MemoryRefused) ⊎ (fault ≡ OfTwoRuns)) }
 {
     let mut followers = List::new(alloc);
+    let mut made = List::new(alloc);
     for place in desk {
         let Some(left) = place.into_inner() else {
             return Err(CloseFault::TwoRuns);
         };
-        let follower = left.left.into_inner();
-        if follower.thread() as usize != followers.len() {
+        let Follower { thread, tail } = left.left.into_inner();
+        if thread.thread() as usize != followers.len() {
             return Err(CloseFault::TwoRuns);
         }
-        followers.push(follower)?;
+        let accesses = thread.accesses();
+        made.push(Made { accesses, tail })?;
+        followers.push(thread)?;
     }
-    Ok(followers)
+    Ok((followers, made))
 }
 
-/// Ends a run that is made again, and answers the objects' values. Every thread of it is handed in, in order, off, blocked
-/// or ended; else the threads are gone.
-pub fn close_repeated(alloc: Global, threads: Vec<LongRepeated>) -> Result<List<u64>, CloseFault>
+/// What a run leaves that was made again.
+#[derive(Drop)]
+pub struct ClosedAgain {
+    /// The objects' values.
+    pub values: List<u64>,
+    /// What each thread has made, in order.
+    pub made: List<Made>,
+    /// How many last accesses of each were to be noted.
+    pub last: u16,
+}
+
+impl ClosedAgain {
+    /// What each thread has made, with its last accesses. They are here no more.
+    pub fn take_made(&mut self, alloc: Global) -> List<Made>
+        ensures made { result ≡ self.old.made }
+        ensures gone { self.new ≡ record { values = self.old.values; made = []; last = 0 } }
+    {
+        self.last = 0;
+        mem::replace(&mut self.made, List::new(alloc))
+    }
+}
+
+/// Ends a run that is made again. Every thread of it is handed in, in order, off, blocked or ended; else the threads are gone.
+pub fn close_repeated(alloc: Global, threads: Vec<LongRepeated>) -> Result<ClosedAgain, CloseFault>
     requires { All IsLongRepeated threads.items }
     ensures as_one { OnOk result (AreAsOne IsRepeatedAs threads.items) }
-    ensures closed { IfOk result (λ values. Any (λ it. IsClosedAgain (rerun_of it) values) threads.items) }
+    ensures closed { IfOk result (λ again. Any (λ it. IsClosedAgain (course_of it) again) threads.items) }
     ensures refused { IfErr result (RefusesToClose (λ it. it.stage) IsRepeatedAs threads.items) }
 {
-    let LongCourse { rerun, desk } = hand_in_all(alloc, threads)?;
-    let followers = followers_on(alloc, &rerun, desk)?;
-    Ok(rerun.close(alloc, followers)?)
+    let LongCourse { rerun, last, desk } = hand_in_all(alloc, threads)?;
+    let Tailed { session } = rerun;
+    let (followers, made) = followers_on(alloc, &session, desk)?;
+    let values = session.close(alloc, followers)?;
+    Ok(ClosedAgain { values, made, last })
 }

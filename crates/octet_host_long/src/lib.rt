@@ -3,6 +3,7 @@
 #![tactic(auto)]
 
 mod closing;
+mod cut_stream;
 mod fault;
 mod following;
 mod inlet;
@@ -12,8 +13,9 @@ mod recorded;
 mod repeated;
 
 pub use closing::close_recorded;
+pub use cut_stream::CutStream;
 pub use fault::CloseFault;
-pub use following::{close_repeated, follow, head_of};
+pub use following::{ClosedAgain, close_repeated, follow, head_of};
 pub use inlet::Inlet;
 pub use opening::{ROOM, open};
 pub use outlet::{Outlet, Taken};

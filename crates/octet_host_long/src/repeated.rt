@@ -1,26 +1,30 @@
 //! A thread of a run of any length that is made again.
 ghost use Rattle.std.specs.Prelude.{◌≡◌, All, length};
 ghost use Rattle.octet_follow.specs.Calls.{followers_in};
-ghost use Rattle.octet_stream.specs.Followers.{IsLongFollowerOf};
+ghost use Rattle.octet_host_long.specs.Tailed.{IsTailedOf};
 
 use counted_slot::{Counted, Fits};
 use octet_host::{Answer, Left, Misuse, Stage, calls};
 use octet_session::Access;
 use octet_stream::{Halt, LongFollower, LongRerun};
+use octet_tail::{Tailed, TailedThread};
 use std::alloc::Global;
 use std::sync::Arc;
+
+/// What drives a thread: its follower, with its last accesses, if they are noted.
+pub(crate) type Follower = TailedThread<LongFollower>;
 
 /// The follower that a thread leaves.
 #[derive(Drop)]
 pub(crate) struct LeftFollower {
-    pub(crate) left: Left<LongFollower>,
+    pub(crate) left: Left<Follower>,
 }
 
 // What lies on the desk of a run is a follower of it.
 impl Fits for LeftFollower {
     type Tag = LongRerun;
 
-    ghost fits = { λ rerun it. IsLongFollowerOf rerun it.left.loose.value };
+    ghost fits = { λ rerun it. IsTailedOf rerun it.left.loose.value };
 }
 
 /// Where a thread lays its follower once its session is handed back.
@@ -29,18 +33,20 @@ pub(crate) type Place = Counted<Option<LeftFollower>>;
 /// What the threads of a run share that is made again.
 #[derive(Drop)]
 pub struct LongCourse {
-    pub(crate) rerun: LongRerun,
+    pub(crate) rerun: Tailed<LongRerun>,
+    // How many last accesses each of them notes.
+    pub(crate) last: u16,
     // A place for each thread.
     pub(crate) desk: Vec<Place>,
-    ghost tags: { All (λ tag. tag ≡ rerun) desk.items },
-    ghost places: { length desk.items ≡ followers_in rerun.course },
+    ghost tags: { All (λ tag. tag ≡ rerun.session) desk.items },
+    ghost places: { length desk.items ≡ followers_in rerun.session.course },
 }
 
 /// A thread that is made again.
 #[derive(Drop)]
 pub struct LongRepeated {
     pub(crate) course: Arc<LongCourse, Global>,
-    pub(crate) thread: LongFollower,
+    pub(crate) thread: Follower,
     pub(crate) stage: Stage,
     pub(crate) objects: u16,
 }
@@ -91,7 +97,7 @@ impl LongRepeated {
     pub fn access(&mut self, wanted: Access) -> Answer<Halt>
         requires { IsLongRepeated self.old }
         ensures good { IsLongRepeated self.new }
-        ensures does { OnFollower (λ s v t w. Accesses (λ asked. IsFollowerReason (rerun_of self.new) asked self.new.thread) self.old.objects wanted s v result t w) self.old self.new }
+        ensures does { OnFollower (λ s v t w. Accesses (λ asked. IsFollowerReason (rerun_of self.new) asked self.new.thread.thread) self.old.objects wanted s v result t w) self.old self.new }
     {
         calls::access(
             &self.course.rerun,
@@ -106,7 +112,7 @@ impl LongRepeated {
     pub fn poll(&mut self) -> Answer<Halt>
         requires { IsLongRepeated self.old }
         ensures good { IsLongRepeated self.new }
-        ensures does { OnFollower (λ s v t w. GoesOn (λ asked. IsFollowerReason (rerun_of self.new) asked self.new.thread) s v result t w) self.old self.new }
+        ensures does { OnFollower (λ s v t w. GoesOn (λ asked. IsFollowerReason (rerun_of self.new) asked self.new.thread.thread) s v result t w) self.old self.new }
     {
         calls::poll(&self.course.rerun, &mut self.thread, &mut self.stage)
     }
@@ -115,7 +121,7 @@ impl LongRepeated {
     pub fn end(&mut self) -> Answer<Halt>
         requires { IsLongRepeated self.old }
         ensures good { IsLongRepeated self.new }
-        ensures does { OnFollower (λ s v t w. Ends (λ asked. IsFollowerReason (rerun_of self.new) asked self.new.thread) (HasFollowed self.new.thread) s v result t w) self.old self.new }
+        ensures does { OnFollower (λ s v t w. Ends (λ asked. IsFollowerReason (rerun_of self.new) asked self.new.thread.thread) (HasFollowed self.new.thread.thread) s v result t w) self.old self.new }
     {
         calls::end(&self.course.rerun, &mut self.thread, &mut self.stage)
     }

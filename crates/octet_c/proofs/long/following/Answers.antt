@@ -1,6 +1,4 @@
-use Rattle.std.proofs.Common.{rules}
 use Rattle.octet_host_long.specs.declared.inlet.Inlet.{Inlet}
-use Rattle.octet_host_long.specs.declared.repeated.LongRepeated.{LongRepeated}
 use Rattle.octet_host_long.specs.Threads.{IsLongRepeated}
 use Rattle.octet_c.specs.declared.held.Held.TheVariants as held
 use Rattle.octet_c.proofs.Pairs.{all_held}

@@ -1,6 +1,4 @@
-use Rattle.std.proofs.Common.{rules}
 use Rattle.octet_host_long.specs.declared.outlet.Outlet.{Outlet}
-use Rattle.octet_host_long.specs.declared.recorded.LongRecorded.{LongRecorded}
 use Rattle.octet_host_long.specs.Threads.{IsLongRecorded}
 use Rattle.octet_c.specs.declared.held.Held.TheVariants as held
 use Rattle.octet_c.proofs.Pairs.{all_held}

@@ -1,4 +1,4 @@
-use Rattle.std.proofs.Common.{rules, sym}
+use Rattle.std.proofs.Common.{sym}
 use Rattle.octet_c.proofs.Pairs.{holds_of}
 use Rattle.octet_c.proofs.long.put_both.Goals as goal
 

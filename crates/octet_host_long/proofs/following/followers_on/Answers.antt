@@ -1,21 +1,30 @@
-use Rattle.std.proofs.Common.{rules, ◌≡◌, ◌∙◌, [], ◌∷◌, ◌++◌, All, length, length-append, ap, sym, subst, arith, suc}
-use Rattle.octet_follow.specs.Calls.{view_of}
+use Rattle.std.proofs.Common.{rules, ◌≡◌, ◌∙◌, List, [], ◌∷◌, ◌++◌, All, length, length-append, ap, sym, subst, arith, suc}
+use Rattle.octet_follow.specs.Calls.{journal_in, view_of}
 use Rattle.octet_stream.specs.declared.long_follower.LongFollower.{LongFollower}
 use Rattle.octet_stream.specs.Followers.{IsLongFollowerOf, EachOf}
+use Rattle.octet_tail.specs.declared.tail.Made.{Made}
+use Rattle.octet_tail.specs.Tails.{HasMade}
 use Rattle.octet_host.proofs.lemmas.Rows.{each_more}
+use Rattle.octet_host_long.specs.Closed.{HaveMade}
+use Rattle.octet_host_long.specs.Tailed.{made_by, IsTailedOf}
+use Rattle.octet_host_long.proofs.Making.{count_is, made_more}
 use Rattle.octet_host_long.proofs.following.followers_on.Goals as goal
 
 pub loop-place-preserved : goal.loop-place-preserved
 loop-place-preserved c =
-    let i = c.loop-place.invariant in let rerun = c.args.rerun.now in let follower = c.into_inner-follower.result in let taken = c.loop-place.followers in
+    let i = c.loop-place.invariant in let rerun = c.args.rerun.now in let left = c.into_inner-thread.result in let follower = left.thread in let taken = c.loop-place.followers in let made = c.loop-place.made in
     let next : c.loop-place.place-iterator.rest.items ≡ c.in-Some.place ∷ c.next.new.self.rest.items = search rules in
     let all : All (λ tag. tag ≡ rerun) (c.in-Some.place ∷ c.next.new.self.rest.items) = subst (All (λ tag. tag ≡ rerun)) next i.rest in
     let here : c.in-Some.place ≡ rerun = all 0 c.in-Some.place (omega arith) in
-    let pushed : c.push.new.self ≡ taken ++ follower ∷ [] = search rules in
-    let own : IsLongFollowerOf rerun follower = search rules in
-    let number : follower.follower.number ≡ length taken = search rules in record {
+    let pushed : c.push-in-loop-place.new.self ≡ taken ++ follower ∷ [] = search rules in
+    let one : Made = record { accesses = c.accesses-accesses.result; tail = left.tail } in
+    let noted : c.push.new.self ≡ made ++ one ∷ [] = search rules in
+    let own : IsTailedOf rerun left = search rules in
+    let number : follower.follower.number ≡ length taken = search rules in
+    let has : HasMade (made_by follower) one = record { count = c.accesses-accesses.ensures ∙ count_is (journal_in follower.follower); noted = own.1 } in record {
       rest = λ k d lt. all (suc k) d (omega (arith, lt));
       taken = subst (EachOf rerun) (sym pushed)
-          (each_more (λ n (thread : LongFollower). IsLongFollowerOf rerun thread × ((view_of thread.follower).number ≡ n)) taken follower i.taken (own, own.own.number ∙ number));
+          (each_more (λ n (thread : LongFollower). IsLongFollowerOf rerun thread × ((view_of thread.follower).number ≡ n)) taken follower i.taken (own.0, own.0.own.number ∙ number));
+      made = subst (λ (ts : List LongFollower). HaveMade ts c.push.new.self) (sym pushed) (subst (λ (ms : List Made). HaveMade (taken ++ follower ∷ []) ms) (sym noted) (made_more taken made follower one i.made has));
       count = omega (arith, i.count, ap length pushed, ap length next, length-append taken (follower ∷ []));
     }

@@ -1,10 +1,12 @@
 use Rattle.std.proofs.Common.{◌≡◌, ◌+◌, All, length}
 use Rattle.octet_stream.specs.Followers.{EachOf}
+use Rattle.octet_host_long.specs.Closed.{HaveMade}
 use Rattle.octet_host_long.proofs.following.followers_on.Given as goal
 
 abbrev pub invariant-loop-place : goal.invariant-loop-place
 invariant-loop-place l = record {
   rest : All (λ tag. tag ≡ l.rerun) l.place-iterator.rest.items;
   taken : EachOf l.rerun l.followers;
+  made : HaveMade l.followers l.made;
   count : length l.followers + length l.place-iterator.rest.items ≡ length l.fn.desk.items;
 }

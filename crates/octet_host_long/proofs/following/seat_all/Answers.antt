@@ -9,7 +9,7 @@ pub loop-follower-preserved : goal.loop-follower-preserved
 loop-follower-preserved c =
     let i = c.loop-follower.invariant in let threads = c.loop-follower.threads.items in let made = c.in_ok-seat.field-0 in
     let pushed : c.push.new.self.items ≡ threads ++ made ∷ [] = search rules in record {
-      seats = subst (All (IsSeatAgain c.args.course.now.value.rerun c.args.objects)) (sym pushed)
-          (All-push (IsSeatAgain c.args.course.now.value.rerun c.args.objects) threads made i.seats c.in_ok-seat.ensures.seat);
-      followers = ap (map (λ (it : LongRepeated). it.thread)) pushed ∙ map_push (λ (it : LongRepeated). it.thread) threads made c.loop-follower.yielded c.in-Some.follower i.followers c.in_ok-seat.ensures.thread;
+      seats = subst (All (IsSeatAgain c.args.course.now.value.rerun.session c.args.objects c.args.course.now.value.last)) (sym pushed)
+          (All-push (IsSeatAgain c.args.course.now.value.rerun.session c.args.objects c.args.course.now.value.last) threads made i.seats c.in_ok-seat.ensures.seat);
+      followers = ap (map (λ (it : LongRepeated). it.thread.thread)) pushed ∙ map_push (λ (it : LongRepeated). it.thread.thread) threads made c.loop-follower.yielded c.in-Some.follower i.followers c.in_ok-seat.ensures.thread;
     }

@@ -4,6 +4,6 @@ use Rattle.octet_host_long.proofs.following.seat_all.Given as goal
 
 abbrev pub invariant-loop-follower : goal.invariant-loop-follower
 invariant-loop-follower l = record {
-  seats : All (IsSeatAgain l.course.value.rerun l.objects) l.threads.items;
-  followers : map (λ it. it.thread) l.threads.items ≡ l.yielded;
+  seats : All (IsSeatAgain l.course.value.rerun.session l.objects l.course.value.last) l.threads.items;
+  followers : map (λ it. it.thread.thread) l.threads.items ≡ l.yielded;
 }

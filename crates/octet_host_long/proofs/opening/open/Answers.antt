@@ -1,8 +1,7 @@
-use Rattle.std.proofs.Common.{rules, ◌≡◌, ◌∙◌, ℕ, List, All, length, map, ap, sym, subst, arith}
+use Rattle.std.proofs.Common.{rules, ◌≡◌, ◌∙◌, List, All, length, map, ap, sym, subst, arith}
 use Rattle.std.proofs.lemmas.List.{length-map}
 use Rattle.octet_heap.specs.Models.{heap_model}
 use Rattle.octet_stream.specs.declared.long_run.LongRun.{LongRun}
-use Rattle.octet_stream.specs.declared.receiver.Receiver.{Receiver}
 use Rattle.octet_stream.specs.declared.track.Track.{Track}
 use Rattle.octet_stream.specs.Runs.{EachNew}
 use Rattle.octet_host_long.specs.declared.outlet.Outlet.{Outlet}

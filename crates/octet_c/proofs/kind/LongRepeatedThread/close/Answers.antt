@@ -2,10 +2,10 @@ use Rattle.octet_c.proofs.Leaving.{closes_again, good_again, refused_again}
 use Rattle.octet_c.proofs.kind.LongRepeatedThread.close.Goals as goal
 
 pub returns-in-Ok-clause-good : goal.returns-in-Ok-clause-good
-returns-in-Ok-clause-good c = good_again c.args.threads.items (record { values = c.in-Ok.values }) c.in-Ok.ensures.closed
+returns-in-Ok-clause-good c = good_again c.args.threads.items c.in-Ok.again c.in-Ok.ensures.closed
 
 pub returns-in-Ok-clause-closes : goal.returns-in-Ok-clause-closes
-returns-in-Ok-clause-closes c = closes_again c.args.threads.items (record { values = c.in-Ok.values }) c.in-Ok.ensures.as_one c.in-Ok.ensures.closed
+returns-in-Ok-clause-closes c = closes_again c.args.threads.items c.in-Ok.again c.in-Ok.ensures.as_one c.in-Ok.ensures.closed
 
 pub returns-in-Err-clause-refused : goal.returns-in-Err-clause-refused
 returns-in-Err-clause-refused c = refused_again c.args.threads.items c.in-Err.fault c.from.result c.in-Err.ensures.refused c.from.ensures

@@ -1,4 +1,4 @@
-use Rattle.std.proofs.Common.{◌≡◌, ◌∙◌, refl, sym, ap}
+use Rattle.std.proofs.Common.{◌∙◌, refl, sym, ap}
 use Rattle.rtrb.specs.Ring.{sent}
 use Rattle.octet_stream.specs.declared.feeder.Feeder.{Feeder}
 use Rattle.octet_host_long.proofs.inlet.Inlet.new.Goals as goal
