@@ -1,5 +1,6 @@
 //! Four threads pay from account to account, half a million times each, mostly between accounts of their own. The run is recorded by its
-//! marks alone, and run again by them. Then the file is cut, as if the program had been killed, and followed as far as it goes.
+//! marks alone, and run again by them, and its last accesses become a script that `octet` reads. Then the file is cut, as if the
+//! program had been killed, and followed as far as it goes.
 use octet::{Builder, Error, Heap, LongRun, Session, Threads};
 use std::{env, error, fs};
 
@@ -46,6 +47,8 @@ fn main() -> Result<(), Box<dyn error::Error>> {
     let second = bank().follow(&file).run(threads)?;
     assert_eq!(second.values(), first.values());
     println!("recorded, and run again: total {}, {} KiB of marks", total(&second), fs::metadata(&file)?.len() / 1024);
+    bank().follow(&file).window(1_000, threads)?.save(format!("{file}.last"))?;
+    println!("the last accesses of each thread: {file}.last.octet and {file}.last.log");
     let marks = fs::read(&file)?;
     fs::write(&file, &marks[..marks.len() / 2])?;
     let cut = bank().follow(&file).run(threads)?;
@@ -60,5 +63,7 @@ fn a_long_run_is_repeated() {
     let second = bank().follow(&file).run(threads).unwrap();
     assert_eq!(second.values(), first.values());
     assert_eq!((total(&first), total(&second)), (16_000_000, 16_000_000));
+    let window = bank().follow(&file).window(1_000, threads).unwrap();
+    assert_eq!(window.script().lines().filter(|line| *line == "thread").count(), 4);
     fs::remove_file(&file).unwrap();
 }

@@ -178,7 +178,8 @@ pub(crate) fn checked(status: i32, thread: usize) -> Result<(), Error> {
         -13 => Error::TooLong,
         -16 => Error::Halted { thread },
         -18 => Error::Unordered,
-        -19 => Error::NotWhole,
+        // The second run of a window has not come to it.
+        -19 | -31 => Error::NotWhole,
         -22 => Error::BadSize,
         -26 => Error::OtherRecording,
         other => Error::Status(other),

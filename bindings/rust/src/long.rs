@@ -1,8 +1,8 @@
 //! Runs of any length. Their marks go into a file while they go on, and by it they are run again.
 use crate::error::checked;
 use crate::heap::{Failed, Threads, all_ended, values_of};
-use crate::marks_file::{Feeding, Writing};
-use crate::{Builder, Error, Heap, Object, Session, raw};
+use crate::marks_file::{Feeding, Front, Writing, feed_all};
+use crate::{Builder, Error, Heap, Object, Recording, Session, raw};
 use std::path::PathBuf;
 use std::sync::Arc;
 use std::sync::atomic::{AtomicBool, Ordering};
@@ -51,6 +51,8 @@ pub struct LongBuilder {
     heap: Builder,
     way: Way,
     path: PathBuf,
+    // How many last accesses of each thread are noted, where it runs again.
+    last: u16,
 }
 
 // What is written or read beside the threads, and by what.
@@ -98,7 +100,7 @@ impl Drop for Beside {
 
 impl LongBuilder {
     pub(crate) fn new(heap: Builder, way: Way, path: PathBuf) -> LongBuilder {
-        LongBuilder { heap, way, path }
+        LongBuilder { heap, way, path, last: 0 }
     }
 
     // What the file's head declares by its digest, beside the number of threads and the objects' values.
@@ -120,7 +122,7 @@ impl LongBuilder {
                 Ok((sessions, Work::Writing(Writing::begin(&self.path, &head, streams)?)))
             }
             Way::Follow => {
-                let (sessions, streams, status) = raw::follow_long(&starts, declared.as_bytes(), threads);
+                let (sessions, streams, status) = raw::follow_long(&starts, declared.as_bytes(), self.last, threads);
                 checked(status, 0)?;
                 Ok((sessions, Work::Feeding(Feeding::open(&self.path, streams)?)))
             }
@@ -204,7 +206,64 @@ impl LongBuilder {
     ///
     /// # Panics
     /// Where a thread does.
-    pub fn try_run<'a, T, E>(mut self, spawn: impl FnOnce(&mut Threads<'a, T, E>)) -> Result<LongRun<T>, E>
+    pub fn try_run<'a, T, E>(self, spawn: impl FnOnce(&mut Threads<'a, T, E>)) -> Result<LongRun<T>, E>
+    where
+        T: Send,
+        E: From<Error> + Send,
+    {
+        Ok(self.ended(spawn)?.0)
+    }
+
+    /// The last accesses of the run that the file has, as a recording that `octet` reads: so many of each thread, or fewer where
+    /// what came before what does not allow for them. The threads run twice: to their ends, and then up to these accesses.
+    ///
+    /// The recording begins with the values that the objects have there. It has the objects that are accessed, and `o2` is the
+    /// third one of the heap. Threads cannot be run again by it, since they would have to begin in the middle.
+    ///
+    /// ```
+    /// use octet::{Error, Heap, Threads};
+    ///
+    /// fn threads(threads: &mut Threads<'_, u64, Error>) {
+    ///     for _ in 0..2 {
+    ///         threads.spawn(|session| (0..100_000).try_fold(0, |_, _| session.fetch_add(session.object("x")?, 1)));
+    ///     }
+    /// }
+    ///
+    /// # let file = std::env::temp_dir().join(format!("octet-window-{}.octm", std::process::id()));
+    /// # let stem = std::env::temp_dir().join(format!("octet-window-{}", std::process::id()));
+    /// let heap = Heap::builder().object("x", 0);
+    /// heap.clone().record(&file).run(threads)?;
+    /// let window = heap.follow(&file).window(1_000, threads)?;
+    /// window.save(&stem)?; // for `octet trace`, `octet regions` and the other commands
+    /// assert!((1_000..=2_000).contains(&window.script().matches("\nbump o0 ").count()));
+    /// # std::fs::remove_file(&file).expect("the file is there");
+    /// # Ok::<(), Error>(())
+    /// ```
+    ///
+    /// # Errors
+    /// Those of `run`, and of a file that is damaged. `BadSize` where no accesses are wanted. `TooLong` where the accesses need more
+    /// than a script holds: ask for fewer. `NotWhole` and `OtherRecording` where the threads did not make the same accesses twice.
+    ///
+    /// # Panics
+    /// Where a thread does.
+    pub fn window<'a, T: Send>(mut self, last: u16, spawn: impl Fn(&mut Threads<'a, T, Error>)) -> Result<Recording, Error> {
+        if last == 0 {
+            return Err(Error::BadSize);
+        }
+        self.way = Way::Follow;
+        let (_, mut whole) = LongBuilder { last, ..self.clone() }.ended(&spawn)?;
+        let (mut search, status) = whole.search();
+        checked(status, 0)?;
+        feed_all(&mut search, &self.path)?;
+        let front = Front::cut(&mut search, &self.path)?;
+        let (_, mut there) = LongBuilder { path: front.path().to_path_buf(), ..self }.ended(&spawn)?;
+        let (window, status) = search.window(&mut there);
+        checked(status, 0)?;
+        Recording::of(window, Vec::new())
+    }
+
+    // What the run came to, and its record.
+    fn ended<'a, T, E>(mut self, spawn: impl FnOnce(&mut Threads<'a, T, E>)) -> Result<(LongRun<T>, raw::Handle), E>
     where
         T: Send,
         E: From<Error> + Send,
@@ -280,16 +339,18 @@ impl LongHeap {
         self.beside.end()?;
         let mut ends: Vec<_> = sessions.iter().map(|session| (session.number(), !session.is_cut())).collect();
         ends.sort_unstable();
-        self.closed(sessions, ends.into_iter().map(|(_, is_whole)| is_whole.then_some(())).collect())
+        let values = ends.into_iter().map(|(_, is_whole)| is_whole.then_some(())).collect();
+        Ok(self.closed(sessions, values)?.0)
     }
 
-    fn closed<T>(self, sessions: Vec<Session>, values: Vec<Option<T>>) -> Result<LongRun<T>, Error> {
+    // What the run came to, and its record.
+    fn closed<T>(self, sessions: Vec<Session>, values: Vec<Option<T>>) -> Result<(LongRun<T>, raw::Handle), Error> {
         let LongHeap { heap, names, beside } = self;
         drop(beside);
         let (mut record, _) = heap.closed(sessions)?;
         let (last, status) = record.values();
         checked(status, 0)?;
-        Ok(LongRun { names, last, values })
+        Ok((LongRun { names, last, values }, record))
     }
 }
 

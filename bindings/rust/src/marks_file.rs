@@ -2,12 +2,13 @@
 use crate::Error;
 use crate::error::checked;
 use crate::raw::{self, Handle};
-use std::fs::File;
-use std::io::Write;
+use std::fs::{self, File};
+use std::io::{Read, Write};
 use std::os::unix::fs::FileExt;
 use std::path::{Path, PathBuf};
-use std::thread;
+use std::sync::atomic::{AtomicU64, Ordering};
 use std::time::Duration;
+use std::{env, process, thread};
 
 /// How long one rests where there is nothing to do.
 const REST: Duration = Duration::from_micros(200);
@@ -166,5 +167,66 @@ fn fed(status: i32, path: &Path, place: u64) -> Result<(), Error> {
     match status {
         raw::BAD_MARKS => Err(Error::BadMarks { path: path.to_path_buf(), place }),
         status => checked(status, 0),
+    }
+}
+
+// The pieces of a file, one after another.
+fn pieces(path: &Path, mut each: impl FnMut(&[u8]) -> Result<(), Error>) -> Result<(), Error> {
+    let mut file = File::open(path).map_err(named(path))?;
+    let mut piece = vec![0; PIECE];
+    loop {
+        match file.read(&mut piece).map_err(named(path))? {
+            0 => return Ok(()),
+            count => each(&piece[..count])?,
+        }
+    }
+}
+
+/// Feeds a search the whole file, so that it finds the last accesses.
+pub(crate) fn feed_all(search: &mut Handle, path: &Path) -> Result<(), Error> {
+    let mut place = 0;
+    pieces(path, |piece| fed(search.feed(piece, &mut place), path, place))?;
+    fed(search.feed_end(&mut place), path, place)
+}
+
+/// A marks file up to the last accesses that a search has found. It is gone with this.
+pub(crate) struct Front {
+    path: PathBuf,
+}
+
+impl Front {
+    /// Of this file.
+    pub(crate) fn cut(search: &mut Handle, path: &Path) -> Result<Front, Error> {
+        static FRONTS: AtomicU64 = AtomicU64::new(0);
+        let name = format!("octet-front-{}-{}.octm", process::id(), FRONTS.fetch_add(1, Ordering::Relaxed));
+        let front = Front { path: env::temp_dir().join(name) };
+        let mut to = File::create_new(&front.path).map_err(named(&front.path))?;
+        let (mut cut, status) = search.cut();
+        checked(status, 0)?;
+        let mut block = vec![0; PIECE];
+        pieces(path, |piece| {
+            let (mut place, mut length) = (0, 0);
+            fed(cut.feed(piece, &mut place), path, place)?;
+            loop {
+                match cut.take(&mut block, &mut length) {
+                    raw::READY => to.write_all(&block[..length]).map_err(named(&front.path))?,
+                    raw::NO_ROOM => block.resize(length, 0),
+                    raw::PENDING => return Ok(()),
+                    status => return fed(status, path, place),
+                }
+            }
+        })?;
+        Ok(front)
+    }
+
+    pub(crate) fn path(&self) -> &Path {
+        &self.path
+    }
+}
+
+impl Drop for Front {
+    fn drop(&mut self) {
+        // What cannot be removed stays where temporary files are.
+        let _ = fs::remove_file(&self.path);
     }
 }

@@ -94,6 +94,7 @@ unsafe extern "C" {
         objects: usize,
         declared: *const u8,
         declared_length: usize,
+        last: u16,
         sessions: *mut Handle,
         count: usize,
         streams: *mut Handle,
@@ -101,6 +102,9 @@ unsafe extern "C" {
     ) -> i32;
     fn octet_feed(stream: *mut Handle, bytes: *const u8, length: usize, taken: *mut u64) -> i32;
     fn octet_feed_end(stream: *mut Handle, at: *mut u64) -> i32;
+    fn octet_search(record: *mut Handle, search: *mut Handle) -> i32;
+    fn octet_cut(search: *mut Handle, cut: *mut Handle) -> i32;
+    fn octet_window(search: *mut Handle, record: *mut Handle, window: *mut Handle) -> i32;
     fn octet_schedule(turns: *mut Handle, way: u8, seed: u64, most: u32) -> i32;
     fn octet_pick(turns: *mut Handle, ready: *const u8, threads: usize, thread: *mut u8) -> i32;
 }
@@ -156,7 +160,7 @@ pub(crate) fn head(starts: &[u64], threads: u8, declared: &[u8]) -> (Vec<u8>, i3
 }
 
 /// `octet_follow_long`.
-pub(crate) fn follow_long(starts: &[u64], declared: &[u8], threads: usize) -> (Vec<Handle>, Vec<Handle>, i32) {
+pub(crate) fn follow_long(starts: &[u64], declared: &[u8], last: u16, threads: usize) -> (Vec<Handle>, Vec<Handle>, i32) {
     let (mut sessions, mut streams) = (empty(threads), empty(threads));
     let (words, length) = (declared.as_ptr(), declared.len());
     // SAFETY: values, bytes and handles are borrowed for the call, with their lengths.
@@ -166,6 +170,7 @@ pub(crate) fn follow_long(starts: &[u64], declared: &[u8], threads: usize) -> (V
             starts.len(),
             words,
             length,
+            last,
             sessions.as_mut_ptr(),
             threads,
             streams.as_mut_ptr(),
@@ -253,6 +258,30 @@ impl Handle {
     pub(crate) fn feed_end(&mut self, at: &mut u64) -> i32 {
         // SAFETY: as in `end`.
         unsafe { octet_feed_end(self, at) }
+    }
+
+    /// `octet_search` by this record: the search, and the status.
+    pub(crate) fn search(&mut self) -> (Handle, i32) {
+        let mut search = Handle::empty();
+        // SAFETY: the record is borrowed for the call, and the other handle is this function's own.
+        let status = unsafe { octet_search(self, &mut search) };
+        (search, status)
+    }
+
+    /// `octet_cut` by this search: the stream, and the status.
+    pub(crate) fn cut(&mut self) -> (Handle, i32) {
+        let mut cut = Handle::empty();
+        // SAFETY: as in `search`.
+        let status = unsafe { octet_cut(self, &mut cut) };
+        (cut, status)
+    }
+
+    /// `octet_window` by this search and the record of the run up to there: the window, and the status.
+    pub(crate) fn window(&mut self, record: &mut Handle) -> (Handle, i32) {
+        let mut window = Handle::empty();
+        // SAFETY: both handles are borrowed for the call, and the third is this function's own.
+        let status = unsafe { octet_window(self, record, &mut window) };
+        (window, status)
     }
 
     /// `octet_pick`: a thread that is ready, if one is.

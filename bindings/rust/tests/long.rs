@@ -71,6 +71,34 @@ fn a_run_of_any_length_is_repeated() {
     }
 }
 
+// How many accesses each thread of a script makes.
+fn accesses_of(script: &str) -> Vec<usize> {
+    let updates = |thread: &str| thread.lines().filter(|line| line.starts_with("update ") || line.starts_with("bump ")).count();
+    script.split("thread\n").skip(1).map(updates).collect()
+}
+
+#[test]
+fn the_last_accesses_are_a_recording() {
+    let (file, cut) = (Kept::new("last"), Kept::new("last-cut"));
+    for every in [1, 10, 1_000] {
+        heap().record(file.as_ref()).run(walks(every)).unwrap();
+        let walks = |threads: &mut Threads<'_, u64, Error>| walks(every)(threads);
+        let window = heap().follow(file.as_ref()).window(100, walks).unwrap();
+        let made = accesses_of(window.script());
+        assert!(made.len() == THREADS as usize && made.iter().all(|&many| many <= 100), "{made:?}");
+        // One of the threads at least has all that were wanted.
+        assert!(made.contains(&100), "{made:?}");
+        assert_eq!(heap().follow(file.as_ref()).window(100, walks).unwrap(), window);
+        let content = fs::read(file.as_ref()).unwrap();
+        fs::write(cut.as_ref(), &content[..content.len() / 2]).unwrap();
+        assert!(heap().follow(cut.as_ref()).window(10, walks).unwrap().script().starts_with("fuel "));
+    }
+    let none = heap().follow(file.as_ref()).window(0, |threads| walks(1)(threads));
+    assert!(matches!(none, Err(Error::BadSize)), "{none:?}");
+    let many = heap().follow(file.as_ref()).window(60_000, |threads| walks(1_000)(threads));
+    assert!(matches!(many, Err(Error::TooLong)), "{many:?}");
+}
+
 #[test]
 fn a_file_that_is_cut_is_followed_as_far_as_it_goes() {
     let (file, cut) = (Kept::new("whole"), Kept::new("cut"));
