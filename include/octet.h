@@ -116,8 +116,8 @@ int32_t octet_stop(octet_session *session);
  * OCTET_READY the thread starts no more; after any other status it still runs. */
 int32_t octet_end(octet_session *session, uint64_t *out);
 
-/* Answers the threads that wait for this one: OCTET_ANSWERED where there was one, else OCTET_READY; in a long run
- * always OCTET_READY. Call it in long stretches without accesses. */
+/* Answers the threads that wait for this one: OCTET_ANSWERED where there was one, else OCTET_READY. Call it in long
+ * stretches without accesses. */
 int32_t octet_safe_point(octet_session *session);
 
 /* A region begins with the next access, and the one before ends there. `octet regions` tells whether they could

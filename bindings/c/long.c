@@ -336,6 +336,25 @@ static void without_a_stream(void) {
     octet_free(&s), octet_free(&t);
 }
 
+/* A thread that has an object answers the one that wants it. */
+static void at_safe_point(void) {
+    octet_session s[THREADS] = {{0}, {0}};
+    octet_stream t[THREADS] = {{0}, {0}};
+    uint64_t out = 7;
+    EXPECT(octet_open_long(STARTS, OBJECTS, s, THREADS, t, THREADS), OCTET_READY);
+    EXPECT(octet_safe_point(&s[0]), OCTET_RESTING);
+    EXPECT(octet_start(&s[0]), OCTET_READY);
+    EXPECT(octet_start(&s[1]), OCTET_READY);
+    EXPECT(octet_access(&s[0], OCTET_WRITE, 0, 9, &out), OCTET_READY);
+    EXPECT(octet_access(&s[1], OCTET_READ, 0, 0, &out), OCTET_PENDING);
+    EXPECT(octet_safe_point(&s[1]), OCTET_BEGUN);
+    EXPECT(octet_safe_point(&s[0]), OCTET_ANSWERED);
+    EXPECT(octet_safe_point(&s[0]), OCTET_READY);
+    EXPECT(octet_poll(&s[1], &out), OCTET_READY);
+    EXPECT(out, 9);
+    octet_free(&s[0]), octet_free(&s[1]), octet_free(&t[0]), octet_free(&t[1]);
+}
+
 static void at_feed(void) {
     octet_session s[THREADS] = {{0}, {0}};
     octet_stream t[THREADS] = {{0}, {0}};
@@ -401,6 +420,7 @@ int main(int count, char **words) {
     leave_the_recording();
     at_open();
     without_a_stream();
+    at_safe_point();
     at_feed();
     at_close();
     free(file.at);

@@ -127,6 +127,10 @@ status_asked (Err said) = status_of said
 abbrev pub PassesRecorded : Recorded → ℤ → Recorded → Type 0
 PassesRecorded it said that = (that.heap ≡ it.heap) × ((passed : Result Bool Misuse) × (said ≡ status_asked passed) × Glances passed it that)
 
+-- so does one of any length
+abbrev pub PassesLong : LongRecorded → ℤ → LongRecorded → Type 0
+PassesLong it said that = (that.heap ≡ it.heap) × ((passed : Result Bool Misuse) × (said ≡ status_asked passed) × threads.Glances passed it that)
+
 -- a call of a thread that is recorded at any length. It stays in its run
 abbrev pub OnLongRecorded : Effect Full → LongRecorded → ℤ → LongRecorded → Type 0
 OnLongRecorded Has it said that =
@@ -189,7 +193,7 @@ BeginsRegionNext =
 abbrev pub Passes : Held → ℤ → Held → Type 0
 Passes =
     OnThread PassesRecorded (OnRepeated (Called (Goes Idle Idle) IsNotIdle))
-    (OnLongRecorded (Called (Goes Idle Idle) IsNotIdle)) (OnLongRepeated (Called (Goes Idle Idle) IsNotIdle))
+    PassesLong (OnLongRepeated (Called (Goes Idle Idle) IsNotIdle))
 
 -- it begins an access
 abbrev pub AccessesNext : Access → ℕ → ℕ → Held → ℤ → Held → Type 0

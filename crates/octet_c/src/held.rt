@@ -188,7 +188,7 @@ impl Held {
         match self {
             Held::Recorded(it) => asked(it.safe_point()),
             Held::Repeated(it) => done(it.safe_point()),
-            Held::LongRecorded(it) => done(it.safe_point()),
+            Held::LongRecorded(it) => asked(it.safe_point()),
             Held::LongRepeated(it) => done(it.safe_point()),
             Held::Outlet(_)
             | Held::Inlet(_)

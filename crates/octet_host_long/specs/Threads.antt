@@ -1,15 +1,20 @@
 -- What a clause says of the threads of a run of any length.
-use Rattle.std.specs.Prelude.{◌≡◌, length}
+use Rattle.std.specs.Prelude.{◌≡◌, length, Bool, Result, Ok, Err}
 use Rattle.std.specs.Arc.{arc_value}
 use Rattle.octet_follow.specs.Calls.{starts_in}
+use Rattle.octet_heap.specs.Markers.{marker_seat}
 use Rattle.octet_heap.specs.Models.{heap_model}
+use Rattle.octet_safe.specs.Replies.{PassesSafePoint}
 use Rattle.octet_session.specs.Standing.{Standing}
 use Rattle.octet_stream.specs.declared.long_run.LongRun.{LongRun}
 use Rattle.octet_stream.specs.declared.long_rerun.LongRerun.{LongRerun}
 use Rattle.octet_stream.specs.Accesses.{track_standing, TrackRuns, TrackRests, TrackHasEnded}
 use Rattle.octet_stream.specs.Followers.{follower_standing, HasFollowed}
 use Rattle.octet_stream.specs.Tracks.{IsTrackOf}
+use Rattle.octet_host.specs.declared.misuse.Misuse.{Misuse}
 use Rattle.octet_host.specs.declared.stage.Stage.{Stage}
+use Rattle.octet_host.specs.declared.stage.Stage.TheVariants.{Idle}
+use Rattle.octet_host.specs.Calls.{Goes, IsNotIdle}
 use Rattle.octet_host.specs.Stages.{StandsAt}
 use Rattle.octet_host_long.specs.declared.recorded.LongRecorded.{LongRecorded}
 use Rattle.octet_host_long.specs.declared.repeated.LongCourse.{LongCourse}
@@ -47,3 +52,9 @@ OnTrack Does it that = (that.heap ≡ it.heap) × Does it.stage (track_standing 
 -- what a call does to a thread that is made again. It stays in its run
 abbrev pub OnFollower : (Stage → Standing → Stage → Standing → Type 0) → LongRepeated → LongRepeated → Type 0
 OnFollower Does it that = (that.course ≡ it.course) × Does it.stage (follower_standing it.thread.thread) that.stage (follower_standing that.thread.thread)
+
+-- a recorded thread that runs looks whether another one has asked, and answers it. It has made nothing
+abbrev pub Glances : Result Bool Misuse → LongRecorded → LongRecorded → Type 0
+Glances (Ok answered) it that =
+    Goes Idle Idle it.stage (track_standing it.track) that.stage (track_standing that.track) × PassesSafePoint (marker_seat it.track.marker) answered (marker_seat that.track.marker)
+Glances (Err said) it that = IsNotIdle it.stage said × (that ≡ it)

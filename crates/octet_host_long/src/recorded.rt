@@ -55,7 +55,7 @@ impl LongRecorded {
     ghost use Rattle.octet_host.specs.Calls.{Does, Goes, BeginsNext, IsNoRest, IsNotIdle, Accesses, GoesOn, Ends};
     ghost use Rattle.octet_host.specs.declared.stage.Stage.TheVariants as at;
     ghost use Rattle.octet_stream.specs.Accesses.{TrackHasEnded, IsTrackReason};
-    ghost use Rattle.octet_host_long.specs.Threads.{IsLongRecorded, OnTrack};
+    ghost use Rattle.octet_host_long.specs.Threads.{IsLongRecorded, OnTrack, Glances};
 
     /// Marks the thread as running.
     pub fn start(&mut self) -> Result<(), Misuse>
@@ -84,13 +84,15 @@ impl LongRecorded {
         calls::region(&self.heap.run, &mut self.track, self.stage)
     }
 
-    /// Answers the threads that have asked this one.
-    pub fn safe_point(&mut self) -> Result<(), Misuse>
+    /// Answers the threads that have asked this one. Tells whether any has.
+    pub fn safe_point(&mut self) -> Result<bool, Misuse>
         requires { IsLongRecorded self.old }
         ensures good { IsLongRecorded self.new }
-        ensures does { OnTrack (Does (Goes at.Idle at.Idle) IsNotIdle result) self.old self.new }
+        ensures run { self.new.heap ≡ self.old.heap }
+        ensures does { Glances result self.old self.new }
     {
-        calls::safe_point(&self.heap.run, &mut self.track, self.stage)
+        self.stage.idle()?;
+        Ok(self.heap.run.glance(&mut self.track))
     }
 
     /// Begins an access, and makes it if it can be made at once.

@@ -1,6 +1,9 @@
 //! A long run is a session: its threads are tracks.
-ghost use Rattle.std.specs.Prelude.{None};
+ghost use Rattle.std.specs.Prelude.{◌≡◌, None};
+ghost use Rattle.octet_safe.specs.Replies.{PassesSafePoint};
+ghost use Rattle.octet_heap.specs.Markers.{marker_seat};
 ghost use Rattle.octet_heap.specs.Models.{heap_model};
+ghost use Rattle.octet_session.specs.Standing.{Keeps};
 ghost use Rattle.octet_stream.specs.Tracks.{IsTrackOf};
 ghost use Rattle.octet_stream.specs.Accesses.{track_standing, TrackRuns, TrackRests, TrackHasEnded, IsTrackReason};
 
@@ -9,6 +12,21 @@ use crate::long_run::{Full, LongRun};
 use crate::track::{Stage, Track};
 use octet_recorder::Access;
 use octet_session::{NotMade, Session};
+
+impl LongRun {
+    /// Answers the threads that have asked this one, which makes nothing. Tells whether any has.
+    pub fn glance(&self, track: &mut Track) -> bool
+        requires own { IsTrackOf self.now track.old }
+        requires runs { TrackRuns track.old }
+        requires idle { (track_standing track.old).begun ≡ None }
+        ensures own { IsTrackOf self.now track.new }
+        ensures runs { TrackRuns track.new }
+        ensures keeps { Keeps (track_standing track.old) (track_standing track.new) }
+        ensures step { PassesSafePoint (marker_seat track.old.marker) result (marker_seat track.new.marker) }
+    {
+        track.marker.safe_point(&self.heap)
+    }
+}
 
 impl Session for LongRun {
     type Thread = Track;
@@ -56,7 +74,7 @@ impl Session for LongRun {
     }
 
     fn safe_point(&self, thread: &mut Track) {
-        thread.marker.safe_point(&self.heap);
+        self.glance(thread);
     }
 
     fn block(&self, thread: &mut Track) {
