@@ -101,7 +101,8 @@ static void end_session(int number) {
 }
 
 static uint64_t in_session(int number) {
-    octet_session *session = &sessions[number];
+    /* On the thread's own stack, since each call writes to its handle. */
+    octet_session own = sessions[number], *session = &own;
     uint16_t object = is_shared ? 0 : (uint16_t)number;
     uint64_t sum = 0, out = 0;
     for (uint64_t left = count; left; left--) {
@@ -114,6 +115,7 @@ static uint64_t in_session(int number) {
         if (status != OCTET_READY) fail("an access is refused");
         sum += out;
     }
+    sessions[number] = own;
     return sum;
 }
 

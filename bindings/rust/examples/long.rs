@@ -43,12 +43,13 @@ fn total(run: &LongRun<u64>) -> u64 {
 
 fn main() -> Result<(), Box<dyn error::Error>> {
     let file = env::args().nth(1).unwrap_or("bank.octm".to_string());
+    let last = format!("{file}.last");
     let first = bank().record(&file).run(threads)?;
     let second = bank().follow(&file).run(threads)?;
     assert_eq!(second.values(), first.values());
+    bank().follow(&file).window(1_000, threads)?.save(&last)?;
     println!("recorded, and run again: total {}, {} KiB of marks", total(&second), fs::metadata(&file)?.len() / 1024);
-    bank().follow(&file).window(1_000, threads)?.save(format!("{file}.last"))?;
-    println!("the last accesses of each thread: {file}.last.octet and {file}.last.log");
+    println!("the last accesses of each thread: {last}.octet and {last}.log");
     let marks = fs::read(&file)?;
     fs::write(&file, &marks[..marks.len() / 2])?;
     let cut = bank().follow(&file).run(threads)?;

@@ -1,6 +1,6 @@
 -- A search goes on, piece by piece.
-use Rattle.std.proofs.Common.{◌≡◌, ◌∙◌, ℕ, zero, suc, ◌+◌, ◌<◌, List, [], ◌∷◌, ◌++◌, length, drop, get_or, map, Some, Result, Ok, Err, IfErr, refl, sym, ap, subst, arith, append_assoc, append-nil, slice_index_or, length-drop}
-use Rattle.std.proofs.Math.Seq.{drop-cons, drop-length}
+use Rattle.std.proofs.Common.{◌≡◌, ◌∙◌, ℕ, zero, suc, ◌<◌, List, [], ◌∷◌, ◌++◌, length, drop, map, Some, Result, Ok, Err, IfErr, refl, sym, ap, subst, arith, append_assoc, append-nil, slice_index_or, length-drop}
+use Rattle.std.proofs.Math.Seq.{drop-length}
 use Rattle.std.proofs.lemmas.List.{get_or-map, length-map}
 use Rattle.octet_log.specs.Inputs.{AreBytes}
 use Rattle.octet_marks.specs.declared.piece.Piece.{Piece}
@@ -21,7 +21,7 @@ use Rattle.octet_cut.specs.declared.search.Search.{Search}
 use Rattle.octet_cut.specs.Faults.{search_fault_of_part}
 use Rattle.octet_cut.specs.Fronts.{IsBetween, IsUnnoted}
 use Rattle.octet_cut.specs.Parts.{HasNoPart}
-use Rattle.octet_cut.specs.Searches.{counts_in, AreNotedBy, HasSearched, IsSameSearch, NotesPiece, SearchesOn, HasReadAll, HasSearchFault, HasNoPartOf, HasNoParts, IsPartOf, AreParts, FindsIn, FindsNone}
+use Rattle.octet_cut.specs.Searches.{counts_in, AreNotedBy, HasSearched, IsSameSearch, NotesPiece, SearchesOn, HasReadAll, HasSearchFault, HasNoPartOf, HasNoParts, AreParts, FindsIn, FindsNone}
 
 -- ---- noting
 -- a piece that cannot be noted is one with which there are too many events
@@ -145,15 +145,6 @@ no_part_for fronts last thread made tail part_fault.OutOfMemory is none = tt
 -- these are the parts of the first threads, so many
 abbrev pub AreFirstParts : Fronts → ℕ → List Made → ℕ → List Part → Type 0
 AreFirstParts fronts last made k parts = (rest : List Part) → AreParts fronts last k (drop k made) rest → AreParts fronts last 0 made (parts ++ rest)
-
-pub one_part : (fronts : Fronts) (last : ℕ) (made : List Made) (k : ℕ) (parts : List Part) (d one : Made) (part : Part) → k < length made → one ≡ get_or made k d
-    → AreFirstParts fronts last made k parts → IsPartOf fronts last k one part → AreFirstParts fronts last made (k + 1) (parts ++ part ∷ [])
-one_part fronts last made k parts d one part lt is first has = λ rest later.
-    let same : k + 1 ≡ suc k = omega arith in
-    let here : drop k made ≡ one ∷ drop (suc k) made = drop-cons made k d lt ∙ ap (λ (m : Made). m ∷ drop (suc k) made) (sym is) in
-    let others = subst (λ (n : ℕ). AreParts fronts last n (drop n made) rest) same later in
-    let all = first (part ∷ rest) (subst (λ (l : List Made). AreParts fronts last k l (part ∷ rest)) (sym here) (part, rest, refl, has, others)) in
-    subst (λ (l : List Part). AreParts fronts last 0 made l) (sym (append_assoc parts (part ∷ []) rest)) all
 
 pub parts_to_end : (fronts : Fronts) (last : ℕ) (made : List Made) (k : ℕ) (parts : List Part) → k ≡ length made → AreFirstParts fronts last made k parts → AreParts fronts last 0 made parts
 parts_to_end fronts last made k parts is first =
