@@ -109,7 +109,7 @@ static uint64_t in_session(int number) {
         int32_t status = is_update ? octet_update(session, OCTET_ADD, object, 1, 0, &out)
                                    : octet_access(session, OCTET_READ, object, 0, &out);
         for (int round = 0; status == OCTET_PENDING; round++) {
-            if (round > 64) sched_yield();
+            if (round > 100) sched_yield();
             status = octet_poll(session, &out);
         }
         if (status != OCTET_READY) fail("an access is refused");

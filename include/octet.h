@@ -117,8 +117,8 @@ int32_t octet_stop(octet_session *session);
  * OCTET_READY the thread starts no more; after any other status it still runs. */
 int32_t octet_end(octet_session *session, uint64_t *out);
 
-/* Answers the threads that wait for this one: OCTET_ANSWERED where there was one, else OCTET_READY. Call it in long
- * stretches without accesses. */
+/* Answers the threads that wait for this one: OCTET_ANSWERED where there was one, else OCTET_READY. Each access answers
+ * them first. Call it in long stretches without accesses. */
 int32_t octet_safe_point(octet_session *session);
 
 /* A region begins with the next access, and the one before ends there. `octet regions` tells whether they could
@@ -134,7 +134,9 @@ int32_t octet_access(octet_session *session, uint8_t mode, uint16_t object, uint
 int32_t octet_update(octet_session *session, uint8_t change, uint16_t object, uint64_t operand, uint64_t expected,
                      uint64_t *out);
 
-/* Goes on with the access that was begun, and answers as the call that began it. */
+/* Goes on with the access that was begun, and answers as the call that began it. Mostly another thread hands the object
+ * over within a microsecond. Where threads of a long run take an object from each other, up to 48 calls in a row only let
+ * the others make more accesses: so do not sleep after each. */
 int32_t octet_poll(octet_session *session, uint64_t *out);
 
 /* Ends the run, and puts its record behind the handle. Give all sessions of one call that opened them, in order,

@@ -336,7 +336,7 @@ static void without_a_stream(void) {
     octet_free(&s), octet_free(&t);
 }
 
-/* A thread that has an object answers the one that wants it. */
+/* A thread that has an object answers the one that wants it: at a safe point, and before an access of another object. */
 static void at_safe_point(void) {
     octet_session s[THREADS] = {{0}, {0}};
     octet_stream t[THREADS] = {{0}, {0}};
@@ -352,6 +352,11 @@ static void at_safe_point(void) {
     EXPECT(octet_safe_point(&s[0]), OCTET_READY);
     EXPECT(octet_poll(&s[1], &out), OCTET_READY);
     EXPECT(out, 9);
+    EXPECT(octet_update(&s[1], OCTET_ADD, 2, 1, 0, &out), OCTET_PENDING);
+    EXPECT(octet_access(&s[0], OCTET_READ, 1, 0, &out), OCTET_READY);
+    EXPECT(out, 6);
+    EXPECT(octet_poll(&s[1], &out), OCTET_READY);
+    EXPECT(out, 7);
     octet_free(&s[0]), octet_free(&s[1]), octet_free(&t[0]), octet_free(&t[1]);
 }
 

@@ -3,6 +3,7 @@ use crate::schedule::{Kept, Pick};
 use crate::shrink::with_fewer_preemptions;
 use crate::{Error, Recording, Schedule};
 use std::any::Any;
+use std::iter::successors;
 use std::panic::{self, AssertUnwindSafe};
 use std::path::Path;
 use std::{error, fmt, mem};
@@ -18,11 +19,11 @@ use std::{error, fmt, mem};
 /// assert!(matches!(failure.cause(), Cause::Error(Error::Resting)));
 /// ```
 #[derive(Debug)]
-pub enum Cause {
+pub enum Cause<E = Error> {
     /// An assertion failed, in a thread or after the run, with this message.
     Panic(String),
-    /// The run failed.
-    Error(Error),
+    /// The program failed: its run did, or what it did with it.
+    Error(E),
 }
 
 /// A schedule that failed: its seed, why it failed, and its run, which is shrunk to few preemptions.
@@ -44,14 +45,14 @@ pub enum Cause {
 /// # assert!(failure.to_string().contains("the first thread writes last"));
 /// ```
 #[derive(Debug)]
-pub struct Failure {
+pub struct Failure<E = Error> {
     seed: u64,
-    cause: Cause,
+    cause: Cause<E>,
     picks: Vec<Pick>,
     recording: Option<Recording>,
 }
 
-impl Failure {
+impl<E> Failure<E> {
     /// The seed of the schedule, before it was shrunk.
     ///
     /// ```
@@ -68,7 +69,7 @@ impl Failure {
     /// let failure = octet::explore([0], |_| panic!("always")).expect_err("it panics");
     /// assert!(matches!(failure.cause(), octet::Cause::Panic(message) if message == "always"));
     /// ```
-    pub fn cause(&self) -> &Cause {
+    pub fn cause(&self) -> &Cause<E> {
         &self.cause
     }
 
@@ -133,20 +134,27 @@ impl Failure {
     }
 
     /// Whether both fail by the same kind of error, or by panics whose messages differ in numbers alone.
-    pub(crate) fn is_like(&self, other: &Failure) -> bool {
+    pub(crate) fn is_like(&self, other: &Failure<E>) -> bool {
         match (&self.cause, &other.cause) {
             (Cause::Panic(message), Cause::Panic(other)) => without_numbers(message).eq(without_numbers(other)),
             (Cause::Error(error), Cause::Error(other)) => mem::discriminant(error) == mem::discriminant(other),
             _ => false,
         }
     }
+}
 
+impl<E: error::Error + 'static> Failure<E> {
+    /// Whether a thread has waited too long, as the error says or one of its sources.
     pub(crate) fn is_impatient(&self) -> bool {
-        matches!(self.cause, Cause::Error(Error::Patience { .. }))
+        let Cause::Error(first) = &self.cause else {
+            return false;
+        };
+        let causes = successors(Some(first as &(dyn error::Error + 'static)), |cause| cause.source());
+        causes.filter_map(|cause| cause.downcast_ref()).any(|error| matches!(error, Error::Patience { .. }))
     }
 }
 
-impl fmt::Display for Failure {
+impl<E: fmt::Display> fmt::Display for Failure<E> {
     fn fmt(&self, out: &mut fmt::Formatter<'_>) -> fmt::Result {
         match &self.cause {
             Cause::Panic(message) => write!(out, "seed {}: {message}", self.seed),
@@ -155,7 +163,7 @@ impl fmt::Display for Failure {
     }
 }
 
-impl error::Error for Failure {
+impl<E: error::Error + 'static> error::Error for Failure<E> {
     fn source(&self) -> Option<&(dyn error::Error + 'static)> {
         match &self.cause {
             Cause::Panic(_) => None,
@@ -174,7 +182,7 @@ fn message_of(panic: &(dyn Any + Send)) -> String {
 }
 
 /// Runs a program by this schedule.
-pub(crate) fn play(program: &mut dyn FnMut(Schedule) -> Result<(), Error>, schedule: Schedule) -> Result<(), Box<Failure>> {
+pub(crate) fn play<E>(program: &mut dyn FnMut(Schedule) -> Result<(), E>, schedule: Schedule) -> Result<(), Box<Failure<E>>> {
     let cause = match panic::catch_unwind(AssertUnwindSafe(|| program(schedule.clone()))) {
         Ok(Ok(())) => return Ok(()),
         Ok(Err(error)) => Cause::Error(error),
@@ -220,8 +228,62 @@ pub(crate) fn play(program: &mut dyn FnMut(Schedule) -> Result<(), Error>, sched
 /// ```
 pub fn explore(
     seeds: impl IntoIterator<Item = u64>,
-    mut program: impl FnMut(Schedule) -> Result<(), Error>,
+    program: impl FnMut(Schedule) -> Result<(), Error>,
 ) -> Result<u64, Box<Failure>> {
+    try_explore(seeds, program)
+}
+
+/// Explores a program that may fail with errors of its own, as `explore` does. Errors are of the same kind where they are of the
+/// same variant.
+///
+/// ```
+/// use octet::{Cause, Heap, try_explore};
+///
+/// #[derive(Debug)]
+/// enum Fault {
+///     Lost(u64),
+///     Heap(octet::Error),
+/// }
+///
+/// impl std::fmt::Display for Fault {
+///     fn fmt(&self, out: &mut std::fmt::Formatter<'_>) -> std::fmt::Result {
+///         match self {
+///             Fault::Lost(balance) => write!(out, "the balance is {balance}"),
+///             Fault::Heap(error) => write!(out, "{error}"),
+///         }
+///     }
+/// }
+///
+/// impl std::error::Error for Fault {}
+///
+/// impl From<octet::Error> for Fault {
+///     fn from(error: octet::Error) -> Fault {
+///         Fault::Heap(error)
+///     }
+/// }
+///
+/// let failure = try_explore(0..1000, |schedule| {
+///     let run = Heap::builder().object("balance", 0).schedule(schedule).run(|threads| {
+///         for _ in 0..2 {
+///             threads.spawn(|session| {
+///                 let balance = session.object("balance")?;
+///                 let found = session.load(balance)?;
+///                 session.store(balance, found + 1)
+///             });
+///         }
+///     })?;
+///     match run.value("balance") {
+///         Some(2) => Ok(()),
+///         balance => Err(Fault::Lost(balance.unwrap_or_default())),
+///     }
+/// })
+/// .expect_err("some schedule loses an addition");
+/// assert!(matches!(failure.cause(), Cause::Error(Fault::Lost(1))));
+/// ```
+pub fn try_explore<E: error::Error + 'static>(
+    seeds: impl IntoIterator<Item = u64>,
+    mut program: impl FnMut(Schedule) -> Result<(), E>,
+) -> Result<u64, Box<Failure<E>>> {
     let mut passed = 0;
     for seed in seeds {
         match play(&mut program, Schedule::new(seed)) {

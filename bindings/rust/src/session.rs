@@ -14,6 +14,9 @@ use std::time::Instant;
 
 type Caller = &'static Location<'static>;
 
+// How often a thread that waits asks again before it gives its processor to others.
+const SPINS: u32 = 100;
+
 /// An object of one heap: a number of 64 bits that its threads share.
 ///
 /// ```
@@ -224,7 +227,8 @@ impl Session {
 
 /// Waiting.
 impl Session {
-    // Asks again and again while the answer is that it waits.
+    // Asks again and again while the answer is that it waits: mostly another thread answers at its next access. The library lets
+    // some of these calls pass where threads take an object from each other, so none of them is to take long.
     fn until_made(
         &mut self,
         mut status: i32,
@@ -233,10 +237,9 @@ impl Session {
     ) -> Result<i32, Error> {
         let (mut round, mut since) = (0_u32, None);
         while status == raw::PENDING {
-            for _ in 0..1_u32 << round.min(6) {
+            if round < SPINS {
                 hint::spin_loop();
-            }
-            if round > 6 {
+            } else {
                 thread::yield_now();
             }
             round = round.wrapping_add(1);

@@ -1,9 +1,10 @@
 //! A failure with fewer preemptions. The search is bounded, and may miss the fewest.
+use crate::Schedule;
 use crate::explore::{Failure, play};
 use crate::quiet::Quiet;
 use crate::schedule::{Pick, Picker};
-use crate::{Error, Schedule};
 use std::collections::HashSet;
+use std::error::Error;
 use std::hash::{BuildHasher, BuildHasherDefault, DefaultHasher};
 use std::iter;
 use std::time::{Duration, Instant};
@@ -52,9 +53,9 @@ impl Preemption {
     }
 }
 
-struct Search<'a> {
-    program: &'a mut dyn FnMut(Schedule) -> Result<(), Error>,
-    best: Box<Failure>,
+struct Search<'a, E> {
+    program: &'a mut dyn FnMut(Schedule) -> Result<(), E>,
+    best: Box<Failure<E>>,
     // How often each thread was picked in the run that is shrunk.
     lengths: Vec<usize>,
     draws: Picker,
@@ -63,7 +64,7 @@ struct Search<'a> {
     until: Instant,
 }
 
-impl Search<'_> {
+impl<E: Error + 'static> Search<'_, E> {
     // A number that the seed draws, below this one: each pick of sixteen threads is a digit.
     fn below(&mut self, end: usize) -> usize {
         let mut digit = || self.draws.pick(&[true; 16], None).unwrap_or(0);
@@ -75,7 +76,7 @@ impl Search<'_> {
     }
 
     // The failure by these picks, if it is like the best one.
-    fn failure_by(&mut self, picks: Picked) -> Option<Box<Failure>> {
+    fn failure_by(&mut self, picks: Picked) -> Option<Box<Failure<E>>> {
         let hash = BuildHasherDefault::<DefaultHasher>::default().hash_one(&picks);
         if self.is_over() || !self.played.insert(hash) {
             return None;
@@ -181,10 +182,10 @@ impl Search<'_> {
 }
 
 /// The failure with the fewest preemptions that is found; this one, where the program does not fail so again.
-pub(crate) fn with_fewer_preemptions(
-    failure: Box<Failure>,
-    program: &mut dyn FnMut(Schedule) -> Result<(), Error>,
-) -> Box<Failure> {
+pub(crate) fn with_fewer_preemptions<E: Error + 'static>(
+    failure: Box<Failure<E>>,
+    program: &mut dyn FnMut(Schedule) -> Result<(), E>,
+) -> Box<Failure<E>> {
     if failure.preemptions() == 0 || failure.is_impatient() {
         return failure;
     }

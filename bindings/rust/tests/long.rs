@@ -2,8 +2,9 @@
 use octet::{Builder, Error, Heap, LongRun, Session, Threads, explore};
 use std::fs;
 use std::path::{Path, PathBuf};
-use std::sync::atomic::{AtomicU64, Ordering};
+use std::sync::atomic::{AtomicBool, AtomicU64, Ordering};
 use std::thread;
+use std::time::Duration;
 
 /// A file that is gone with it.
 struct Kept(PathBuf);
@@ -69,6 +70,40 @@ fn a_run_of_any_length_is_repeated() {
             assert_eq!(last_values(&second), last_values(&first));
         }
     }
+}
+
+// The first thread has the object, and then makes accesses of another one until the second thread has it.
+fn work_on<'a>(taken: &'a AtomicBool, given: &'a AtomicBool, threads: &mut Threads<'a, (), Error>) {
+    threads.spawn(|session| {
+        let (shared, own) = (session.object("shared")?, session.object("own0")?);
+        session.store(shared, 2)?;
+        taken.store(true, Ordering::Release);
+        while !given.load(Ordering::Acquire) {
+            (0..1_000).try_for_each(|_| session.fetch_add(own, 1).map(|_| ()))?;
+            // A script has no room for many more.
+            thread::sleep(Duration::from_millis(1));
+        }
+        Ok(())
+    });
+    threads.spawn(|session| {
+        session.blocked(|| {
+            while !taken.load(Ordering::Acquire) {
+                thread::yield_now();
+            }
+        })?;
+        assert_eq!(session.load(session.object("shared")?)?, 2);
+        given.store(true, Ordering::Release);
+        Ok(())
+    });
+}
+
+#[test]
+fn a_thread_that_is_at_work_on_its_own_answers_the_others() {
+    let file = Kept::new("answers");
+    let (taken, given) = (AtomicBool::new(false), AtomicBool::new(false));
+    heap().run(|threads| work_on(&taken, &given, threads)).unwrap();
+    let (taken, given) = (AtomicBool::new(false), AtomicBool::new(false));
+    heap().record(file.as_ref()).run(|threads| work_on(&taken, &given, threads)).unwrap();
 }
 
 // How many accesses each thread of a script makes.

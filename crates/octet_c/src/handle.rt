@@ -29,6 +29,7 @@ impl Model for Handle {
 }
 
 impl Handle {
+    #[inline(always)]
     fn of_loose(loose: Loose<Held, Global>) -> Handle
         requires { IsHeld loose.value }
         ensures { result.held ≡ Some loose.value }
@@ -40,6 +41,7 @@ impl Handle {
         }
     }
 
+    #[inline(always)]
     fn empty(alloc: Global) -> Handle
         ensures { result.held ≡ None }
     {
@@ -50,12 +52,14 @@ impl Handle {
     }
 
     // Of a handle that holds nothing.
+    #[inline(always)]
     fn discard(self)
         requires { self.held ≡ None }
     {
         let Handle { at: _, alloc: _ } = self;
     }
 
+    #[inline(always)]
     fn into_loose(self) -> Option<Loose<Held, Global>>
         ensures { MatchOption result (self.held ≡ None) (λ loose. (self.held ≡ Some loose.value) × IsHeld loose.value) }
     {
@@ -73,6 +77,7 @@ impl Handle {
 
 impl Handle {
     /// The handle of a box.
+    #[inline(always)]
     pub(crate) fn of(value: Box<Held, Global>) -> Handle
         requires { IsHeld value.value }
         ensures { result.held ≡ Some value.value }
@@ -81,6 +86,7 @@ impl Handle {
     }
 
     /// The box, if there is one. Then the handle has none.
+    #[inline(always)]
     pub(crate) fn take(&mut self, alloc: Global) -> Option<Box<Held, Global>>
         ensures taken { MatchOption result (self.old.held ≡ None) (λ value. (self.old.held ≡ Some value.value) × IsHeld value.value) }
         ensures rest { self.new.held ≡ None }
@@ -92,6 +98,7 @@ impl Handle {
     }
 
     /// Of a handle that has no box.
+    #[inline(always)]
     pub(crate) fn put(&mut self, value: Box<Held, Global>)
         requires empty { self.old.held ≡ None }
         requires good { IsHeld value.value }

@@ -53,6 +53,7 @@ fn asked(passed: Result<bool, Misuse>) -> i32
 }
 
 // What an access comes to, with its value if it has one.
+#[inline(always)]
 fn told<H: Told>(answer: Answer<H>, out: &mut u64) -> i32
     ensures { Tells H.Tells answer result out.old out.new }
 {
@@ -200,8 +201,32 @@ impl Held {
         }
     }
 
-    /// Begins an access, and makes it if it can be made at once.
+    /// Begins an access, and makes it if it can be made at once. A thread of a long run comes first, since it makes the most.
+    #[inline(always)]
     pub(crate) fn access(&mut self, wanted: Access, out: &mut u64) -> i32
+        requires { IsHeld self.old }
+        ensures good { IsHeld self.new }
+        ensures does { AccessesNext wanted out.old out.new self.old result self.new }
+    {
+        match self {
+            Held::LongRecorded(it) => told(it.access(wanted), out),
+            _ => self.access_of_other(wanted, out),
+        }
+    }
+
+    // The same, whatever it stands for. What goes out of line is copied to memory here.
+    #[inline(always)]
+    fn access_of_other(&mut self, wanted: Access, out: &mut u64) -> i32
+        requires { IsHeld self.old }
+        ensures good { IsHeld self.new }
+        ensures does { AccessesNext wanted out.old out.new self.old result self.new }
+    {
+        self.access_of_any(wanted, out)
+    }
+
+    // The same, out of line.
+    #[inline(never)]
+    fn access_of_any(&mut self, wanted: Access, out: &mut u64) -> i32
         requires { IsHeld self.old }
         ensures good { IsHeld self.new }
         ensures does { AccessesNext wanted out.old out.new self.old result self.new }

@@ -152,6 +152,7 @@ pub extern "C" fn octet_safe_point(alloc: Global, session: &mut Handle) -> i32
 }
 
 // Begins an access of the thread behind the handle.
+#[inline(always)]
 fn access(alloc: Global, session: &mut Handle, wanted: Access, out: &mut u64) -> i32
     ensures { AsksHandle (Some wanted) NO_MODE session.old.held result out.old out.new session.new.held }
 {

@@ -1,39 +1,48 @@
 //! What C names by numbers.
-ghost use Rattle.std.specs.Prelude.{◌≡◌};
-ghost use Rattle.octet_recorder.specs.declared.access.Access.TheVariants as want;
-ghost use Rattle.octet_c.specs.Names.{access_named, update_named};
+ghost use Rattle.std.specs.Prelude.{◌≡◌, slice_get};
+ghost use Rattle.octet_c.specs.Names.{changes, access_named, update_named};
 
 use octet_recorder::{Access, Change};
 
 /// A read, or a write of the value: modes 0 and 1.
+#[inline(always)]
 pub(crate) fn access_of(mode: u8, object: u16, value: u64) -> Option<Access>
     ensures { result ≡ access_named mode object value }
 {
-    let accesses = [Access::Read { object }, Access::Write { object, value }];
-    accesses.get(usize::from(mode)).copied()
+    match mode {
+        0 => Some(Access::Read { object }),
+        1 => Some(Access::Write { object, value }),
+        _ => None,
+    }
 }
 
-fn update(object: u16, change: Change) -> Access
-    ensures { result ≡ want.Update object change }
+// The change of a number, if there is one. Only a compare-exchange has an expected value.
+#[inline(always)]
+fn change_of(number: u8, operand: u64, expected: u64) -> Option<Change>
+    ensures { result ≡ slice_get (changes operand expected) number }
 {
-    Access::Update { object, change }
+    let new = operand;
+    match number {
+        0 => Some(Change::Add(operand)),
+        1 => Some(Change::Sub(operand)),
+        2 => Some(Change::Swap(operand)),
+        3 => Some(Change::CompareExchange { expected, new }),
+        4 => Some(Change::And(operand)),
+        5 => Some(Change::Or(operand)),
+        6 => Some(Change::Xor(operand)),
+        7 => Some(Change::Max(operand)),
+        8 => Some(Change::Min(operand)),
+        _ => None,
+    }
 }
 
-/// An update of the object by the change of this number. Only a compare-exchange, which is number 3, has an expected value.
+/// An update of the object by the change of this number.
+#[inline(always)]
 pub(crate) fn update_of(number: u8, object: u16, operand: u64, expected: u64) -> Option<Access>
     ensures { result ≡ update_named number object operand expected }
 {
-    let new = operand;
-    let updates = [
-        update(object, Change::Add(operand)),
-        update(object, Change::Sub(operand)),
-        update(object, Change::Swap(operand)),
-        update(object, Change::CompareExchange { expected, new }),
-        update(object, Change::And(operand)),
-        update(object, Change::Or(operand)),
-        update(object, Change::Xor(operand)),
-        update(object, Change::Max(operand)),
-        update(object, Change::Min(operand)),
-    ];
-    updates.get(usize::from(number)).copied()
+    match change_of(number, operand, expected) {
+        Some(change) => Some(Access::Update { object, change }),
+        None => None,
+    }
 }

@@ -1,7 +1,7 @@
 //! What a thread does, whether it is recorded or run again. What a session asks of its callers is tested.
-ghost use Rattle.std.specs.Prelude.{◌≡◌, ◌<◌};
+ghost use Rattle.std.specs.Prelude.{◌≡◌, ◌<◌, Err};
 ghost use Rattle.octet_session.specs.Asking.{object_of, MayAsk};
-ghost use Rattle.octet_host.specs.Calls.{Does, Goes, BeginsNext, IsNoRest, IsNotIdle, AsksOn, Accesses, GoesOn, Ends};
+ghost use Rattle.octet_host.specs.Calls.{Does, Goes, BeginsNext, IsNoRest, IsNotIdle, made_of, stage_asked, IsOfAsking, AsksOn, Accesses, GoesOn, Ends};
 ghost use Rattle.octet_host.specs.Stages.{StandsAt};
 ghost use Rattle.octet_host.specs.declared.stage.Stage.TheVariants as at;
 
@@ -76,6 +76,42 @@ pub fn safe_point<S: Session>(
     Ok(())
 }
 
+// Where an access leaves its thread that is not made, and what that comes to. What goes out of line is copied to memory here,
+// and so stays in registers where the access is made.
+#[inline(always)]
+fn not_made<H: Copy>(stage: &mut Stage, wanted: Access, why: NotMade<H>) -> Answer<H>
+    ensures stage { stage.new ≡ stage_asked wanted result }
+    ensures only { IsOfAsking result }
+    ensures is { made_of result ≡ Err why }
+{
+    left_at(stage, wanted, why)
+}
+
+// The same, out of line.
+#[inline(never)]
+fn left_at<H: Copy>(stage: &mut Stage, wanted: Access, why: NotMade<H>) -> Answer<H>
+    ensures stage { stage.new ≡ stage_asked wanted result }
+    ensures only { IsOfAsking result }
+    ensures is { made_of result ≡ Err why }
+{
+    match why {
+        NotMade::Waits => {
+            *stage = Stage::Begun { wanted };
+            Answer::Pending
+        }
+        NotMade::NoRoom => {
+            *stage = Stage::Idle;
+            Answer::Refused {
+                misuse: Misuse::Spent,
+            }
+        }
+        NotMade::Left { halt } => {
+            *stage = Stage::Idle;
+            Answer::Left { halt }
+        }
+    }
+}
+
 // Begins an access, or goes on with it.
 fn ask<S: Session>(
     session: &S,
@@ -96,23 +132,11 @@ fn ask<S: Session>(
             *stage = Stage::Idle;
             Answer::Ready { value }
         }
-        Err(NotMade::Waits) => {
-            *stage = Stage::Begun { wanted };
-            Answer::Pending
-        }
-        Err(NotMade::NoRoom) => {
-            *stage = Stage::Idle;
-            Answer::Refused {
-                misuse: Misuse::Spent,
-            }
-        }
-        Err(NotMade::Left { halt }) => {
-            *stage = Stage::Idle;
-            Answer::Left { halt }
-        }
+        Err(why) => not_made(stage, wanted, why),
     }
 }
 
+#[inline(always)]
 fn object_of(wanted: Access) -> u16
     ensures { result ≡ object_of wanted }
 {
@@ -124,6 +148,7 @@ fn object_of(wanted: Access) -> u16
 }
 
 /// Begins an access, and makes it if it can be made at once. There are so many objects.
+#[inline(always)]
 pub fn access<S: Session>(
     session: &S,
     thread: &mut S::Thread,
@@ -146,7 +171,11 @@ pub fn access<S: Session>(
             misuse: Misuse::NoSuchObject,
         };
     }
-    ask(session, thread, stage, wanted)
+    // An access that is made at once leaves the stage as it is.
+    match session.ask(thread, wanted) {
+        Ok(value) => Answer::Ready { value },
+        Err(why) => not_made(stage, wanted, why),
+    }
 }
 
 /// Goes on with the access that was begun.

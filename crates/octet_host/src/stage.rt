@@ -21,14 +21,17 @@ pub enum Stage {
 
 impl Stage {
     /// Refuses a thread that does not run, or has begun an access.
+    #[inline(always)]
     pub fn idle(self) -> Result<(), Misuse>
         ensures is { OnOk result (self ≡ Idle) }
         ensures why { IfErr result (λ misuse. why_not_idle self ≡ Some misuse) }
     {
+        if let Stage::Idle = self {
+            return Ok(());
+        }
         match self {
-            Stage::Idle => Ok(()),
-            Stage::Resting | Stage::Ended => Err(Misuse::Resting),
             Stage::Begun { .. } => Err(Misuse::Begun),
+            _ => Err(Misuse::Resting),
         }
     }
 

@@ -96,6 +96,7 @@ impl LongRecorded {
     }
 
     /// Begins an access, and makes it if it can be made at once.
+    #[inline(always)]
     pub fn access(&mut self, wanted: Access) -> Answer<Full>
         requires { IsLongRecorded self.old }
         ensures good { IsLongRecorded self.new }

@@ -96,6 +96,7 @@ impl Recorded {
     }
 
     /// Begins an access, and makes it if it can be made at once.
+    #[inline(always)]
     pub fn access(&mut self, wanted: Access) -> Answer<Infallible>
         requires { IsRecorded self.old }
         ensures good { IsRecorded self.new }

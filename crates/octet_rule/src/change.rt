@@ -31,7 +31,7 @@ pub enum Change {
 
 impl Change {
     /// What it makes of a value.
-    #[inline]
+    #[inline(always)]
     pub fn changed(&self, value: u64) -> u64
         ensures { result ≡ changed_by self.now value }
     {

@@ -1,5 +1,6 @@
 -- What a recorder notes, in the words of a session.
-use Rattle.std.proofs.Common.{◌≡◌, ◌∙◌, ℕ, ◌+◌, ◌-◌, ◌≤◌, Bool, true, false, List, [], ◌++◌, length, map, Some, IfErr, refl, ap, lit≤, arith, length-append, append-nil}
+use Rattle.std.proofs.Common.{◌≡◌, ◌∙◌, ℕ, ◌+◌, ◌-◌, ◌≤◌, Bool, true, false, List, [], ◌++◌, length, map, Some, Result, Ok, Err, IfErr, refl, ap, lit≤, arith, length-append, append-nil}
+use Rattle.std.specs.declared.convert.Infallible.{Infallible}
 use Rattle.octet_model.specs.declared.command.Command.{Command}
 use Rattle.octet_model.specs.declared.event.Event.{Event}
 use Rattle.octet_model.specs.declared.event.Event.TheVariants as event
@@ -19,17 +20,19 @@ use Rattle.octet_recorder.specs.declared.track.Track.{Track}
 use Rattle.octet_recorder.specs.declared.track.TheConstants.{LINES_OF_ACCESS}
 use Rattle.octet_recorder.specs.Polls.{NotesUpdate, NotesPoll}
 use Rattle.octet_recorder.specs.Tracks.{lines_in, lines_noted, number_of, lines_of, Notes}
+use Rattle.octet_session.specs.declared.not_made.NotMade.{NotMade}
+use Rattle.octet_session.specs.declared.not_made.NotMade.TheVariants.{Waits, NoRoom, Left}
 use Rattle.octet_session.specs.Asking.{lines_of_region, Takes, Asks}
-use Rattle.octet_session.specs.Recording.{poll_answer, update_answer, track_standing, IsTrackReason}
+use Rattle.octet_session.specs.Recording.{poll_answer, update_answer, track_standing, IsPending, AnswersFirst, IsTrackReason}
 
 -- a poll that is pending is the reason of an access that waits
-pub poll_is_reason : (wanted : Access) (before after : Track) (answer : Poll) → NotesPoll wanted before answer after → IfErr (poll_answer answer) (IsTrackReason (Some wanted) before after)
+pub poll_is_reason : (wanted : Access) (before after : Track) (answer : Poll) → NotesPoll wanted before answer after → IfErr (poll_answer answer) (IsPending wanted before after)
 poll_is_reason wanted before after (Ready value) notes = tt
 poll_is_reason wanted before after (Pending why) notes = (why, notes)
 
 -- and an update that is pending
 pub update_is_reason : (object : ℕ) (change : Change) (before after : Track) (answer : Updated) → NotesUpdate object change before answer after
-    → IfErr (update_answer answer) (IsTrackReason (Some (Update object change)) before after)
+    → IfErr (update_answer answer) (IsPending (Update object change) before after)
 update_is_reason object change before after (updated.Made found) notes = tt
 update_is_reason object change before after (updated.Pending why) notes = (why, (updated.Pending why, refl, notes))
 
@@ -120,3 +123,11 @@ module _ (recorder : Recorder) (before after : Track) where
       left = left_same notes.notes.lines;
       cause = omega (arith, more);
     }
+
+-- a poll that was pending is the reason, once those are answered that had asked
+pub first_is_reason : (wanted : Access) (before between after : Track) (result : Result ℕ (NotMade Infallible)) → AnswersFirst before.begun before between → IfErr result (IsPending wanted between after)
+    → IfErr result (IsTrackReason (Some wanted) before after)
+first_is_reason wanted before between after (Ok value) answers pending = tt
+first_is_reason wanted before between after (Err Waits) answers pending = (between, answers, pending)
+first_is_reason wanted before between after (Err NoRoom) answers pending = tt
+first_is_reason wanted before between after (Err (Left halt)) answers pending = pending

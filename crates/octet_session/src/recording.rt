@@ -5,7 +5,7 @@ ghost use Rattle.octet_heap.specs.Calls.{access_to};
 ghost use Rattle.octet_heap.specs.Workers.{pending_after};
 ghost use Rattle.octet_recorder.specs.declared.access.Access.TheVariants as want;
 ghost use Rattle.octet_recorder.specs.Tracks.{objects_in, lines_in, lines_noted, number_of, IsTrackOf, IsIdleIfMade, Notes};
-ghost use Rattle.octet_session.specs.Recording.{track_standing, TrackRuns, TrackRests, IsTrackReason};
+ghost use Rattle.octet_session.specs.Recording.{track_standing, TrackRuns, TrackRests, IsPending, IsTrackReason};
 ghost use Rattle.octet_session.specs.Asking.{object_of, MayAsk, Asks};
 
 use crate::answers::{poll_answer, update_answer};
@@ -66,13 +66,30 @@ fn access_on(
     ensures own { IsTrackOf recorder.now track.new }
     ensures runs { TrackRuns track.new }
     ensures asks { Asks wanted (track_standing recorder.now track.old) result (track_standing recorder.now track.new) }
-    ensures reason { IfErr result (IsTrackReason (Some wanted) track.old track.new) }
+    ensures reason { IfErr result (IsPending wanted track.old track.new) }
 {
     match wanted {
         Access::Read { object } => poll_answer(read_on(recorder, track, object)),
         Access::Write { object, value } => poll_answer(write_on(recorder, track, object, value)),
         Access::Update { object, change } => update_answer(recorder.update(track, object, change)),
     }
+}
+
+// Begins an access, once it has answered the threads that have asked. A thread that owns all that it accesses would else
+// answer nobody.
+fn begin(recorder: &Recorder, track: &mut Track, wanted: Access) -> Result<u64, NotMade<Infallible>>
+    requires own { IsTrackOf recorder.now track.old }
+    requires runs { TrackRuns track.old }
+    requires idle { track.old.begun ≡ None }
+    requires object { object_of wanted < objects_in recorder.now }
+    requires more { lines_noted track.old + LINES_OF_ACCESS ≤ lines_in recorder.now }
+    ensures own { IsTrackOf recorder.now track.new }
+    ensures runs { TrackRuns track.new }
+    ensures asks { Asks wanted (track_standing recorder.now track.old) result (track_standing recorder.now track.new) }
+    ensures reason { IfErr result (IsTrackReason (Some wanted) track.old track.new) }
+{
+    recorder.safe_point(track);
+    access_on(recorder, track, wanted)
 }
 
 impl Session for Recorder {
@@ -101,7 +118,10 @@ impl Session for Recorder {
         if self.lines_left(thread) < LINES_OF_ACCESS {
             return Err(NotMade::NoRoom);
         }
-        access_on(self, thread, wanted)
+        match thread.begun() {
+            Some(_) => access_on(self, thread, wanted),
+            None => begin(self, thread, wanted),
+        }
     }
 
     fn region(&self, thread: &mut Track) {

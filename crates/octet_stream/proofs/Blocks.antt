@@ -1,5 +1,5 @@
 -- A thread stays one of its run while it takes what it is fed.
-use Rattle.std.proofs.Common.{◌≡◌, ◌∙◌, ℕ, ◌+◌, ◌≤◌, List, [], ◌∷◌, ◌++◌, length, Option, Some, None, IfSome, vec_capacity, refl, sym, ap, subst, arith, append-nil}
+use Rattle.std.proofs.Common.{◌≡◌, ◌∙◌, ℕ, ◌≤◌, List, [], ◌∷◌, ◌++◌, length, Option, Some, None, IfSome, vec_capacity, refl, sym, ap, subst, arith, append-nil}
 use Rattle.rtrb.specs.Ring.{received}
 use Rattle.octet_model.specs.declared.log.Gapped.{Gapped}
 use Rattle.octet_follow.specs.Blocks.{TakesBlock}

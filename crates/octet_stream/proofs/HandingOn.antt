@@ -1,5 +1,5 @@
 -- A track stays one of its run while it hands a block on.
-use Rattle.std.proofs.Common.{◌≡◌, ◌∙◌, ℕ, ◌+◌, Bool, false, List, ◌∷◌, ◌++◌, map, length, drop, sym, ap, subst, arith}
+use Rattle.std.proofs.Common.{◌≡◌, ◌∙◌, ℕ, Bool, false, List, ◌∷◌, ◌++◌, map, length, drop, sym, ap, subst, arith}
 use Rattle.rtrb.specs.Ring.{sent, producer_capacity}
 use Rattle.octet_model.specs.declared.event.Event.{Event}
 use Rattle.octet_model.specs.Journals.{gap_after, gapped_marks}

@@ -1,5 +1,5 @@
 -- A track stays one of its run while it makes accesses, and what it answers is what a session says.
-use Rattle.std.proofs.Common.{◌≡◌, ◌∙◌, ℕ, ◌+◌, Bool, true, false, List, [], ◌∷◌, ◌++◌, map, Some, None, sym, ap, append-nil, arith}
+use Rattle.std.proofs.Common.{◌≡◌, ◌∙◌, ℕ, Bool, true, false, List, [], ◌∷◌, ◌++◌, map, Some, None, sym, ap, append-nil, arith}
 use Rattle.octet_model.specs.declared.event.Event.{Event}
 use Rattle.octet_model.specs.declared.event.Event.TheVariants as event
 use Rattle.octet_model.specs.declared.event.Mark.{Mark}
@@ -21,9 +21,9 @@ use Rattle.octet_stream.proofs.Sent.{grows}
 abbrev pub made_by : Track → Marker → Digest → Track
 made_by v marker digest = record v { marker = marker; digest = digest; stage = Free; region = false }
 
--- a track that waits for an access which its marker has begun
-abbrev pub waiting_by : Track → Marker → Access → Track
-waiting_by v marker wanted = record v { marker = marker; stage = Begun wanted }
+-- a track that waits for an access which its marker has begun, and lets so many polls pass
+abbrev pub waiting_by : Track → Marker → Access → ℕ → Track
+waiting_by v marker wanted polls = record v { marker = marker; stage = Begun wanted; backoff = polls }
 
 module _ (run : LongRun) (v : Track) (marker : Marker) (own : IsTrackOf run v) (running : v.ended ≡ false) (still : IsMarkerOf run.heap marker) (same : IsSameBuffer v.marker marker) where
   pub keeps_made : (digest : Digest) (access : Event) (marks : List Mark) → marker.pending ≡ None → marker.changing ≡ None
@@ -38,9 +38,9 @@ module _ (run : LongRun) (v : Track) (marker : Marker) (own : IsTrackOf run v) (
     ring = omega (arith, own.ring, same.1);
   }
 
-  pub keeps_waiting : (wanted : Access) (marks : List Mark) → marker.pending ≡ pending_of (Some wanted) → marker.changing ≡ changing_of (Some wanted)
-      → (marker_seat marker).journal ≡ journal_of v ++ (map (λ mark. event.Marked mark) marks ++ []) → IsTrackOf run (waiting_by v marker wanted)
-  keeps_waiting wanted marks access update grown =
+  pub keeps_waiting : (wanted : Access) (polls : ℕ) (marks : List Mark) → marker.pending ≡ pending_of (Some wanted) → marker.changing ≡ changing_of (Some wanted)
+      → (marker_seat marker).journal ≡ journal_of v ++ (map (λ mark. event.Marked mark) marks ++ []) → IsTrackOf run (waiting_by v marker wanted polls)
+  keeps_waiting wanted polls marks access update grown =
       let marked : (marker_seat marker).journal ≡ journal_of v ++ map (λ mark. event.Marked mark) marks = grown ∙ ap (λ (l : List Event). journal_of v ++ l) (append-nil (map (λ mark. event.Marked mark) marks)) in record {
         own = still;
         stands = (access, update);

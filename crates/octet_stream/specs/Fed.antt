@@ -1,5 +1,5 @@
 -- What a thread that follows was fed.
-use Rattle.std.specs.Prelude.{◌≡◌, ◌+◌, List, [], ◌∷◌, ◌++◌, map}
+use Rattle.std.specs.Prelude.{◌≡◌, List, [], ◌∷◌, ◌++◌, map}
 use Rattle.octet_model.specs.declared.log.Gapped.{Gapped}
 use Rattle.octet_follow.specs.declared.follower.Follower.{Follower}
 use Rattle.octet_follow.specs.Blocks.{lengthened, carried}

@@ -7,19 +7,19 @@ ghost use Rattle.octet_heap.specs.Workers.{pending_after};
 ghost use Rattle.octet_heap.specs.Models.{heap_model};
 ghost use Rattle.octet_heap.specs.Markers.{marker_seat, IsMarkerOf, IsIdleIfMade, IsSameBuffer};
 ghost use Rattle.octet_recorder.specs.declared.access.Access.TheVariants as want;
-ghost use Rattle.octet_session.specs.declared.not_made.NotMade.TheVariants as why;
+ghost use Rattle.octet_session.specs.declared.not_made.NotMade.TheVariants as not_made;
 ghost use Rattle.octet_session.specs.Asking.{object_of, Asks};
 ghost use Rattle.octet_stream.specs.declared.track.Stage.TheVariants as stage;
 ghost use Rattle.octet_stream.specs.Tracks.{IsTrackOf};
-ghost use Rattle.octet_stream.specs.Accesses.{MayAccess, MayGoOn, track_standing, TrackRuns, IsTrackReason};
+ghost use Rattle.octet_stream.specs.Accesses.{MayAccess, MayGoOn, track_standing, TrackRuns, IsMarkerReason, backoff_after};
 
 use crate::long_run::{Full, LongRun};
-use crate::track::{Stage, Track};
+use crate::track::{POLLS_OF_BACKOFF, Stage, Track};
 use octet_digest::Digest;
 use octet_heap::{Change, Heap, Marker, Poll, Updated};
 use octet_recorder::Access;
 use octet_session::NotMade;
-use octet_state::Mode;
+use octet_state::{Mode, Why};
 
 type Answer = Result<u64, NotMade<Full>>;
 
@@ -51,6 +51,29 @@ fn access_on(
     }
 }
 
+// How many polls a track lets pass after one that was pending.
+fn backoff_after(why: Why) -> u8
+    ensures { result ≡ backoff_after why }
+{
+    match why {
+        Why::Held { .. } | Why::Changed { .. } => POLLS_OF_BACKOFF,
+        Why::Unanswered { .. } => 0,
+    }
+}
+
+impl Stage {
+    // One that was free already stores nothing.
+    #[inline(always)]
+    fn become_free(&mut self)
+        ensures { self.new ≡ stage.Free }
+    {
+        match *self {
+            Stage::Free => {}
+            _ => *self = Stage::Free,
+        }
+    }
+}
+
 impl Track {
     // An access is made, and stands in the digest.
     #[inline(always)]
@@ -59,17 +82,19 @@ impl Track {
         ensures told { result ≡ Ok value }
     {
         self.digest = digest;
-        self.stage = Stage::Free;
+        self.stage.become_free();
         self.region = false;
         Ok(value)
     }
 
     // An access waits.
-    fn waits(&mut self, wanted: Access) -> Answer
-        ensures stays { self.new ≡ record self.old { stage = stage.Begun wanted } }
-        ensures told { result ≡ Err why.Waits }
+    #[inline(never)]
+    fn waits(&mut self, wanted: Access, why: Why) -> Answer
+        ensures stays { self.new ≡ record self.old { stage = stage.Begun wanted; backoff = backoff_after why } }
+        ensures told { result ≡ Err not_made.Waits }
     {
         self.stage = Stage::Begun { wanted };
+        self.backoff = backoff_after(why);
         Err(NotMade::Waits)
     }
 }
@@ -83,11 +108,11 @@ fn read_on(run: &LongRun, track: &mut Track, begun: bool, object: u16) -> Answer
     ensures own { IsTrackOf run.now track.new }
     ensures runs { TrackRuns track.new }
     ensures asks { Asks (want.Read object) (track_standing track.old) result (track_standing track.new) }
-    ensures reason { IfErr result (IsTrackReason (Some (want.Read object)) track.old track.new) }
+    ensures reason { IfErr result (IsMarkerReason (want.Read object) track.old track.new) }
 {
     match access_on(&run.heap, &mut track.marker, begun, object, Mode::Read, 0) {
         Poll::Ready { value } => track.made(track.digest.read(object, value), value),
-        Poll::Pending { .. } => track.waits(Access::Read { object }),
+        Poll::Pending { why } => track.waits(Access::Read { object }, why),
     }
 }
 
@@ -100,7 +125,7 @@ fn write_on(run: &LongRun, track: &mut Track, begun: bool, object: u16, value: u
     ensures own { IsTrackOf run.now track.new }
     ensures runs { TrackRuns track.new }
     ensures asks { Asks (want.Write object value) (track_standing track.old) result (track_standing track.new) }
-    ensures reason { IfErr result (IsTrackReason (Some (want.Write object value)) track.old track.new) }
+    ensures reason { IfErr result (IsMarkerReason (want.Write object value) track.old track.new) }
 {
     match access_on(
         &run.heap,
@@ -111,7 +136,7 @@ fn write_on(run: &LongRun, track: &mut Track, begun: bool, object: u16, value: u
         value,
     ) {
         Poll::Ready { value: written } => track.made(track.digest.write(object, value), written),
-        Poll::Pending { .. } => track.waits(Access::Write { object, value }),
+        Poll::Pending { why } => track.waits(Access::Write { object, value }, why),
     }
 }
 
@@ -124,7 +149,7 @@ fn update_on(run: &LongRun, track: &mut Track, begun: bool, object: u16, change:
     ensures own { IsTrackOf run.now track.new }
     ensures runs { TrackRuns track.new }
     ensures asks { Asks (want.Update object change) (track_standing track.old) result (track_standing track.new) }
-    ensures reason { IfErr result (IsTrackReason (Some (want.Update object change)) track.old track.new) }
+    ensures reason { IfErr result (IsMarkerReason (want.Update object change) track.old track.new) }
 {
     match track.marker.update(&run.heap, object, change) {
         Updated::Made { before } => {
@@ -133,7 +158,7 @@ fn update_on(run: &LongRun, track: &mut Track, begun: bool, object: u16, change:
                 before,
             )
         }
-        Updated::Pending { .. } => track.waits(Access::Update { object, change }),
+        Updated::Pending { why } => track.waits(Access::Update { object, change }, why),
     }
 }
 
@@ -146,7 +171,7 @@ pub(crate) fn go_on(run: &LongRun, track: &mut Track, begun: bool, wanted: Acces
     ensures own { IsTrackOf run.now track.new }
     ensures runs { TrackRuns track.new }
     ensures asks { Asks wanted (track_standing track.old) result (track_standing track.new) }
-    ensures reason { IfErr result (IsTrackReason (Some wanted) track.old track.new) }
+    ensures reason { IfErr result (IsMarkerReason wanted track.old track.new) }
 {
     match wanted {
         Access::Read { object } => read_on(run, track, begun, object),

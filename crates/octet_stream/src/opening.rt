@@ -99,6 +99,7 @@ impl LongRun {
             due: u64::from(self.every),
             sender,
             ended: false,
+            backoff: 0,
         };
         Ok((track, Receiver { end, thread }))
     }

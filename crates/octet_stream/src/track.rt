@@ -9,6 +9,10 @@ use octet_heap::Marker;
 use octet_recorder::Access;
 use rtrb::Producer;
 
+/// How many polls a track lets pass before it tries again for an object that another thread has just taken. That thread
+/// then makes some accesses before it has to hand the object on, and each handover takes as long as many accesses.
+pub(crate) const POLLS_OF_BACKOFF: u8 = 48;
+
 /// How far a track has come with what it was asked for.
 #[derive(Clone, Copy, Debug, PartialEq, Eq)]
 pub(crate) enum Stage {
@@ -33,6 +37,8 @@ pub struct Track {
     pub(crate) sender: Producer<Item>,
     // Whether it has handed its end on.
     pub(crate) ended: bool,
+    // How many polls it lets pass before it tries again.
+    pub(crate) backoff: u8,
 }
 
 impl Track {

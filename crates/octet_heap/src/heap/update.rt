@@ -81,9 +81,32 @@ impl Heap {
         }
     }
 
-    // Does what the table says of a state that does not let the thread pass, as `load_on`.
-    #[inline(never)]
+    // Does what the table says of a state that does not let the thread pass, as `load_on`. What goes out of line is copied to
+    // memory here, and so stays in registers where the state lets the thread pass.
+    #[inline(always)]
     fn load_on_to_change(
+        &self,
+        recorder: &mut Recorder,
+        object: u16,
+        change: Change,
+        word: u64,
+        state: StateWord,
+        act: Act,
+    ) -> Updated
+        requires can { CanAccess self.now (update_of object) recorder.old }
+        requires loaded { (v : SeatView) × HasLoaded (update_of object) v word state act (view recorder.old.seat) }
+        ensures keeps { KeepsSeatAfter self.now.words (answer_after change result) recorder.old recorder.new }
+        ensures comes { (v : SeatView) → HasLoaded (update_of object) v word state act (view recorder.old.seat) → ComesBy change object v result 19 (view recorder.new.seat) }
+        ensures ends { EndsWith object change result (view recorder.new.seat) }
+        ensures leaves { Leaves (update_of object) (answer_after change result) (view recorder.new.seat) }
+        ensures passes { (v : SeatView) → HasLoaded (update_of object) v word state act (view recorder.old.seat) → false ≡ passes_by (update_of object) v (steps_since v (view recorder.new.seat)) }
+    {
+        self.pursue_change(recorder, object, change, word, state, act)
+    }
+
+    // The same, out of line.
+    #[inline(never)]
+    fn pursue_change(
         &self,
         recorder: &mut Recorder,
         object: u16,

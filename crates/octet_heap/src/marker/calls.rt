@@ -175,9 +175,19 @@ impl Marker {
         updated
     }
 
-    // Of a marker that has begun this update.
-    #[inline(never)]
+    // Of a marker that has begun this update. What goes out of line is copied to memory here.
+    #[inline(always)]
     fn go_on_with_update(&mut self, heap: &Heap, object: u16, change: Change) -> Updated
+        requires own { IsMarkerOf heap.now self.old }
+        requires begun { self.old.changing ≡ Some (update_to object change) }
+        ensures { UpdatesMarker heap.now object change self.old result self.new }
+    {
+        self.resume_update(heap, object, change)
+    }
+
+    // The same, out of line.
+    #[inline(never)]
+    fn resume_update(&mut self, heap: &Heap, object: u16, change: Change) -> Updated
         requires own { IsMarkerOf heap.now self.old }
         requires begun { self.old.changing ≡ Some (update_to object change) }
         ensures { UpdatesMarker heap.now object change self.old result self.new }
@@ -213,6 +223,7 @@ impl Marker {
     }
 
     /// Answers the threads that have asked this one. Tells whether any has.
+    #[inline(always)]
     pub fn safe_point(&mut self, heap: &Heap) -> bool
         requires own { IsMarkerOf heap.now self.old }
         requires idle { IsIdle self.old }
@@ -220,6 +231,25 @@ impl Marker {
         ensures idle { IsIdle self.new }
         ensures thread { marker_model self.new ≡ marker_model self.old }
         // Step by step:
+        ensures journal { (marker_seat self.new).journal ≡ (marker_seat self.old).journal }
+        ensures number { (marker_seat self.new).number ≡ (marker_seat self.old).number }
+        ensures slow { self.new.slow ≡ self.old.slow }
+        ensures same { IsSameBuffer self.old self.new }
+        ensures step { PassesSafePoint (marker_seat self.old) result (marker_seat self.new) }
+    {
+        self.recorder.safe_point(&heap.words)
+    }
+
+    /// Answers the threads that have asked this one, and lets what it has begun wait on. Tells whether any has.
+    pub fn answer(&mut self, heap: &Heap) -> bool
+        requires own { IsMarkerOf heap.now self.old }
+        requires begun { IsUnderWay self.old }
+        ensures own { IsMarkerOf heap.now self.new }
+        ensures begun { IsUnderWay self.new }
+        ensures thread { marker_model self.new ≡ marker_model self.old }
+        // Step by step:
+        ensures pending { self.new.pending ≡ self.old.pending }
+        ensures changing { self.new.changing ≡ self.old.changing }
         ensures journal { (marker_seat self.new).journal ≡ (marker_seat self.old).journal }
         ensures number { (marker_seat self.new).number ≡ (marker_seat self.old).number }
         ensures slow { self.new.slow ≡ self.old.slow }

@@ -1,10 +1,10 @@
-use Rattle.std.proofs.Common.{ℕ, Result, Some, IfErr, sym, subst}
+use Rattle.std.proofs.Common.{ℕ, Result, IfErr, sym, subst}
 use Rattle.std.specs.declared.convert.Infallible.{Infallible}
 use Rattle.octet_recorder.specs.declared.access.Access.{Access}
 use Rattle.octet_recorder.specs.declared.access.Access.TheVariants.{Read, Write, Update}
 use Rattle.octet_session.specs.declared.not_made.NotMade.{NotMade}
 use Rattle.octet_session.specs.Asking.{Asks}
-use Rattle.octet_session.specs.Recording.{track_standing, IsTrackReason}
+use Rattle.octet_session.specs.Recording.{track_standing, IsPending}
 use Rattle.octet_session.proofs.Asked.{asked_read, asked_write, asked_update, poll_is_reason, update_is_reason}
 use Rattle.octet_session.proofs.recording.access_on.Goals as goal
 
@@ -32,17 +32,17 @@ returns-in-Update-clause-asks c =
 pub returns-in-Read-clause-reason : goal.returns-in-Read-clause-reason
 returns-in-Read-clause-reason c =
     let v = c.args.track.now in let w = c.read_on.new.track in
-    subst (λ (a : Access). IfErr c.poll_answer.result (IsTrackReason (Some a) v w)) (sym c.in-Read.is)
-    (subst (λ (r : Result ℕ (NotMade Infallible)). IfErr r (IsTrackReason (Some (Read c.in-Read.object)) v w)) (sym c.poll_answer.ensures) (poll_is_reason (Read c.in-Read.object) v w c.read_on.result c.read_on.ensures.notes))
+    subst (λ (a : Access). IfErr c.poll_answer.result (IsPending a v w)) (sym c.in-Read.is)
+    (subst (λ (r : Result ℕ (NotMade Infallible)). IfErr r (IsPending (Read c.in-Read.object) v w)) (sym c.poll_answer.ensures) (poll_is_reason (Read c.in-Read.object) v w c.read_on.result c.read_on.ensures.notes))
 
 pub returns-in-Write-clause-reason : goal.returns-in-Write-clause-reason
 returns-in-Write-clause-reason c =
     let v = c.args.track.now in let w = c.write_on.new.track in
-    subst (λ (a : Access). IfErr c.poll_answer-in-Write.result (IsTrackReason (Some a) v w)) (sym c.in-Write.is)
-    (subst (λ (r : Result ℕ (NotMade Infallible)). IfErr r (IsTrackReason (Some (Write c.in-Write.object c.in-Write.value)) v w)) (sym c.poll_answer-in-Write.ensures) (poll_is_reason (Write c.in-Write.object c.in-Write.value) v w c.write_on.result c.write_on.ensures.notes))
+    subst (λ (a : Access). IfErr c.poll_answer-in-Write.result (IsPending a v w)) (sym c.in-Write.is)
+    (subst (λ (r : Result ℕ (NotMade Infallible)). IfErr r (IsPending (Write c.in-Write.object c.in-Write.value) v w)) (sym c.poll_answer-in-Write.ensures) (poll_is_reason (Write c.in-Write.object c.in-Write.value) v w c.write_on.result c.write_on.ensures.notes))
 
 pub returns-in-Update-clause-reason : goal.returns-in-Update-clause-reason
 returns-in-Update-clause-reason c =
     let v = c.args.track.now in let w = c.update.new.track in
-    subst (λ (a : Access). IfErr c.update_answer.result (IsTrackReason (Some a) v w)) (sym c.in-Update.is)
-    (subst (λ (r : Result ℕ (NotMade Infallible)). IfErr r (IsTrackReason (Some (Update c.in-Update.object c.in-Update.change)) v w)) (sym c.update_answer.ensures) (update_is_reason c.in-Update.object c.in-Update.change v w c.update.result c.update.ensures.notes))
+    subst (λ (a : Access). IfErr c.update_answer.result (IsPending a v w)) (sym c.in-Update.is)
+    (subst (λ (r : Result ℕ (NotMade Infallible)). IfErr r (IsPending (Update c.in-Update.object c.in-Update.change) v w)) (sym c.update_answer.ensures) (update_is_reason c.in-Update.object c.in-Update.change v w c.update.result c.update.ensures.notes))

@@ -1,4 +1,4 @@
-use Rattle.std.proofs.Common.{rules, ◌≡◌, ◌∙◌, ℕ, Result, Ok, Err, Some, IfErr, inr, subst, arith}
+use Rattle.std.proofs.Common.{rules, ◌≡◌, ◌∙◌, ℕ, Result, Ok, Err, Some, IfErr, inr, subst}
 use Rattle.octet_session.specs.declared.not_made.NotMade.{NotMade}
 use Rattle.octet_session.specs.declared.not_made.NotMade.TheVariants.{Waits}
 use Rattle.octet_session.specs.Asking.{Asks}

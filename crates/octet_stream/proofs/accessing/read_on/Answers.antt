@@ -4,6 +4,7 @@ use Rattle.octet_digest.specs.Digests.{bits_of, digest_with}
 use Rattle.octet_recorder.specs.declared.access.Access.TheVariants.{Read}
 use Rattle.octet_stream.specs.declared.track.Track.{Track}
 use Rattle.octet_stream.specs.Tracks.{IsTrackOf}
+use Rattle.octet_stream.specs.Accesses.{backoff_after}
 use Rattle.octet_stream.proofs.Keeping.{keeps_made, keeps_waiting, runs_on}
 use Rattle.octet_stream.proofs.accessing.read_on.Goals as goal
 
@@ -21,5 +22,5 @@ returns-in-Pending-clause-own c =
     let v = c.args.track.now in
     let adds = c.in-Pending.ensures.polls.journal in
     subst (λ (t : Track). IsTrackOf c.args.run.now t) (sym c.waits.ensures.stays)
-    (keeps_waiting c.args.run.now v c.access_on.new.marker c.requires.own (runs_on c.args.begun (Read c.args.object) v c.requires.may) c.in-Pending.ensures.own c.in-Pending.ensures.same (Read c.args.object) adds.marks
+    (keeps_waiting c.args.run.now v c.access_on.new.marker c.requires.own (runs_on c.args.begun (Read c.args.object) v c.requires.may) c.in-Pending.ensures.own c.in-Pending.ensures.same (Read c.args.object) (backoff_after c.in-Pending.why) adds.marks
     c.in-Pending.ensures.pending c.in-Pending.ensures.changing adds.grown)

@@ -5,6 +5,7 @@ use Rattle.octet_rule.specs.Changes.{changed_by}
 use Rattle.octet_recorder.specs.declared.access.Access.TheVariants.{Update}
 use Rattle.octet_stream.specs.declared.track.Track.{Track}
 use Rattle.octet_stream.specs.Tracks.{IsTrackOf}
+use Rattle.octet_stream.specs.Accesses.{backoff_after}
 use Rattle.octet_stream.proofs.Keeping.{keeps_made, keeps_waiting, runs_on}
 use Rattle.octet_stream.proofs.accessing.update_on.Goals as goal
 
@@ -23,4 +24,4 @@ returns-in-Pending-clause-own c =
     let adds = c.in-Pending.ensures.polls.journal in
     subst (λ (t : Track). IsTrackOf c.args.run.now t) (sym c.waits.ensures.stays)
     (keeps_waiting c.args.run.now v c.update.new.self c.requires.own (runs_on c.args.begun (Update c.args.object c.args.change) v c.requires.may) c.in-Pending.ensures.own c.in-Pending.ensures.same
-    (Update c.args.object c.args.change) adds.marks c.in-Pending.ensures.pending c.in-Pending.ensures.changing adds.grown)
+    (Update c.args.object c.args.change) (backoff_after c.in-Pending.why) adds.marks c.in-Pending.ensures.pending c.in-Pending.ensures.changing adds.grown)

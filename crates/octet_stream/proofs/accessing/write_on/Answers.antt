@@ -3,6 +3,7 @@ use Rattle.octet_model.specs.declared.event.Event.TheVariants as event
 use Rattle.octet_recorder.specs.declared.access.Access.TheVariants.{Write}
 use Rattle.octet_stream.specs.declared.track.Track.{Track}
 use Rattle.octet_stream.specs.Tracks.{IsTrackOf}
+use Rattle.octet_stream.specs.Accesses.{backoff_after}
 use Rattle.octet_stream.proofs.Keeping.{keeps_made, keeps_waiting, runs_on}
 use Rattle.octet_stream.proofs.accessing.write_on.Goals as goal
 
@@ -20,4 +21,4 @@ returns-in-Pending-clause-own c =
     let adds = c.in-Pending.ensures.polls.journal in
     subst (λ (t : Track). IsTrackOf c.args.run.now t) (sym c.waits.ensures.stays)
     (keeps_waiting c.args.run.now v c.access_on.new.marker c.requires.own (runs_on c.args.begun (Write c.args.object c.args.value) v c.requires.may) c.in-Pending.ensures.own c.in-Pending.ensures.same
-    (Write c.args.object c.args.value) adds.marks c.in-Pending.ensures.pending c.in-Pending.ensures.changing adds.grown)
+    (Write c.args.object c.args.value) (backoff_after c.in-Pending.why) adds.marks c.in-Pending.ensures.pending c.in-Pending.ensures.changing adds.grown)

@@ -1,4 +1,4 @@
-use Rattle.std.proofs.Common.{refl, inl, inr, ap, rules}
+use Rattle.std.proofs.Common.{refl, inl, inr, ap}
 use Rattle.octet_follow.specs.declared.halt.Halt.TheVariants as stopped_by
 use Rattle.octet_follow.specs.Calls.{journal_in}
 use Rattle.octet_stream.specs.declared.long_follower.LongFollower.{LongFollower}

@@ -1,4 +1,4 @@
-use Rattle.std.proofs.Common.{◌≡◌, refl, ap, rules}
+use Rattle.std.proofs.Common.{refl, ap, rules}
 use Rattle.rtrb.specs.Ring.{received}
 use Rattle.octet_stream.specs.declared.long_follower.LongFollower.{LongFollower}
 use Rattle.octet_stream.proofs.Blocks.{waits_for_more, ends, breaks_off, gives_part, gives_block}

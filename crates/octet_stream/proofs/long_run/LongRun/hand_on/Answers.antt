@@ -1,4 +1,4 @@
-use Rattle.std.proofs.Common.{◌∙◌, rules}
+use Rattle.std.proofs.Common.{rules}
 use Rattle.octet_stream.proofs.HandingOn.{handed_on}
 use Rattle.octet_stream.proofs.long_run.LongRun.hand_on.Goals as goal
 

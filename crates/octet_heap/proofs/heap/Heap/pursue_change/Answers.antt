@@ -11,7 +11,7 @@ use Rattle.octet_heap.proofs.polls.Updated.{passes_as}
 use Rattle.octet_heap.proofs.stretches.Loads.{loads_as}
 use Rattle.octet_heap.proofs.stretches.MadeAtOnce.{loaded_goes, loaded_held}
 use Rattle.octet_heap.proofs.polls.Fastness.{load_waits, more_waits}
-use Rattle.octet_heap.proofs.heap.Heap.load_on_to_change.Goals as goal
+use Rattle.octet_heap.proofs.heap.Heap.pursue_change.Goals as goal
 
 pub returns-in-Raise-clause-comes : goal.returns-in-Raise-clause-comes
 returns-in-Raise-clause-comes c = λ v is. let u = view c.args.recorder.now.seat in let x = view c.raise-way.new.recorder.seat in

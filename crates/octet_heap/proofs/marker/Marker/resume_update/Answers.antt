@@ -10,7 +10,7 @@ use Rattle.octet_heap.specs.Updates.{answer_after, update_to}
 use Rattle.octet_heap.specs.Waiting.{EndsPoll}
 use Rattle.octet_heap.proofs.polls.Begun.{is_update, update_begun}
 use Rattle.octet_heap.proofs.polls.Reading.{slow_most, still_ready}
-use Rattle.octet_heap.proofs.marker.Marker.go_on_with_update.Goals as goal
+use Rattle.octet_heap.proofs.marker.Marker.resume_update.Goals as goal
 
 pub resume_change-updated-requires-clause-can : goal.resume_change-updated-requires-clause-can
 resume_change-updated-requires-clause-can c = let m = c.args.self.now in
