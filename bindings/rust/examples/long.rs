@@ -45,14 +45,14 @@ fn main() -> Result<(), Box<dyn error::Error>> {
     let file = env::args().nth(1).unwrap_or("bank.octm".to_string());
     let last = format!("{file}.last");
     let first = bank().record(&file).run(threads)?;
-    let second = bank().follow(&file).run(threads)?;
+    let second = bank().rerun(&file).run(threads)?;
     assert_eq!(second.values(), first.values());
-    bank().follow(&file).window(1_000, threads)?.save(&last)?;
+    bank().rerun(&file).window(1_000, threads)?.save(&last)?;
     println!("recorded, and run again: total {}, {} KiB of marks", total(&second), fs::metadata(&file)?.len() / 1024);
     println!("the last accesses of each thread: {last}.octet and {last}.log");
     let marks = fs::read(&file)?;
     fs::write(&file, &marks[..marks.len() / 2])?;
-    let cut = bank().follow(&file).run(threads)?;
+    let cut = bank().rerun(&file).run(threads)?;
     println!("cut in half: {} of {THREADS} threads have come to their end", cut.values().iter().flatten().count());
     Ok(())
 }
@@ -61,10 +61,10 @@ fn main() -> Result<(), Box<dyn error::Error>> {
 fn a_long_run_is_repeated() {
     let file = env::temp_dir().join(format!("octet-bank-{}.octm", std::process::id()));
     let first = bank().record(&file).run(threads).unwrap();
-    let second = bank().follow(&file).run(threads).unwrap();
+    let second = bank().rerun(&file).run(threads).unwrap();
     assert_eq!(second.values(), first.values());
     assert_eq!((total(&first), total(&second)), (16_000_000, 16_000_000));
-    let window = bank().follow(&file).window(1_000, threads).unwrap();
+    let window = bank().rerun(&file).window(1_000, threads).unwrap();
     assert_eq!(window.script().lines().filter(|line| *line == "thread").count(), 4);
     fs::remove_file(&file).unwrap();
 }

@@ -4,7 +4,7 @@ use crate::gate::{Bell, Gate};
 use crate::long::{LongBuilder, Way};
 use crate::shared::{Lock, Order, Shared};
 use crate::turnstile::Turnstile;
-use crate::{Error, Object, Place, Recording, Schedule, Session, quiet, raw};
+use crate::{Error, Object, Place, Recording, Rerun, Schedule, Session, quiet, raw};
 use std::collections::HashSet;
 use std::ops::Deref;
 use std::path::PathBuf;
@@ -191,8 +191,9 @@ impl Builder {
         self
     }
 
-    /// The threads run again as they were recorded: each access waits until all that was recorded before it is made, and gets
-    /// the value that it had. A thread that asks for another access has diverged, and fails.
+    /// The threads run again as they were recorded, by a recording, or by the file of marks that `record` has written: each access
+    /// waits until all that was recorded before it is made, and gets the value that it had. A thread that asks for another access
+    /// has diverged, and fails.
     ///
     /// ```
     /// use octet::{Builder, Error, Heap, Run};
@@ -210,7 +211,11 @@ impl Builder {
     /// assert_eq!(second.values(), first.values());
     /// # Ok::<(), Error>(())
     /// ```
-    pub fn rerun(mut self, recording: &Recording) -> Builder {
+    pub fn rerun<K: Rerun>(self, kept: K) -> K::Builder {
+        kept.rerun(self)
+    }
+
+    pub(crate) fn repeating(mut self, recording: &Recording) -> Builder {
         self.rerun = Some(recording.clone());
         self
     }
@@ -231,29 +236,6 @@ impl Builder {
     /// ```
     pub fn record(self, path: impl Into<PathBuf>) -> LongBuilder {
         LongBuilder::new(self, Way::Record, path.into())
-    }
-
-    /// The threads run again by the file of marks that `record` has written.
-    ///
-    /// ```
-    /// use octet::{Error, Heap, Threads};
-    ///
-    /// fn threads(threads: &mut Threads<'_, u64, Error>) {
-    ///     for number in 1..=2 {
-    ///         threads.spawn(move |session| session.swap(session.object("x")?, number));
-    ///     }
-    /// }
-    ///
-    /// # let file = std::env::temp_dir().join(format!("octet-follow-{}.octm", std::process::id()));
-    /// let heap = Heap::builder().object("x", 0);
-    /// let first = heap.clone().record(&file).run(threads)?;
-    /// let second = heap.follow(&file).run(threads)?;
-    /// assert_eq!(second.values(), first.values());
-    /// # std::fs::remove_file(&file).expect("the file is there");
-    /// # Ok::<(), Error>(())
-    /// ```
-    pub fn follow(self, path: impl Into<PathBuf>) -> LongBuilder {
-        LongBuilder::new(self, Way::Follow, path.into())
     }
 
     /// For how long a thread waits for others before it fails; ten seconds if nothing is said.

@@ -47,6 +47,7 @@ mod quiet;
 #[allow(unsafe_code)]
 mod raw;
 mod recording;
+mod rerun;
 mod schedule;
 mod session;
 mod shared;
@@ -59,5 +60,6 @@ pub use heap::{Builder, Heap, Run, Threads};
 pub use long::{LongBuilder, LongHeap, LongRun};
 pub use place::Place;
 pub use recording::Recording;
+pub use rerun::Rerun;
 pub use schedule::Schedule;
 pub use session::{Object, Session};

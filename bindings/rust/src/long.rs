@@ -15,7 +15,7 @@ const MAX_OBJECTS: usize = 65_535;
 #[derive(Clone, Copy, Debug)]
 pub(crate) enum Way {
     Record,
-    Follow,
+    Rerun,
 }
 
 /// What a heap is to have, and the file of marks by which its threads are recorded, or run again. The file keeps which accesses came
@@ -39,7 +39,7 @@ pub(crate) enum Way {
 /// # let file = std::env::temp_dir().join(format!("octet-long-{}.octm", std::process::id()));
 /// let heap = Heap::builder().object("x", 0);
 /// let first = heap.clone().record(&file).run(threads)?;
-/// let second = heap.follow(&file).run(threads)?;
+/// let second = heap.rerun(&file).run(threads)?;
 /// assert_eq!(second.values(), first.values());
 /// assert_eq!(second.value("x"), Some(200_000));
 /// # std::fs::remove_file(&file).expect("the file is there");
@@ -121,7 +121,7 @@ impl LongBuilder {
                 checked(status, 0)?;
                 Ok((sessions, Work::Writing(Writing::begin(&self.path, &head, streams)?)))
             }
-            Way::Follow => {
+            Way::Rerun => {
                 let (sessions, streams, status) = raw::follow_long(&starts, declared.as_bytes(), self.last, threads);
                 checked(status, 0)?;
                 Ok((sessions, Work::Feeding(Feeding::open(&self.path, streams)?)))
@@ -141,7 +141,7 @@ impl LongBuilder {
     ///
     /// # let file = std::env::temp_dir().join(format!("octet-built-{}.octm", std::process::id()));
     /// let builder = Heap::builder().object("x", 0).threads(2);
-    /// for long in [builder.clone().record(&file), builder.follow(&file)] {
+    /// for long in [builder.clone().record(&file), builder.rerun(&file)] {
     ///     let (heap, mut sessions) = long.build()?;
     ///     thread::scope(|scope| {
     ///         for session in &mut sessions {
@@ -156,7 +156,7 @@ impl LongBuilder {
     pub fn build(self) -> Result<(LongHeap, Vec<Session>), Error> {
         let (handles, work) = self.opened()?;
         let names = self.heap.objects.iter().map(|(name, _)| name.clone()).collect();
-        let order = self.heap.order(matches!(self.way, Way::Follow))?;
+        let order = self.heap.order(matches!(self.way, Way::Rerun))?;
         let (heap, sessions) = self.heap.with_sessions(handles, order, false);
         Ok((LongHeap { heap, names, beside: Beside::start(work) }, sessions))
     }
@@ -233,7 +233,7 @@ impl LongBuilder {
     /// # let stem = std::env::temp_dir().join(format!("octet-window-{}", std::process::id()));
     /// let heap = Heap::builder().object("x", 0);
     /// heap.clone().record(&file).run(threads)?;
-    /// let window = heap.follow(&file).window(1_000, threads)?;
+    /// let window = heap.rerun(&file).window(1_000, threads)?;
     /// window.save(&stem)?; // for `octet trace`, `octet regions` and the other commands
     /// assert!((1_000..=2_000).contains(&window.script().matches("\nbump o0 ").count()));
     /// # std::fs::remove_file(&file).expect("the file is there");
@@ -250,7 +250,7 @@ impl LongBuilder {
         if last == 0 {
             return Err(Error::BadSize);
         }
-        self.way = Way::Follow;
+        self.way = Way::Rerun;
         let (_, mut whole) = LongBuilder { last, ..self.clone() }.ended(&spawn)?;
         let (mut search, status) = whole.search();
         checked(status, 0)?;
@@ -419,7 +419,7 @@ impl<T> LongRun<T> {
     /// assert!(heap.clone().record(&file).run(threads)?.is_whole());
     /// // Nothing is left of the file.
     /// std::fs::write(&file, "").expect("it may be written");
-    /// assert!(!heap.follow(&file).run(threads)?.is_whole());
+    /// assert!(!heap.rerun(&file).run(threads)?.is_whole());
     /// # std::fs::remove_file(&file).expect("the file is there");
     /// # Ok::<(), Error>(())
     /// ```

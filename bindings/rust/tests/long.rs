@@ -64,7 +64,7 @@ fn a_run_of_any_length_is_repeated() {
     for every in [1, 10, 1_000] {
         for _ in 0..3 {
             let first = heap().record(file.as_ref()).run(walks(every)).unwrap();
-            let second = heap().follow(file.as_ref()).run(walks(every)).unwrap();
+            let second = heap().rerun(file.as_ref()).run(walks(every)).unwrap();
             assert!(first.is_whole() && second.is_whole());
             assert_eq!(second.values(), first.values());
             assert_eq!(last_values(&second), last_values(&first));
@@ -118,19 +118,19 @@ fn the_last_accesses_are_a_recording() {
     for every in [1, 10, 1_000] {
         heap().record(file.as_ref()).run(walks(every)).unwrap();
         let walks = |threads: &mut Threads<'_, u64, Error>| walks(every)(threads);
-        let window = heap().follow(file.as_ref()).window(100, walks).unwrap();
+        let window = heap().rerun(file.as_ref()).window(100, walks).unwrap();
         let made = accesses_of(window.script());
         assert!(made.len() == THREADS as usize && made.iter().all(|&many| many <= 100), "{made:?}");
         // One of the threads at least has all that were wanted.
         assert!(made.contains(&100), "{made:?}");
-        assert_eq!(heap().follow(file.as_ref()).window(100, walks).unwrap(), window);
+        assert_eq!(heap().rerun(file.as_ref()).window(100, walks).unwrap(), window);
         let content = fs::read(file.as_ref()).unwrap();
         fs::write(cut.as_ref(), &content[..content.len() / 2]).unwrap();
-        assert!(heap().follow(cut.as_ref()).window(10, walks).unwrap().script().starts_with("fuel "));
+        assert!(heap().rerun(cut.as_ref()).window(10, walks).unwrap().script().starts_with("fuel "));
     }
-    let none = heap().follow(file.as_ref()).window(0, |threads| walks(1)(threads));
+    let none = heap().rerun(file.as_ref()).window(0, |threads| walks(1)(threads));
     assert!(matches!(none, Err(Error::BadSize)), "{none:?}");
-    let many = heap().follow(file.as_ref()).window(60_000, |threads| walks(1_000)(threads));
+    let many = heap().rerun(file.as_ref()).window(60_000, |threads| walks(1_000)(threads));
     assert!(matches!(many, Err(Error::TooLong)), "{many:?}");
 }
 
@@ -143,7 +143,7 @@ fn a_file_that_is_cut_is_followed_as_far_as_it_goes() {
     for part in [0, 1, 2, 5, 9, 10] {
         fs::write(cut.as_ref(), &content[..content.len() * part / 10]).unwrap();
         let made = [const { AtomicU64::new(0) }; THREADS as usize];
-        let second = heap().follow(cut.as_ref()).run(|threads| {
+        let second = heap().rerun(cut.as_ref()).run(|threads| {
             made.iter().for_each(|made| threads.spawn(|session| walk_counted(session, 10, made)));
         });
         let second = second.unwrap();
@@ -166,7 +166,7 @@ fn threads_of_the_program_are_told_where_their_recording_ends() {
     heap().record(file.as_ref()).run(walks(10)).unwrap();
     let content = fs::read(file.as_ref()).unwrap();
     fs::write(file.as_ref(), &content[..content.len() / 2]).unwrap();
-    let (heap, mut sessions) = heap().threads(THREADS as usize).follow(file.as_ref()).build().unwrap();
+    let (heap, mut sessions) = heap().threads(THREADS as usize).rerun(file.as_ref()).build().unwrap();
     let ended: Vec<_> = thread::scope(|scope| {
         let walking = sessions.iter_mut().map(|session| scope.spawn(|| session.running(|session| walk(session, 10))));
         let walking: Vec<_> = walking.collect();
@@ -184,18 +184,18 @@ fn threads_of_the_program_are_told_where_their_recording_ends() {
 #[test]
 fn what_is_no_file_of_this_run_is_refused() {
     let file = Kept::new("refused");
-    let absent = heap().follow(file.as_ref()).run(walks(10)).unwrap_err();
+    let absent = heap().rerun(file.as_ref()).run(walks(10)).unwrap_err();
     assert!(matches!(&absent, Error::File { path, .. } if path == file.as_ref()), "{absent}");
     heap().record(file.as_ref()).run(walks(10)).unwrap();
-    let other_object = Heap::builder().object("other", 0).follow(file.as_ref()).run(walks(10)).unwrap_err();
+    let other_object = Heap::builder().object("other", 0).rerun(file.as_ref()).run(walks(10)).unwrap_err();
     assert!(matches!(other_object, Error::OtherRecording), "{other_object}");
-    let fewer_threads = heap().follow(file.as_ref()).run(|threads| threads.spawn(|session| walk(session, 10))).unwrap_err();
+    let fewer_threads = heap().rerun(file.as_ref()).run(|threads| threads.spawn(|session| walk(session, 10))).unwrap_err();
     assert!(matches!(fewer_threads, Error::OtherRecording), "{fewer_threads}");
     let mut content = fs::read(file.as_ref()).unwrap();
     let place = content.len() / 2;
     content[place] ^= 1;
     fs::write(file.as_ref(), &content).unwrap();
-    let damaged = heap().follow(file.as_ref()).run(walks(10)).unwrap_err();
+    let damaged = heap().rerun(file.as_ref()).run(walks(10)).unwrap_err();
     assert!(matches!(&damaged, Error::BadMarks { place: found, .. } if (1..=place as u64).contains(found)), "{damaged}");
 }
 
@@ -203,7 +203,7 @@ fn what_is_no_file_of_this_run_is_refused() {
 fn another_program_diverges() {
     let file = Kept::new("another");
     heap().record(file.as_ref()).run(walks(10)).unwrap();
-    let other = heap().follow(file.as_ref()).run(walks(11)).unwrap_err();
+    let other = heap().rerun(file.as_ref()).run(walks(11)).unwrap_err();
     assert!(matches!(other, Error::Diverged { .. }), "{other}");
 }
 
@@ -223,7 +223,7 @@ fn locks_are_recorded_too() {
     let file = Kept::new("locks");
     let bank = Heap::builder().object("balance", 0).lock("account");
     let threads = |threads: &mut Threads<'_, (), Error>| (0..4).for_each(|_| threads.spawn(deposit));
-    for heap in [bank.clone().record(file.as_ref()), bank.follow(file.as_ref())] {
+    for heap in [bank.clone().record(file.as_ref()), bank.rerun(file.as_ref())] {
         assert_eq!(heap.run(threads).unwrap().value("balance"), Some(4_000));
     }
 }
@@ -261,7 +261,7 @@ fn barriers_and_channels_are_recorded_too() {
     all.sort_unstable();
     assert!(all.into_iter().eq((0..500).chain(10_000..10_500)));
     for _ in 0..3 {
-        assert_eq!(heap.clone().follow(file.as_ref()).run(hand_over).unwrap().values(), first.values());
+        assert_eq!(heap.clone().rerun(file.as_ref()).run(hand_over).unwrap().values(), first.values());
     }
 }
 
@@ -286,7 +286,7 @@ fn the_file_of_an_exploration_is_of_the_failure_that_is_told() {
         };
         explore([seed], program).err().inspect(|failure| {
             assert_eq!((failure.preemptions(), failure.recording()), (1, None));
-            assert_eq!(heap.clone().follow(file.as_ref()).run(add).unwrap().value("x"), Some(1));
+            assert_eq!(heap.clone().rerun(file.as_ref()).run(add).unwrap().value("x"), Some(1));
         })
     });
     assert!(failures.count() > 3);
@@ -311,6 +311,6 @@ fn a_thread_that_panics_ends_its_recording_there() {
     let recorded = std::panic::catch_unwind(|| heap.clone().record(file.as_ref()).run(counting(700)));
     assert!(recorded.is_err());
     // Its end is recorded as well: one that goes on has left its recording.
-    let on = heap.follow(file.as_ref()).run(counting(1_000)).unwrap_err();
+    let on = heap.rerun(file.as_ref()).run(counting(1_000)).unwrap_err();
     assert!(matches!(on, Error::Diverged { thread: 0, accesses: 700, .. }), "{on}");
 }
