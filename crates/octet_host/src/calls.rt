@@ -84,12 +84,12 @@ fn not_made<H: Copy>(stage: &mut Stage, wanted: Access, why: NotMade<H>) -> Answ
     ensures only { IsOfAsking result }
     ensures is { made_of result ≡ Err why }
 {
-    left_at(stage, wanted, why)
+    leave_unmade(stage, wanted, why)
 }
 
 // The same, out of line.
 #[inline(never)]
-fn left_at<H: Copy>(stage: &mut Stage, wanted: Access, why: NotMade<H>) -> Answer<H>
+fn leave_unmade<H: Copy>(stage: &mut Stage, wanted: Access, why: NotMade<H>) -> Answer<H>
     ensures stage { stage.new ≡ stage_asked wanted result }
     ensures only { IsOfAsking result }
     ensures is { made_of result ≡ Err why }

@@ -109,9 +109,9 @@ abbrev pub IsFirstReason : Access → Track → Track → NotMade Full → Type 
 IsFirstReason wanted before after Waits = WaitsOnHeap wanted before after
 IsFirstReason wanted before after _ = ⊥
 
--- a track lets a poll pass, and then has fewer left to let pass
+-- a track lets a poll pass, but for an answer to those that have asked. Then it has fewer left to let pass
 abbrev pub BacksOff : Track → Track → Type 0
-BacksOff before after = after.backoff + 1 ≡ before.backoff
+BacksOff before after = (after.backoff + 1 ≡ before.backoff) × ((asked : Bool) × PassesSafePoint (marker_seat before.marker) asked (marker_seat after.marker))
 
 -- why a track's access is not made, or its end: a poll of it was pending, or the track lets this one pass after such a poll, or
 -- its ring has no room for the block that is due, or it has made as many accesses as a thread may make. It always has room
