@@ -58,7 +58,8 @@ enum octet_status {
     OCTET_ANSWERED = 1,          /* of octet_safe_point: a thread had asked */
     OCTET_OVER = 2,              /* of a long run: its recording, or its stream, has no more; of octet_pick: no
                                     thread is ready */
-    OCTET_NO_SESSION = -1,       /* the handle has no session */
+    OCTET_NO_SESSION = -1,       /* the handle is empty */
+    OCTET_OTHER_KIND = -33,      /* the handle has something that is no session */
     OCTET_RESTING = -2,          /* the thread is not started, or is stopped */
     OCTET_RUNNING = -3,          /* the thread is started already */
     OCTET_BEGUN = -4,            /* an access was begun: poll it first */
@@ -69,7 +70,8 @@ enum octet_status {
     OCTET_NO_MODE = -8,          /* the mode is none of octet_mode */
     OCTET_NO_MEMORY = -9,
     OCTET_BAD_TEXT = -10,        /* the text is no script */
-    OCTET_OTHER_SESSIONS = -11,  /* not as many sessions as the heap has, or not in order */
+    OCTET_OTHER_SESSIONS = -11,  /* not as many sessions as the heap has; of octet_close: or not of one kind */
+    OCTET_OUT_OF_ORDER = -32,    /* of octet_close: a session is not in the place of its thread */
     OCTET_TWO_RUNS = -29,        /* of octet_close: the sessions are in order, but of two heaps */
     OCTET_STILL_RUNNING = -12,   /* a session is not stopped */
     OCTET_TOO_LONG = -13,        /* the run is too long for its files */

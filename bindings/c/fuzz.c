@@ -6,7 +6,7 @@
 #include <stdlib.h>
 #include <string.h>
 
-enum { HANDLES = 12, ROOM = 4096, LEAST = -31, MOST = 2, RECORDINGS = 4, MARKS = 65536 };
+enum { HANDLES = 12, ROOM = 4096, LEAST = -33, MOST = 2, RECORDINGS = 4, MARKS = 65536 };
 
 static octet_session handles[HANDLES];
 static unsigned long told[MOST - LEAST + 1];
@@ -261,7 +261,7 @@ static void whole_run(void) {
     octet_free(&record);
 }
 
-/* The sessions of two runs, each in its place. */
+/* The sessions of two runs, each in its place, and then the others, each in another one's. */
 static void two_runs(void) {
     octet_session one[2] = {{0}, {0}}, other[2] = {{0}, {0}}, mixed[2];
     octet_record record = {0};
@@ -269,7 +269,8 @@ static void two_runs(void) {
     octet_open((const uint8_t *)TEXTS[0], strlen(TEXTS[0]), other, 2);
     mixed[0] = one[0], mixed[1] = other[1];
     told[octet_close(mixed, 2, &record) - LEAST]++;
-    octet_free(&one[1]), octet_free(&other[0]);
+    mixed[0] = one[1], mixed[1] = other[0];
+    told[octet_close(mixed, 2, &record) - LEAST]++;
 }
 
 static void work_long(octet_session *session) {

@@ -317,7 +317,7 @@ static void without_a_stream(void) {
     EXPECT(octet_open_long(STARTS, OBJECTS, &s, 1, &t, 1), OCTET_READY);
     EXPECT(octet_feed(&t, file.at, 1, &taken), OCTET_NO_STREAM);
     EXPECT(octet_take(&s, bytes, 1, &length), OCTET_NO_STREAM);
-    EXPECT(octet_start(&t), OCTET_NO_SESSION);
+    EXPECT(octet_start(&t), OCTET_OTHER_KIND);
     EXPECT(octet_take(&t, bytes, sizeof bytes, &length), OCTET_PENDING);
     EXPECT(octet_start(&s), OCTET_READY);
     EXPECT(octet_access(&s, OCTET_READ, OBJECTS, 0, &taken), OCTET_NO_OBJECT);

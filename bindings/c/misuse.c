@@ -145,7 +145,7 @@ static void at_close(void) {
     octet_session s[2] = {{0}, {0}}, t[2] = {{0}, {0}}, none = {0};
     for (int before = 0; before < 2; before++) {
         EXPECT(open_text(TEXT, s, 2), OCTET_READY);
-        close_others(&s[1], &s[0], &none, &none, before, OCTET_OTHER_SESSIONS);
+        close_others(&s[1], &s[0], &none, &none, before, OCTET_OUT_OF_ORDER);
         EXPECT(open_text(TEXT, s, 2), OCTET_READY);
         EXPECT(open_text(TEXT, t, 2), OCTET_READY);
         close_others(&s[0], &t[1], &s[1], &t[0], before, OCTET_TWO_RUNS);
@@ -168,8 +168,8 @@ static void keep_a_record(void) {
     EXPECT(out, 9);
     EXPECT(octet_end(&s[1], &out), OCTET_READY);
     EXPECT(octet_close(s, 2, &r), OCTET_READY);
-    EXPECT(octet_start(&r), OCTET_NO_SESSION);
-    EXPECT(octet_access(&r, OCTET_READ, 0, 0, &out), OCTET_NO_SESSION);
+    EXPECT(octet_start(&r), OCTET_OTHER_KIND);
+    EXPECT(octet_access(&r, OCTET_READ, 0, 0, &out), OCTET_OTHER_KIND);
     EXPECT(octet_script(&r, script, 3, &script_length), OCTET_READY);
     EXPECT(memcmp(script, "fue", 4), 0);
     EXPECT(octet_script(&r, script, sizeof script, &script_length), OCTET_READY);
@@ -270,7 +270,7 @@ static void close_two_runs(void) {
         follow_whole(t);
         close_others(&s[0], &t[1], &s[1], &t[0], before, OCTET_TWO_RUNS);
         follow_whole(s);
-        close_others(&s[1], &s[0], &t[0], &t[1], before, OCTET_OTHER_SESSIONS);
+        close_others(&s[1], &s[0], &t[0], &t[1], before, OCTET_OUT_OF_ORDER);
     }
 }
 
@@ -284,7 +284,7 @@ static void at_a_schedule(void) {
     for (uint8_t way = OCTET_UNIFORM; way <= OCTET_PRIORITIES; way++) {
         EXPECT(octet_schedule(&t, way, 1, 100), OCTET_READY);
         EXPECT(octet_schedule(&t, 255, 1, 1), OCTET_NO_WAY);
-        EXPECT(octet_start(&t), OCTET_NO_SESSION);
+        EXPECT(octet_start(&t), OCTET_OTHER_KIND);
         thread = 7;
         EXPECT(octet_pick(&t, none, 0, &thread), OCTET_BAD_SIZE);
         EXPECT(octet_pick(&t, none, 17, &thread), OCTET_BAD_SIZE);

@@ -174,7 +174,7 @@ pub(crate) fn checked(status: i32, thread: usize) -> Result<(), Error> {
         -10 | -17 | -20 => Error::NoRecording,
         // Its access was given up.
         -4 => Error::Patience { thread },
-        -11 | -12 | -29 => Error::OtherSessions,
+        -11 | -12 | -29 | -32 => Error::OtherSessions,
         -13 => Error::TooLong,
         -16 => Error::Halted { thread },
         -18 => Error::Unordered,

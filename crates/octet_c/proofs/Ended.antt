@@ -8,8 +8,8 @@ use Rattle.octet_host.specs.HandedBack.{AreAsOne}
 use Rattle.octet_c.specs.declared.held.Held.{Held}
 use Rattle.octet_c.specs.declared.kind.Kind.{Kind}
 use Rattle.octet_c.specs.declared.status.Fault.{Fault}
-use Rattle.octet_c.specs.declared.status.Fault.TheVariants.{OutOfMemory, BadText, OtherSessions, StillRunning, TooLong, BadLog, Misfit, Unordered, NotWhole, BadSize, TwoRuns, NoRecord, NoStream, NoNotes, NotThere, OtherRun}
-use Rattle.octet_c.specs.Closed.{kind_of, first_kind, IsNumbered, IsThread, AreOneRun, Runs, IsNotWhole, IsTooLong, Refuses, RefusesToClose}
+use Rattle.octet_c.specs.declared.status.Fault.TheVariants.{OutOfMemory, BadText, OtherSessions, OutOfOrder, StillRunning, TooLong, BadLog, Misfit, Unordered, NotWhole, BadSize, TwoRuns, NoRecord, NoStream, NoNotes, NotThere, OtherRun}
+use Rattle.octet_c.specs.Closed.{kind_of, first_kind, IsNumbered, IsThread, IsAt, IsAmong, IsSessionAt, IsSessionAmong, AreOneRun, AreOfOneKind, Runs, IsNotWhole, IsTooLong, Refuses, RefusesToClose}
 
 module _ {X Z : Type 0} (f : X → Z) (P : Z → Type 0) where
   -- what holds of some image of a list holds of some of the images
@@ -36,8 +36,21 @@ pub one_more_behind : {X B : Type 0} (wrap : X → Held) (value : B → Held) (x
 one_more_behind wrap value xs ys x bs b pushed is same =
     ap (map wrap) pushed ∙ (map_push wrap xs x ∙ (ap (λ hs. hs ++ wrap x ∷ []) same ∙ (ap (λ h. map value bs ++ h ∷ []) (sym is) ∙ sym (map_push value bs b))))
 
+-- threads of which all that their places ask for holds behind handles
+module _ {X : Type 0} (wrap : X → Held) (Asked : ℕ → ℕ → X → Type 0) (Behind : ℕ → ℕ → Option Held → Type 0) (back : (n m : ℕ) (x : X) → Behind n m (Some (wrap x)) → Asked n m x) where
+  pub as_before : (xs : List X) → AreAsOne Behind (map (λ x. Some (wrap x)) xs) → AreAsOne Asked xs
+  as_before xs behind =
+      let long : length (map (λ y. Some (wrap y)) xs) ≡ length xs = length-map xs (λ y. Some (wrap y)) in record {
+        at_least_one = omega (arith, long, behind.at_least_one);
+        each = λ k d lt.
+            let it = slice_index_or xs k d in
+            let here : Behind k (length (map (λ y. Some (wrap y)) xs)) (Some (wrap it)) =
+            subst (Behind k (length (map (λ y. Some (wrap y)) xs))) (get_or-map (λ y. Some (wrap y)) xs k d (Some (wrap d)) lt) (behind.each k (Some (wrap d)) (omega (arith, lt, long))) in
+            subst (λ n. Asked k n it) long (back k (length (map (λ y. Some (wrap y)) xs)) it here);
+      }
+
 module _ {X : Type 0} (wrap : X → Held) (kind : Kind) (Is : ℕ → ℕ → X → Type 0) (kind_is : (x : X) → kind_of (wrap x) ≡ Some kind)
-    (to : (n m : ℕ) (x : X) → Is n m x → IsNumbered n m (wrap x)) (back : (n m : ℕ) (x : X) → IsNumbered n m (wrap x) → Is n m x) where
+    (to : (n m : ℕ) (x : X) → Is n m x → IsNumbered n m (wrap x)) where
   -- threads of one kind that are as those of one run are so behind handles
   pub run_behind : (xs : List X) → AreAsOne Is xs → AreOneRun (map (λ x. Some (wrap x)) xs)
   run_behind [] one = absurd (omega (arith, one.at_least_one))
@@ -53,27 +66,16 @@ module _ {X : Type 0} (wrap : X → Held) (kind : Kind) (Is : ℕ → ℕ → X 
         };
       }
 
-  -- and the other way round
-  pub run_before : (xs : List X) → AreOneRun (map (λ x. Some (wrap x)) xs) → AreAsOne Is xs
-  run_before xs run =
-      let long : length (map (λ y. Some (wrap y)) xs) ≡ length xs = length-map xs (λ y. Some (wrap y)) in record {
-        at_least_one = omega (arith, long, run.as_one.at_least_one);
-        each = λ k d lt.
-            let it = slice_index_or xs k d in
-            let thread : IsThread run.kind k (length (map (λ y. Some (wrap y)) xs)) (Some (wrap it)) =
-            subst (IsThread run.kind k (length (map (λ y. Some (wrap y)) xs))) (get_or-map (λ y. Some (wrap y)) xs k d (Some (wrap d)) lt) (run.as_one.each k (Some (wrap d)) (omega (arith, lt, long))) in
-            subst (λ n. Is k n it) long (back k (length (map (λ y. Some (wrap y)) xs)) it thread.1);
-      }
-
-  module _ (Works NotWhole_ Long_ : X → Type 0) (works : (x : X) → Works x → Runs (Some (wrap x))) (works_not : (x : X) → Runs (Some (wrap x)) → Works x)
+  module _ (At Among : ℕ → ℕ → X → Type 0) (at : (n m : ℕ) (x : X) → IsAt n m (wrap x) → At n m x) (among : (n m : ℕ) (x : X) → IsAmong n m (wrap x) → Among n m x) (Works NotWhole_ Long_ : X → Type 0) (works : (x : X) → Works x → Runs (Some (wrap x))) (works_not : (x : X) → Runs (Some (wrap x)) → Works x)
       (whole : (x : X) → NotWhole_ x → IsNotWhole (Some (wrap x))) (long : (x : X) → Long_ x → IsTooLong (Some (wrap x))) where
     any_behind : (P : X → Type 0) (Q : Option Held → Type 0) → ((x : X) → P x → Q (Some (wrap x))) → (xs : List X) → Any P xs → Any Q (map (λ x. Some (wrap x)) xs)
     any_behind P Q more xs (k, x, lt, at, is) = any_map (λ y. Some (wrap y)) Q xs (k, x, lt, at, more x is)
 
     -- threads of one kind are refused behind handles as they are
-    pub refused_behind : (xs : List X) (fault : Fault) → Refuses (AreAsOne Is xs) Works NotWhole_ Long_ xs fault → RefusesToClose (map (λ x. Some (wrap x)) xs) fault
+    pub refused_behind : (xs : List X) (fault : Fault) → Refuses (AreAsOne Among xs) (AreAsOne At xs) (AreAsOne Is xs) Works NotWhole_ Long_ xs fault → RefusesToClose (map (λ x. Some (wrap x)) xs) fault
     refused_behind xs OutOfMemory why = tt
-    refused_behind xs OtherSessions why = λ run. why (run_before xs run)
+    refused_behind xs OtherSessions why = λ many. why (as_before wrap Among (IsSessionAmong many.kind) (λ n m x is. among n m x is.1) xs many.as_many)
+    refused_behind xs OutOfOrder why = λ placed. why (as_before wrap At IsSessionAt (λ n m x is. at n m x is) xs placed)
     refused_behind xs StillRunning why = any_behind Works Runs works xs why
     refused_behind xs NotWhole why = any_behind NotWhole_ IsNotWhole whole xs why
     refused_behind xs TooLong why = any_behind Long_ IsTooLong long xs why
@@ -91,17 +93,17 @@ module _ {X : Type 0} (wrap : X → Held) (kind : Kind) (Is : ℕ → ℕ → X 
 
 module _ {B : Type 0} (value : B → Held) where
   -- where the first is no thread, the sessions are of no run
-  pub no_first : (bs : List B) → first_kind (map value bs) ≡ None → AreOneRun (map (λ b. Some (value b)) bs) → ⊥
-  no_first [] none run = omega (arith, run.as_one.at_least_one)
-  no_first (b ∷ bs) none run = none-some run.kind (sym none ∙ (run.as_one.each 0 (Some (value b)) (omega arith)).0)
+  pub no_first : (bs : List B) → first_kind (map value bs) ≡ None → AreOfOneKind (map (λ b. Some (value b)) bs) → ⊥
+  no_first [] none run = omega (arith, run.as_many.at_least_one)
+  no_first (b ∷ bs) none run = none-some run.kind (sym none ∙ (run.as_many.each 0 (Some (value b)) (omega arith)).0)
 
   -- where one is of another kind than the first, neither
   pub other_kind : (bs : List B) (kind : Kind) → first_kind (map value bs) ≡ Some kind → (k : ℕ) (b : B) → k < length bs → slice_index_or bs k b ≡ b → (kind_of (value b) ≡ Some kind → ⊥)
-      → AreOneRun (map (λ c. Some (value c)) bs) → ⊥
+      → AreOfOneKind (map (λ c. Some (value c)) bs) → ⊥
   other_kind [] kind first k b lt at other run = omega (arith, lt)
   other_kind (c ∷ cs) kind first k b lt at other run =
       let f : B → Option Held = λ x. Some (value x) in
       let n = length (map f (c ∷ cs)) in
-      let head : kind_of (value c) ≡ Some run.kind = (run.as_one.each 0 (f c) (omega arith)).0 in
-      let here : IsThread run.kind k n (f b) = subst (IsThread run.kind k n) (get_or-map f (c ∷ cs) k b (f b) lt ∙ ap f at) (run.as_one.each k (f b) (omega (arith, lt, length-map (c ∷ cs) f))) in
+      let head : kind_of (value c) ≡ Some run.kind = (run.as_many.each 0 (f c) (omega arith)).0 in
+      let here : IsSessionAmong run.kind k n (f b) = subst (IsSessionAmong run.kind k n) (get_or-map f (c ∷ cs) k b (f b) lt ∙ ap f at) (run.as_many.each k (f b) (omega (arith, lt, length-map (c ∷ cs) f))) in
       other (here.0 ∙ (sym head ∙ first))

@@ -6,7 +6,7 @@ use Rattle.std.proofs.lemmas.List.Elements.{All-push}
 use Rattle.octet_c.specs.declared.held.Held.{Held}
 use Rattle.octet_c.specs.declared.status.Fault.{Fault}
 use Rattle.octet_c.specs.declared.status.Fault.TheVariants.{OutOfMemory, OtherSessions}
-use Rattle.octet_c.specs.Closed.{IsThread, AreOneRun, RefusesToClose}
+use Rattle.octet_c.specs.Closed.{IsSessionAmong, AreOfOneKind, RefusesToClose}
 use Rattle.octet_c.specs.Sessions.{IsHeld}
 
 no_false : false ≡ true → ⊥
@@ -14,10 +14,10 @@ no_false same = absurd cc
 
 module _ {H V B : Type 0} (held_in : H → Option Held) (items : V → List B) (value : B → Held) (olds : List H) (index : ℕ) (place : H) (lt : index < length olds) (at : slice_index_or olds index place ≡ place) where
   -- a handle without anything is no session of a run
-  none_there : held_in place ≡ None → AreOneRun (map held_in olds) → ⊥
+  none_there : held_in place ≡ None → AreOfOneKind (map held_in olds) → ⊥
   none_there none run =
-      subst (IsThread run.kind index (length (map held_in olds))) (get_or-map held_in olds index place (held_in place) lt ∙ (ap held_in at ∙ none))
-      (run.as_one.each index (held_in place) (omega (arith, lt, length-map olds held_in)))
+      subst (IsSessionAmong run.kind index (length (map held_in olds))) (get_or-map held_in olds index place (held_in place) lt ∙ (ap held_in at ∙ none))
+      (run.as_many.each index (held_in place) (omega (arith, lt, length-map olds held_in)))
 
   -- the handles up to one more are those up to it, and it
   up_to : (h : Held) → held_in place ≡ Some h → take (index + 1) (map held_in olds) ≡ take index (map held_in olds) ++ Some h ∷ []

@@ -4,7 +4,7 @@ use Rattle.octet_host.specs.HandedBack.{IsAtWork, AreAsOne}
 use Rattle.octet_host_long.specs.Closed.{IsClosedRecording, IsClosedAgain}
 use Rattle.octet_host_long.specs.HandedBack as long
 use Rattle.octet_host_long.specs.Threads as threads
-use Rattle.octet_host_script.specs.HandedBack.{IsRecordedAs, IsRepeatedAs, LeavesSome, RecordsTooMany}
+use Rattle.octet_host_script.specs.HandedBack.{IsRecordedAt, IsRecordedAmong, IsRecordedAs, IsRepeatedAt, IsRepeatedAmong, IsRepeatedAs, LeavesSome, RecordsTooMany}
 use Rattle.octet_host_script.specs.Records.{KeepsRecording, RepeatsRecording}
 use Rattle.octet_host_script.specs.Threads.{recorder_of, course_of}
 use Rattle.octet_c.specs.declared.held.Held.{Held}
@@ -12,7 +12,7 @@ use Rattle.octet_c.specs.declared.held.Held.TheVariants as held
 use Rattle.octet_c.specs.declared.kind.Kind.{Kind}
 use Rattle.octet_c.specs.declared.kind.Kind.TheVariants as kinds
 use Rattle.octet_c.specs.declared.status.Fault.{Fault}
-use Rattle.octet_c.specs.declared.status.Fault.TheVariants.{OutOfMemory, OtherSessions, StillRunning, TooLong, NotWhole, TwoRuns}
+use Rattle.octet_c.specs.declared.status.Fault.TheVariants.{OutOfMemory, OtherSessions, OutOfOrder, StillRunning, TooLong, NotWhole, TwoRuns}
 use Rattle.octet_c.specs.Faults.{fault_status}
 
 -- the kind of a thread, if it is one
@@ -36,6 +36,32 @@ IsNumbered number threads (held.LongRecorded it) = long.IsRecordedAs number thre
 IsNumbered number threads (held.LongRepeated it) = long.IsRepeatedAs number threads it
 IsNumbered number threads _ = ⊥
 
+-- a thread of whatever kind has this number
+abbrev pub IsAt : ℕ → ℕ → Held → Type 0
+IsAt number threads (held.Recorded it) = IsRecordedAt number threads it
+IsAt number threads (held.Repeated it) = IsRepeatedAt number threads it
+IsAt number threads (held.LongRecorded it) = long.IsRecordedAt number threads it
+IsAt number threads (held.LongRepeated it) = long.IsRepeatedAt number threads it
+IsAt number threads _ = ⊥
+
+-- its run has so many threads
+abbrev pub IsAmong : ℕ → ℕ → Held → Type 0
+IsAmong number threads (held.Recorded it) = IsRecordedAmong number threads it
+IsAmong number threads (held.Repeated it) = IsRepeatedAmong number threads it
+IsAmong number threads (held.LongRecorded it) = long.IsRecordedAmong number threads it
+IsAmong number threads (held.LongRepeated it) = long.IsRepeatedAmong number threads it
+IsAmong number threads _ = ⊥
+
+-- the thread behind a handle has this number
+abbrev pub IsSessionAt : ℕ → ℕ → Option Held → Type 0
+IsSessionAt number threads (Some it) = IsAt number threads it
+IsSessionAt number threads None = ⊥
+
+-- a thread of this kind, of a run of so many, is behind a handle
+abbrev pub IsSessionAmong : Kind → ℕ → ℕ → Option Held → Type 0
+IsSessionAmong kind number threads (Some it) = (kind_of it ≡ Some kind) × IsAmong number threads it
+IsSessionAmong kind number threads None = ⊥
+
 -- a thread of this kind and number, of a run of so many, is behind a handle
 abbrev pub IsThread : Kind → ℕ → ℕ → Option Held → Type 0
 IsThread kind number threads (Some it) = (kind_of it ≡ Some kind) × IsNumbered number threads it
@@ -45,6 +71,11 @@ IsThread kind number threads None = ⊥
 pub record AreOneRun (sessions : List (Option Held)) : Type 0 where
   pub kind : Kind
   pub as_one : AreAsOne (IsThread kind) sessions
+
+-- the sessions are all of one kind, and as many as the run of each has
+pub record AreOfOneKind (sessions : List (Option Held)) : Type 0 where
+  pub kind : Kind
+  pub as_many : AreAsOne (IsSessionAmong kind) sessions
 
 -- the thread behind a handle is neither stopped nor over
 abbrev pub Runs : Option Held → Type 0
@@ -64,20 +95,22 @@ abbrev pub IsTooLong : Option Held → Type 0
 IsTooLong (Some (held.Recorded it)) = RecordsTooMany (recorder_of it)
 IsTooLong _ = ⊥
 
--- why a run is not ended: its threads are not as those of one run, or one of them runs, or has not made all of its recording, or
--- the recording is too long; or they are as those of one run, none of them runs, and yet one of that run is missing
-abbrev pub Refuses : {X : Type 0} → Type 0 → (X → Type 0) → (X → Type 0) → (X → Type 0) → List X → Fault → Type 0
-Refuses AsOne Runs IsNotWhole IsTooLong threads OutOfMemory = Unit {0}
-Refuses AsOne Runs IsNotWhole IsTooLong threads OtherSessions = AsOne → ⊥
-Refuses AsOne Runs IsNotWhole IsTooLong threads StillRunning = Any Runs threads
-Refuses AsOne Runs IsNotWhole IsTooLong threads NotWhole = Any IsNotWhole threads
-Refuses AsOne Runs IsNotWhole IsTooLong threads TooLong = Any IsTooLong threads
-Refuses AsOne Runs IsNotWhole IsTooLong threads TwoRuns = AsOne × All (λ it. Runs it → ⊥) threads
-Refuses AsOne Runs IsNotWhole IsTooLong threads _ = ⊥
+-- why a run is not ended: its threads are not as many as it has, or one is not in the place of its number, or runs, or has not made
+-- all of its recording, or the recording is too long; or they are as those of one run, none of them runs, and yet one of that run is
+-- missing
+abbrev pub Refuses : {X : Type 0} → Type 0 → Type 0 → Type 0 → (X → Type 0) → (X → Type 0) → (X → Type 0) → List X → Fault → Type 0
+Refuses AsMany InOrder AsOne Runs IsNotWhole IsTooLong threads OutOfMemory = Unit {0}
+Refuses AsMany InOrder AsOne Runs IsNotWhole IsTooLong threads OtherSessions = AsMany → ⊥
+Refuses AsMany InOrder AsOne Runs IsNotWhole IsTooLong threads OutOfOrder = InOrder → ⊥
+Refuses AsMany InOrder AsOne Runs IsNotWhole IsTooLong threads StillRunning = Any Runs threads
+Refuses AsMany InOrder AsOne Runs IsNotWhole IsTooLong threads NotWhole = Any IsNotWhole threads
+Refuses AsMany InOrder AsOne Runs IsNotWhole IsTooLong threads TooLong = Any IsTooLong threads
+Refuses AsMany InOrder AsOne Runs IsNotWhole IsTooLong threads TwoRuns = AsOne × All (λ it. Runs it → ⊥) threads
+Refuses AsMany InOrder AsOne Runs IsNotWhole IsTooLong threads _ = ⊥
 
 -- why the run of the sessions behind handles is not ended
 abbrev pub RefusesToClose : List (Option Held) → Fault → Type 0
-RefusesToClose sessions = Refuses (AreOneRun sessions) Runs IsNotWhole IsTooLong sessions
+RefusesToClose sessions = Refuses (AreOfOneKind sessions) (AreAsOne IsSessionAt sessions) (AreOneRun sessions) Runs IsNotWhole IsTooLong sessions
 
 -- the same by its status
 abbrev pub GivesNoRecord : List (Option Held) → ℤ → Type 0

@@ -9,8 +9,8 @@ use Rattle.octet_host_script.specs.declared.fault.OpenFault.{OpenFault}
 use Rattle.octet_host_script.specs.declared.fault.OpenFault.TheVariants as opening
 use Rattle.octet_c.specs.declared.status.Fault.{Fault}
 use Rattle.std.specs.Prelude.{ℤ}
-use Rattle.octet_c.specs.declared.status.Fault.TheVariants.{OutOfMemory, BadText, OtherSessions, StillRunning, TooLong, BadLog, Misfit, Unordered, NotWhole, BadSize, TwoRuns, NoRecord, NoStream, NoNotes, NotThere, OtherRun}
-use Rattle.octet_c.specs.declared.status.TheConstants.{NO_MEMORY, BAD_TEXT, OTHER_SESSIONS, STILL_RUNNING, TOO_LONG, BAD_LOG, MISFIT, UNORDERED, NOT_WHOLE, BAD_SIZE, TWO_RUNS, NO_RECORD, NO_STREAM, NO_NOTES, NOT_THERE, OTHER_RUN}
+use Rattle.octet_c.specs.declared.status.Fault.TheVariants.{OutOfMemory, BadText, OtherSessions, OutOfOrder, StillRunning, TooLong, BadLog, Misfit, Unordered, NotWhole, BadSize, TwoRuns, NoRecord, NoStream, NoNotes, NotThere, OtherRun}
+use Rattle.octet_c.specs.declared.status.TheConstants.{NO_MEMORY, BAD_TEXT, OTHER_SESSIONS, OUT_OF_ORDER, STILL_RUNNING, TOO_LONG, BAD_LOG, MISFIT, UNORDERED, NOT_WHOLE, BAD_SIZE, TWO_RUNS, NO_RECORD, NO_STREAM, NO_NOTES, NOT_THERE, OTHER_RUN}
 
 -- that of a text that is to declare a heap
 abbrev pub open_fault : OpenFault → Fault
@@ -30,6 +30,7 @@ follow_fault follow.Unordered = Unordered
 abbrev pub script_close_fault : ScriptCloseFault → Fault
 script_close_fault script.OutOfMemory = OutOfMemory
 script_close_fault script.OtherSessions = OtherSessions
+script_close_fault script.OutOfOrder = OutOfOrder
 script_close_fault script.StillRunning = StillRunning
 script_close_fault script.NotWhole = NotWhole
 script_close_fault script.TooLong = TooLong
@@ -39,6 +40,7 @@ script_close_fault script.TwoRuns = TwoRuns
 abbrev pub close_fault : CloseFault → Fault
 close_fault close.OutOfMemory = OutOfMemory
 close_fault close.OtherSessions = OtherSessions
+close_fault close.OutOfOrder = OutOfOrder
 close_fault close.StillRunning = StillRunning
 close_fault close.TwoRuns = TwoRuns
 
@@ -47,6 +49,7 @@ abbrev pub fault_status : Fault → ℤ
 fault_status OutOfMemory = NO_MEMORY
 fault_status BadText = BAD_TEXT
 fault_status OtherSessions = OTHER_SESSIONS
+fault_status OutOfOrder = OUT_OF_ORDER
 fault_status StillRunning = STILL_RUNNING
 fault_status TooLong = TOO_LONG
 fault_status BadLog = BAD_LOG

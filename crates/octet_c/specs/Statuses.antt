@@ -157,13 +157,13 @@ OnThread Records Repeats Tracks Follows (held.Recorded it) said (held.Recorded t
 OnThread Records Repeats Tracks Follows (held.Repeated it) said (held.Repeated that) = Repeats it said that
 OnThread Records Repeats Tracks Follows (held.LongRecorded it) said (held.LongRecorded that) = Tracks it said that
 OnThread Records Repeats Tracks Follows (held.LongRepeated it) said (held.LongRepeated that) = Follows it said that
-OnThread Records Repeats Tracks Follows (held.Outlet it) said that = (said ≡ status.NO_SESSION) × (that ≡ held.Outlet it)
-OnThread Records Repeats Tracks Follows (held.Inlet it) said that = (said ≡ status.NO_SESSION) × (that ≡ held.Inlet it)
-OnThread Records Repeats Tracks Follows (held.Kept it) said that = (said ≡ status.NO_SESSION) × (that ≡ held.Kept it)
-OnThread Records Repeats Tracks Follows (held.Values it) said that = (said ≡ status.NO_SESSION) × (that ≡ held.Values it)
-OnThread Records Repeats Tracks Follows (held.Again it) said that = (said ≡ status.NO_SESSION) × (that ≡ held.Again it)
-OnThread Records Repeats Tracks Follows (held.Window it) said that = (said ≡ status.NO_SESSION) × (that ≡ held.Window it)
-OnThread Records Repeats Tracks Follows (held.Schedule it) said that = (said ≡ status.NO_SESSION) × (that ≡ held.Schedule it)
+OnThread Records Repeats Tracks Follows (held.Outlet it) said that = (said ≡ status.OTHER_KIND) × (that ≡ held.Outlet it)
+OnThread Records Repeats Tracks Follows (held.Inlet it) said that = (said ≡ status.OTHER_KIND) × (that ≡ held.Inlet it)
+OnThread Records Repeats Tracks Follows (held.Kept it) said that = (said ≡ status.OTHER_KIND) × (that ≡ held.Kept it)
+OnThread Records Repeats Tracks Follows (held.Values it) said that = (said ≡ status.OTHER_KIND) × (that ≡ held.Values it)
+OnThread Records Repeats Tracks Follows (held.Again it) said that = (said ≡ status.OTHER_KIND) × (that ≡ held.Again it)
+OnThread Records Repeats Tracks Follows (held.Window it) said that = (said ≡ status.OTHER_KIND) × (that ≡ held.Window it)
+OnThread Records Repeats Tracks Follows (held.Schedule it) said that = (said ≡ status.OTHER_KIND) × (that ≡ held.Schedule it)
 OnThread Records Repeats Tracks Follows _ said _ = ⊥
 
 -- the thread starts

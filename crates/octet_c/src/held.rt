@@ -4,7 +4,7 @@ ghost use Rattle.octet_c.specs.Sessions.{IsHeld};
 ghost use Rattle.octet_c.specs.Statuses.{status_done, status_asked, Tells, TellsEnd, NeverHalts, Starts, Stops, EndsThread, BeginsRegionNext, Passes, AccessesNext, Polls};
 
 use crate::kept::Values;
-use crate::status::{ANSWERED, NO_SESSION, PENDING, READY, status_of};
+use crate::status::{ANSWERED, OTHER_KIND, PENDING, READY, status_of};
 use crate::told::Told;
 use crate::window::Window;
 use octet_host::{Answer, Misuse};
@@ -113,7 +113,7 @@ impl Held {
             | Held::Values(_)
             | Held::Again(_)
             | Held::Window(_)
-            | Held::Schedule(_) => NO_SESSION,
+            | Held::Schedule(_) => OTHER_KIND,
         }
     }
 
@@ -134,7 +134,7 @@ impl Held {
             | Held::Values(_)
             | Held::Again(_)
             | Held::Window(_)
-            | Held::Schedule(_) => NO_SESSION,
+            | Held::Schedule(_) => OTHER_KIND,
         }
     }
 
@@ -155,7 +155,7 @@ impl Held {
             | Held::Values(_)
             | Held::Again(_)
             | Held::Window(_)
-            | Held::Schedule(_) => NO_SESSION,
+            | Held::Schedule(_) => OTHER_KIND,
         }
     }
 
@@ -176,7 +176,7 @@ impl Held {
             | Held::Values(_)
             | Held::Again(_)
             | Held::Window(_)
-            | Held::Schedule(_) => NO_SESSION,
+            | Held::Schedule(_) => OTHER_KIND,
         }
     }
 
@@ -197,7 +197,7 @@ impl Held {
             | Held::Values(_)
             | Held::Again(_)
             | Held::Window(_)
-            | Held::Schedule(_) => NO_SESSION,
+            | Held::Schedule(_) => OTHER_KIND,
         }
     }
 
@@ -242,7 +242,7 @@ impl Held {
             | Held::Values(_)
             | Held::Again(_)
             | Held::Window(_)
-            | Held::Schedule(_) => NO_SESSION,
+            | Held::Schedule(_) => OTHER_KIND,
         }
     }
 
@@ -263,7 +263,7 @@ impl Held {
             | Held::Values(_)
             | Held::Again(_)
             | Held::Window(_)
-            | Held::Schedule(_) => NO_SESSION,
+            | Held::Schedule(_) => OTHER_KIND,
         }
     }
 }

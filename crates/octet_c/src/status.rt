@@ -20,8 +20,10 @@ pub enum Fault {
     OutOfMemory,
     /// The text is no script.
     BadText,
-    /// Sessions are missing, in another order, or of two kinds.
+    /// Sessions are missing, or of two kinds.
     OtherSessions,
+    /// A session is not in the place of its number.
+    OutOfOrder,
     /// A thread runs.
     StillRunning,
     /// The log is too long for its format.
@@ -107,6 +109,7 @@ impl From<octet_host_script::CloseFault> for Fault {
         match fault {
             octet_host_script::CloseFault::OutOfMemory => Fault::OutOfMemory,
             octet_host_script::CloseFault::OtherSessions => Fault::OtherSessions,
+            octet_host_script::CloseFault::OutOfOrder => Fault::OutOfOrder,
             octet_host_script::CloseFault::StillRunning => Fault::StillRunning,
             octet_host_script::CloseFault::NotWhole => Fault::NotWhole,
             octet_host_script::CloseFault::TooLong => Fault::TooLong,
@@ -122,6 +125,7 @@ impl From<CloseFault> for Fault {
         match fault {
             CloseFault::OutOfMemory => Fault::OutOfMemory,
             CloseFault::OtherSessions => Fault::OtherSessions,
+            CloseFault::OutOfOrder => Fault::OutOfOrder,
             CloseFault::StillRunning => Fault::StillRunning,
             CloseFault::TwoRuns => Fault::TwoRuns,
         }
@@ -176,6 +180,11 @@ pub const NO_MEMORY: i32 = -9;
 pub const BAD_TEXT: i32 = -10;
 
 pub const OTHER_SESSIONS: i32 = -11;
+
+pub const OUT_OF_ORDER: i32 = -32;
+
+/// The handle has something, but no session.
+pub const OTHER_KIND: i32 = -33;
 
 pub const STILL_RUNNING: i32 = -12;
 
@@ -240,6 +249,7 @@ impl Fault {
             Fault::OutOfMemory => NO_MEMORY,
             Fault::BadText => BAD_TEXT,
             Fault::OtherSessions => OTHER_SESSIONS,
+            Fault::OutOfOrder => OUT_OF_ORDER,
             Fault::StillRunning => STILL_RUNNING,
             Fault::TooLong => TOO_LONG,
             Fault::BadLog => BAD_LOG,

@@ -7,7 +7,7 @@ ghost use Rattle.octet_stream.specs.Tracks.{IsTrackOf};
 ghost use Rattle.octet_host.specs.HandedBack.{IsAtWork, AreAsOne};
 ghost use Rattle.octet_host_long.specs.declared.fault.CloseFault.TheVariants.{OutOfMemory as MemoryRefused, TwoRuns as OfTwoRuns};
 ghost use Rattle.octet_host_long.specs.Closed.{IsClosedRecording};
-ghost use Rattle.octet_host_long.specs.HandedBack.{IsRecordedAs, RefusesThread, RefusesToClose};
+ghost use Rattle.octet_host_long.specs.HandedBack.{IsRecordedAt, IsRecordedAmong, IsRecordedAs, RefusesThread, RefusesToClose};
 ghost use Rattle.octet_host_long.specs.Threads.{run_of, IsLongRecorded};
 
 use crate::fault::CloseFault;
@@ -42,7 +42,7 @@ fn hand_in(
     ensures still { OnOk result (IsAtWork recorded.stage → ⊥) }
     ensures place { OnOk result (IsRecordedAs number threads recorded) }
     ensures shared { IfOk result (λ last. IfSome last (λ heap. arc_value recorded.heap ≡ heap)) }
-    ensures refused { IfErr result (RefusesThread recorded.stage (IsRecordedAs number threads recorded)) }
+    ensures refused { IfErr result (RefusesThread recorded.stage (IsRecordedAt number threads recorded) (IsRecordedAmong number threads recorded)) }
 {
     let LongRecorded {
         heap,
@@ -53,8 +53,11 @@ fn hand_in(
     let (Stage::Resting | Stage::Ended) = stage else {
         return Err(CloseFault::StillRunning);
     };
-    if track.thread() as usize != number || heap.desk.len() != threads {
+    if heap.desk.len() != threads {
         return Err(CloseFault::OtherSessions);
+    }
+    if track.thread() as usize != number {
+        return Err(CloseFault::OutOfOrder);
     }
     let left = Left::new(alloc, track)?;
     heap.lay(number, left);
@@ -67,7 +70,7 @@ fn hand_in_all(alloc: Global, threads: Vec<LongRecorded>) -> Result<LongHeap, Cl
     ensures as_one { OnOk result (AreAsOne IsRecordedAs threads.items) }
     ensures still { OnOk result (All (λ it. IsAtWork it.stage → ⊥) threads.items) }
     ensures shared { IfOk result (λ heap. Any (λ it. arc_value it.heap ≡ heap) threads.items) }
-    ensures refused { IfErr result (RefusesToClose (λ it. it.stage) IsRecordedAs threads.items) }
+    ensures refused { IfErr result (RefusesToClose (λ it. it.stage) IsRecordedAt IsRecordedAmong threads.items) }
 {
     let count = threads.len();
     if count == 0 {
@@ -112,7 +115,7 @@ pub fn close_recorded(alloc: Global, threads: Vec<LongRecorded>) -> Result<List<
     requires { All IsLongRecorded threads.items }
     ensures as_one { OnOk result (AreAsOne IsRecordedAs threads.items) }
     ensures closed { IfOk result (λ values. Any (λ it. IsClosedRecording (run_of it) values) threads.items) }
-    ensures refused { IfErr result (RefusesToClose (λ it. it.stage) IsRecordedAs threads.items) }
+    ensures refused { IfErr result (RefusesToClose (λ it. it.stage) IsRecordedAt IsRecordedAmong threads.items) }
 {
     let LongHeap { run, desk } = hand_in_all(alloc, threads)?;
     let tracks = tracks_on(alloc, &run, desk)?;

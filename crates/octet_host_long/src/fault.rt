@@ -8,8 +8,10 @@ use octet_model::OutOfMemory;
 #[derive(Clone, Copy, Debug, PartialEq, Eq)]
 pub enum CloseFault {
     OutOfMemory,
-    /// Threads are missing, or in another order.
+    /// They are not as many as the run has.
     OtherSessions,
+    /// A thread is not in the place of its number.
+    OutOfOrder,
     /// A thread runs.
     StillRunning,
     /// They are as many as a run has, in order, and yet of two runs.

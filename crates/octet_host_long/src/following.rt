@@ -10,7 +10,7 @@ ghost use Rattle.octet_tail.specs.Tails.{IsTail};
 ghost use Rattle.octet_host.specs.HandedBack.{IsAtWork, AreAsOne};
 ghost use Rattle.octet_host_long.specs.declared.fault.CloseFault.TheVariants.{OutOfMemory as MemoryRefused, TwoRuns as OfTwoRuns};
 ghost use Rattle.octet_host_long.specs.Closed.{HaveMade, IsClosedAgain};
-ghost use Rattle.octet_host_long.specs.HandedBack.{IsRepeatedAs, RefusesThread, RefusesToClose};
+ghost use Rattle.octet_host_long.specs.HandedBack.{IsRepeatedAt, IsRepeatedAmong, IsRepeatedAs, RefusesThread, RefusesToClose};
 ghost use Rattle.octet_host_long.specs.Opened.{head_with, IsSeatAgain, IsInlet, Follows};
 ghost use Rattle.octet_host_long.specs.Tailed.{HasRoom, IsTailedOf};
 ghost use Rattle.octet_host_long.specs.Threads.{course_of, IsLongRepeated};
@@ -189,7 +189,7 @@ fn hand_in(
     ensures still { OnOk result (IsAtWork repeated.stage → ⊥) }
     ensures place { OnOk result (IsRepeatedAs number threads repeated) }
     ensures shared { IfOk result (λ last. IfSome last (λ course. arc_value repeated.course ≡ course)) }
-    ensures refused { IfErr result (RefusesThread repeated.stage (IsRepeatedAs number threads repeated)) }
+    ensures refused { IfErr result (RefusesThread repeated.stage (IsRepeatedAt number threads repeated) (IsRepeatedAmong number threads repeated)) }
 {
     let LongRepeated {
         course,
@@ -200,8 +200,11 @@ fn hand_in(
     let (Stage::Resting | Stage::Ended) = stage else {
         return Err(CloseFault::StillRunning);
     };
-    if thread.thread.thread() as usize != number || course.desk.len() != threads {
+    if course.desk.len() != threads {
         return Err(CloseFault::OtherSessions);
+    }
+    if thread.thread.thread() as usize != number {
+        return Err(CloseFault::OutOfOrder);
     }
     let left = Left::new(alloc, thread)?;
     course.lay(number, left);
@@ -214,7 +217,7 @@ fn hand_in_all(alloc: Global, threads: Vec<LongRepeated>) -> Result<LongCourse, 
     ensures as_one { OnOk result (AreAsOne IsRepeatedAs threads.items) }
     ensures still { OnOk result (All (λ it. IsAtWork it.stage → ⊥) threads.items) }
     ensures shared { IfOk result (λ course. Any (λ it. arc_value it.course ≡ course) threads.items) }
-    ensures refused { IfErr result (RefusesToClose (λ it. it.stage) IsRepeatedAs threads.items) }
+    ensures refused { IfErr result (RefusesToClose (λ it. it.stage) IsRepeatedAt IsRepeatedAmong threads.items) }
 {
     let count = threads.len();
     if count == 0 {
@@ -288,7 +291,7 @@ pub fn close_repeated(alloc: Global, threads: Vec<LongRepeated>) -> Result<Close
     requires { All IsLongRepeated threads.items }
     ensures as_one { OnOk result (AreAsOne IsRepeatedAs threads.items) }
     ensures closed { IfOk result (λ again. Any (λ it. IsClosedAgain (course_of it) again) threads.items) }
-    ensures refused { IfErr result (RefusesToClose (λ it. it.stage) IsRepeatedAs threads.items) }
+    ensures refused { IfErr result (RefusesToClose (λ it. it.stage) IsRepeatedAt IsRepeatedAmong threads.items) }
 {
     let LongCourse { rerun, last, desk } = hand_in_all(alloc, threads)?;
     let Tailed { session } = rerun;

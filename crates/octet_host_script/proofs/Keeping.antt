@@ -4,7 +4,7 @@ use Rattle.std.specs.Prelude.{Any, IfOk, IfErr}
 use Rattle.octet_recorder.specs.declared.recording.Recording.{Recording}
 use Rattle.octet_host.proofs.lemmas.Taking.{any_more}
 use Rattle.octet_host_script.specs.declared.fault.CloseFault.{CloseFault}
-use Rattle.octet_host_script.specs.declared.fault.CloseFault.TheVariants.{OutOfMemory, OtherSessions, StillRunning, NotWhole, TooLong, TwoRuns}
+use Rattle.octet_host_script.specs.declared.fault.CloseFault.TheVariants.{OutOfMemory, OtherSessions, OutOfOrder, StillRunning, NotWhole, TooLong, TwoRuns}
 use Rattle.octet_host_script.specs.declared.kept.Kept.{Kept}
 use Rattle.octet_host_script.specs.declared.recorded.Heap.{Heap}
 use Rattle.octet_host_script.specs.declared.recorded.Recorded.{Recorded}
@@ -29,6 +29,7 @@ module _ (threads : List Recorded) (heap : Heap) (shared : Any (λ it. it.heap.v
       any_more (λ it. it.heap.value ≡ heap) (λ it. RecordsTooMany (recorder_of it))
       (λ it same. subst (λ (h : Heap). RecordsTooMany h.recorder) (sym same) (record { recording = recording; recorded = recorded; too_many = why })) threads shared
   refuses_one OtherSessions why = absurd why
+  refuses_one OutOfOrder why = absurd why
   refuses_one StillRunning why = absurd why
   refuses_one NotWhole why = absurd why
   refuses_one TwoRuns why = absurd why

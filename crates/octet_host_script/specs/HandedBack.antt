@@ -10,21 +10,37 @@ use Rattle.octet_rerun.specs.declared.follower.Follower.{Follower}
 use Rattle.octet_rerun.specs.declared.halt.Halt.{Halt}
 use Rattle.octet_rerun.specs.Reruns.{MakesMarks, Halts}
 use Rattle.octet_host.specs.declared.stage.Stage.{Stage}
-use Rattle.octet_host.specs.HandedBack.{IsAtWork, AreAsOne}
+use Rattle.octet_host.specs.HandedBack.{IsAtWork, Both, AreAsOne}
 use Rattle.octet_host_script.specs.declared.fault.CloseFault.{CloseFault}
-use Rattle.octet_host_script.specs.declared.fault.CloseFault.TheVariants.{OutOfMemory, OtherSessions, StillRunning, NotWhole, TooLong, TwoRuns}
+use Rattle.octet_host_script.specs.declared.fault.CloseFault.TheVariants.{OutOfMemory, OtherSessions, OutOfOrder, StillRunning, NotWhole, TooLong, TwoRuns}
 use Rattle.octet_host_script.specs.declared.recorded.Recorded.{Recorded}
 use Rattle.octet_host_script.specs.declared.repeated.Repeated.{Repeated}
 use Rattle.octet_host_script.specs.Records.{IsRecordedBy}
 use Rattle.octet_host_script.specs.Threads.{recorder_of, rerun_of}
 
--- a recorded thread has this number, in a run of so many
-abbrev pub IsRecordedAs : ℕ → ℕ → Recorded → Type 0
-IsRecordedAs number threads it = (number_of it.track ≡ number) × (threads_in (recorder_of it) ≡ threads)
+-- a recorded thread has this number
+abbrev pub IsRecordedAt : ℕ → ℕ → Recorded → Type 0
+IsRecordedAt number threads it = number_of it.track ≡ number
 
--- so has one that is run again
+-- its run has so many threads
+abbrev pub IsRecordedAmong : ℕ → ℕ → Recorded → Type 0
+IsRecordedAmong number threads it = threads_in (recorder_of it) ≡ threads
+
+-- it has this number, in a run of so many
+abbrev pub IsRecordedAs : ℕ → ℕ → Recorded → Type 0
+IsRecordedAs = Both IsRecordedAt IsRecordedAmong
+
+-- a thread that is run again has this number
+abbrev pub IsRepeatedAt : ℕ → ℕ → Repeated → Type 0
+IsRepeatedAt number threads it = it.thread.follower.thread ≡ number
+
+-- its run has so many threads
+abbrev pub IsRepeatedAmong : ℕ → ℕ → Repeated → Type 0
+IsRepeatedAmong number threads it = players_in (rerun_of it).field ≡ threads
+
+-- it has this number, in a run of so many
 abbrev pub IsRepeatedAs : ℕ → ℕ → Repeated → Type 0
-IsRepeatedAs number threads it = (it.thread.follower.thread ≡ number) × (players_in (rerun_of it).field ≡ threads)
+IsRepeatedAs = Both IsRepeatedAt IsRepeatedAmong
 
 -- a thread makes the marks that are left, and has a reason why it has not made all of its recording
 pub record LeavesSome (it : Repeated) : Type 0 where
@@ -43,13 +59,14 @@ pub record RecordsTooMany (recorder : Recorder) : Type 0 where
   pub recorded : IsRecordedBy recorder recording
   pub too_many : HasTooMany recording
 
--- why one thread is not taken back: it is not that of its place, or it runs, or is not whole
-abbrev pub RefusesThread : Stage → Type 0 → Type 0 → CloseFault → Type 0
-RefusesThread stage IsOfPlace IsNotWhole OutOfMemory = Unit {0}
-RefusesThread stage IsOfPlace IsNotWhole OtherSessions = IsOfPlace → ⊥
-RefusesThread stage IsOfPlace IsNotWhole StillRunning = IsAtWork stage
-RefusesThread stage IsOfPlace IsNotWhole NotWhole = IsNotWhole
-RefusesThread stage IsOfPlace IsNotWhole _ = ⊥
+-- why one thread is not taken back: its run has more threads or fewer, or it is not that of its place, or it runs, or is not whole
+abbrev pub RefusesThread : Stage → Type 0 → Type 0 → Type 0 → CloseFault → Type 0
+RefusesThread stage IsAt IsAmong IsNotWhole OutOfMemory = Unit {0}
+RefusesThread stage IsAt IsAmong IsNotWhole OtherSessions = IsAmong → ⊥
+RefusesThread stage IsAt IsAmong IsNotWhole OutOfOrder = IsAt → ⊥
+RefusesThread stage IsAt IsAmong IsNotWhole StillRunning = IsAtWork stage
+RefusesThread stage IsAt IsAmong IsNotWhole NotWhole = IsNotWhole
+RefusesThread stage IsAt IsAmong IsNotWhole _ = ⊥
 
 -- why a recording is not kept
 abbrev pub RefusesToKeep : Recording → CloseFault → Type 0
@@ -57,20 +74,22 @@ RefusesToKeep recording OutOfMemory = Unit {0}
 RefusesToKeep recording TooLong = HasTooMany recording
 RefusesToKeep recording _ = ⊥
 
--- why the run of threads is not ended: they are not as those of one run, or one of them runs, or has not made all of its recording,
--- or the recording is too long; or they are as those of one run, and all are still, and yet one of that run is missing
-abbrev pub RefusesToClose : {X : Type 0} → (X → Stage) → (ℕ → ℕ → X → Type 0) → (X → Type 0) → (X → Type 0) → List X → CloseFault → Type 0
-RefusesToClose stage Is IsNotWhole IsTooLong threads OutOfMemory = Unit {0}
-RefusesToClose stage Is IsNotWhole IsTooLong threads OtherSessions = AreAsOne Is threads → ⊥
-RefusesToClose stage Is IsNotWhole IsTooLong threads StillRunning = Any (λ it. IsAtWork (stage it)) threads
-RefusesToClose stage Is IsNotWhole IsTooLong threads NotWhole = Any IsNotWhole threads
-RefusesToClose stage Is IsNotWhole IsTooLong threads TooLong = Any IsTooLong threads
-RefusesToClose stage Is IsNotWhole IsTooLong threads TwoRuns = AreAsOne Is threads × All (λ it. IsAtWork (stage it) → ⊥) threads
+-- why the run of threads is not ended: they are not as many as it has, or one is not in the place of its number, or runs, or has not
+-- made all of its recording, or the recording is too long; or they are as those of one run, and all are still, and yet one of that
+-- run is missing
+abbrev pub RefusesToClose : {X : Type 0} → (X → Stage) → (ℕ → ℕ → X → Type 0) → (ℕ → ℕ → X → Type 0) → (X → Type 0) → (X → Type 0) → List X → CloseFault → Type 0
+RefusesToClose stage At Among IsNotWhole IsTooLong threads OutOfMemory = Unit {0}
+RefusesToClose stage At Among IsNotWhole IsTooLong threads OtherSessions = AreAsOne Among threads → ⊥
+RefusesToClose stage At Among IsNotWhole IsTooLong threads OutOfOrder = AreAsOne At threads → ⊥
+RefusesToClose stage At Among IsNotWhole IsTooLong threads StillRunning = Any (λ it. IsAtWork (stage it)) threads
+RefusesToClose stage At Among IsNotWhole IsTooLong threads NotWhole = Any IsNotWhole threads
+RefusesToClose stage At Among IsNotWhole IsTooLong threads TooLong = Any IsTooLong threads
+RefusesToClose stage At Among IsNotWhole IsTooLong threads TwoRuns = AreAsOne (Both At Among) threads × All (λ it. IsAtWork (stage it) → ⊥) threads
 
 -- why the run of recorded threads is not ended
 abbrev pub RefusesRecorded : List Recorded → CloseFault → Type 0
-RefusesRecorded = RefusesToClose (λ it. it.stage) IsRecordedAs (λ it. ⊥) (λ it. RecordsTooMany (recorder_of it))
+RefusesRecorded = RefusesToClose (λ it. it.stage) IsRecordedAt IsRecordedAmong (λ it. ⊥) (λ it. RecordsTooMany (recorder_of it))
 
 -- why that of threads that are run again is not
 abbrev pub RefusesRepeated : List Repeated → CloseFault → Type 0
-RefusesRepeated = RefusesToClose (λ it. it.stage) IsRepeatedAs LeavesSome (λ it. ⊥)
+RefusesRepeated = RefusesToClose (λ it. it.stage) IsRepeatedAt IsRepeatedAmong LeavesSome (λ it. ⊥)

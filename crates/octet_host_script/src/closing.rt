@@ -7,7 +7,7 @@ ghost use Rattle.octet_recorder.specs.Tracks.{EachRests, IsTrackOf};
 ghost use Rattle.octet_host.specs.HandedBack.{IsAtWork, AreAsOne};
 ghost use Rattle.octet_session.specs.Recording.{TrackRests};
 ghost use Rattle.octet_host_script.specs.declared.fault.CloseFault.TheVariants.{OutOfMemory as MemoryRefused, TwoRuns as OfTwoRuns};
-ghost use Rattle.octet_host_script.specs.HandedBack.{IsRecordedAs, RefusesThread, RefusesToKeep, RefusesRecorded};
+ghost use Rattle.octet_host_script.specs.HandedBack.{IsRecordedAt, IsRecordedAmong, IsRecordedAs, RefusesThread, RefusesToKeep, RefusesRecorded};
 ghost use Rattle.octet_host_script.specs.Records.{Keeps, KeepsRecording};
 ghost use Rattle.octet_host_script.specs.Threads.{recorder_of, IsRecorded};
 
@@ -46,7 +46,7 @@ fn hand_in(
     ensures still { OnOk result (IsAtWork recorded.stage → ⊥) }
     ensures place { OnOk result (IsRecordedAs number threads recorded) }
     ensures shared { IfOk result (λ last. IfSome last (λ heap. arc_value recorded.heap ≡ heap)) }
-    ensures refused { IfErr result (RefusesThread recorded.stage (IsRecordedAs number threads recorded) ⊥) }
+    ensures refused { IfErr result (RefusesThread recorded.stage (IsRecordedAt number threads recorded) (IsRecordedAmong number threads recorded) ⊥) }
 {
     let Recorded {
         heap,
@@ -57,8 +57,11 @@ fn hand_in(
     let (Stage::Resting | Stage::Ended) = stage else {
         return Err(CloseFault::StillRunning);
     };
-    if track.thread() as usize != number || heap.desk.len() != threads {
+    if heap.desk.len() != threads {
         return Err(CloseFault::OtherSessions);
+    }
+    if track.thread() as usize != number {
+        return Err(CloseFault::OutOfOrder);
     }
     let left = Left::new(alloc, track)?;
     heap.lay(number, left);

@@ -39,8 +39,10 @@ pub enum FollowFault {
 #[derive(Clone, Copy, Debug, PartialEq, Eq)]
 pub enum CloseFault {
     OutOfMemory,
-    /// Threads are missing, or in another order.
+    /// They are not as many as the run has.
     OtherSessions,
+    /// A thread is not in the place of its number.
+    OutOfOrder,
     /// A thread runs.
     StillRunning,
     /// A thread that was run again has not made all of its recording.

@@ -6,7 +6,7 @@ ghost use Rattle.octet_parallel.specs.Calls.{script_in, log_in, players_in};
 ghost use Rattle.octet_rerun.specs.Reruns.{made_by, recorded_of, IsFollowerOf, EachAtStart, EachAtEnd};
 ghost use Rattle.octet_host.specs.HandedBack.{IsAtWork, AreAsOne};
 ghost use Rattle.octet_host_script.specs.declared.fault.CloseFault.TheVariants.{OutOfMemory as MemoryRefused, TwoRuns as OfTwoRuns};
-ghost use Rattle.octet_host_script.specs.HandedBack.{IsRepeatedAs, LeavesSome, RefusesThread, RefusesRepeated};
+ghost use Rattle.octet_host_script.specs.HandedBack.{IsRepeatedAt, IsRepeatedAmong, IsRepeatedAs, LeavesSome, RefusesThread, RefusesRepeated};
 ghost use Rattle.octet_host_script.specs.Opened.{EachFirstAgain, Follows, IsFirstAgain};
 ghost use Rattle.octet_host_script.specs.Records.{RepeatsRecording};
 ghost use Rattle.octet_host_script.specs.Refusals.{RefusesToFollow};
@@ -164,7 +164,7 @@ fn hand_in(
     ensures still { OnOk result (IsAtWork repeated.stage → ⊥) }
     ensures place { OnOk result (IsRepeatedAs number threads repeated) }
     ensures shared { IfOk result (λ last. IfSome last (λ course. arc_value repeated.course ≡ course)) }
-    ensures refused { IfErr result (RefusesThread repeated.stage (IsRepeatedAs number threads repeated) (LeavesSome repeated)) }
+    ensures refused { IfErr result (RefusesThread repeated.stage (IsRepeatedAt number threads repeated) (IsRepeatedAmong number threads repeated) (LeavesSome repeated)) }
 {
     let Repeated {
         course,
@@ -176,8 +176,11 @@ fn hand_in(
         return Err(CloseFault::StillRunning);
     };
     let mut follower = thread.into_follower();
-    if follower.thread() as usize != number || course.desk.len() != threads {
+    if course.desk.len() != threads {
         return Err(CloseFault::OtherSessions);
+    }
+    if follower.thread() as usize != number {
+        return Err(CloseFault::OutOfOrder);
     }
     if let Err(_halt) = course.rerun.finish(&mut follower) {
         return Err(CloseFault::NotWhole);

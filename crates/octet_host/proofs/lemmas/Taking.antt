@@ -43,9 +43,9 @@ module _ {X : Type 0} (Still : X → Type 0) (Is : ℕ → ℕ → X → Type 0)
     ];
   }
 
-  -- one that has another number, or is of a run of more or fewer, is of no run of these
-  pub not_as_one : (Is number (length all) it → ⊥) → AreAsOne Is all → ⊥
-  not_as_one other as_one = other (subst (Is number (length all)) (next_is it) (as_one.each number it next_in))
+  -- where it is not what its place asks for, not all are
+  pub not_as_one : (Asked : ℕ → ℕ → X → Type 0) → (Asked number (length all) it → ⊥) → AreAsOne Asked all → ⊥
+  not_as_one Asked other as_one = other (subst (Asked number (length all)) (next_is it) (as_one.each number it next_in))
 
 -- what follows for each holds of some one
 pub any_more : {X : Type 0} (P Q : X → Type 0) → ((x : X) → P x → Q x) → (xs : List X) → Any P xs → Any Q xs

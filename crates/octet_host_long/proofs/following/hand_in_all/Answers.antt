@@ -2,7 +2,7 @@ use Rattle.std.proofs.Common.{rules, ◌≡◌, ◌∷◌, All, Err, length, sym
 use Rattle.std.specs.Prelude.{IfErr}
 use Rattle.octet_host.specs.HandedBack.{IsAtWork}
 use Rattle.octet_host.proofs.lemmas.Taking.{AreTaken, one_more, shared_by_one}
-use Rattle.octet_host_long.specs.HandedBack.{IsRepeatedAs, RefusesToClose}
+use Rattle.octet_host_long.specs.HandedBack.{IsRepeatedAt, IsRepeatedAmong, IsRepeatedAs, RefusesToClose}
 use Rattle.octet_host_long.specs.Threads.{IsLongRepeated}
 use Rattle.octet_host_long.proofs.Refusing.{refuses_all}
 use Rattle.octet_host_long.proofs.following.hand_in_all.Goals as goal
@@ -13,8 +13,8 @@ returns-in_err-last-clause-refused c =
     let next : l.repeated-iterator.rest.items ≡ it ∷ others = search rules in
     let count : c.len-count.result ≡ length threads = search rules in
     let same : c.from_residual.result ≡ Err fault = search rules in
-    subst (λ r. IfErr r (RefusesToClose (λ x. x.stage) IsRepeatedAs threads)) (sym same)
-    (refuses_all (λ x. x.stage) IsRepeatedAs threads l.number l.repeated-iterator.rest.items others it next l.invariant.taken c.len-count.result count fault c.in_err-last.ensures.refused)
+    subst (λ r. IfErr r (RefusesToClose (λ x. x.stage) IsRepeatedAt IsRepeatedAmong threads)) (sym same)
+    (refuses_all (λ x. x.stage) IsRepeatedAt IsRepeatedAmong threads l.number l.repeated-iterator.rest.items others it next l.invariant.taken c.len-count.result count fault c.in_err-last.ensures.refused)
 
 pub loop-repeated-preserved : goal.loop-repeated-preserved
 loop-repeated-preserved c =

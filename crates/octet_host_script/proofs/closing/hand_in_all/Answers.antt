@@ -2,7 +2,7 @@ use Rattle.std.proofs.Common.{rules, ◌≡◌, ◌∷◌, All, Err, length, sym
 use Rattle.std.specs.Prelude.{IfErr}
 use Rattle.octet_host.specs.HandedBack.{IsAtWork}
 use Rattle.octet_host.proofs.lemmas.Taking.{AreTaken, one_more, shared_by_one}
-use Rattle.octet_host_script.specs.HandedBack.{IsRecordedAs, RecordsTooMany, RefusesRecorded}
+use Rattle.octet_host_script.specs.HandedBack.{IsRecordedAt, IsRecordedAmong, IsRecordedAs, RecordsTooMany, RefusesRecorded}
 use Rattle.octet_host_script.specs.Threads.{recorder_of, IsRecorded}
 use Rattle.octet_host_script.proofs.Refusing.{refuses_all}
 use Rattle.octet_host_script.proofs.closing.hand_in_all.Goals as goal
@@ -14,7 +14,7 @@ returns-in_err-last-clause-refused c =
     let count : c.len-count.result ≡ length threads = search rules in
     let same : c.from_residual.result ≡ Err fault = search rules in
     subst (λ r. IfErr r (RefusesRecorded threads)) (sym same)
-    (refuses_all (λ x. x.stage) IsRecordedAs threads l.number l.recorded-iterator.rest.items others it next l.invariant.taken (λ x. ⊥) (λ x. RecordsTooMany (recorder_of x)) c.len-count.result count fault c.in_err-last.ensures.refused)
+    (refuses_all (λ x. x.stage) IsRecordedAt IsRecordedAmong threads l.number l.recorded-iterator.rest.items others it next l.invariant.taken (λ x. ⊥) (λ x. RecordsTooMany (recorder_of x)) c.len-count.result count fault c.in_err-last.ensures.refused)
 
 pub loop-recorded-preserved : goal.loop-recorded-preserved
 loop-recorded-preserved c =
