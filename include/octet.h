@@ -59,7 +59,7 @@ enum octet_status {
     OCTET_OVER = 2,              /* of a long run: its recording, or its stream, has no more; of octet_pick: no
                                     thread is ready */
     OCTET_NO_SESSION = -1,       /* the handle is empty */
-    OCTET_OTHER_KIND = -33,      /* the handle has something that is no session */
+    OCTET_OTHER_KIND = -33,      /* the handle has something else than what the call takes */
     OCTET_RESTING = -2,          /* the thread is not started, or is stopped */
     OCTET_RUNNING = -3,          /* the thread is started already */
     OCTET_BEGUN = -4,            /* an access was begun: poll it first */
@@ -75,7 +75,7 @@ enum octet_status {
     OCTET_TWO_RUNS = -29,        /* of octet_close: the sessions are in order, but of two heaps */
     OCTET_STILL_RUNNING = -12,   /* a session is not stopped */
     OCTET_TOO_LONG = -13,        /* the run is too long for its files */
-    OCTET_NO_RECORD = -14,       /* the handle has no record */
+    OCTET_NO_RECORD = -14,       /* the handle is empty */
     /* Of threads that are run again: */
     OCTET_DIVERGED = -15,        /* the recording has another access here, or none */
     OCTET_HALTED = -16,          /* the access would wait for a thread that has diverged; or what the thread
@@ -87,7 +87,7 @@ enum octet_status {
     OCTET_NO_CHANGE = -21,       /* the change is none of octet_change */
     /* Of long runs: */
     OCTET_BAD_SIZE = -22,        /* not 1 to 16 threads, or not 1 to 65,535 objects */
-    OCTET_NO_STREAM = -23,       /* the handle has no stream, or one of the other kind */
+    OCTET_NO_STREAM = -23,       /* the handle is empty */
     OCTET_NO_ROOM = -24,         /* there are more bytes than there is room for */
     OCTET_BAD_MARKS = -25,       /* the bytes are no marks file */
     OCTET_OTHER_RUN = -26,       /* the marks file is of another run */
@@ -95,7 +95,7 @@ enum octet_status {
     OCTET_NOT_THERE = -31,       /* the record is not of a run that came just to the window */
     /* Of schedules: */
     OCTET_NO_WAY = -27,          /* the way is none of octet_way */
-    OCTET_NO_SCHEDULE = -28      /* the handle has no schedule */
+    OCTET_NO_SCHEDULE = -28      /* the handle is empty */
 };
 
 /* Opens a heap, and puts a session behind each handle: as many as the text has threads, in their order. The text is

@@ -123,8 +123,8 @@ static void feed_all(octet_stream *streams, const uint8_t *bytes, size_t whole) 
 static void values_of(octet_record *record, uint64_t *values) {
     size_t length = 0;
     uint8_t byte;
-    EXPECT(octet_script(record, &byte, 1, &length), OCTET_NO_RECORD);
-    EXPECT(octet_log(record, &byte, 1, &length), OCTET_NO_RECORD);
+    EXPECT(octet_script(record, &byte, 1, &length), OCTET_OTHER_KIND);
+    EXPECT(octet_log(record, &byte, 1, &length), OCTET_OTHER_KIND);
     EXPECT(octet_values(record, values, OBJECTS, &length), OCTET_READY);
     EXPECT(length, OBJECTS);
     octet_free(record);
@@ -157,7 +157,7 @@ static void record(struct worker *workers, uint64_t *values) {
         EXPECT(octet_start(&sessions[i]), OCTET_RESTING);
     }
     EXPECT(octet_close(sessions, THREADS, &record), OCTET_READY);
-    EXPECT(octet_search(&record, &none), OCTET_NO_RECORD);
+    EXPECT(octet_search(&record, &none), OCTET_OTHER_KIND);
     values_of(&record, values);
     EXPECT(octet_take(&streams[1], &byte, 1, &length), OCTET_OVER);
     octet_free(&streams[0]), octet_free(&streams[1]);
@@ -212,7 +212,7 @@ static struct bytes front_of(octet_stream *search) {
         for (; status == OCTET_READY; status = octet_take(&cut, piece, sizeof piece, &length)) add(&front, piece, length);
         EXPECT(status, OCTET_PENDING);
     }
-    EXPECT(octet_feed_end(&cut, &taken), OCTET_NO_STREAM);
+    EXPECT(octet_feed_end(&cut, &taken), OCTET_OTHER_KIND);
     octet_free(&cut);
     return front;
 }
@@ -236,12 +236,15 @@ static void window(const char *stem) {
     EXPECT(octet_search(&none, &search), OCTET_NO_RECORD);
     EXPECT(octet_search(&whole, &search), OCTET_READY);
     EXPECT(octet_search(&whole, &none), OCTET_NO_NOTES);
-    EXPECT(octet_cut(&search, &none), OCTET_NO_STREAM);
-    EXPECT(octet_window(&search, &whole, &made), OCTET_NO_STREAM);
+    EXPECT(octet_cut(&none, &made), OCTET_NO_STREAM);
+    EXPECT(octet_cut(&search, &none), OCTET_OTHER_KIND);
+    EXPECT(octet_window(&none, &whole, &made), OCTET_NO_STREAM);
+    EXPECT(octet_window(&search, &whole, &made), OCTET_OTHER_KIND);
     EXPECT(octet_feed(&search, file.at, file.length, &place), OCTET_READY);
     EXPECT(place, file.length);
     EXPECT(octet_feed_end(&search, &place), OCTET_READY);
-    EXPECT(octet_feed(&search, file.at, 1, &place), OCTET_NO_STREAM);
+    EXPECT(octet_feed(&search, file.at, 1, &place), OCTET_OTHER_KIND);
+    EXPECT(octet_feed_end(&search, &place), OCTET_OTHER_KIND);
     struct bytes front = front_of(&search);
     there = made_again(workers, front.at, front.length, 0, OCTET_OVER);
     EXPECT(octet_window(&search, &none, &made), OCTET_NO_RECORD);
@@ -315,8 +318,9 @@ static void without_a_stream(void) {
     EXPECT(octet_feed(&none, file.at, 1, &taken), OCTET_NO_STREAM);
     EXPECT(octet_feed_end(&none, &taken), OCTET_NO_STREAM);
     EXPECT(octet_open_long(STARTS, OBJECTS, &s, 1, &t, 1), OCTET_READY);
-    EXPECT(octet_feed(&t, file.at, 1, &taken), OCTET_NO_STREAM);
-    EXPECT(octet_take(&s, bytes, 1, &length), OCTET_NO_STREAM);
+    EXPECT(octet_feed(&t, file.at, 1, &taken), OCTET_OTHER_KIND);
+    EXPECT(octet_feed_end(&t, &taken), OCTET_OTHER_KIND);
+    EXPECT(octet_take(&s, bytes, 1, &length), OCTET_OTHER_KIND);
     EXPECT(octet_start(&t), OCTET_OTHER_KIND);
     EXPECT(octet_take(&t, bytes, sizeof bytes, &length), OCTET_PENDING);
     EXPECT(octet_start(&s), OCTET_READY);
@@ -367,7 +371,7 @@ static void at_feed(void) {
     size_t length = 0;
     uint8_t byte;
     EXPECT(octet_follow_long(STARTS, OBJECTS, DECLARED, 3, 0, s, THREADS, t, THREADS), OCTET_READY);
-    EXPECT(octet_take(&t[0], &byte, 1, &length), OCTET_NO_STREAM);
+    EXPECT(octet_take(&t[0], &byte, 1, &length), OCTET_OTHER_KIND);
     EXPECT(octet_feed(&t[0], file.at, 200, &out), OCTET_READY);
     EXPECT(out, 200);
     EXPECT(octet_feed(&t[0], file.at + 200, 1, &out), OCTET_OTHER_RUN);

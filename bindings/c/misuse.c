@@ -112,7 +112,8 @@ static void while_an_access_waits(void) {
     EXPECT(octet_region(&s[1]), OCTET_BEGUN);
     EXPECT(octet_safe_point(&s[1]), OCTET_BEGUN);
     EXPECT(octet_start(&s[1]), OCTET_RUNNING);
-    EXPECT(octet_log(&s[1], journal, sizeof journal, &length), OCTET_NO_RECORD);
+    EXPECT(octet_log(&s[1], journal, sizeof journal, &length), OCTET_OTHER_KIND);
+    EXPECT(octet_values(&s[1], &out, 1, &length), OCTET_OTHER_KIND);
     EXPECT(octet_poll(&s[1], &out), OCTET_PENDING);
     EXPECT(out, 9);
     EXPECT(octet_safe_point(&s[0]), 1);
@@ -159,6 +160,7 @@ static void keep_a_record(void) {
     octet_session s[2] = {{0}, {0}};
     octet_record r = {0};
     uint64_t out = 0;
+    uint8_t thread = 7;
     EXPECT(open_text(TEXT, s, 2), OCTET_READY);
     EXPECT(octet_start(&s[0]), OCTET_READY);
     EXPECT(octet_access(&s[0], OCTET_WRITE, 0, 9, &out), OCTET_READY);
@@ -170,6 +172,7 @@ static void keep_a_record(void) {
     EXPECT(octet_close(s, 2, &r), OCTET_READY);
     EXPECT(octet_start(&r), OCTET_OTHER_KIND);
     EXPECT(octet_access(&r, OCTET_READ, 0, 0, &out), OCTET_OTHER_KIND);
+    EXPECT(octet_pick(&r, script, 1, &thread), OCTET_OTHER_KIND);
     EXPECT(octet_script(&r, script, 3, &script_length), OCTET_READY);
     EXPECT(memcmp(script, "fue", 4), 0);
     EXPECT(octet_script(&r, script, sizeof script, &script_length), OCTET_READY);

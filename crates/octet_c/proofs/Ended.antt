@@ -4,12 +4,12 @@ use Rattle.std.specs.Prelude.{Any}
 use Rattle.std.proofs.lemmas.List.{get_or-map, length-map, map_push}
 use Rattle.std.proofs.lemmas.Option.{none-some}
 use Rattle.std.proofs.lemmas.Simd.{map-map}
-use Rattle.octet_host.specs.HandedBack.{AreAsOne}
+use Rattle.octet_host.specs.declared.fault.CloseFault.{CloseFault}
+use Rattle.octet_host.specs.declared.fault.CloseFault.TheVariants.{OutOfMemory, OtherSessions, OutOfOrder, StillRunning, NotWhole, TooLong, TwoRuns}
+use Rattle.octet_host.specs.HandedBack.{AreAsOne, Refuses}
 use Rattle.octet_c.specs.declared.held.Held.{Held}
 use Rattle.octet_c.specs.declared.kind.Kind.{Kind}
-use Rattle.octet_c.specs.declared.status.Fault.{Fault}
-use Rattle.octet_c.specs.declared.status.Fault.TheVariants.{OutOfMemory, BadText, OtherSessions, OutOfOrder, StillRunning, TooLong, BadLog, Misfit, Unordered, NotWhole, BadSize, TwoRuns, NoRecord, NoStream, NoNotes, NotThere, OtherRun}
-use Rattle.octet_c.specs.Closed.{kind_of, first_kind, IsNumbered, IsThread, IsAt, IsAmong, IsSessionAt, IsSessionAmong, AreOneRun, AreOfOneKind, Runs, IsNotWhole, IsTooLong, Refuses, RefusesToClose}
+use Rattle.octet_c.specs.Closed.{kind_of, first_kind, IsNumbered, IsThread, IsAt, IsAmong, IsSessionAt, IsSessionAmong, AreOneRun, AreOfOneKind, Runs, IsNotWhole, IsTooLong, RefusesToClose}
 
 module _ {X Z : Type 0} (f : X → Z) (P : Z → Type 0) where
   -- what holds of some image of a list holds of some of the images
@@ -72,7 +72,7 @@ module _ {X : Type 0} (wrap : X → Held) (kind : Kind) (Is : ℕ → ℕ → X 
     any_behind P Q more xs (k, x, lt, at, is) = any_map (λ y. Some (wrap y)) Q xs (k, x, lt, at, more x is)
 
     -- threads of one kind are refused behind handles as they are
-    pub refused_behind : (xs : List X) (fault : Fault) → Refuses (AreAsOne Among xs) (AreAsOne At xs) (AreAsOne Is xs) Works NotWhole_ Long_ xs fault → RefusesToClose (map (λ x. Some (wrap x)) xs) fault
+    pub refused_behind : (xs : List X) (fault : CloseFault) → Refuses (AreAsOne Among xs) (AreAsOne At xs) (AreAsOne Is xs) Works NotWhole_ Long_ xs fault → RefusesToClose (map (λ x. Some (wrap x)) xs) fault
     refused_behind xs OutOfMemory why = tt
     refused_behind xs OtherSessions why = λ many. why (as_before wrap Among (IsSessionAmong many.kind) (λ n m x is. among n m x is.1) xs many.as_many)
     refused_behind xs OutOfOrder why = λ placed. why (as_before wrap At IsSessionAt (λ n m x is. at n m x is) xs placed)
@@ -80,16 +80,6 @@ module _ {X : Type 0} (wrap : X → Held) (kind : Kind) (Is : ℕ → ℕ → X 
     refused_behind xs NotWhole why = any_behind NotWhole_ IsNotWhole whole xs why
     refused_behind xs TooLong why = any_behind Long_ IsTooLong long xs why
     refused_behind xs TwoRuns why = (run_behind xs why.0, all_map (λ y. Some (wrap y)) (λ s. Runs s → ⊥) xs (λ k d lt runs. why.1 k d lt (works_not (slice_index_or xs k d) runs)))
-    refused_behind xs BadText why = absurd why
-    refused_behind xs BadLog why = absurd why
-    refused_behind xs Misfit why = absurd why
-    refused_behind xs Unordered why = absurd why
-    refused_behind xs BadSize why = absurd why
-    refused_behind xs NoRecord why = absurd why
-    refused_behind xs NoStream why = absurd why
-    refused_behind xs NoNotes why = absurd why
-    refused_behind xs NotThere why = absurd why
-    refused_behind xs OtherRun why = absurd why
 
 module _ {B : Type 0} (value : B → Held) where
   -- where the first is no thread, the sessions are of no run

@@ -4,3 +4,4 @@ pub mod Ended
 pub mod Taken
 pub mod Leaving
 pub mod Windowing
+pub mod Making

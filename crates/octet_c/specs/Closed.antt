@@ -1,19 +1,18 @@
 -- What a clause says of sessions whose run is ended.
-use Rattle.std.specs.Prelude.{◌≡◌, ℕ, ℤ, All, Any, List, [], ◌∷◌, Option, Some, None}
-use Rattle.octet_host.specs.HandedBack.{IsAtWork, AreAsOne}
+use Rattle.std.specs.Prelude.{◌≡◌, ℕ, ℤ, Any, List, [], ◌∷◌, Option, Some, None}
+use Rattle.octet_host.specs.declared.fault.CloseFault.{CloseFault}
+use Rattle.octet_host.specs.HandedBack.{IsAtWork, Both, AreAsOne, Refuses}
 use Rattle.octet_host_long.specs.Closed.{IsClosedRecording, IsClosedAgain}
 use Rattle.octet_host_long.specs.HandedBack as long
 use Rattle.octet_host_long.specs.Threads as threads
-use Rattle.octet_host_script.specs.HandedBack.{IsRecordedAt, IsRecordedAmong, IsRecordedAs, IsRepeatedAt, IsRepeatedAmong, IsRepeatedAs, LeavesSome, RecordsTooMany}
+use Rattle.octet_host_script.specs.HandedBack.{IsRecordedAt, IsRecordedAmong, IsRepeatedAt, IsRepeatedAmong, LeavesSome, RecordsTooMany}
 use Rattle.octet_host_script.specs.Records.{KeepsRecording, RepeatsRecording}
 use Rattle.octet_host_script.specs.Threads.{recorder_of, course_of}
 use Rattle.octet_c.specs.declared.held.Held.{Held}
 use Rattle.octet_c.specs.declared.held.Held.TheVariants as held
 use Rattle.octet_c.specs.declared.kind.Kind.{Kind}
 use Rattle.octet_c.specs.declared.kind.Kind.TheVariants as kinds
-use Rattle.octet_c.specs.declared.status.Fault.{Fault}
-use Rattle.octet_c.specs.declared.status.Fault.TheVariants.{OutOfMemory, OtherSessions, OutOfOrder, StillRunning, TooLong, NotWhole, TwoRuns}
-use Rattle.octet_c.specs.Faults.{fault_status}
+use Rattle.octet_c.specs.Faults.{close_status}
 
 -- the kind of a thread, if it is one
 abbrev pub kind_of : Held → Option Kind
@@ -27,14 +26,6 @@ kind_of _ = None
 abbrev pub first_kind : List Held → Option Kind
 first_kind [] = None
 first_kind (first ∷ others) = kind_of first
-
--- a thread of whatever kind has this number, in a run of so many
-abbrev pub IsNumbered : ℕ → ℕ → Held → Type 0
-IsNumbered number threads (held.Recorded it) = IsRecordedAs number threads it
-IsNumbered number threads (held.Repeated it) = IsRepeatedAs number threads it
-IsNumbered number threads (held.LongRecorded it) = long.IsRecordedAs number threads it
-IsNumbered number threads (held.LongRepeated it) = long.IsRepeatedAs number threads it
-IsNumbered number threads _ = ⊥
 
 -- a thread of whatever kind has this number
 abbrev pub IsAt : ℕ → ℕ → Held → Type 0
@@ -51,6 +42,10 @@ IsAmong number threads (held.Repeated it) = IsRepeatedAmong number threads it
 IsAmong number threads (held.LongRecorded it) = long.IsRecordedAmong number threads it
 IsAmong number threads (held.LongRepeated it) = long.IsRepeatedAmong number threads it
 IsAmong number threads _ = ⊥
+
+-- it has this number, in a run of so many
+abbrev pub IsNumbered : ℕ → ℕ → Held → Type 0
+IsNumbered = Both IsAt IsAmong
 
 -- the thread behind a handle has this number
 abbrev pub IsSessionAt : ℕ → ℕ → Option Held → Type 0
@@ -95,26 +90,13 @@ abbrev pub IsTooLong : Option Held → Type 0
 IsTooLong (Some (held.Recorded it)) = RecordsTooMany (recorder_of it)
 IsTooLong _ = ⊥
 
--- why a run is not ended: its threads are not as many as it has, or one is not in the place of its number, or runs, or has not made
--- all of its recording, or the recording is too long; or they are as those of one run, none of them runs, and yet one of that run is
--- missing
-abbrev pub Refuses : {X : Type 0} → Type 0 → Type 0 → Type 0 → (X → Type 0) → (X → Type 0) → (X → Type 0) → List X → Fault → Type 0
-Refuses AsMany InOrder AsOne Runs IsNotWhole IsTooLong threads OutOfMemory = Unit {0}
-Refuses AsMany InOrder AsOne Runs IsNotWhole IsTooLong threads OtherSessions = AsMany → ⊥
-Refuses AsMany InOrder AsOne Runs IsNotWhole IsTooLong threads OutOfOrder = InOrder → ⊥
-Refuses AsMany InOrder AsOne Runs IsNotWhole IsTooLong threads StillRunning = Any Runs threads
-Refuses AsMany InOrder AsOne Runs IsNotWhole IsTooLong threads NotWhole = Any IsNotWhole threads
-Refuses AsMany InOrder AsOne Runs IsNotWhole IsTooLong threads TooLong = Any IsTooLong threads
-Refuses AsMany InOrder AsOne Runs IsNotWhole IsTooLong threads TwoRuns = AsOne × All (λ it. Runs it → ⊥) threads
-Refuses AsMany InOrder AsOne Runs IsNotWhole IsTooLong threads _ = ⊥
-
 -- why the run of the sessions behind handles is not ended
-abbrev pub RefusesToClose : List (Option Held) → Fault → Type 0
+abbrev pub RefusesToClose : List (Option Held) → CloseFault → Type 0
 RefusesToClose sessions = Refuses (AreOfOneKind sessions) (AreAsOne IsSessionAt sessions) (AreOneRun sessions) Runs IsNotWhole IsTooLong sessions
 
 -- the same by its status
 abbrev pub GivesNoRecord : List (Option Held) → ℤ → Type 0
-GivesNoRecord sessions said = (fault : Fault) × RefusesToClose sessions fault × (said ≡ fault_status fault)
+GivesNoRecord sessions said = (fault : CloseFault) × RefusesToClose sessions fault × (said ≡ close_status fault)
 
 -- what is kept is of the run of the thread behind a handle
 abbrev pub IsRecordOf : Option Held → Option Held → Type 0

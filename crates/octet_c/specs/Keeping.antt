@@ -4,13 +4,14 @@ use Rattle.octet_c.specs.declared.held.Held.{Held}
 use Rattle.octet_c.specs.declared.held.Held.TheVariants as held
 use Rattle.octet_c.specs.declared.status.TheConstants as status
 use Rattle.octet_c.specs.declared.window.Window.TheVariants as window
+use Rattle.octet_c.specs.Statuses.{said_of_lack}
 use Rattle.octet_tail.specs.declared.texts.Texts.{Texts}
 use Rattle.octet_host.specs.Copies.{copied}
 use Rattle.octet_host_script.specs.declared.kept.Kept.{Kept}
 
--- nothing is copied
-abbrev pub CopiesNothing : {X : Type 0} → ℤ → List X → List X → ℕ → ℕ → Type 0
-CopiesNothing said room out before size = (said ≡ status.NO_RECORD) × (out ≡ room) × (size ≡ before)
+-- nothing is copied of what is behind a handle
+abbrev pub CopiesNothing : {X : Type 0} → Option Held → ℤ → List X → List X → ℕ → ℕ → Type 0
+CopiesNothing it said room out before size = (said ≡ said_of_lack status.NO_RECORD it) × (out ≡ room) × (size ≡ before)
 
 -- as much of a list is copied as there is room for, and its length is told
 abbrev pub CopiesAll : {X : Type 0} → List X → ℤ → List X → List X → ℕ → Type 0
@@ -20,7 +21,7 @@ CopiesAll all said room out size = (said ≡ status.READY) × (out ≡ copied al
 abbrev pub CopiesOf : (Kept → List ℕ) → (Texts → List ℕ) → Option Held → ℤ → List ℕ → List ℕ → ℕ → ℕ → Type 0
 CopiesOf part text (Some (held.Kept kept)) said room out before size = CopiesAll (part kept) said room out size
 CopiesOf part text (Some (held.Window (window.Made texts))) said room out before size = CopiesAll (text texts) said room out size
-CopiesOf part text _ said room out before size = CopiesNothing said room out before size
+CopiesOf part text it said room out before size = CopiesNothing it said room out before size
 
 -- what is copied of values, if they are there
 abbrev pub CopiesValues : Option Held → ℤ → List ℕ → List ℕ → ℕ → ℕ → Type 0
@@ -28,4 +29,4 @@ CopiesValues (Some (held.Kept kept)) said room out before size = CopiesAll kept.
 CopiesValues (Some (held.Values kept)) said room out before size = CopiesAll kept.values said room out size
 CopiesValues (Some (held.Again again)) said room out before size = CopiesAll again.values said room out size
 CopiesValues (Some (held.Window (window.Made texts))) said room out before size = CopiesAll [] said room out size
-CopiesValues _ said room out before size = CopiesNothing said room out before size
+CopiesValues it said room out before size = CopiesNothing it said room out before size

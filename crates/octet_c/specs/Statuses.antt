@@ -7,7 +7,7 @@ use Rattle.octet_rerun.specs.declared.halt.Halt.TheVariants as halt
 use Rattle.octet_recorder.specs.declared.access.Access.{Access}
 use Rattle.octet_session.specs.Standing.{Standing}
 use Rattle.octet_session.specs.Again.{second_standing, HasMadeAll, IsSecondReason}
-use Rattle.octet_session.specs.Recording.{track_standing, IsTrackReason}
+use Rattle.octet_session.specs.Recording.{track_standing, AnswersAndMakes, IsTrackReason}
 use Rattle.octet_host.specs.declared.answer.Answer.{Answer}
 use Rattle.octet_host.specs.declared.answer.Answer.TheVariants as answer
 use Rattle.octet_stream.specs.declared.long_run.Full.{Full}
@@ -38,6 +38,11 @@ status_of misuse.Begun = status.BEGUN
 status_of misuse.NotBegun = status.NOT_BEGUN
 status_of misuse.NoSuchObject = status.NO_OBJECT
 status_of misuse.Spent = status.SPENT
+
+-- of a handle that lacks what a call takes: it is empty, which has a status of its own, or has something else
+abbrev pub said_of_lack : ℤ → Option Held → ℤ
+said_of_lack empty None = empty
+said_of_lack empty (Some it) = status.OTHER_KIND
 
 -- of a call without a value
 abbrev pub status_done : Result (Unit {0}) Misuse → ℤ
@@ -154,17 +159,14 @@ EndsLongRepeated before out it said that =
 -- a call for the thread that is held, if one is
 abbrev pub OnThread : (Recorded → ℤ → Recorded → Type 0) → (Repeated → ℤ → Repeated → Type 0) → (LongRecorded → ℤ → LongRecorded → Type 0) → (LongRepeated → ℤ → LongRepeated → Type 0) → Held → ℤ → Held → Type 0
 OnThread Records Repeats Tracks Follows (held.Recorded it) said (held.Recorded that) = Records it said that
+OnThread Records Repeats Tracks Follows (held.Recorded it) said _ = ⊥
 OnThread Records Repeats Tracks Follows (held.Repeated it) said (held.Repeated that) = Repeats it said that
+OnThread Records Repeats Tracks Follows (held.Repeated it) said _ = ⊥
 OnThread Records Repeats Tracks Follows (held.LongRecorded it) said (held.LongRecorded that) = Tracks it said that
+OnThread Records Repeats Tracks Follows (held.LongRecorded it) said _ = ⊥
 OnThread Records Repeats Tracks Follows (held.LongRepeated it) said (held.LongRepeated that) = Follows it said that
-OnThread Records Repeats Tracks Follows (held.Outlet it) said that = (said ≡ status.OTHER_KIND) × (that ≡ held.Outlet it)
-OnThread Records Repeats Tracks Follows (held.Inlet it) said that = (said ≡ status.OTHER_KIND) × (that ≡ held.Inlet it)
-OnThread Records Repeats Tracks Follows (held.Kept it) said that = (said ≡ status.OTHER_KIND) × (that ≡ held.Kept it)
-OnThread Records Repeats Tracks Follows (held.Values it) said that = (said ≡ status.OTHER_KIND) × (that ≡ held.Values it)
-OnThread Records Repeats Tracks Follows (held.Again it) said that = (said ≡ status.OTHER_KIND) × (that ≡ held.Again it)
-OnThread Records Repeats Tracks Follows (held.Window it) said that = (said ≡ status.OTHER_KIND) × (that ≡ held.Window it)
-OnThread Records Repeats Tracks Follows (held.Schedule it) said that = (said ≡ status.OTHER_KIND) × (that ≡ held.Schedule it)
-OnThread Records Repeats Tracks Follows _ said _ = ⊥
+OnThread Records Repeats Tracks Follows (held.LongRepeated it) said _ = ⊥
+OnThread Records Repeats Tracks Follows it said that = (said ≡ status.OTHER_KIND) × (that ≡ it)
 
 -- the thread starts
 abbrev pub Starts : Held → ℤ → Held → Type 0
@@ -195,11 +197,19 @@ Passes =
     OnThread PassesRecorded (OnRepeated (Called (Goes Idle Idle) IsNotIdle))
     PassesLong (OnLongRepeated (Called (Goes Idle Idle) IsNotIdle))
 
+-- a recorded thread begins an access. Where it is ready, a poll made it, after a safe point
+abbrev pub AccessesRecorded : Access → ℕ → ℕ → Recorded → ℤ → Recorded → Type 0
+AccessesRecorded wanted before out it said that = OnRecorded (Accessed NeverHalts wanted before out) it said that × (said ≡ status.READY → AnswersAndMakes wanted it.track that.track)
+
+-- so does one of any length
+abbrev pub AccessesLong : Access → ℕ → ℕ → LongRecorded → ℤ → LongRecorded → Type 0
+AccessesLong wanted before out it said that = OnLongRecorded (Accessed IsSpent wanted before out) it said that × (said ≡ status.READY → long.AnswersAndMakes wanted it.track that.track)
+
 -- it begins an access
 abbrev pub AccessesNext : Access → ℕ → ℕ → Held → ℤ → Held → Type 0
 AccessesNext wanted before out =
-    OnThread (OnRecorded (Accessed NeverHalts wanted before out)) (OnRepeated (Accessed Halts wanted before out))
-    (OnLongRecorded (Accessed IsSpent wanted before out)) (OnLongRepeated (Accessed LongHalts wanted before out))
+    OnThread (AccessesRecorded wanted before out) (OnRepeated (Accessed Halts wanted before out))
+    (AccessesLong wanted before out) (OnLongRepeated (Accessed LongHalts wanted before out))
 
 -- it goes on with an access
 abbrev pub Polls : ℕ → ℕ → Held → ℤ → Held → Type 0

@@ -32,6 +32,7 @@ use Rattle.octet_c.specs.declared.status.TheConstants as status
 use Rattle.octet_c.specs.declared.window.Window.{Window}
 use Rattle.octet_c.specs.declared.window.Window.TheVariants as window
 use Rattle.octet_c.specs.Long.{IsSize}
+use Rattle.octet_c.specs.Statuses.{said_of_lack}
 
 -- as much of what a marks file begins with is copied as there is room for, and its length is told; or nothing is
 abbrev pub HeadCopied : List ℕ → ℕ → List ℕ → ℤ → List ℕ → List ℕ → ℕ → ℕ → Type 0
@@ -78,7 +79,7 @@ TakesHeld (Some (held.Outlet it)) said room out before size (Some (held.Outlet t
 TakesHeld (Some (held.Outlet it)) said room out before size _ = ⊥
 TakesHeld (Some (held.Window (window.Cut it))) said room out before size (Some (held.Window (window.Cut that))) = TakesOfCut it said room out before size that
 TakesHeld (Some (held.Window (window.Cut it))) said room out before size _ = ⊥
-TakesHeld it said room out before size that = (said ≡ status.NO_STREAM) × (that ≡ it) × (out ≡ room) × (size ≡ before)
+TakesHeld it said room out before size that = (said ≡ said_of_lack status.NO_STREAM it) × (that ≡ it) × (out ≡ room) × (size ≡ before)
 
 -- why bytes are not taken, in the words of C. The place of the file that is refused is told
 abbrev pub FitsFault : FeedFault → ℤ → ℕ → ℕ → Type 0
@@ -130,7 +131,7 @@ FeedsWindow bytes (window.Search it) said before now (window.Search that) = Feed
 FeedsWindow bytes (window.Search it) said before now _ = ⊥
 FeedsWindow bytes (window.Cut it) said before now (window.Cut that) = FeedsCut bytes it said before now that
 FeedsWindow bytes (window.Cut it) said before now _ = ⊥
-FeedsWindow bytes it said before now that = (said ≡ status.NO_STREAM) × (that ≡ it) × (now ≡ before)
+FeedsWindow bytes it said before now that = (said ≡ status.OTHER_KIND) × (that ≡ it) × (now ≡ before)
 
 -- a search finds the last accesses, by all whole pieces that it was fed
 pub record FindsAll (it : Search) (found : Found) : Type 0 where
@@ -141,7 +142,7 @@ abbrev pub FindsWindow : Window → ℤ → ℕ → ℕ → Window → Type 0
 FindsWindow (window.Search it) said before now (window.Found found) = (said ≡ status.READY) × (now ≡ before) × FindsAll it found
 FindsWindow (window.Search it) said before now (window.Search that) = (fault : SearchFault) × FitsSearchFault fault said before now × HasFindFault it fault × IsSameSearch it that
 FindsWindow (window.Search it) said before now _ = ⊥
-FindsWindow it said before now that = (said ≡ status.NO_STREAM) × (that ≡ it) × (now ≡ before)
+FindsWindow it said before now that = (said ≡ status.OTHER_KIND) × (that ≡ it) × (now ≡ before)
 
 -- the stream behind a handle is fed so, if one is there that feeds. Else nothing has changed
 abbrev pub FeedsHeld : List ℕ → Option Held → ℤ → ℕ → ℕ → Option Held → Type 0
@@ -149,7 +150,7 @@ FeedsHeld bytes (Some (held.Inlet it)) said before now (Some (held.Inlet that)) 
 FeedsHeld bytes (Some (held.Inlet it)) said before now _ = ⊥
 FeedsHeld bytes (Some (held.Window it)) said before now (Some (held.Window that)) = FeedsWindow bytes it said before now that
 FeedsHeld bytes (Some (held.Window it)) said before now _ = ⊥
-FeedsHeld bytes it said before now that = (said ≡ status.NO_STREAM) × (that ≡ it) × (now ≡ before)
+FeedsHeld bytes it said before now that = (said ≡ said_of_lack status.NO_STREAM it) × (that ≡ it) × (now ≡ before)
 
 -- it was said that the file has no more
 abbrev pub HasNoMore : Inlet → Type 0
@@ -174,4 +175,4 @@ EndsHeld (Some (held.Inlet it)) said before now (Some (held.Inlet that)) = EndsI
 EndsHeld (Some (held.Inlet it)) said before now _ = ⊥
 EndsHeld (Some (held.Window it)) said before now (Some (held.Window that)) = FindsWindow it said before now that
 EndsHeld (Some (held.Window it)) said before now _ = ⊥
-EndsHeld it said before now that = (said ≡ status.NO_STREAM) × (that ≡ it) × (now ≡ before)
+EndsHeld it said before now that = (said ≡ said_of_lack status.NO_STREAM it) × (that ≡ it) × (now ≡ before)

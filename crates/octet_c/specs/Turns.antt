@@ -9,6 +9,7 @@ use Rattle.octet_schedule.specs.declared.schedule.Schedule.{Schedule}
 use Rattle.octet_c.specs.declared.held.Held.{Held}
 use Rattle.octet_c.specs.declared.held.Held.TheVariants as held
 use Rattle.octet_c.specs.declared.status.TheConstants as status
+use Rattle.octet_c.specs.Statuses.{said_of_lack}
 
 -- a new schedule of the way that C names by a number
 pub record IsScheduled (way seed most : ℕ) (that : Schedule) : Type 0 where
@@ -41,4 +42,4 @@ PicksNext it marks said before thread that =
 abbrev pub PicksHeld : List ℕ → Option Held → ℤ → ℕ → ℕ → Option Held → Type 0
 PicksHeld marks (Some (held.Schedule it)) said before thread (Some (held.Schedule that)) = PicksNext it marks said before thread that
 PicksHeld marks (Some (held.Schedule it)) said before thread _ = ⊥
-PicksHeld marks it said before thread that = (said ≡ status.NO_SCHEDULE) × (thread ≡ before) × (that ≡ it)
+PicksHeld marks it said before thread that = (said ≡ said_of_lack status.NO_SCHEDULE it) × (thread ≡ before) × (that ≡ it)

@@ -16,7 +16,7 @@ use Rattle.octet_c.specs.declared.handle.Handle.{Handle}
 use Rattle.octet_c.specs.declared.held.Held.{Held}
 use Rattle.octet_c.specs.declared.held.Held.TheVariants as held
 use Rattle.octet_c.specs.declared.status.Fault.{Fault}
-use Rattle.octet_c.specs.declared.status.Fault.TheVariants.{OutOfMemory, NoNotes, NoRecord, NoStream, NotThere, OtherRun, TooLong}
+use Rattle.octet_c.specs.declared.status.Fault.TheVariants.{OutOfMemory, NoNotes, OtherKind, NotThere, OtherRun, TooLong}
 use Rattle.octet_c.specs.declared.status.TheConstants as status
 use Rattle.octet_c.specs.declared.window.Window.TheVariants as window
 use Rattle.octet_c.specs.Faults.{fault_status}
@@ -47,7 +47,7 @@ SearchesFor it _ that = ⊥
 abbrev pub BeginsSearch : Held → Result Held Fault → Held → Type 0
 BeginsSearch (held.Again it) made (held.Again that) = SearchesFor it made that
 BeginsSearch (held.Again it) made _ = ⊥
-BeginsSearch before made after = (made ≡ Err NoRecord) × (after ≡ before)
+BeginsSearch before made after = (made ≡ Err OtherKind) × (after ≡ before)
 
 -- and by what is behind a handle
 abbrev pub SearchesBy : Option Held → Handle → ℤ → Option Held → Handle → Type 0
@@ -69,7 +69,7 @@ CutsFor found _ = ⊥
 
 abbrev pub BeginsCut : Held → Result Held Fault → Type 0
 BeginsCut (held.Window (window.Found found)) made = CutsFor found made
-BeginsCut _ made = made ≡ Err NoStream
+BeginsCut _ made = made ≡ Err OtherKind
 
 -- and put behind a handle
 abbrev pub CutsBy : Option Held → Handle → ℤ → Handle → Type 0
@@ -106,8 +106,7 @@ Windows found it (Err fault) = LacksWindow found it fault
 -- they are made of what is held, if both are what they have to be
 abbrev pub BeginsWindow : Held → Held → Result Held Fault → Type 0
 BeginsWindow (held.Window (window.Found found)) (held.Again it) made = Windows found it made
-BeginsWindow (held.Window (window.Found found)) _ made = made ≡ Err NoRecord
-BeginsWindow _ _ made = made ≡ Err NoStream
+BeginsWindow _ _ made = made ≡ Err OtherKind
 
 -- and put behind a handle
 abbrev pub WindowsBy : Option Held → Option Held → Handle → ℤ → Handle → Type 0

@@ -107,13 +107,7 @@ impl Held {
             Held::Repeated(it) => done(it.start()),
             Held::LongRecorded(it) => done(it.start()),
             Held::LongRepeated(it) => done(it.start()),
-            Held::Outlet(_)
-            | Held::Inlet(_)
-            | Held::Kept(_)
-            | Held::Values(_)
-            | Held::Again(_)
-            | Held::Window(_)
-            | Held::Schedule(_) => OTHER_KIND,
+            _ => OTHER_KIND,
         }
     }
 
@@ -128,13 +122,7 @@ impl Held {
             Held::Repeated(it) => done(it.stop()),
             Held::LongRecorded(it) => done(it.stop()),
             Held::LongRepeated(it) => done(it.stop()),
-            Held::Outlet(_)
-            | Held::Inlet(_)
-            | Held::Kept(_)
-            | Held::Values(_)
-            | Held::Again(_)
-            | Held::Window(_)
-            | Held::Schedule(_) => OTHER_KIND,
+            _ => OTHER_KIND,
         }
     }
 
@@ -149,13 +137,7 @@ impl Held {
             Held::Repeated(it) => ended(it.end(), out),
             Held::LongRecorded(it) => ended(it.end(), out),
             Held::LongRepeated(it) => ended(it.end(), out),
-            Held::Outlet(_)
-            | Held::Inlet(_)
-            | Held::Kept(_)
-            | Held::Values(_)
-            | Held::Again(_)
-            | Held::Window(_)
-            | Held::Schedule(_) => OTHER_KIND,
+            _ => OTHER_KIND,
         }
     }
 
@@ -170,13 +152,7 @@ impl Held {
             Held::Repeated(it) => done(it.region()),
             Held::LongRecorded(it) => done(it.region()),
             Held::LongRepeated(it) => done(it.region()),
-            Held::Outlet(_)
-            | Held::Inlet(_)
-            | Held::Kept(_)
-            | Held::Values(_)
-            | Held::Again(_)
-            | Held::Window(_)
-            | Held::Schedule(_) => OTHER_KIND,
+            _ => OTHER_KIND,
         }
     }
 
@@ -191,17 +167,12 @@ impl Held {
             Held::Repeated(it) => done(it.safe_point()),
             Held::LongRecorded(it) => asked(it.safe_point()),
             Held::LongRepeated(it) => done(it.safe_point()),
-            Held::Outlet(_)
-            | Held::Inlet(_)
-            | Held::Kept(_)
-            | Held::Values(_)
-            | Held::Again(_)
-            | Held::Window(_)
-            | Held::Schedule(_) => OTHER_KIND,
+            _ => OTHER_KIND,
         }
     }
 
     /// Begins an access, and makes it if it can be made at once. A thread of a long run comes first, since it makes the most.
+    #[tactic(auto, using(crate::proofs::Making::made_long))]
     #[inline(always)]
     pub(crate) fn access(&mut self, wanted: Access, out: &mut u64) -> i32
         requires { IsHeld self.old }
@@ -225,6 +196,7 @@ impl Held {
     }
 
     // The same, out of line.
+    #[tactic(auto, using(crate::proofs::Making::made_long))]
     #[inline(never)]
     fn access_of_any(&mut self, wanted: Access, out: &mut u64) -> i32
         requires { IsHeld self.old }
@@ -236,13 +208,7 @@ impl Held {
             Held::Repeated(it) => told(it.access(wanted), out),
             Held::LongRecorded(it) => told(it.access(wanted), out),
             Held::LongRepeated(it) => told(it.access(wanted), out),
-            Held::Outlet(_)
-            | Held::Inlet(_)
-            | Held::Kept(_)
-            | Held::Values(_)
-            | Held::Again(_)
-            | Held::Window(_)
-            | Held::Schedule(_) => OTHER_KIND,
+            _ => OTHER_KIND,
         }
     }
 
@@ -257,13 +223,7 @@ impl Held {
             Held::Repeated(it) => told(it.poll(), out),
             Held::LongRecorded(it) => told(it.poll(), out),
             Held::LongRepeated(it) => told(it.poll(), out),
-            Held::Outlet(_)
-            | Held::Inlet(_)
-            | Held::Kept(_)
-            | Held::Values(_)
-            | Held::Again(_)
-            | Held::Window(_)
-            | Held::Schedule(_) => OTHER_KIND,
+            _ => OTHER_KIND,
         }
     }
 }

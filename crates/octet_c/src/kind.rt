@@ -4,12 +4,12 @@ ghost use Rattle.octet_c.specs.declared.held.Held.{Held};
 ghost use Rattle.octet_c.specs.declared.held.Held.TheVariants as held;
 ghost use Rattle.octet_c.specs.declared.kind.Kind.{Kind};
 ghost use Rattle.octet_c.specs.declared.kind.Kind.TheVariants as kinds;
-ghost use Rattle.octet_c.specs.Closed.{kind_of, first_kind, Closes, RefusesToClose};
+ghost use Rattle.octet_c.specs.Closed.{kind_of, Closes, RefusesToClose};
 ghost use Rattle.octet_c.specs.Sessions.{IsHeld};
 
 use crate::held::Held;
 use crate::kept::Values;
-use crate::status::Fault;
+use octet_host::CloseFault;
 use octet_host_long::{Inlet, LongRecorded, LongRepeated, Outlet, close_recorded, close_repeated};
 use octet_host_script::{Recorded, Repeated};
 use std::alloc::Global;
@@ -56,7 +56,7 @@ pub(crate) trait Thread: Behind {
         ensures { MatchOption result (kind_of from ≢ Some kind) (λ it. from ≡ Self.as_held it) };
 
     /// Ends the run of these threads.
-    fn close(alloc: Global, threads: Vec<Self>) -> Result<Held, Fault>
+    fn close(alloc: Global, threads: Vec<Self>) -> Result<Held, CloseFault>
         requires { All (λ it. IsHeld (Self.as_held it)) threads.items }
         ensures good { IfOk result IsHeld }
         ensures closes { IfOk result (λ kept. Closes (map (λ it. Some (Self.as_held it)) threads.items) (Some kept)) }
@@ -121,7 +121,7 @@ impl Thread for Recorded {
         }
     }
 
-    fn close(alloc: Global, threads: Vec<Recorded>) -> Result<Held, Fault>
+    fn close(alloc: Global, threads: Vec<Recorded>) -> Result<Held, CloseFault>
         requires { All (λ it. IsHeld (held.Recorded it)) threads.items }
         ensures good { IfOk result IsHeld }
         ensures closes { IfOk result (λ kept. Closes (map (λ it. Some (held.Recorded it)) threads.items) (Some kept)) }
@@ -129,7 +129,7 @@ impl Thread for Recorded {
     {
         match octet_host_script::close_recorded(alloc, threads) {
             Ok(kept) => Ok(Held::Kept(kept)),
-            Err(fault) => Err(Fault::from(fault)),
+            Err(fault) => Err(fault),
         }
     }
 }
@@ -144,7 +144,7 @@ impl Thread for Repeated {
         }
     }
 
-    fn close(alloc: Global, threads: Vec<Repeated>) -> Result<Held, Fault>
+    fn close(alloc: Global, threads: Vec<Repeated>) -> Result<Held, CloseFault>
         requires { All (λ it. IsHeld (held.Repeated it)) threads.items }
         ensures good { IfOk result IsHeld }
         ensures closes { IfOk result (λ kept. Closes (map (λ it. Some (held.Repeated it)) threads.items) (Some kept)) }
@@ -152,7 +152,7 @@ impl Thread for Repeated {
     {
         match octet_host_script::close_repeated(alloc, threads) {
             Ok(again) => Ok(Held::Kept(again)),
-            Err(fault) => Err(Fault::from(fault)),
+            Err(fault) => Err(fault),
         }
     }
 }
@@ -167,7 +167,7 @@ impl Thread for LongRecorded {
         }
     }
 
-    fn close(alloc: Global, threads: Vec<LongRecorded>) -> Result<Held, Fault>
+    fn close(alloc: Global, threads: Vec<LongRecorded>) -> Result<Held, CloseFault>
         requires { All (λ it. IsHeld (held.LongRecorded it)) threads.items }
         ensures good { IfOk result IsHeld }
         ensures closes { IfOk result (λ kept. Closes (map (λ it. Some (held.LongRecorded it)) threads.items) (Some kept)) }
@@ -175,7 +175,7 @@ impl Thread for LongRecorded {
     {
         match close_recorded(alloc, threads) {
             Ok(values) => Ok(Held::Values(Values { values })),
-            Err(fault) => Err(Fault::from(fault)),
+            Err(fault) => Err(fault),
         }
     }
 }
@@ -190,7 +190,7 @@ impl Thread for LongRepeated {
         }
     }
 
-    fn close(alloc: Global, threads: Vec<LongRepeated>) -> Result<Held, Fault>
+    fn close(alloc: Global, threads: Vec<LongRepeated>) -> Result<Held, CloseFault>
         requires { All (λ it. IsHeld (held.LongRepeated it)) threads.items }
         ensures good { IfOk result IsHeld }
         ensures closes { IfOk result (λ kept. Closes (map (λ it. Some (held.LongRepeated it)) threads.items) (Some kept)) }
@@ -198,7 +198,7 @@ impl Thread for LongRepeated {
     {
         match close_repeated(alloc, threads) {
             Ok(again) => Ok(Held::Again(again)),
-            Err(fault) => Err(Fault::from(fault)),
+            Err(fault) => Err(fault),
         }
     }
 }

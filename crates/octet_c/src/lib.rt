@@ -32,11 +32,13 @@ pub use held::Held;
 pub use kept::Values;
 pub use kind::Kind;
 use kind::Thread;
-use octet_host::copy_out;
+use octet_host::{CloseFault, copy_out};
 use octet_host_long::{LongRecorded, LongRepeated};
 use octet_host_script::{Recorded, Repeated};
 use octet_recorder::Access;
-use status::{Fault, NO_CHANGE, NO_MEMORY, NO_MODE, NO_RECORD, NO_SESSION, READY};
+use status::{
+    NO_CHANGE, NO_MEMORY, NO_MODE, NO_RECORD, NO_SESSION, OTHER_KIND, READY, close_status,
+};
 use std::alloc::Global;
 pub use window::Window;
 use words::{access_of, update_of};
@@ -219,7 +221,7 @@ pub extern "C" fn octet_poll(alloc: Global, session: &mut Handle, out: &mut u64)
 }
 
 // Ends the run of threads which are all of this kind.
-fn close_kind<T: Thread>(alloc: Global, boxes: Boxes) -> Result<Held, Fault>
+fn close_kind<T: Thread>(alloc: Global, boxes: Boxes) -> Result<Held, CloseFault>
     requires good { All (λ box. IsHeld box.value) boxes.items }
     requires kind { first_kind (map (λ box. box.value) boxes.items) ≡ Some T.kind }
     ensures good { IfOk result IsHeld }
@@ -243,7 +245,7 @@ fn kind_of_first(boxes: &[Box<Held, Global>]) -> Option<Kind>
 }
 
 // Ends the run of threads which are all of one kind.
-fn close_boxes(alloc: Global, boxes: Boxes) -> Result<Held, Fault>
+fn close_boxes(alloc: Global, boxes: Boxes) -> Result<Held, CloseFault>
     requires { All (λ box. IsHeld box.value) boxes.items }
     ensures good { IfOk result IsHeld }
     ensures closes { IfOk result (λ kept. Closes (map (λ box. Some box.value) boxes.items) (Some kept)) }
@@ -254,12 +256,12 @@ fn close_boxes(alloc: Global, boxes: Boxes) -> Result<Held, Fault>
         Some(Kind::Repeated) => close_kind::<Repeated>(alloc, boxes),
         Some(Kind::LongRecorded) => close_kind::<LongRecorded>(alloc, boxes),
         Some(Kind::LongRepeated) => close_kind::<LongRepeated>(alloc, boxes),
-        None => Err(Fault::OtherSessions),
+        None => Err(CloseFault::OtherSessions),
     }
 }
 
 // Ends the run of the sessions behind the handles.
-fn closed(alloc: Global, sessions: &mut [Handle]) -> Result<Held, Fault>
+fn closed(alloc: Global, sessions: &mut [Handle]) -> Result<Held, CloseFault>
     ensures gone { All (λ session. session.held ≡ None) sessions.new }
     ensures good { IfOk result IsHeld }
     ensures closes { IfOk result (λ kept. Closes (map (λ session. session.held) sessions.old) (Some kept)) }
@@ -290,7 +292,7 @@ pub extern "C" fn octet_close(alloc: Global, sessions: &mut [Handle], kept: &mut
             }
             Err(_) => NO_MEMORY,
         },
-        Err(fault) => fault.status(),
+        Err(fault) => close_status(fault),
     }
 }
 
@@ -317,7 +319,7 @@ pub extern "C" fn octet_script(
                     *length = copy_out(texts.script.as_slice(), out);
                     READY
                 }
-                _ => NO_RECORD,
+                _ => OTHER_KIND,
             };
             kept.put(held);
             status
@@ -348,7 +350,7 @@ pub extern "C" fn octet_log(
                     *length = copy_out(texts.log.as_slice(), out);
                     READY
                 }
-                _ => NO_RECORD,
+                _ => OTHER_KIND,
             };
             kept.put(held);
             status
@@ -387,7 +389,7 @@ pub extern "C" fn octet_values(
                     *length = copy_out(&[], out);
                     READY
                 }
-                _ => NO_RECORD,
+                _ => OTHER_KIND,
             };
             kept.put(held);
             status

@@ -2,31 +2,26 @@
 ghost use Rattle.std.specs.Prelude.{◌≡◌, ◌≢◌};
 ghost use Rattle.octet_c.specs.declared.status.TheConstants.{READY};
 ghost use Rattle.octet_c.specs.declared.status.Fault.TheVariants.{OutOfMemory as MemoryRefused};
-ghost use Rattle.octet_c.specs.Faults.{open_fault, follow_fault, script_close_fault, close_fault, fault_status};
+ghost use Rattle.octet_c.specs.Faults.{open_fault, follow_fault, fault_status, close_status};
 ghost use Rattle.octet_c.specs.Statuses.{status_of};
 ghost use Rattle.octet_c.specs.Windows.{window_fault};
 
 use octet_cut::WindowFault;
-use octet_host::Misuse;
-use octet_host_long::CloseFault;
+use octet_host::{CloseFault, Misuse};
 use octet_host_script::{FollowFault, OpenFault};
 use octet_model::OutOfMemory;
 use octet_window::Refusal;
 use std::alloc::{AllocError, AllocFailed};
 
-/// Why no heap was opened, or no record was made.
+/// Why no heap was opened, or no window was made.
 #[derive(Clone, Copy, Debug, PartialEq, Eq)]
 pub enum Fault {
     OutOfMemory,
     /// The text is no script.
     BadText,
-    /// Sessions are missing, or of two kinds.
+    /// Not as many sessions as streams.
     OtherSessions,
-    /// A session is not in the place of its number.
-    OutOfOrder,
-    /// A thread runs.
-    StillRunning,
-    /// The log is too long for its format.
+    /// A text or a log is too long for its format, or a window for a script.
     TooLong,
     /// The bytes are no log.
     BadLog,
@@ -34,16 +29,10 @@ pub enum Fault {
     Misfit,
     /// The log leaves conflicts of the script unordered.
     Unordered,
-    /// A thread that was run again has not made all of its recording.
-    NotWhole,
     /// A run of any length has 1 to 16 threads and 1 to 65,535 objects.
     BadSize,
-    /// Sessions are as many as a run has, in order, and yet of two runs.
-    TwoRuns,
-    /// The handle has no record of this kind.
-    NoRecord,
-    /// The handle has no stream of this kind.
-    NoStream,
+    /// The handle has something else than what the call takes.
+    OtherKind,
     /// The record has no accesses that were noted.
     NoNotes,
     /// The record is not of a run that came just to the window.
@@ -102,36 +91,6 @@ impl From<FollowFault> for Fault {
     }
 }
 
-impl From<octet_host_script::CloseFault> for Fault {
-    ghost from_gives = { λ fault e. e ≡ script_close_fault fault };
-
-    fn from(fault: octet_host_script::CloseFault) -> Fault {
-        match fault {
-            octet_host_script::CloseFault::OutOfMemory => Fault::OutOfMemory,
-            octet_host_script::CloseFault::OtherSessions => Fault::OtherSessions,
-            octet_host_script::CloseFault::OutOfOrder => Fault::OutOfOrder,
-            octet_host_script::CloseFault::StillRunning => Fault::StillRunning,
-            octet_host_script::CloseFault::NotWhole => Fault::NotWhole,
-            octet_host_script::CloseFault::TooLong => Fault::TooLong,
-            octet_host_script::CloseFault::TwoRuns => Fault::TwoRuns,
-        }
-    }
-}
-
-impl From<CloseFault> for Fault {
-    ghost from_gives = { λ fault e. e ≡ close_fault fault };
-
-    fn from(fault: CloseFault) -> Fault {
-        match fault {
-            CloseFault::OutOfMemory => Fault::OutOfMemory,
-            CloseFault::OtherSessions => Fault::OtherSessions,
-            CloseFault::OutOfOrder => Fault::OutOfOrder,
-            CloseFault::StillRunning => Fault::StillRunning,
-            CloseFault::TwoRuns => Fault::TwoRuns,
-        }
-    }
-}
-
 impl From<WindowFault> for Fault {
     ghost from_gives = { λ fault e. e ≡ window_fault fault };
 
@@ -183,7 +142,7 @@ pub const OTHER_SESSIONS: i32 = -11;
 
 pub const OUT_OF_ORDER: i32 = -32;
 
-/// The handle has something, but no session.
+/// The handle has something else than what the call takes.
 pub const OTHER_KIND: i32 = -33;
 
 pub const STILL_RUNNING: i32 = -12;
@@ -249,20 +208,31 @@ impl Fault {
             Fault::OutOfMemory => NO_MEMORY,
             Fault::BadText => BAD_TEXT,
             Fault::OtherSessions => OTHER_SESSIONS,
-            Fault::OutOfOrder => OUT_OF_ORDER,
-            Fault::StillRunning => STILL_RUNNING,
             Fault::TooLong => TOO_LONG,
             Fault::BadLog => BAD_LOG,
             Fault::Misfit => MISFIT,
             Fault::Unordered => UNORDERED,
-            Fault::NotWhole => NOT_WHOLE,
             Fault::BadSize => BAD_SIZE,
-            Fault::TwoRuns => TWO_RUNS,
-            Fault::NoRecord => NO_RECORD,
-            Fault::NoStream => NO_STREAM,
+            Fault::OtherKind => OTHER_KIND,
             Fault::NoNotes => NO_NOTES,
             Fault::NotThere => NOT_THERE,
             Fault::OtherRun => OTHER_RUN,
         }
+    }
+}
+
+/// The status of a run that is not ended.
+pub(crate) fn close_status(fault: CloseFault) -> i32
+    ensures is { result ≡ close_status fault }
+    ensures fault { result ≢ READY }
+{
+    match fault {
+        CloseFault::OutOfMemory => NO_MEMORY,
+        CloseFault::OtherSessions => OTHER_SESSIONS,
+        CloseFault::OutOfOrder => OUT_OF_ORDER,
+        CloseFault::StillRunning => STILL_RUNNING,
+        CloseFault::NotWhole => NOT_WHOLE,
+        CloseFault::TooLong => TOO_LONG,
+        CloseFault::TwoRuns => TWO_RUNS,
     }
 }

@@ -11,7 +11,8 @@ use crate::handle::Handle;
 use crate::held::Held;
 use crate::long::is_size;
 use crate::status::{
-    BAD_MARKS, BAD_SIZE, NO_MEMORY, NO_NOTES, NO_ROOM, NO_STREAM, OTHER_RUN, OVER, PENDING, READY,
+    BAD_MARKS, BAD_SIZE, NO_MEMORY, NO_NOTES, NO_ROOM, NO_STREAM, OTHER_KIND, OTHER_RUN, OVER,
+    PENDING, READY,
 };
 use crate::window::Window;
 use octet_blocks::{FeedFault, GatherFault};
@@ -117,7 +118,7 @@ pub extern "C" fn octet_take(
             let status = match &mut *held {
                 Held::Outlet(outlet) => taken(outlet.take(alloc, out), length),
                 Held::Window(Window::Cut(cut)) => taken_of_cut(cut.take(alloc, out), length),
-                _ => NO_STREAM,
+                _ => OTHER_KIND,
             };
             stream.put(held);
             status
@@ -215,7 +216,7 @@ fn fed_to_window(alloc: Global, window: &mut Window, bytes: &[u8], taken: &mut u
     match window {
         Window::Search(search) => searched(alloc, search, bytes, taken),
         Window::Cut(cut) => fed_to_cut(alloc, cut, bytes, taken),
-        Window::Found(_) | Window::Made(_) => NO_STREAM,
+        Window::Found(_) | Window::Made(_) => OTHER_KIND,
     }
 }
 
@@ -227,7 +228,7 @@ fn found(alloc: Global, window: &mut Window, at: &mut u64) -> i32
 {
     let found = match window {
         Window::Search(search) => search.find(alloc),
-        _ => return NO_STREAM,
+        _ => return OTHER_KIND,
     };
     match found {
         Ok(found) => {
@@ -255,7 +256,7 @@ pub extern "C" fn octet_feed(
             let status = match &mut *held {
                 Held::Inlet(inlet) => fed(alloc, inlet, bytes, taken),
                 Held::Window(window) => fed_to_window(alloc, window, bytes, taken),
-                _ => NO_STREAM,
+                _ => OTHER_KIND,
             };
             stream.put(held);
             status
@@ -275,7 +276,7 @@ pub extern "C" fn octet_feed_end(alloc: Global, stream: &mut Handle, at: &mut u6
             let status = match &mut *held {
                 Held::Inlet(inlet) => fed_all(alloc, inlet, at),
                 Held::Window(window) => found(alloc, window, at),
-                _ => NO_STREAM,
+                _ => OTHER_KIND,
             };
             stream.put(held);
             status

@@ -5,7 +5,7 @@ ghost use Rattle.octet_c.specs.Turns.{IsScheduled, Schedules, RefusesToSchedule,
 
 use crate::handle::Handle;
 use crate::held::Held;
-use crate::status::{BAD_SIZE, NO_MEMORY, NO_SCHEDULE, NO_WAY, OVER, READY};
+use crate::status::{BAD_SIZE, NO_MEMORY, NO_SCHEDULE, NO_WAY, OTHER_KIND, OVER, READY};
 use octet_model::MAX_THREADS;
 use octet_schedule::{Changes, Draws, Schedule, marked};
 use std::alloc::Global;
@@ -86,7 +86,7 @@ pub extern "C" fn octet_pick(
         Some(mut held) => {
             let status = match &mut *held {
                 Held::Schedule(schedule) => picked(schedule, ready, thread),
-                _ => NO_SCHEDULE,
+                _ => OTHER_KIND,
             };
             turns.put(held);
             status

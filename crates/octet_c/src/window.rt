@@ -69,7 +69,7 @@ fn begun(alloc: Global, held: &mut Held) -> Result<Held, Fault>
 {
     match held {
         Held::Again(again) => search_of(alloc, again),
-        _ => Err(Fault::NoRecord),
+        _ => Err(Fault::OtherKind),
     }
 }
 
@@ -95,7 +95,7 @@ fn cut_of(alloc: Global, held: &Held) -> Result<Held, Fault>
     ensures good { IfOk result IsHeld }
 {
     let Held::Window(Window::Found(found)) = held else {
-        return Err(Fault::NoStream);
+        return Err(Fault::OtherKind);
     };
     match found.cutter(alloc) {
         Ok(cutter) => Ok(Held::Window(Window::Cut(CutStream::new(cutter)))),
@@ -143,10 +143,10 @@ fn window_by(alloc: Global, search: &Held, left: &Held) -> Result<Held, Fault>
     ensures good { IfOk result IsHeld }
 {
     let Held::Window(Window::Found(found)) = search else {
-        return Err(Fault::NoStream);
+        return Err(Fault::OtherKind);
     };
     let Held::Again(again) = left else {
-        return Err(Fault::NoRecord);
+        return Err(Fault::OtherKind);
     };
     window_of(alloc, found, again)
 }

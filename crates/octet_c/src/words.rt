@@ -41,8 +41,6 @@ fn change_of(number: u8, operand: u64, expected: u64) -> Option<Change>
 pub(crate) fn update_of(number: u8, object: u16, operand: u64, expected: u64) -> Option<Access>
     ensures { result ≡ update_named number object operand expected }
 {
-    match change_of(number, operand, expected) {
-        Some(change) => Some(Access::Update { object, change }),
-        None => None,
-    }
+    let change = change_of(number, operand, expected)?;
+    Some(Access::Update { object, change })
 }

@@ -1,5 +1,5 @@
 //! What a thread does, whether it is recorded or run again. What a session asks of its callers is tested.
-ghost use Rattle.std.specs.Prelude.{◌≡◌, ◌<◌, Err};
+ghost use Rattle.std.specs.Prelude.{◌≡◌, ◌<◌, Err, OnOk};
 ghost use Rattle.octet_session.specs.Asking.{object_of, MayAsk};
 ghost use Rattle.octet_host.specs.Calls.{Does, Goes, BeginsNext, IsNoRest, IsNotIdle, made_of, stage_asked, IsOfAsking, AsksOn, Accesses, GoesOn, Ends};
 ghost use Rattle.octet_host.specs.Stages.{StandsAt};
@@ -162,6 +162,7 @@ pub fn access<S: Session>(
     ensures own { S.IsThreadOf session.now thread.new }
     ensures stands { StandsAt (S.Runs thread.new) (S.Rests thread.new) (S.HasEnded session.now thread.new) (S.objects session.now) stage.new (S.standing session.now thread.new) }
     ensures accesses { Accesses (λ asked. S.IsReason session.now asked thread.old thread.new) objects wanted stage.old (S.standing session.now thread.old) result stage.new (S.standing session.now thread.new) }
+    ensures made { OnOk (made_of result) (S.HasMade session.now wanted thread.old thread.new) }
 {
     if let Err(misuse) = stage.idle() {
         return Answer::Refused { misuse };

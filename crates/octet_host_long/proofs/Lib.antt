@@ -1,4 +1,3 @@
 pub mod Beginning
 pub mod Making
 pub mod Passing
-pub mod Refusing

@@ -1,18 +1,17 @@
 //! What a recorded run of any length leaves, once all its threads are handed back.
-ghost use Rattle.std.specs.Prelude.{◌≡◌, ◌⊎◌, All, Any, length, IfOk, IfErr, IfSome, OnOk};
+ghost use Rattle.std.specs.Prelude.{◌≡◌, ◌⊎◌, All, Any, length, IfOk, IfErr, OnOk};
 ghost use Rattle.std.specs.Arc.{arc_value};
 ghost use Rattle.octet_heap.specs.Markers.{Rests};
 ghost use Rattle.octet_stream.specs.Runs.{EachRests};
 ghost use Rattle.octet_stream.specs.Tracks.{IsTrackOf};
-ghost use Rattle.octet_host.specs.HandedBack.{IsAtWork, AreAsOne};
-ghost use Rattle.octet_host_long.specs.declared.fault.CloseFault.TheVariants.{OutOfMemory as MemoryRefused, TwoRuns as OfTwoRuns};
+ghost use Rattle.octet_host.specs.declared.fault.CloseFault.TheVariants.{OutOfMemory as MemoryRefused, TwoRuns as OfTwoRuns};
+ghost use Rattle.octet_host.specs.HandedBack.{AreAsOne};
 ghost use Rattle.octet_host_long.specs.Closed.{IsClosedRecording};
-ghost use Rattle.octet_host_long.specs.HandedBack.{IsRecordedAt, IsRecordedAmong, IsRecordedAs, RefusesThread, RefusesToClose};
+ghost use Rattle.octet_host_long.specs.HandedBack.{IsRecordedAt, IsRecordedAmong, IsRecordedAs, RefusesRecorded};
 ghost use Rattle.octet_host_long.specs.Threads.{run_of, IsLongRecorded};
 
-use crate::fault::CloseFault;
 use crate::recorded::{LeftTrack, LongHeap, LongRecorded, Place};
-use octet_host::{Left, Stage, lay};
+use octet_host::{CloseFault, HandIn, Left, Stage, hand_in_all, lay};
 use octet_model::List;
 use octet_stream::{LongRun, Track};
 use std::alloc::Global;
@@ -30,61 +29,47 @@ impl LongHeap {
     }
 }
 
-// Lays a thread's track on the desk of its run, as thread `number` of so many. Gives what the threads share, where no
-// other one has it any more.
-fn hand_in(
-    alloc: Global,
-    recorded: LongRecorded,
-    number: usize,
-    threads: usize,
-) -> Result<Option<LongHeap>, CloseFault>
-    requires { IsLongRecorded recorded }
-    ensures still { OnOk result (IsAtWork recorded.stage → ⊥) }
-    ensures place { OnOk result (IsRecordedAs number threads recorded) }
-    ensures shared { IfOk result (λ last. IfSome last (λ heap. arc_value recorded.heap ≡ heap)) }
-    ensures refused { IfErr result (RefusesThread recorded.stage (IsRecordedAt number threads recorded) (IsRecordedAmong number threads recorded)) }
-{
-    let LongRecorded {
-        heap,
-        track,
-        stage,
-        ..
-    } = recorded;
-    let (Stage::Resting | Stage::Ended) = stage else {
-        return Err(CloseFault::StillRunning);
-    };
-    if heap.desk.len() != threads {
-        return Err(CloseFault::OtherSessions);
-    }
-    if track.thread() as usize != number {
-        return Err(CloseFault::OutOfOrder);
-    }
-    let left = Left::new(alloc, track)?;
-    heap.lay(number, left);
-    Ok(Arc::into_inner(heap))
-}
+impl HandIn for LongRecorded {
+    type Shared = LongHeap;
 
-// Lays all tracks down. Gives what the threads share, where all of it are here.
-fn hand_in_all(alloc: Global, threads: Vec<LongRecorded>) -> Result<LongHeap, CloseFault>
-    requires { All IsLongRecorded threads.items }
-    ensures as_one { OnOk result (AreAsOne IsRecordedAs threads.items) }
-    ensures still { OnOk result (All (λ it. IsAtWork it.stage → ⊥) threads.items) }
-    ensures shared { IfOk result (λ heap. Any (λ it. arc_value it.heap ≡ heap) threads.items) }
-    ensures refused { IfErr result (RefusesToClose (λ it. it.stage) IsRecordedAt IsRecordedAmong threads.items) }
-{
-    let count = threads.len();
-    if count == 0 {
-        return Err(CloseFault::OtherSessions);
-    }
-    let mut last = None;
-    let mut number = 0;
-    for recorded in threads {
-        last = hand_in(alloc, recorded, number, count)?;
-        number += 1;
-    }
-    match last {
-        Some(heap) => Ok(heap),
-        None => Err(CloseFault::TwoRuns),
+    ghost IsGood = { IsLongRecorded };
+
+    ghost stage = { λ it. it.stage };
+
+    ghost shared = { λ it. arc_value it.heap };
+
+    ghost IsAt = { IsRecordedAt };
+
+    ghost IsAmong = { IsRecordedAmong };
+
+    ghost IsNotWhole = { λ _. ⊥ };
+
+    ghost IsTooLong = { λ _. ⊥ };
+
+    fn hand_in(
+        self,
+        alloc: Global,
+        number: usize,
+        threads: usize,
+    ) -> Result<Option<LongHeap>, CloseFault> {
+        let LongRecorded {
+            heap,
+            track,
+            stage,
+            ..
+        } = self;
+        let (Stage::Resting | Stage::Ended) = stage else {
+            return Err(CloseFault::StillRunning);
+        };
+        if heap.desk.len() != threads {
+            return Err(CloseFault::OtherSessions);
+        }
+        if track.thread() as usize != number {
+            return Err(CloseFault::OutOfOrder);
+        }
+        let left = Left::new(alloc, track)?;
+        heap.lay(number, left);
+        Ok(Arc::into_inner(heap))
     }
 }
 
@@ -115,7 +100,7 @@ pub fn close_recorded(alloc: Global, threads: Vec<LongRecorded>) -> Result<List<
     requires { All IsLongRecorded threads.items }
     ensures as_one { OnOk result (AreAsOne IsRecordedAs threads.items) }
     ensures closed { IfOk result (λ values. Any (λ it. IsClosedRecording (run_of it) values) threads.items) }
-    ensures refused { IfErr result (RefusesToClose (λ it. it.stage) IsRecordedAt IsRecordedAmong threads.items) }
+    ensures refused { IfErr result (RefusesRecorded threads.items) }
 {
     let LongHeap { run, desk } = hand_in_all(alloc, threads)?;
     let tracks = tracks_on(alloc, &run, desk)?;

@@ -7,19 +7,18 @@ ghost use Rattle.octet_marks.specs.declared.piece.Head.{Head};
 ghost use Rattle.octet_follow.specs.Calls.{followers_in};
 ghost use Rattle.octet_stream.specs.Followers.{EachOf};
 ghost use Rattle.octet_tail.specs.Tails.{IsTail};
-ghost use Rattle.octet_host.specs.HandedBack.{IsAtWork, AreAsOne};
-ghost use Rattle.octet_host_long.specs.declared.fault.CloseFault.TheVariants.{OutOfMemory as MemoryRefused, TwoRuns as OfTwoRuns};
+ghost use Rattle.octet_host.specs.declared.fault.CloseFault.TheVariants.{OutOfMemory as MemoryRefused, TwoRuns as OfTwoRuns};
+ghost use Rattle.octet_host.specs.HandedBack.{AreAsOne};
 ghost use Rattle.octet_host_long.specs.Closed.{HaveMade, IsClosedAgain};
-ghost use Rattle.octet_host_long.specs.HandedBack.{IsRepeatedAt, IsRepeatedAmong, IsRepeatedAs, RefusesThread, RefusesToClose};
+ghost use Rattle.octet_host_long.specs.HandedBack.{IsRepeatedAt, IsRepeatedAmong, IsRepeatedAs, RefusesRepeated};
 ghost use Rattle.octet_host_long.specs.Opened.{head_with, IsSeatAgain, IsInlet, Follows};
 ghost use Rattle.octet_host_long.specs.Tailed.{HasRoom, IsTailedOf};
 ghost use Rattle.octet_host_long.specs.Threads.{course_of, IsLongRepeated};
 
-use crate::fault::CloseFault;
 use crate::inlet::Inlet;
 use crate::opening::ROOM;
 use crate::repeated::{Follower, LeftFollower, LongCourse, LongRepeated, Place};
-use octet_host::{Left, Stage, lay, places};
+use octet_host::{CloseFault, HandIn, Left, Stage, hand_in_all, lay, places};
 use octet_log::digest;
 use octet_marks::Head;
 use octet_model::{List, OutOfMemory};
@@ -177,61 +176,47 @@ impl LongCourse {
     }
 }
 
-// Lays a thread's follower on the desk of its run, as thread `number` of so many. Gives what the threads share, where no
-// other one has it any more.
-fn hand_in(
-    alloc: Global,
-    repeated: LongRepeated,
-    number: usize,
-    threads: usize,
-) -> Result<Option<LongCourse>, CloseFault>
-    requires { IsLongRepeated repeated }
-    ensures still { OnOk result (IsAtWork repeated.stage → ⊥) }
-    ensures place { OnOk result (IsRepeatedAs number threads repeated) }
-    ensures shared { IfOk result (λ last. IfSome last (λ course. arc_value repeated.course ≡ course)) }
-    ensures refused { IfErr result (RefusesThread repeated.stage (IsRepeatedAt number threads repeated) (IsRepeatedAmong number threads repeated)) }
-{
-    let LongRepeated {
-        course,
-        thread,
-        stage,
-        ..
-    } = repeated;
-    let (Stage::Resting | Stage::Ended) = stage else {
-        return Err(CloseFault::StillRunning);
-    };
-    if course.desk.len() != threads {
-        return Err(CloseFault::OtherSessions);
-    }
-    if thread.thread.thread() as usize != number {
-        return Err(CloseFault::OutOfOrder);
-    }
-    let left = Left::new(alloc, thread)?;
-    course.lay(number, left);
-    Ok(Arc::into_inner(course))
-}
+impl HandIn for LongRepeated {
+    type Shared = LongCourse;
 
-// Lays all followers down. Gives what the threads share, where all of it are here.
-fn hand_in_all(alloc: Global, threads: Vec<LongRepeated>) -> Result<LongCourse, CloseFault>
-    requires { All IsLongRepeated threads.items }
-    ensures as_one { OnOk result (AreAsOne IsRepeatedAs threads.items) }
-    ensures still { OnOk result (All (λ it. IsAtWork it.stage → ⊥) threads.items) }
-    ensures shared { IfOk result (λ course. Any (λ it. arc_value it.course ≡ course) threads.items) }
-    ensures refused { IfErr result (RefusesToClose (λ it. it.stage) IsRepeatedAt IsRepeatedAmong threads.items) }
-{
-    let count = threads.len();
-    if count == 0 {
-        return Err(CloseFault::OtherSessions);
-    }
-    let mut last = None;
-    let mut number = 0;
-    for repeated in threads {
-        last = hand_in(alloc, repeated, number, count)?;
-        number += 1;
-    }
-    match last {
-        Some(course) => Ok(course),
-        None => Err(CloseFault::TwoRuns),
+    ghost IsGood = { IsLongRepeated };
+
+    ghost stage = { λ it. it.stage };
+
+    ghost shared = { λ it. arc_value it.course };
+
+    ghost IsAt = { IsRepeatedAt };
+
+    ghost IsAmong = { IsRepeatedAmong };
+
+    ghost IsNotWhole = { λ _. ⊥ };
+
+    ghost IsTooLong = { λ _. ⊥ };
+
+    fn hand_in(
+        self,
+        alloc: Global,
+        number: usize,
+        threads: usize,
+    ) -> Result<Option<LongCourse>, CloseFault> {
+        let LongRepeated {
+            course,
+            thread,
+            stage,
+            ..
+        } = self;
+        let (Stage::Resting | Stage::Ended) = stage else {
+            return Err(CloseFault::StillRunning);
+        };
+        if course.desk.len() != threads {
+            return Err(CloseFault::OtherSessions);
+        }
+        if thread.thread.thread() as usize != number {
+            return Err(CloseFault::OutOfOrder);
+        }
+        let left = Left::new(alloc, thread)?;
+        course.lay(number, left);
+        Ok(Arc::into_inner(course))
     }
 }
 
@@ -291,7 +276,7 @@ pub fn close_repeated(alloc: Global, threads: Vec<LongRepeated>) -> Result<Close
     requires { All IsLongRepeated threads.items }
     ensures as_one { OnOk result (AreAsOne IsRepeatedAs threads.items) }
     ensures closed { IfOk result (λ again. Any (λ it. IsClosedAgain (course_of it) again) threads.items) }
-    ensures refused { IfErr result (RefusesToClose (λ it. it.stage) IsRepeatedAt IsRepeatedAmong threads.items) }
+    ensures refused { IfErr result (RefusesRepeated threads.items) }
 {
     let LongCourse { rerun, last, desk } = hand_in_all(alloc, threads)?;
     let Tailed { session } = rerun;

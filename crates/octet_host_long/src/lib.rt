@@ -4,7 +4,6 @@
 
 mod closing;
 mod cut_stream;
-mod fault;
 mod following;
 mod inlet;
 mod opening;
@@ -14,7 +13,6 @@ mod repeated;
 
 pub use closing::close_recorded;
 pub use cut_stream::CutStream;
-pub use fault::CloseFault;
 pub use following::{ClosedAgain, close_repeated, follow, head_of};
 pub use inlet::Inlet;
 pub use opening::{ROOM, open};

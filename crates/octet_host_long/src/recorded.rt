@@ -1,5 +1,5 @@
 //! A thread of a run of any length that is recorded.
-ghost use Rattle.std.specs.Prelude.{◌≡◌, All, length};
+ghost use Rattle.std.specs.Prelude.{◌≡◌, All, length, OnOk};
 ghost use Rattle.octet_heap.specs.Markers.{Rests};
 ghost use Rattle.octet_heap.specs.Models.{heap_model};
 ghost use Rattle.octet_stream.specs.Tracks.{IsTrackOf};
@@ -52,9 +52,9 @@ pub struct LongRecorded {
 }
 
 impl LongRecorded {
-    ghost use Rattle.octet_host.specs.Calls.{Does, Goes, BeginsNext, IsNoRest, IsNotIdle, Accesses, GoesOn, Ends};
+    ghost use Rattle.octet_host.specs.Calls.{Does, Goes, BeginsNext, IsNoRest, IsNotIdle, made_of, Accesses, GoesOn, Ends};
     ghost use Rattle.octet_host.specs.declared.stage.Stage.TheVariants as at;
-    ghost use Rattle.octet_stream.specs.Accesses.{TrackHasEnded, IsTrackReason};
+    ghost use Rattle.octet_stream.specs.Accesses.{TrackHasEnded, AnswersAndMakes, IsTrackReason};
     ghost use Rattle.octet_host_long.specs.Threads.{IsLongRecorded, OnTrack, Glances};
 
     /// Marks the thread as running.
@@ -101,6 +101,7 @@ impl LongRecorded {
         requires { IsLongRecorded self.old }
         ensures good { IsLongRecorded self.new }
         ensures does { OnTrack (λ s v t w. Accesses (λ asked. IsTrackReason asked self.old.track self.new.track) self.old.objects wanted s v result t w) self.old self.new }
+        ensures made { OnOk (made_of result) (AnswersAndMakes wanted self.old.track self.new.track) }
     {
         calls::access(
             &self.heap.run,

@@ -3,8 +3,8 @@ use Rattle.std.proofs.Common.{◌≡◌, List, Result, Ok, Err, sym, subst}
 use Rattle.std.specs.Prelude.{Any, IfOk, IfErr}
 use Rattle.octet_recorder.specs.declared.recording.Recording.{Recording}
 use Rattle.octet_host.proofs.lemmas.Taking.{any_more}
-use Rattle.octet_host_script.specs.declared.fault.CloseFault.{CloseFault}
-use Rattle.octet_host_script.specs.declared.fault.CloseFault.TheVariants.{OutOfMemory, OtherSessions, OutOfOrder, StillRunning, NotWhole, TooLong, TwoRuns}
+use Rattle.octet_host.specs.declared.fault.CloseFault.{CloseFault}
+use Rattle.octet_host.specs.declared.fault.CloseFault.TheVariants.{OutOfMemory, OtherSessions, OutOfOrder, StillRunning, NotWhole, TooLong, TwoRuns}
 use Rattle.octet_host_script.specs.declared.kept.Kept.{Kept}
 use Rattle.octet_host_script.specs.declared.recorded.Heap.{Heap}
 use Rattle.octet_host_script.specs.declared.recorded.Recorded.{Recorded}

@@ -1,4 +1,3 @@
 pub mod First
 pub mod Refused
-pub mod Refusing
 pub mod Keeping

@@ -1,5 +1,5 @@
 -- Why a run that is kept as a script is not ended.
-use Rattle.std.specs.Prelude.{◌≡◌, ℕ, ◌<◌, All, Any, List, None}
+use Rattle.std.specs.Prelude.{◌≡◌, ℕ, ◌<◌, List, None}
 use Rattle.octet_log.specs.declared.limits.TheConstants.{MAX_MARKS}
 use Rattle.octet_log.specs.v2.Pieces.{marks_in}
 use Rattle.octet_parallel.specs.Calls.{players_in}
@@ -9,10 +9,9 @@ use Rattle.octet_recorder.specs.Tracks.{number_of, threads_in}
 use Rattle.octet_rerun.specs.declared.follower.Follower.{Follower}
 use Rattle.octet_rerun.specs.declared.halt.Halt.{Halt}
 use Rattle.octet_rerun.specs.Reruns.{MakesMarks, Halts}
-use Rattle.octet_host.specs.declared.stage.Stage.{Stage}
-use Rattle.octet_host.specs.HandedBack.{IsAtWork, Both, AreAsOne}
-use Rattle.octet_host_script.specs.declared.fault.CloseFault.{CloseFault}
-use Rattle.octet_host_script.specs.declared.fault.CloseFault.TheVariants.{OutOfMemory, OtherSessions, OutOfOrder, StillRunning, NotWhole, TooLong, TwoRuns}
+use Rattle.octet_host.specs.declared.fault.CloseFault.{CloseFault}
+use Rattle.octet_host.specs.declared.fault.CloseFault.TheVariants.{OutOfMemory, TooLong}
+use Rattle.octet_host.specs.HandedBack.{Both, RefusesToClose}
 use Rattle.octet_host_script.specs.declared.recorded.Recorded.{Recorded}
 use Rattle.octet_host_script.specs.declared.repeated.Repeated.{Repeated}
 use Rattle.octet_host_script.specs.Records.{IsRecordedBy}
@@ -59,32 +58,11 @@ pub record RecordsTooMany (recorder : Recorder) : Type 0 where
   pub recorded : IsRecordedBy recorder recording
   pub too_many : HasTooMany recording
 
--- why one thread is not taken back: its run has more threads or fewer, or it is not that of its place, or it runs, or is not whole
-abbrev pub RefusesThread : Stage → Type 0 → Type 0 → Type 0 → CloseFault → Type 0
-RefusesThread stage IsAt IsAmong IsNotWhole OutOfMemory = Unit {0}
-RefusesThread stage IsAt IsAmong IsNotWhole OtherSessions = IsAmong → ⊥
-RefusesThread stage IsAt IsAmong IsNotWhole OutOfOrder = IsAt → ⊥
-RefusesThread stage IsAt IsAmong IsNotWhole StillRunning = IsAtWork stage
-RefusesThread stage IsAt IsAmong IsNotWhole NotWhole = IsNotWhole
-RefusesThread stage IsAt IsAmong IsNotWhole _ = ⊥
-
 -- why a recording is not kept
 abbrev pub RefusesToKeep : Recording → CloseFault → Type 0
 RefusesToKeep recording OutOfMemory = Unit {0}
 RefusesToKeep recording TooLong = HasTooMany recording
 RefusesToKeep recording _ = ⊥
-
--- why the run of threads is not ended: they are not as many as it has, or one is not in the place of its number, or runs, or has not
--- made all of its recording, or the recording is too long; or they are as those of one run, and all are still, and yet one of that
--- run is missing
-abbrev pub RefusesToClose : {X : Type 0} → (X → Stage) → (ℕ → ℕ → X → Type 0) → (ℕ → ℕ → X → Type 0) → (X → Type 0) → (X → Type 0) → List X → CloseFault → Type 0
-RefusesToClose stage At Among IsNotWhole IsTooLong threads OutOfMemory = Unit {0}
-RefusesToClose stage At Among IsNotWhole IsTooLong threads OtherSessions = AreAsOne Among threads → ⊥
-RefusesToClose stage At Among IsNotWhole IsTooLong threads OutOfOrder = AreAsOne At threads → ⊥
-RefusesToClose stage At Among IsNotWhole IsTooLong threads StillRunning = Any (λ it. IsAtWork (stage it)) threads
-RefusesToClose stage At Among IsNotWhole IsTooLong threads NotWhole = Any IsNotWhole threads
-RefusesToClose stage At Among IsNotWhole IsTooLong threads TooLong = Any IsTooLong threads
-RefusesToClose stage At Among IsNotWhole IsTooLong threads TwoRuns = AreAsOne (Both At Among) threads × All (λ it. IsAtWork (stage it) → ⊥) threads
 
 -- why the run of recorded threads is not ended
 abbrev pub RefusesRecorded : List Recorded → CloseFault → Type 0

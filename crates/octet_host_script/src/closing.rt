@@ -1,20 +1,19 @@
 //! What a recorded run leaves, once all its threads are handed back.
-ghost use Rattle.std.specs.Prelude.{◌≡◌, ◌<◌, ◌≤◌, ◌⊎◌, All, Any, length, true, false, IfOk, IfErr, IfSome, OnOk};
+ghost use Rattle.std.specs.Prelude.{◌≡◌, ◌<◌, ◌≤◌, ◌⊎◌, All, Any, length, true, false, IfOk, IfErr, OnOk};
 ghost use Rattle.std.specs.Arc.{arc_value};
 ghost use Rattle.octet_model.specs.Orders.{IsFaithful};
 ghost use Rattle.octet_log.specs.v2.Pieces.{marks_in};
 ghost use Rattle.octet_recorder.specs.Tracks.{EachRests, IsTrackOf};
-ghost use Rattle.octet_host.specs.HandedBack.{IsAtWork, AreAsOne};
+ghost use Rattle.octet_host.specs.declared.fault.CloseFault.TheVariants.{OutOfMemory as MemoryRefused, TwoRuns as OfTwoRuns};
+ghost use Rattle.octet_host.specs.HandedBack.{AreAsOne};
 ghost use Rattle.octet_session.specs.Recording.{TrackRests};
-ghost use Rattle.octet_host_script.specs.declared.fault.CloseFault.TheVariants.{OutOfMemory as MemoryRefused, TwoRuns as OfTwoRuns};
-ghost use Rattle.octet_host_script.specs.HandedBack.{IsRecordedAt, IsRecordedAmong, IsRecordedAs, RefusesThread, RefusesToKeep, RefusesRecorded};
+ghost use Rattle.octet_host_script.specs.HandedBack.{IsRecordedAt, IsRecordedAmong, IsRecordedAs, RecordsTooMany, RefusesToKeep, RefusesRecorded};
 ghost use Rattle.octet_host_script.specs.Records.{Keeps, KeepsRecording};
 ghost use Rattle.octet_host_script.specs.Threads.{recorder_of, IsRecorded};
 
-use crate::fault::CloseFault;
 use crate::kept::Kept;
 use crate::recorded::{Heap, LeftTrack, Place, Recorded};
-use octet_host::{Left, Stage, lay};
+use octet_host::{CloseFault, HandIn, Left, Stage, hand_in_all, lay};
 use octet_log::{MAX_MARKS, digest, encode_v2};
 use octet_model::{List, Outcome, ThreadLog};
 use octet_recorder::{Recorder, Recording, Track};
@@ -34,61 +33,47 @@ impl Heap {
     }
 }
 
-// Lays a thread's track on the desk of its heap, as thread `number` of so many. Gives what the threads share, where no
-// other one has it any more.
-fn hand_in(
-    alloc: Global,
-    recorded: Recorded,
-    number: usize,
-    threads: usize,
-) -> Result<Option<Heap>, CloseFault>
-    requires { IsRecorded recorded }
-    ensures still { OnOk result (IsAtWork recorded.stage → ⊥) }
-    ensures place { OnOk result (IsRecordedAs number threads recorded) }
-    ensures shared { IfOk result (λ last. IfSome last (λ heap. arc_value recorded.heap ≡ heap)) }
-    ensures refused { IfErr result (RefusesThread recorded.stage (IsRecordedAt number threads recorded) (IsRecordedAmong number threads recorded) ⊥) }
-{
-    let Recorded {
-        heap,
-        track,
-        stage,
-        ..
-    } = recorded;
-    let (Stage::Resting | Stage::Ended) = stage else {
-        return Err(CloseFault::StillRunning);
-    };
-    if heap.desk.len() != threads {
-        return Err(CloseFault::OtherSessions);
-    }
-    if track.thread() as usize != number {
-        return Err(CloseFault::OutOfOrder);
-    }
-    let left = Left::new(alloc, track)?;
-    heap.lay(number, left);
-    Ok(Arc::into_inner(heap))
-}
+impl HandIn for Recorded {
+    type Shared = Heap;
 
-// Lays all tracks down. Gives what the threads share, where all of it are here.
-fn hand_in_all(alloc: Global, threads: Vec<Recorded>) -> Result<Heap, CloseFault>
-    requires { All IsRecorded threads.items }
-    ensures as_one { OnOk result (AreAsOne IsRecordedAs threads.items) }
-    ensures still { OnOk result (All (λ it. IsAtWork it.stage → ⊥) threads.items) }
-    ensures shared { IfOk result (λ heap. Any (λ it. arc_value it.heap ≡ heap) threads.items) }
-    ensures refused { IfErr result (RefusesRecorded threads.items) }
-{
-    let count = threads.len();
-    if count == 0 {
-        return Err(CloseFault::OtherSessions);
-    }
-    let mut last = None;
-    let mut number = 0;
-    for recorded in threads {
-        last = hand_in(alloc, recorded, number, count)?;
-        number += 1;
-    }
-    match last {
-        Some(heap) => Ok(heap),
-        None => Err(CloseFault::TwoRuns),
+    ghost IsGood = { IsRecorded };
+
+    ghost stage = { λ it. it.stage };
+
+    ghost shared = { λ it. arc_value it.heap };
+
+    ghost IsAt = { IsRecordedAt };
+
+    ghost IsAmong = { IsRecordedAmong };
+
+    ghost IsNotWhole = { λ _. ⊥ };
+
+    ghost IsTooLong = { λ it. RecordsTooMany (recorder_of it) };
+
+    fn hand_in(
+        self,
+        alloc: Global,
+        number: usize,
+        threads: usize,
+    ) -> Result<Option<Heap>, CloseFault> {
+        let Recorded {
+            heap,
+            track,
+            stage,
+            ..
+        } = self;
+        let (Stage::Resting | Stage::Ended) = stage else {
+            return Err(CloseFault::StillRunning);
+        };
+        if heap.desk.len() != threads {
+            return Err(CloseFault::OtherSessions);
+        }
+        if track.thread() as usize != number {
+            return Err(CloseFault::OutOfOrder);
+        }
+        let left = Left::new(alloc, track)?;
+        heap.lay(number, left);
+        Ok(Arc::into_inner(heap))
     }
 }
 

@@ -1,9 +1,8 @@
-//! Why no threads are opened, or no record is made.
+//! Why no threads are opened.
 ghost use Rattle.std.specs.Prelude.{◌≡◌};
 ghost use Rattle.octet_host_script.specs.Faults.{declared_fault, text_fault, log_fault, rerun_fault};
 ghost use Rattle.octet_host_script.specs.declared.fault.OpenFault.TheVariants as opening;
 ghost use Rattle.octet_host_script.specs.declared.fault.FollowFault.TheVariants as following;
-ghost use Rattle.octet_host_script.specs.declared.fault.CloseFault.TheVariants as closing;
 
 use octet_log::LogFault;
 use octet_model::OutOfMemory;
@@ -33,24 +32,6 @@ pub enum FollowFault {
     Misfit,
     /// The log leaves conflicts of the script unordered.
     Unordered,
-}
-
-/// Why a run is not ended.
-#[derive(Clone, Copy, Debug, PartialEq, Eq)]
-pub enum CloseFault {
-    OutOfMemory,
-    /// They are not as many as the run has.
-    OtherSessions,
-    /// A thread is not in the place of its number.
-    OutOfOrder,
-    /// A thread runs.
-    StillRunning,
-    /// A thread that was run again has not made all of its recording.
-    NotWhole,
-    /// The log is too long for its format.
-    TooLong,
-    /// They are as many as a run has, in order, and yet of two runs.
-    TwoRuns,
 }
 
 impl From<OutOfMemory> for OpenFault {
@@ -111,13 +92,5 @@ impl From<RerunFault> for FollowFault {
             RerunFault::Replay(_) => FollowFault::Misfit,
             RerunFault::Unordered { .. } => FollowFault::Unordered,
         }
-    }
-}
-
-impl From<OutOfMemory> for CloseFault {
-    ghost from_gives = { λ _ e. e ≡ closing.OutOfMemory };
-
-    fn from(_: OutOfMemory) -> CloseFault {
-        CloseFault::OutOfMemory
     }
 }

@@ -1,23 +1,23 @@
 //! A recording, from its bytes to the end of a run by it.
-ghost use Rattle.std.specs.Prelude.{◌≡◌, ◌↔◌, ◌⊎◌, [], All, Any, length, true, IfOk, IfErr, IfSome, OnOk};
+ghost use Rattle.std.specs.Prelude.{◌≡◌, ◌↔◌, ◌⊎◌, [], All, Any, length, true, IfOk, IfErr, OnOk};
 ghost use Rattle.std.specs.Arc.{arc_value};
 ghost use Rattle.std.specs.Option.{option_map};
 ghost use Rattle.octet_parallel.specs.Calls.{script_in, log_in, players_in};
 ghost use Rattle.octet_rerun.specs.Reruns.{made_by, recorded_of, IsFollowerOf, EachAtStart, EachAtEnd};
-ghost use Rattle.octet_host.specs.HandedBack.{IsAtWork, AreAsOne};
-ghost use Rattle.octet_host_script.specs.declared.fault.CloseFault.TheVariants.{OutOfMemory as MemoryRefused, TwoRuns as OfTwoRuns};
-ghost use Rattle.octet_host_script.specs.HandedBack.{IsRepeatedAt, IsRepeatedAmong, IsRepeatedAs, LeavesSome, RefusesThread, RefusesRepeated};
+ghost use Rattle.octet_host.specs.declared.fault.CloseFault.TheVariants.{OutOfMemory as MemoryRefused, TwoRuns as OfTwoRuns};
+ghost use Rattle.octet_host.specs.HandedBack.{AreAsOne};
+ghost use Rattle.octet_host_script.specs.HandedBack.{IsRepeatedAt, IsRepeatedAmong, IsRepeatedAs, LeavesSome, RefusesRepeated};
 ghost use Rattle.octet_host_script.specs.Opened.{EachFirstAgain, Follows, IsFirstAgain};
 ghost use Rattle.octet_host_script.specs.Records.{RepeatsRecording};
 ghost use Rattle.octet_host_script.specs.Refusals.{RefusesToFollow};
 ghost use Rattle.octet_host_script.specs.Spelled.{IsOf, IsSpelled};
 ghost use Rattle.octet_host_script.specs.Threads.{course_of, IsRepeated};
 
-use crate::fault::{CloseFault, FollowFault};
+use crate::fault::FollowFault;
 use crate::kept::Kept;
 use crate::opening::objects_of;
 use crate::repeated::{Course, LeftFollower, Place, Repeated};
-use octet_host::{Left, Stage, lay, places};
+use octet_host::{CloseFault, HandIn, Left, Stage, hand_in_all, lay, places};
 use octet_log::{Digest, Loaded, decode, digest};
 use octet_model::{List, Log, MAX_LOG_FILE, MAX_SCRIPT_FILE, OutOfMemory, Outcome, Script};
 use octet_rerun::{Follower, Rerun};
@@ -152,65 +152,51 @@ impl Course {
     }
 }
 
-// Lays a thread's follower on the desk of its run, as thread `number` of so many. Gives what the threads share, where no
-// other one has it any more.
-fn hand_in(
-    alloc: Global,
-    repeated: Repeated,
-    number: usize,
-    threads: usize,
-) -> Result<Option<Course>, CloseFault>
-    requires { IsRepeated repeated }
-    ensures still { OnOk result (IsAtWork repeated.stage → ⊥) }
-    ensures place { OnOk result (IsRepeatedAs number threads repeated) }
-    ensures shared { IfOk result (λ last. IfSome last (λ course. arc_value repeated.course ≡ course)) }
-    ensures refused { IfErr result (RefusesThread repeated.stage (IsRepeatedAt number threads repeated) (IsRepeatedAmong number threads repeated) (LeavesSome repeated)) }
-{
-    let Repeated {
-        course,
-        thread,
-        stage,
-        ..
-    } = repeated;
-    let (Stage::Resting | Stage::Ended) = stage else {
-        return Err(CloseFault::StillRunning);
-    };
-    let mut follower = thread.into_follower();
-    if course.desk.len() != threads {
-        return Err(CloseFault::OtherSessions);
-    }
-    if follower.thread() as usize != number {
-        return Err(CloseFault::OutOfOrder);
-    }
-    if let Err(_halt) = course.rerun.finish(&mut follower) {
-        return Err(CloseFault::NotWhole);
-    }
-    let left = Left::new(alloc, follower)?;
-    course.lay(number, left);
-    Ok(Arc::into_inner(course))
-}
+impl HandIn for Repeated {
+    type Shared = Course;
 
-// Lays all followers down. Gives what the threads share, where all of it are here.
-fn hand_in_all(alloc: Global, threads: Vec<Repeated>) -> Result<Course, CloseFault>
-    requires { All IsRepeated threads.items }
-    ensures as_one { OnOk result (AreAsOne IsRepeatedAs threads.items) }
-    ensures still { OnOk result (All (λ it. IsAtWork it.stage → ⊥) threads.items) }
-    ensures shared { IfOk result (λ course. Any (λ it. arc_value it.course ≡ course) threads.items) }
-    ensures refused { IfErr result (RefusesRepeated threads.items) }
-{
-    let count = threads.len();
-    if count == 0 {
-        return Err(CloseFault::OtherSessions);
-    }
-    let mut last = None;
-    let mut number = 0;
-    for repeated in threads {
-        last = hand_in(alloc, repeated, number, count)?;
-        number += 1;
-    }
-    match last {
-        Some(course) => Ok(course),
-        None => Err(CloseFault::TwoRuns),
+    ghost IsGood = { IsRepeated };
+
+    ghost stage = { λ it. it.stage };
+
+    ghost shared = { λ it. arc_value it.course };
+
+    ghost IsAt = { IsRepeatedAt };
+
+    ghost IsAmong = { IsRepeatedAmong };
+
+    ghost IsNotWhole = { LeavesSome };
+
+    ghost IsTooLong = { λ _. ⊥ };
+
+    fn hand_in(
+        self,
+        alloc: Global,
+        number: usize,
+        threads: usize,
+    ) -> Result<Option<Course>, CloseFault> {
+        let Repeated {
+            course,
+            thread,
+            stage,
+            ..
+        } = self;
+        let (Stage::Resting | Stage::Ended) = stage else {
+            return Err(CloseFault::StillRunning);
+        };
+        let mut follower = thread.into_follower();
+        if course.desk.len() != threads {
+            return Err(CloseFault::OtherSessions);
+        }
+        if follower.thread() as usize != number {
+            return Err(CloseFault::OutOfOrder);
+        }
+        if let Err(_halt) = course.rerun.finish(&mut follower) {
+            return Err(CloseFault::NotWhole);
+        }
+        let left = Left::new(alloc, follower)?;
+        course.lay(number, left);
+        Ok(Arc::into_inner(course))
     }
 }
 

@@ -11,7 +11,7 @@ mod recorded;
 mod repeated;
 
 pub use closing::close_recorded;
-pub use fault::{CloseFault, FollowFault, OpenFault};
+pub use fault::{FollowFault, OpenFault};
 pub use following::{close_repeated, follow};
 pub use kept::Kept;
 pub use opening::open;

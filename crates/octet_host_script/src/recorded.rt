@@ -1,5 +1,5 @@
 //! A thread that is recorded.
-ghost use Rattle.std.specs.Prelude.{◌≡◌, All, length};
+ghost use Rattle.std.specs.Prelude.{◌≡◌, All, length, OnOk};
 ghost use Rattle.octet_recorder.specs.Tracks.{threads_in, IsTrackOf};
 ghost use Rattle.octet_session.specs.Recording.{TrackRests};
 
@@ -52,9 +52,9 @@ pub struct Recorded {
 }
 
 impl Recorded {
-    ghost use Rattle.octet_host.specs.Calls.{Does, Goes, BeginsNext, IsNoRest, IsNotIdle, Accesses, GoesOn};
+    ghost use Rattle.octet_host.specs.Calls.{Does, Goes, BeginsNext, IsNoRest, IsNotIdle, made_of, Accesses, GoesOn};
     ghost use Rattle.octet_host.specs.declared.stage.Stage.TheVariants as at;
-    ghost use Rattle.octet_session.specs.Recording.{IsTrackReason};
+    ghost use Rattle.octet_session.specs.Recording.{AnswersAndMakes, IsTrackReason};
     ghost use Rattle.octet_host_script.specs.Threads.{IsRecorded, OnTrack, Glances};
 
     /// Marks the thread as running.
@@ -101,6 +101,7 @@ impl Recorded {
         requires { IsRecorded self.old }
         ensures good { IsRecorded self.new }
         ensures does { OnTrack (λ s v t w. Accesses (λ asked. IsTrackReason asked self.old.track self.new.track) self.old.objects wanted s v result t w) self.old self.new }
+        ensures made { OnOk (made_of result) (AnswersAndMakes wanted self.old.track self.new.track) }
     {
         calls::access(
             &self.heap.recorder,

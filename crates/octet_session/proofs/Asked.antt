@@ -1,11 +1,12 @@
 -- What a recorder notes, in the words of a session.
-use Rattle.std.proofs.Common.{◌≡◌, ◌∙◌, ℕ, ◌+◌, ◌-◌, ◌≤◌, Bool, true, false, List, [], ◌++◌, length, map, Some, Result, Ok, Err, IfErr, refl, ap, lit≤, arith, length-append, append-nil}
+use Rattle.std.proofs.Common.{◌≡◌, ◌∙◌, ℕ, ◌+◌, ◌-◌, ◌≤◌, Bool, true, false, List, [], ◌++◌, length, map, Some, Result, Ok, Err, IfErr, OnOk, refl, ap, lit≤, arith, length-append, append-nil}
 use Rattle.std.specs.declared.convert.Infallible.{Infallible}
 use Rattle.octet_model.specs.declared.command.Command.{Command}
 use Rattle.octet_model.specs.declared.event.Event.{Event}
 use Rattle.octet_model.specs.declared.event.Event.TheVariants as event
 use Rattle.octet_state.specs.declared.act.Mode.TheVariants as mode
 use Rattle.octet_rule.specs.declared.change.Change.{Change}
+use Rattle.octet_rule.specs.Changes.{changed_by}
 use Rattle.octet_heap.specs.declared.poll.Poll.{Poll}
 use Rattle.octet_heap.specs.declared.poll.Poll.TheVariants.{Ready, Pending}
 use Rattle.octet_heap.specs.declared.updated.Updated.{Updated}
@@ -23,7 +24,7 @@ use Rattle.octet_recorder.specs.Tracks.{lines_in, lines_noted, number_of, lines_
 use Rattle.octet_session.specs.declared.not_made.NotMade.{NotMade}
 use Rattle.octet_session.specs.declared.not_made.NotMade.TheVariants.{Waits, NoRoom, Left}
 use Rattle.octet_session.specs.Asking.{lines_of_region, Takes, Asks}
-use Rattle.octet_session.specs.Recording.{poll_answer, update_answer, track_standing, IsPending, AnswersFirst, IsTrackReason}
+use Rattle.octet_session.specs.Recording.{poll_answer, update_answer, track_standing, IsPending, IsMade, AnswersFirst, AnswersAndMakes, IsTrackReason}
 
 -- a poll that is pending is the reason of an access that waits
 pub poll_is_reason : (wanted : Access) (before after : Track) (answer : Poll) → NotesPoll wanted before answer after → IfErr (poll_answer answer) (IsPending wanted before after)
@@ -35,6 +36,17 @@ pub update_is_reason : (object : ℕ) (change : Change) (before after : Track) (
     → IfErr (update_answer answer) (IsPending (Update object change) before after)
 update_is_reason object change before after (updated.Made found) notes = tt
 update_is_reason object change before after (updated.Pending why) notes = (why, (updated.Pending why, refl, notes))
+
+-- a poll that is ready has made the access
+pub poll_is_made : (wanted : Access) (before after : Track) (answer : Poll) → NotesPoll wanted before answer after → OnOk (poll_answer answer) (IsMade wanted before after)
+poll_is_made wanted before after (Ready value) notes = (value, notes)
+poll_is_made wanted before after (Pending why) notes = tt
+
+-- and an update that is made
+pub update_is_made : (object : ℕ) (change : Change) (before after : Track) (answer : Updated) → NotesUpdate object change before answer after
+    → OnOk (update_answer answer) (IsMade (Update object change) before after)
+update_is_made object change before after (updated.Made found) notes = (changed_by change found, (updated.Made found, refl, notes))
+update_is_made object change before after (updated.Pending why) notes = tt
 
 -- a region takes one line at most
 few_of_region : (region : Bool) → lines_of_region region ≤ 1
@@ -131,3 +143,9 @@ first_is_reason wanted before between after (Ok value) answers pending = tt
 first_is_reason wanted before between after (Err Waits) answers pending = (between, answers, pending)
 first_is_reason wanted before between after (Err NoRoom) answers pending = tt
 first_is_reason wanted before between after (Err (Left halt)) answers pending = pending
+
+-- likewise a poll that was ready has made the access then
+pub first_is_made : (wanted : Access) (before between after : Track) (result : Result ℕ (NotMade Infallible)) → AnswersFirst before.begun before between → OnOk result (IsMade wanted between after)
+    → OnOk result (AnswersAndMakes wanted before after)
+first_is_made wanted before between after (Ok value) answers made = (between, answers, made)
+first_is_made wanted before between after (Err why) answers made = tt

@@ -52,10 +52,22 @@ abbrev pub IsPending : Access → Track → Track → NotMade Infallible → Typ
 IsPending wanted before after Waits = (why : Why) × NotesPoll wanted before (poll.Pending why) after
 IsPending wanted before after _ = ⊥
 
--- a thread answers those that have asked it before it begins an access, and does nothing before it goes on with one
+-- a poll made the access
+abbrev pub IsMade : Access → Track → Track → Type 0
+IsMade wanted before after = (value : ℕ) × NotesPoll wanted before (poll.Ready value) after
+
+-- a thread answers those that have asked it
+abbrev pub Answers : Track → Track → Type 0
+Answers before after = NotesNothing before after × ((asked : Bool) × PassesSafePoint (seat_of before.worker) asked (seat_of after.worker))
+
+-- it does so before it begins an access, and does nothing before it goes on with one
 abbrev pub AnswersFirst : Option Access → Track → Track → Type 0
 AnswersFirst (Some begun) before between = between ≡ before
-AnswersFirst None before between = NotesNothing before between × ((asked : Bool) × PassesSafePoint (seat_of before.worker) asked (seat_of between.worker))
+AnswersFirst None before between = Answers before between
+
+-- then a poll made the access
+abbrev pub AnswersAndMakes : Access → Track → Track → Type 0
+AnswersAndMakes wanted before after = (between : Track) × AnswersFirst before.begun before between × IsMade wanted between after
 
 -- why a track's access is not made: a poll of it was pending, or there is no room, of which `HasCause` says when.
 -- A track has no recording to leave, and its end is never refused

@@ -43,6 +43,8 @@ impl Session for Rerun {
 
     ghost IsReason = { λ rerun wanted _ after. IsSecondReason rerun wanted after };
 
+    ghost HasMade = { λ _ _ _ _. Unit {0} };
+
     fn ask(&self, thread: &mut SecondThread, wanted: Access) -> Result<u64, NotMade<Halt>> {
         thread.begun = None;
         if thread.left < LINES_OF_ACCESS {

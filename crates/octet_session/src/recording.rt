@@ -1,12 +1,13 @@
 //! A recorder is a session: its threads are tracks.
-ghost use Rattle.std.specs.Prelude.{◌≡◌, ◌<◌, ◌≤◌, ◌+◌, Some, None, IfErr};
+ghost use Rattle.std.specs.Prelude.{◌≡◌, ◌<◌, ◌≤◌, ◌+◌, Some, None, IfErr, OnOk};
 ghost use Rattle.octet_state.specs.declared.act.Mode.TheVariants as mode;
 ghost use Rattle.octet_heap.specs.Calls.{access_to};
 ghost use Rattle.octet_heap.specs.Workers.{pending_after};
 ghost use Rattle.octet_recorder.specs.declared.access.Access.TheVariants as want;
 ghost use Rattle.octet_recorder.specs.Tracks.{objects_in, lines_in, lines_noted, number_of, IsTrackOf, IsIdleIfMade, Notes};
-ghost use Rattle.octet_session.specs.Recording.{track_standing, TrackRuns, TrackRests, IsPending, IsTrackReason};
+ghost use Rattle.octet_session.specs.Recording.{track_standing, TrackRuns, TrackRests, IsPending, IsMade, Answers, AnswersAndMakes, IsTrackReason};
 ghost use Rattle.octet_session.specs.Asking.{object_of, MayAsk, Asks};
+ghost use Rattle.octet_session.specs.Standing.{Keeps};
 
 use crate::answers::{poll_answer, update_answer};
 use crate::not_made::NotMade;
@@ -67,6 +68,7 @@ fn access_on(
     ensures runs { TrackRuns track.new }
     ensures asks { Asks wanted (track_standing recorder.now track.old) result (track_standing recorder.now track.new) }
     ensures reason { IfErr result (IsPending wanted track.old track.new) }
+    ensures made { OnOk result (IsMade wanted track.old track.new) }
 {
     match wanted {
         Access::Read { object } => poll_answer(read_on(recorder, track, object)),
@@ -87,6 +89,7 @@ fn begin(recorder: &Recorder, track: &mut Track, wanted: Access) -> Result<u64, 
     ensures runs { TrackRuns track.new }
     ensures asks { Asks wanted (track_standing recorder.now track.old) result (track_standing recorder.now track.new) }
     ensures reason { IfErr result (IsTrackReason (Some wanted) track.old track.new) }
+    ensures made { OnOk result (AnswersAndMakes wanted track.old track.new) }
 {
     recorder.safe_point(track);
     access_on(recorder, track, wanted)
@@ -114,6 +117,8 @@ impl Session for Recorder {
 
     ghost IsReason = { λ _. IsTrackReason };
 
+    ghost HasMade = { λ _. AnswersAndMakes };
+
     fn ask(&self, thread: &mut Track, wanted: Access) -> Result<u64, NotMade<Infallible>> {
         if self.lines_left(thread) < LINES_OF_ACCESS {
             return Err(NotMade::NoRoom);
@@ -128,7 +133,15 @@ impl Session for Recorder {
         self.begin_region(thread);
     }
 
-    fn safe_point(&self, thread: &mut Track) {
+    fn safe_point(&self, thread: &mut Track)
+        requires own { IsTrackOf self.now thread.old }
+        requires runs { TrackRuns thread.old }
+        requires idle { thread.old.begun ≡ None }
+        ensures own { IsTrackOf self.now thread.new }
+        ensures runs { TrackRuns thread.new }
+        ensures keeps { Keeps (track_standing self.now thread.old) (track_standing self.now thread.new) }
+        ensures answers { Answers thread.old thread.new }
+    {
         self.safe_point(thread);
     }
 

@@ -1,5 +1,5 @@
 //! What the threads of a run share.
-ghost use Rattle.std.specs.Prelude.{◌≡◌, ◌≢◌, ℕ, ◌<◌, List, Option, Err, Some, None, true, IfErr, OnOk};
+ghost use Rattle.std.specs.Prelude.{◌≡◌, ◌≢◌, ℕ, ◌<◌, List, Option, Err, Some, None, IfErr, OnOk};
 ghost use Rattle.octet_model.specs.declared.event.Event.{Event};
 ghost use Rattle.octet_recorder.specs.declared.access.Access.{Access};
 ghost use Rattle.octet_recorder.specs.declared.access.Access.TheVariants as want;
@@ -37,6 +37,9 @@ pub trait Session: Sync {
     // access is wanted.
     ghost IsReason: { Self → Option Access → Self.Thread → Self.Thread → NotMade Self.Halt → Type 0 };
 
+    // How this access was made, from one state of the thread to the next.
+    ghost HasMade: { Self → Access → Self.Thread → Self.Thread → Type 0 };
+
     /// Asks for an access. Answers the value that a read or an update found, or that a write wrote: in a second run the
     /// one that was recorded. After `Waits` the same call goes on with it; after any other error the thread ends.
     fn ask(&self, thread: &mut Self::Thread, wanted: Access) -> Result<u64, NotMade<Self::Halt>>
@@ -48,6 +51,7 @@ pub trait Session: Sync {
         ensures runs { Runs thread.new }
         ensures asks { Asks wanted (standing self.now thread.old) result (standing self.now thread.new) }
         ensures reason { IfErr result (IsReason self.now (Some wanted) thread.old thread.new) }
+        ensures made { OnOk result (HasMade self.now wanted thread.old thread.new) }
         ensures follows { Follows (recorded self.now thread.new) (standing self.now thread.new).journal };
 
     /// Begins a region with the next access.
@@ -111,6 +115,7 @@ pub trait Session: Sync {
         ensures runs { Runs thread.new }
         ensures asks { Asks (want.Read object) (standing self.now thread.old) result (standing self.now thread.new) }
         ensures reason { IfErr result (IsReason self.now (Some (want.Read object)) thread.old thread.new) }
+        ensures made { OnOk result (HasMade self.now (want.Read object) thread.old thread.new) }
         ensures follows { Follows (recorded self.now thread.new) (standing self.now thread.new).journal }
     {
         self.ask(thread, Access::Read { object })
@@ -131,6 +136,7 @@ pub trait Session: Sync {
         ensures runs { Runs thread.new }
         ensures asks { Asks (want.Write object value) (standing self.now thread.old) result (standing self.now thread.new) }
         ensures reason { IfErr result (IsReason self.now (Some (want.Write object value)) thread.old thread.new) }
+        ensures made { OnOk result (HasMade self.now (want.Write object value) thread.old thread.new) }
         ensures follows { Follows (recorded self.now thread.new) (standing self.now thread.new).journal }
     {
         self.ask(thread, Access::Write { object, value })
@@ -151,6 +157,7 @@ pub trait Session: Sync {
         ensures runs { Runs thread.new }
         ensures asks { Asks (want.Update object change) (standing self.now thread.old) result (standing self.now thread.new) }
         ensures reason { IfErr result (IsReason self.now (Some (want.Update object change)) thread.old thread.new) }
+        ensures made { OnOk result (HasMade self.now (want.Update object change) thread.old thread.new) }
         ensures follows { Follows (recorded self.now thread.new) (standing self.now thread.new).journal }
     {
         self.ask(thread, Access::Update { object, change })

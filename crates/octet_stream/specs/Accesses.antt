@@ -76,6 +76,12 @@ PollsPending (Read object) v why w = Polls (access_to object mode.Read 0) v (pol
 PollsPending (Write object value) v why w = Polls (access_to object mode.Write value) v (poll.Pending why) w
 PollsPending (Update object change) v why w = PollsToChange object change v (updated.Pending why) w
 
+-- a poll made this access
+abbrev pub PollsReady : Access → SeatView → SeatView → Type 0
+PollsReady (Read object) v w = (found : ℕ) × Polls (access_to object mode.Read 0) v (poll.Ready found) w
+PollsReady (Write object value) v w = (found : ℕ) × Polls (access_to object mode.Write value) v (poll.Ready found) w
+PollsReady (Update object change) v w = (found : ℕ) × PollsToChange object change v (updated.Made found) w
+
 -- how many polls a track lets pass before it tries again: none where it only waits for an answer
 abbrev pub backoff_after : Why → ℕ
 backoff_after (Held by word) = POLLS_OF_BACKOFF
@@ -93,10 +99,20 @@ abbrev pub IsMarkerReason : Access → Track → Track → NotMade Full → Type
 IsMarkerReason wanted before after Waits = IsPending wanted (marker_seat before.marker) after
 IsMarkerReason wanted before after _ = ⊥
 
--- a thread answers those that have asked it before it begins an access, and does nothing before it goes on with one
+-- a thread answers those that have asked it
+abbrev pub Answers : SeatView → SeatView → Type 0
+Answers v w = (asked : Bool) × PassesSafePoint v asked w
+
+-- it does so before it begins an access, and does nothing before it goes on with one
 abbrev pub AnswersFirst : Stage → SeatView → SeatView → Type 0
 AnswersFirst (Begun wanted) v w = w ≡ v
-AnswersFirst _ v w = (asked : Bool) × PassesSafePoint v asked w
+AnswersFirst _ v w = Answers v w
+
+-- then a poll made the access
+pub record AnswersAndMakes (wanted : Access) (before after : Track) : Type 0 where
+  pub between : SeatView
+  pub answers : AnswersFirst before.stage (marker_seat before.marker) between
+  pub ready : PollsReady wanted between (marker_seat after.marker)
 
 -- a track waits for other threads of the heap
 pub record WaitsOnHeap (wanted : Access) (before after : Track) : Type 0 where
@@ -111,7 +127,7 @@ IsFirstReason wanted before after _ = ⊥
 
 -- a track lets a poll pass, but for an answer to those that have asked. Then it has fewer left to let pass
 abbrev pub BacksOff : Track → Track → Type 0
-BacksOff before after = (after.backoff + 1 ≡ before.backoff) × ((asked : Bool) × PassesSafePoint (marker_seat before.marker) asked (marker_seat after.marker))
+BacksOff before after = (after.backoff + 1 ≡ before.backoff) × Answers (marker_seat before.marker) (marker_seat after.marker)
 
 -- why a track's access is not made, or its end: a poll of it was pending, or the track lets this one pass after such a poll, or
 -- its ring has no room for the block that is due, or it has made as many accesses as a thread may make. It always has room

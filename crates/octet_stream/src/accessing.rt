@@ -1,8 +1,7 @@
 //! A track makes the access that it was asked for, or begins it.
-ghost use Rattle.std.specs.Prelude.{◌≡◌, ◌<◌, Some, None, Ok, Err, true, false, IfErr};
+ghost use Rattle.std.specs.Prelude.{◌≡◌, ◌<◌, Some, None, Ok, Err, false, IfErr, OnOk};
 ghost use Rattle.octet_state.specs.declared.act.Mode.TheVariants as mode;
 ghost use Rattle.octet_heap.specs.Calls.{access_to, Polls};
-ghost use Rattle.octet_heap.specs.Updates.{PollsToChange};
 ghost use Rattle.octet_heap.specs.Workers.{pending_after};
 ghost use Rattle.octet_heap.specs.Models.{heap_model};
 ghost use Rattle.octet_heap.specs.Markers.{marker_seat, IsMarkerOf, IsIdleIfMade, IsSameBuffer};
@@ -11,7 +10,7 @@ ghost use Rattle.octet_session.specs.declared.not_made.NotMade.TheVariants as no
 ghost use Rattle.octet_session.specs.Asking.{object_of, Asks};
 ghost use Rattle.octet_stream.specs.declared.track.Stage.TheVariants as stage;
 ghost use Rattle.octet_stream.specs.Tracks.{IsTrackOf};
-ghost use Rattle.octet_stream.specs.Accesses.{MayAccess, MayGoOn, track_standing, TrackRuns, IsMarkerReason, backoff_after};
+ghost use Rattle.octet_stream.specs.Accesses.{MayAccess, MayGoOn, track_standing, TrackRuns, IsMarkerReason, PollsReady, backoff_after};
 
 use crate::long_run::{Full, LongRun};
 use crate::track::{POLLS_OF_BACKOFF, Stage, Track};
@@ -109,6 +108,7 @@ fn read_on(run: &LongRun, track: &mut Track, begun: bool, object: u16) -> Answer
     ensures runs { TrackRuns track.new }
     ensures asks { Asks (want.Read object) (track_standing track.old) result (track_standing track.new) }
     ensures reason { IfErr result (IsMarkerReason (want.Read object) track.old track.new) }
+    ensures made { OnOk result (PollsReady (want.Read object) (marker_seat track.old.marker) (marker_seat track.new.marker)) }
 {
     match access_on(&run.heap, &mut track.marker, begun, object, Mode::Read, 0) {
         Poll::Ready { value } => track.made(track.digest.read(object, value), value),
@@ -126,6 +126,7 @@ fn write_on(run: &LongRun, track: &mut Track, begun: bool, object: u16, value: u
     ensures runs { TrackRuns track.new }
     ensures asks { Asks (want.Write object value) (track_standing track.old) result (track_standing track.new) }
     ensures reason { IfErr result (IsMarkerReason (want.Write object value) track.old track.new) }
+    ensures made { OnOk result (PollsReady (want.Write object value) (marker_seat track.old.marker) (marker_seat track.new.marker)) }
 {
     match access_on(
         &run.heap,
@@ -150,6 +151,7 @@ fn update_on(run: &LongRun, track: &mut Track, begun: bool, object: u16, change:
     ensures runs { TrackRuns track.new }
     ensures asks { Asks (want.Update object change) (track_standing track.old) result (track_standing track.new) }
     ensures reason { IfErr result (IsMarkerReason (want.Update object change) track.old track.new) }
+    ensures made { OnOk result (PollsReady (want.Update object change) (marker_seat track.old.marker) (marker_seat track.new.marker)) }
 {
     match track.marker.update(&run.heap, object, change) {
         Updated::Made { before } => {
@@ -172,6 +174,7 @@ pub(crate) fn go_on(run: &LongRun, track: &mut Track, begun: bool, wanted: Acces
     ensures runs { TrackRuns track.new }
     ensures asks { Asks wanted (track_standing track.old) result (track_standing track.new) }
     ensures reason { IfErr result (IsMarkerReason wanted track.old track.new) }
+    ensures made { OnOk result (PollsReady wanted (marker_seat track.old.marker) (marker_seat track.new.marker)) }
 {
     match wanted {
         Access::Read { object } => read_on(run, track, begun, object),

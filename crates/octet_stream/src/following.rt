@@ -157,6 +157,8 @@ impl Session for LongRerun {
 
     ghost IsReason = { λ rerun wanted _ after. IsFollowerReason rerun wanted after };
 
+    ghost HasMade = { λ _ _ _ _. Unit {0} };
+
     #[inline(always)]
     fn ask(&self, thread: &mut LongFollower, wanted: Access) -> Result<u64, NotMade<Halt>> {
         match self.course.ask(&mut thread.follower, followed(wanted)) {

@@ -7,7 +7,7 @@ ghost use Rattle.octet_session.specs.Asking.{object_of, MayAsk, Asks};
 ghost use Rattle.octet_session.specs.Standing.{Keeps};
 ghost use Rattle.octet_stream.specs.declared.track.Stage.TheVariants as stage;
 ghost use Rattle.octet_stream.specs.Tracks.{wanted_in, IsTrackOf, HandsOn};
-ghost use Rattle.octet_stream.specs.Accesses.{track_standing, TrackRuns, TrackRests, TrackHasEnded, IsReady, IsFirstReason, IsTrackReason};
+ghost use Rattle.octet_stream.specs.Accesses.{track_standing, TrackRuns, TrackRests, TrackHasEnded, IsReady, IsFirstReason, Answers, AnswersAndMakes, IsTrackReason};
 
 use crate::accessing::go_on;
 use crate::long_run::{Full, LongRun};
@@ -55,6 +55,7 @@ impl LongRun {
         ensures runs { TrackRuns track.new }
         ensures asks { Asks wanted (track_standing track.old) result (track_standing track.new) }
         ensures reason { IfErr result (IsFirstReason wanted track.old track.new) }
+        ensures made { OnOk result (AnswersAndMakes wanted track.old track.new) }
     {
         let heap = &self.heap;
         track.marker.safe_point(heap);
@@ -71,6 +72,7 @@ impl LongRun {
         ensures runs { TrackRuns track.new }
         ensures asks { Asks wanted (track_standing track.old) result (track_standing track.new) }
         ensures reason { IfErr result (IsTrackReason (Some wanted) track.old track.new) }
+        ensures made { OnOk result (AnswersAndMakes wanted track.old track.new) }
     {
         if track.backoff > 0 {
             track.backoff -= 1;
@@ -120,6 +122,7 @@ impl LongRun {
         ensures runs { TrackRuns track.new }
         ensures asks { Asks wanted (track_standing track.old) result (track_standing track.new) }
         ensures reason { IfErr result (IsTrackReason (Some wanted) track.old track.new) }
+        ensures made { OnOk result (AnswersAndMakes wanted track.old track.new) }
     {
         self.ask_in_full(track, wanted)
     }
@@ -135,6 +138,7 @@ impl LongRun {
         ensures runs { TrackRuns track.new }
         ensures asks { Asks wanted (track_standing track.old) result (track_standing track.new) }
         ensures reason { IfErr result (IsTrackReason (Some wanted) track.old track.new) }
+        ensures made { OnOk result (AnswersAndMakes wanted track.old track.new) }
     {
         if let Stage::Begun { .. } = track.stage {
             return self.go_on(track, wanted);
@@ -167,6 +171,8 @@ impl Session for LongRun {
 
     ghost IsReason = { λ _. IsTrackReason };
 
+    ghost HasMade = { λ _. AnswersAndMakes };
+
     #[inline(always)]
     fn ask(&self, thread: &mut Track, wanted: Access) -> Result<u64, NotMade<Full>> {
         if thread.is_ready() {
@@ -180,7 +186,15 @@ impl Session for LongRun {
         thread.region = true;
     }
 
-    fn safe_point(&self, thread: &mut Track) {
+    fn safe_point(&self, thread: &mut Track)
+        requires own { IsTrackOf self.now thread.old }
+        requires runs { TrackRuns thread.old }
+        requires idle { (track_standing thread.old).begun ≡ None }
+        ensures own { IsTrackOf self.now thread.new }
+        ensures runs { TrackRuns thread.new }
+        ensures keeps { Keeps (track_standing thread.old) (track_standing thread.new) }
+        ensures answers { Answers (marker_seat thread.old.marker) (marker_seat thread.new.marker) }
+    {
         self.glance(thread);
     }
 

@@ -75,6 +75,8 @@ impl<S: Session> Session for Tailed<S> {
 
     ghost IsReason = { λ tailed wanted before after why. S.IsReason tailed.session wanted before.thread after.thread why };
 
+    ghost HasMade = { λ tailed wanted before after. S.HasMade tailed.session wanted before.thread after.thread };
+
     fn ask(&self, thread: &mut Self::Thread, wanted: Access) -> Result<u64, NotMade<S::Halt>> {
         let value = self.session.ask(&mut thread.thread, wanted)?;
         note(&mut thread.tail, event_of(wanted, value));

@@ -1,5 +1,5 @@
 use Rattle.std.proofs.Common.{refl}
-use Rattle.octet_c.specs.declared.status.Fault.TheVariants.{OutOfMemory}
+use Rattle.octet_host.specs.declared.fault.CloseFault.TheVariants.{OutOfMemory}
 use Rattle.octet_c.proofs.octet_close.Goals as goal
 
 pub returns-in-Ok-clause-cause : goal.returns-in-Ok-clause-cause

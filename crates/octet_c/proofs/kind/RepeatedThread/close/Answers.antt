@@ -8,4 +8,4 @@ pub returns-in-Ok-clause-closes : goal.returns-in-Ok-clause-closes
 returns-in-Ok-clause-closes c = closes_repeated c.args.threads.items c.in-Ok.again c.in-Ok.ensures.as_one c.in-Ok.ensures.repeats
 
 pub returns-in-Err-clause-refused : goal.returns-in-Err-clause-refused
-returns-in-Err-clause-refused c = refused_repeated c.args.threads.items c.in-Err.fault c.from.result c.in-Err.ensures.refused c.from.ensures
+returns-in-Err-clause-refused c = refused_repeated c.args.threads.items c.in-Err.fault c.in-Err.ensures.refused

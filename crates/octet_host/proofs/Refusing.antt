@@ -1,11 +1,10 @@
--- Threads that are taken back, or are refused.
+-- Threads that are handed in, or are refused.
 use Rattle.std.proofs.Common.{◌≡◌, ℕ, ◌∷◌, List, length, subst}
 use Rattle.octet_host.specs.declared.stage.Stage.{Stage}
-use Rattle.octet_host.specs.HandedBack.{IsAtWork, Both}
 use Rattle.octet_host.proofs.lemmas.Taking.{AreTaken, any_of, not_as_one}
-use Rattle.octet_host_script.specs.declared.fault.CloseFault.{CloseFault}
-use Rattle.octet_host_script.specs.declared.fault.CloseFault.TheVariants.{OutOfMemory, OtherSessions, OutOfOrder, StillRunning, NotWhole, TooLong, TwoRuns}
-use Rattle.octet_host_script.specs.HandedBack.{RefusesThread, RefusesToClose}
+use Rattle.octet_host.specs.declared.fault.CloseFault.{CloseFault}
+use Rattle.octet_host.specs.declared.fault.CloseFault.TheVariants.{OutOfMemory, OtherSessions, OutOfOrder, StillRunning, NotWhole, TooLong, TwoRuns}
+use Rattle.octet_host.specs.HandedBack.{IsAtWork, Both, RefusesThread, RefusesToClose}
 
 module _ {X : Type 0} (stage : X → Stage) (At Among : ℕ → ℕ → X → Type 0) (all : List X) (number : ℕ) (rest others : List X) (it : X) (next : rest ≡ it ∷ others)
     (taken : AreTaken (λ x. IsAtWork (stage x) → ⊥) (Both At Among) all number rest) (Leaves TooMany : X → Type 0) where
