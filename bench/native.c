@@ -1,8 +1,9 @@
-// Threads that make the same accesses by Octet's C library, on atomic words, or behind a mutex for each word. bench/run --native
-// builds and calls it: `native HOW KIND THREADS ACCESSES RUNS` says how many nanoseconds an access takes its thread, in the
-// mean over runs of so many accesses each. HOW is marks, a run of any length, which goes into a file meanwhile; script, a run that
-// is kept as one, of 87,381 accesses at most; atomic or mutex. KIND is read or update, of a word for each thread; shared, reads of
-// one word by all; wanted, updates of one word by all. An update adds 1.
+// Threads that make the same accesses by Octet's C library, on atomic words, or behind a mutex for each word. bench/run
+// --native builds and calls it: `native HOW KIND THREADS ACCESSES RUNS` says how many nanoseconds an access takes its thread,
+// in the mean over runs of so many accesses each: of its processor, or by the clock where all want one word. HOW is marks, a
+// run of any length, which goes into a file meanwhile; script, a run that is kept as one, of 87,381 accesses at most; atomic or
+// mutex. KIND is read or update, of a word for each thread; shared, reads of one word by all; wanted, updates of one word by
+// all. An update adds 1.
 #include <pthread.h>
 #include <sched.h>
 #include <stdatomic.h>
@@ -43,7 +44,7 @@ static void fail(const char *what) {
 
 static uint64_t now(void) {
     struct timespec time;
-    clock_gettime(CLOCK_MONOTONIC, &time);
+    clock_gettime(is_shared && is_update ? CLOCK_MONOTONIC : CLOCK_THREAD_CPUTIME_ID, &time);
     return (uint64_t)time.tv_sec * 1000000000u + (uint64_t)time.tv_nsec;
 }
 

@@ -1,9 +1,10 @@
 //! Threads that make the same accesses by the crate `octet`, on atomic words, or behind a mutex for each word. bench/run --native
 //! builds and calls it, and bench/native.c says how: `native HOW KIND THREADS ACCESSES RUNS`.
 use octet::{Error, Heap, Session};
+use std::ffi::{c_int, c_long};
 use std::sync::atomic::{AtomicU64, Ordering};
 use std::sync::{Barrier, Mutex};
-use std::time::{Duration, Instant};
+use std::time::Duration;
 use std::{env, error, fs, process, thread};
 
 const MAX_THREADS: usize = 16;
@@ -36,16 +37,41 @@ impl Kind {
     }
 }
 
+/// C's `struct timespec`.
+#[repr(C)]
+#[derive(Default)]
+struct Time {
+    seconds: c_long,
+    nanoseconds: c_long,
+}
+
+// As Linux numbers them.
+const CLOCK_MONOTONIC: c_int = 1;
+const CLOCK_THREAD_CPUTIME_ID: c_int = 3;
+
+unsafe extern "C" {
+    fn clock_gettime(clock: c_int, time: *mut Time) -> c_int;
+}
+
+// Of the thread's processor, or by the clock where all want one word.
+fn now(kind: Kind) -> Duration {
+    let clock = if kind.is_shared && kind.is_update { CLOCK_MONOTONIC } else { CLOCK_THREAD_CPUTIME_ID };
+    let mut time = Time::default();
+    // SAFETY: the call writes one `struct timespec`, and there is one.
+    unsafe { clock_gettime(clock, &mut time) };
+    Duration::new(time.seconds as u64, time.nanoseconds as u32)
+}
+
 // What the threads have read is summed up, so that no read is left out.
-fn timed<E>(all: &Barrier, accesses: u64, mut access: impl FnMut() -> Result<u64, E>) -> Result<Duration, E> {
+fn timed<E>(all: &Barrier, kind: Kind, accesses: u64, mut access: impl FnMut() -> Result<u64, E>) -> Result<Duration, E> {
     all.wait();
-    let start = Instant::now();
+    let start = now(kind);
     let mut sum = 0_u64;
     for _ in 0..accesses {
         sum = sum.wrapping_add(access()?);
     }
     std::hint::black_box(sum);
-    Ok(start.elapsed())
+    Ok(now(kind) - start)
 }
 
 fn in_sessions(by_marks: bool, kind: Kind, threads: usize, accesses: u64) -> Result<Duration, Error> {
@@ -55,9 +81,9 @@ fn in_sessions(by_marks: bool, kind: Kind, threads: usize, accesses: u64) -> Res
     let work = |session: &mut Session| {
         let object = session.object(&names[kind.word(session.number())])?;
         if kind.is_update {
-            timed(all, accesses, || session.fetch_add(object, 1))
+            timed(all, kind, accesses, || session.fetch_add(object, 1))
         } else {
-            timed(all, accesses, || session.load(object))
+            timed(all, kind, accesses, || session.load(object))
         }
     };
     if by_marks {
@@ -77,7 +103,7 @@ fn on_words<T: Default + Sync>(kind: Kind, threads: usize, accesses: u64, access
     thread::scope(|scope| {
         let running = (0..threads).map(|thread| {
             let word = &words[kind.word(thread)].0;
-            scope.spawn(move || timed(all, accesses, || Ok::<u64, Error>(access(word))).unwrap_or_default())
+            scope.spawn(move || timed(all, kind, accesses, || Ok::<u64, Error>(access(word))).unwrap_or_default())
         });
         let running: Vec<_> = running.collect();
         running.into_iter().map(|running| running.join().unwrap_or_default()).sum()
