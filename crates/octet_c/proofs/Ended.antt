@@ -6,7 +6,7 @@ use Rattle.std.proofs.lemmas.Option.{none-some}
 use Rattle.std.proofs.lemmas.Simd.{map-map}
 use Rattle.octet_host.specs.declared.fault.CloseFault.{CloseFault}
 use Rattle.octet_host.specs.declared.fault.CloseFault.TheVariants.{OutOfMemory, OtherSessions, OutOfOrder, StillRunning, NotWhole, TooLong, TwoRuns}
-use Rattle.octet_host.specs.HandedBack.{AreAsOne, Refuses}
+use Rattle.octet_host.specs.HandedBack.{AreAsOne, HasCloseFault}
 use Rattle.octet_c.specs.declared.held.Held.{Held}
 use Rattle.octet_c.specs.declared.kind.Kind.{Kind}
 use Rattle.octet_c.specs.Closed.{kind_of, first_kind, IsNumbered, IsThread, IsAt, IsAmong, IsSessionAt, IsSessionAmong, AreOneRun, AreOfOneKind, Runs, IsNotWhole, IsTooLong, RefusesToClose}
@@ -72,7 +72,7 @@ module _ {X : Type 0} (wrap : X → Held) (kind : Kind) (Is : ℕ → ℕ → X 
     any_behind P Q more xs (k, x, lt, at, is) = any_map (λ y. Some (wrap y)) Q xs (k, x, lt, at, more x is)
 
     -- threads of one kind are refused behind handles as they are
-    pub refused_behind : (xs : List X) (fault : CloseFault) → Refuses (AreAsOne Among xs) (AreAsOne At xs) (AreAsOne Is xs) Works NotWhole_ Long_ xs fault → RefusesToClose (map (λ x. Some (wrap x)) xs) fault
+    pub refused_behind : (xs : List X) (fault : CloseFault) → HasCloseFault (AreAsOne Among xs) (AreAsOne At xs) (AreAsOne Is xs) Works NotWhole_ Long_ xs fault → RefusesToClose (map (λ x. Some (wrap x)) xs) fault
     refused_behind xs OutOfMemory why = tt
     refused_behind xs OtherSessions why = λ many. why (as_before wrap Among (IsSessionAmong many.kind) (λ n m x is. among n m x is.1) xs many.as_many)
     refused_behind xs OutOfOrder why = λ placed. why (as_before wrap At IsSessionAt (λ n m x is. at n m x is) xs placed)

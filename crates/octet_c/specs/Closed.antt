@@ -1,7 +1,7 @@
 -- What a clause says of sessions whose run is ended.
 use Rattle.std.specs.Prelude.{◌≡◌, ℕ, ℤ, Any, List, [], ◌∷◌, Option, Some, None}
 use Rattle.octet_host.specs.declared.fault.CloseFault.{CloseFault}
-use Rattle.octet_host.specs.HandedBack.{IsAtWork, Both, AreAsOne, Refuses}
+use Rattle.octet_host.specs.HandedBack.{IsAtWork, Both, AreAsOne, HasCloseFault}
 use Rattle.octet_host_long.specs.Closed.{IsClosedRecording, IsClosedAgain}
 use Rattle.octet_host_long.specs.HandedBack as long
 use Rattle.octet_host_long.specs.Threads as threads
@@ -92,7 +92,7 @@ IsTooLong _ = ⊥
 
 -- why the run of the sessions behind handles is not ended
 abbrev pub RefusesToClose : List (Option Held) → CloseFault → Type 0
-RefusesToClose sessions = Refuses (AreOfOneKind sessions) (AreAsOne IsSessionAt sessions) (AreOneRun sessions) Runs IsNotWhole IsTooLong sessions
+RefusesToClose sessions = HasCloseFault (AreOfOneKind sessions) (AreAsOne IsSessionAt sessions) (AreOneRun sessions) Runs IsNotWhole IsTooLong sessions
 
 -- the same by its status
 abbrev pub GivesNoRecord : List (Option Held) → ℤ → Type 0

@@ -127,10 +127,8 @@ impl Thread for Recorded {
         ensures closes { IfOk result (λ kept. Closes (map (λ it. Some (held.Recorded it)) threads.items) (Some kept)) }
         ensures refused { IfErr result (RefusesToClose (map (λ it. Some (held.Recorded it)) threads.items)) }
     {
-        match octet_host_script::close_recorded(alloc, threads) {
-            Ok(kept) => Ok(Held::Kept(kept)),
-            Err(fault) => Err(fault),
-        }
+        let kept = octet_host_script::close_recorded(alloc, threads)?;
+        Ok(Held::Kept(kept))
     }
 }
 
@@ -150,10 +148,8 @@ impl Thread for Repeated {
         ensures closes { IfOk result (λ kept. Closes (map (λ it. Some (held.Repeated it)) threads.items) (Some kept)) }
         ensures refused { IfErr result (RefusesToClose (map (λ it. Some (held.Repeated it)) threads.items)) }
     {
-        match octet_host_script::close_repeated(alloc, threads) {
-            Ok(again) => Ok(Held::Kept(again)),
-            Err(fault) => Err(fault),
-        }
+        let again = octet_host_script::close_repeated(alloc, threads)?;
+        Ok(Held::Kept(again))
     }
 }
 
@@ -173,10 +169,8 @@ impl Thread for LongRecorded {
         ensures closes { IfOk result (λ kept. Closes (map (λ it. Some (held.LongRecorded it)) threads.items) (Some kept)) }
         ensures refused { IfErr result (RefusesToClose (map (λ it. Some (held.LongRecorded it)) threads.items)) }
     {
-        match close_recorded(alloc, threads) {
-            Ok(values) => Ok(Held::Values(Values { values })),
-            Err(fault) => Err(fault),
-        }
+        let values = close_recorded(alloc, threads)?;
+        Ok(Held::Values(Values { values }))
     }
 }
 
@@ -196,9 +190,7 @@ impl Thread for LongRepeated {
         ensures closes { IfOk result (λ kept. Closes (map (λ it. Some (held.LongRepeated it)) threads.items) (Some kept)) }
         ensures refused { IfErr result (RefusesToClose (map (λ it. Some (held.LongRepeated it)) threads.items)) }
     {
-        match close_repeated(alloc, threads) {
-            Ok(again) => Ok(Held::Again(again)),
-            Err(fault) => Err(fault),
-        }
+        let again = close_repeated(alloc, threads)?;
+        Ok(Held::Again(again))
     }
 }

@@ -228,10 +228,8 @@ fn close_kind<T: Thread>(alloc: Global, boxes: Boxes) -> Result<Held, CloseFault
     ensures closes { IfOk result (λ kept. Closes (map (λ box. Some box.value) boxes.items) (Some kept)) }
     ensures refused { IfErr result (RefusesToClose (map (λ box. Some box.value) boxes.items)) }
 {
-    match threads_of(alloc, boxes) {
-        Ok(threads) => T::close(alloc, threads),
-        Err(fault) => Err(fault),
-    }
+    let threads = threads_of(alloc, boxes)?;
+    T::close(alloc, threads)
 }
 
 // The kind of the first thread, if it is one.
@@ -267,10 +265,8 @@ fn closed(alloc: Global, sessions: &mut [Handle]) -> Result<Held, CloseFault>
     ensures closes { IfOk result (λ kept. Closes (map (λ session. session.held) sessions.old) (Some kept)) }
     ensures refused { IfErr result (RefusesToClose (map (λ session. session.held) sessions.old)) }
 {
-    match take_all(alloc, sessions) {
-        Ok(boxes) => close_boxes(alloc, boxes),
-        Err(fault) => Err(fault),
-    }
+    let boxes = take_all(alloc, sessions)?;
+    close_boxes(alloc, boxes)
 }
 
 /// Ends the run, and puts its record behind `kept`; what that held is freed. The sessions are those that one call gave, in

@@ -34,16 +34,16 @@ RefusesThread stage IsAt IsAmong IsNotWhole _ = ⊥
 -- why a run is not ended: its threads are not as many as it has, or one is not in the place of its number, or runs, or has not made
 -- all of its recording, or the recording is too long; or they are as those of one run, none of them runs, and yet one of that run is
 -- missing
-abbrev pub Refuses : {X : Type 0} → Type 0 → Type 0 → Type 0 → (X → Type 0) → (X → Type 0) → (X → Type 0) → List X → CloseFault → Type 0
-Refuses AsMany InOrder AsOne Runs IsNotWhole IsTooLong threads OutOfMemory = Unit {0}
-Refuses AsMany InOrder AsOne Runs IsNotWhole IsTooLong threads OtherSessions = AsMany → ⊥
-Refuses AsMany InOrder AsOne Runs IsNotWhole IsTooLong threads OutOfOrder = InOrder → ⊥
-Refuses AsMany InOrder AsOne Runs IsNotWhole IsTooLong threads StillRunning = Any Runs threads
-Refuses AsMany InOrder AsOne Runs IsNotWhole IsTooLong threads NotWhole = Any IsNotWhole threads
-Refuses AsMany InOrder AsOne Runs IsNotWhole IsTooLong threads TooLong = Any IsTooLong threads
-Refuses AsMany InOrder AsOne Runs IsNotWhole IsTooLong threads TwoRuns = AsOne × All (λ it. Runs it → ⊥) threads
+abbrev pub HasCloseFault : {X : Type 0} → Type 0 → Type 0 → Type 0 → (X → Type 0) → (X → Type 0) → (X → Type 0) → List X → CloseFault → Type 0
+HasCloseFault AsMany InOrder AsOne Runs IsNotWhole IsTooLong threads OutOfMemory = Unit {0}
+HasCloseFault AsMany InOrder AsOne Runs IsNotWhole IsTooLong threads OtherSessions = AsMany → ⊥
+HasCloseFault AsMany InOrder AsOne Runs IsNotWhole IsTooLong threads OutOfOrder = InOrder → ⊥
+HasCloseFault AsMany InOrder AsOne Runs IsNotWhole IsTooLong threads StillRunning = Any Runs threads
+HasCloseFault AsMany InOrder AsOne Runs IsNotWhole IsTooLong threads NotWhole = Any IsNotWhole threads
+HasCloseFault AsMany InOrder AsOne Runs IsNotWhole IsTooLong threads TooLong = Any IsTooLong threads
+HasCloseFault AsMany InOrder AsOne Runs IsNotWhole IsTooLong threads TwoRuns = AsOne × All (λ it. Runs it → ⊥) threads
 
 -- the same of threads by what each says of its place, and of how many there are
 abbrev pub RefusesToClose : {X : Type 0} → (X → Stage) → (ℕ → ℕ → X → Type 0) → (ℕ → ℕ → X → Type 0) → (X → Type 0) → (X → Type 0) → List X → CloseFault → Type 0
 RefusesToClose stage At Among IsNotWhole IsTooLong threads =
-    Refuses (AreAsOne Among threads) (AreAsOne At threads) (AreAsOne (Both At Among) threads) (λ it. IsAtWork (stage it)) IsNotWhole IsTooLong threads
+    HasCloseFault (AreAsOne Among threads) (AreAsOne At threads) (AreAsOne (Both At Among) threads) (λ it. IsAtWork (stage it)) IsNotWhole IsTooLong threads

@@ -86,15 +86,23 @@ impl Track {
         Ok(value)
     }
 
-    // An access waits.
-    #[inline(never)]
+    // An access waits. What goes out of line is copied to memory here, and so stays in registers where the access is made.
+    #[inline(always)]
     fn waits(&mut self, wanted: Access, why: Why) -> Answer
         ensures stays { self.new ≡ record self.old { stage = stage.Begun wanted; backoff = backoff_after why } }
         ensures told { result ≡ Err not_made.Waits }
     {
+        self.stay_begun(wanted, why);
+        Err(NotMade::Waits)
+    }
+
+    // The same, out of line.
+    #[inline(never)]
+    fn stay_begun(&mut self, wanted: Access, why: Why)
+        ensures { self.new ≡ record self.old { stage = stage.Begun wanted; backoff = backoff_after why } }
+    {
         self.stage = Stage::Begun { wanted };
         self.backoff = backoff_after(why);
-        Err(NotMade::Waits)
     }
 }
 

@@ -7,12 +7,12 @@ use Rattle.octet_c.proofs.Pairs.{all_held}
 use Rattle.octet_c.proofs.close_kind.Goals as goal
 
 pub close-requires : goal.close-requires
-close-requires g c = all_held (λ it. g.T.Behind.as_held it) (λ b. b.value) (λ b. IsHeld b.value) (λ b good. good) c.in-Ok.threads.items c.args.boxes.items c.in-Ok.ensures.threads c.requires.good
+close-requires g c = all_held (λ it. g.T.Behind.as_held it) (λ b. b.value) (λ b. IsHeld b.value) (λ b good. good) c.in_ok-threads.threads.items c.args.boxes.items c.in_ok-threads.ensures.threads c.requires.good
 
-pub returns-in-Ok-clause-closes : goal.returns-in-Ok-clause-closes
-returns-in-Ok-clause-closes g c =
-    subst (λ s. IfOk c.close.result (λ kept. Closes s (Some kept))) (same_behind (λ it. g.T.Behind.as_held it) (λ b. b.value) c.in-Ok.threads.items c.args.boxes.items c.in-Ok.ensures.threads) c.close.ensures.closes
+pub returns-clause-closes : goal.returns-clause-closes
+returns-clause-closes g c =
+    subst (λ s. IfOk c.close.result (λ kept. Closes s (Some kept))) (same_behind (λ it. g.T.Behind.as_held it) (λ b. b.value) c.in_ok-threads.threads.items c.args.boxes.items c.in_ok-threads.ensures.threads) c.close.ensures.closes
 
-pub returns-in-Ok-clause-refused : goal.returns-in-Ok-clause-refused
-returns-in-Ok-clause-refused g c =
-    subst (λ s. IfErr c.close.result (RefusesToClose s)) (same_behind (λ it. g.T.Behind.as_held it) (λ b. b.value) c.in-Ok.threads.items c.args.boxes.items c.in-Ok.ensures.threads) c.close.ensures.refused
+pub returns-clause-refused : goal.returns-clause-refused
+returns-clause-refused g c =
+    subst (λ s. IfErr c.close.result (RefusesToClose s)) (same_behind (λ it. g.T.Behind.as_held it) (λ b. b.value) c.in_ok-threads.threads.items c.args.boxes.items c.in_ok-threads.ensures.threads) c.close.ensures.refused
