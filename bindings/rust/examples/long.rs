@@ -1,7 +1,7 @@
 //! Four threads pay from account to account, half a million times each, mostly between accounts of their own. The run is recorded by its
 //! marks alone, and run again by them, and its last accesses become a script that `octet` reads. Then the file is cut, as if the
 //! program had been killed, and followed as far as it goes.
-use octet::{Builder, Error, Heap, LongRun, Session, Threads};
+use octet::{Builder, Error, Heap, LongRun, Session, Threads, last};
 use std::{env, error, fs};
 
 const THREADS: u64 = 4;
@@ -43,13 +43,13 @@ fn total(run: &LongRun<u64>) -> u64 {
 
 fn main() -> Result<(), Box<dyn error::Error>> {
     let file = env::args().nth(1).unwrap_or("bank.octm".to_string());
-    let last = format!("{file}.last");
+    let stem = format!("{file}.last");
     let first = bank().record(&file).run(threads)?;
     let second = bank().rerun(&file).run(threads)?;
     assert_eq!(second.values(), first.values());
-    bank().rerun(&file).window(1_000, threads)?.save(&last)?;
+    bank().rerun(&file).window(last(1_000)).run(threads)?.save(&stem)?;
     println!("recorded, and run again: total {}, {} KiB of marks", total(&second), fs::metadata(&file)?.len() / 1024);
-    println!("the last accesses of each thread: {last}.octet and {last}.log");
+    println!("the last accesses of each thread: {stem}.octet and {stem}.log");
     let marks = fs::read(&file)?;
     fs::write(&file, &marks[..marks.len() / 2])?;
     let cut = bank().rerun(&file).run(threads)?;
@@ -64,7 +64,7 @@ fn a_long_run_is_repeated() {
     let second = bank().rerun(&file).run(threads).unwrap();
     assert_eq!(second.values(), first.values());
     assert_eq!((total(&first), total(&second)), (16_000_000, 16_000_000));
-    let window = bank().rerun(&file).window(1_000, threads).unwrap();
+    let window = bank().rerun(&file).window(last(1_000)).run(threads).unwrap();
     assert_eq!(window.script().lines().filter(|line| *line == "thread").count(), 4);
     fs::remove_file(&file).unwrap();
 }

@@ -41,7 +41,6 @@ mod gate;
 mod heap;
 mod long;
 mod marks_file;
-mod meeting;
 mod place;
 mod quiet;
 #[allow(unsafe_code)]
@@ -53,6 +52,7 @@ mod session;
 mod shared;
 mod shrink;
 mod turnstile;
+mod window;
 
 pub use error::{Error, Wait};
 pub use explore::{Cause, Failure, explore, try_explore};
@@ -63,3 +63,4 @@ pub use recording::Recording;
 pub use rerun::Rerun;
 pub use schedule::Schedule;
 pub use session::{Object, Session};
+pub use window::{Last, Window, last};

@@ -1,9 +1,9 @@
 //! Runs of any length. Their marks go into a file while they go on, and by it they are run again.
 use crate::error::checked;
 use crate::heap::{Failed, Threads, all_ended, values_of};
-use crate::marks_file::{Feeding, Front, Writing, feed_all};
-use crate::{Builder, Error, Heap, Object, Recording, Session, raw};
-use std::path::PathBuf;
+use crate::marks_file::{Feeding, Writing};
+use crate::{Builder, Error, Heap, Last, Object, Session, Window, raw};
+use std::path::{Path, PathBuf};
 use std::sync::Arc;
 use std::sync::atomic::{AtomicBool, Ordering};
 use std::thread::{self, JoinHandle};
@@ -214,52 +214,44 @@ impl LongBuilder {
         Ok(self.ended(spawn)?.0)
     }
 
-    /// The last accesses of the run that the file has, as a recording that `octet` reads: so many of each thread, or fewer where
-    /// what came before what does not allow for them. The threads run twice: to their ends, and then up to these accesses.
-    ///
-    /// The recording begins with the values that the objects have there. It has the objects that are accessed, and `o2` is the
-    /// third one of the heap. Threads cannot be run again by it, since they would have to begin in the middle.
+    /// The last accesses of the run that the file has: `Window::run` makes a recording of them.
     ///
     /// ```
-    /// use octet::{Error, Heap, Threads};
+    /// use octet::{Error, Heap, Threads, last};
     ///
-    /// fn threads(threads: &mut Threads<'_, u64, Error>) {
-    ///     for _ in 0..2 {
-    ///         threads.spawn(|session| (0..100_000).try_fold(0, |_, _| session.fetch_add(session.object("x")?, 1)));
-    ///     }
+    /// fn threads(threads: &mut Threads<'_, (), Error>) {
+    ///     threads.spawn(|session| (0..9).try_for_each(|value| session.store(session.object("x")?, value)));
     /// }
     ///
-    /// # let file = std::env::temp_dir().join(format!("octet-window-{}.octm", std::process::id()));
-    /// # let stem = std::env::temp_dir().join(format!("octet-window-{}", std::process::id()));
+    /// # let file = std::env::temp_dir().join(format!("octet-last-{}.octm", std::process::id()));
     /// let heap = Heap::builder().object("x", 0);
     /// heap.clone().record(&file).run(threads)?;
-    /// let window = heap.rerun(&file).window(1_000, threads)?;
-    /// window.save(&stem)?; // for `octet trace`, `octet regions` and the other commands
-    /// assert!((1_000..=2_000).contains(&window.script().matches("\nbump o0 ").count()));
+    /// let window = heap.rerun(&file).window(last(2)).run(threads)?;
+    /// assert!(window.script().contains("object o0 6\n"));
     /// # std::fs::remove_file(&file).expect("the file is there");
     /// # Ok::<(), Error>(())
     /// ```
-    ///
-    /// # Errors
-    /// Those of `run`, and of a file that is damaged. `BadSize` where no accesses are wanted. `TooLong` where the accesses need more
-    /// than a script holds: ask for fewer. `NotWhole` and `OtherRecording` where the threads did not make the same accesses twice.
-    ///
-    /// # Panics
-    /// Where a thread does.
-    pub fn window<'a, T: Send>(mut self, last: u16, spawn: impl Fn(&mut Threads<'a, T, Error>)) -> Result<Recording, Error> {
-        if last == 0 {
-            return Err(Error::BadSize);
-        }
-        self.way = Way::Rerun;
-        let (_, mut whole) = LongBuilder { last, ..self.clone() }.ended(&spawn)?;
-        let (mut search, status) = whole.search();
-        checked(status, 0)?;
-        feed_all(&mut search, &self.path)?;
-        let front = Front::cut(&mut search, &self.path)?;
-        let (_, mut there) = LongBuilder { path: front.path().to_path_buf(), ..self }.ended(&spawn)?;
-        let (window, status) = search.window(&mut there);
-        checked(status, 0)?;
-        Recording::of(window, Vec::new())
+    pub fn window(self, last: Last) -> Window {
+        Window::new(self, last)
+    }
+
+    // Runs the threads again by the file, or by another one; each notes so many last accesses.
+    pub(crate) fn rerun_noting<'a, T, E>(
+        &self,
+        path: &Path,
+        last: u16,
+        spawn: impl FnOnce(&mut Threads<'a, T, E>),
+    ) -> Result<raw::Handle, E>
+    where
+        T: Send,
+        E: From<Error> + Send,
+    {
+        let again = LongBuilder { heap: self.heap.clone(), way: Way::Rerun, path: path.to_path_buf(), last };
+        again.ended(spawn).map(|(_, record)| record)
+    }
+
+    pub(crate) fn path(&self) -> &Path {
+        &self.path
     }
 
     // What the run came to, and its record.

@@ -1,5 +1,11 @@
 //! What is public has an example.
 use std::fs;
+use std::path::{Path, PathBuf};
+
+fn sources(folder: &Path) -> Vec<PathBuf> {
+    let inside = fs::read_dir(folder).unwrap().map(|entry| entry.unwrap().path());
+    inside.flat_map(|path| if path.is_dir() { sources(&path) } else { vec![path] }).collect()
+}
 
 fn is_public(line: &str) -> bool {
     ["pub fn ", "pub struct ", "pub enum ", "pub trait "].iter().any(|begin| line.starts_with(begin))
@@ -8,8 +14,8 @@ fn is_public(line: &str) -> bool {
 #[test]
 fn each_public_item_has_an_example() {
     let mut without = Vec::new();
-    for file in fs::read_dir(concat!(env!("CARGO_MANIFEST_DIR"), "/src")).unwrap() {
-        let text = fs::read_to_string(file.unwrap().path()).unwrap();
+    for file in sources(&Path::new(env!("CARGO_MANIFEST_DIR")).join("src")) {
+        let text = fs::read_to_string(file).unwrap();
         let mut has_example = false;
         for line in text.lines().map(str::trim_start) {
             if is_public(line) && !has_example {

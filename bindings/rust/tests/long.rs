@@ -1,5 +1,5 @@
 //! Runs of any length, recorded by their marks alone and run again.
-use octet::{Builder, Error, Heap, LongRun, Session, Threads, explore};
+use octet::{Builder, Error, Heap, LongRun, Session, Threads, explore, last};
 use std::fs;
 use std::path::{Path, PathBuf};
 use std::sync::atomic::{AtomicBool, AtomicU64, Ordering};
@@ -118,19 +118,19 @@ fn the_last_accesses_are_a_recording() {
     for every in [1, 10, 1_000] {
         heap().record(file.as_ref()).run(walks(every)).unwrap();
         let walks = |threads: &mut Threads<'_, u64, Error>| walks(every)(threads);
-        let window = heap().rerun(file.as_ref()).window(100, walks).unwrap();
+        let window = heap().rerun(file.as_ref()).window(last(100)).run(walks).unwrap();
         let made = accesses_of(window.script());
         assert!(made.len() == THREADS as usize && made.iter().all(|&many| many <= 100), "{made:?}");
         // One of the threads at least has all that were wanted.
         assert!(made.contains(&100), "{made:?}");
-        assert_eq!(heap().rerun(file.as_ref()).window(100, walks).unwrap(), window);
+        assert_eq!(heap().rerun(file.as_ref()).window(last(100)).run(walks).unwrap(), window);
         let content = fs::read(file.as_ref()).unwrap();
         fs::write(cut.as_ref(), &content[..content.len() / 2]).unwrap();
-        assert!(heap().rerun(cut.as_ref()).window(10, walks).unwrap().script().starts_with("fuel "));
+        assert!(heap().rerun(cut.as_ref()).window(last(10)).run(walks).unwrap().script().starts_with("fuel "));
     }
-    let none = heap().rerun(file.as_ref()).window(0, |threads| walks(1)(threads));
+    let none = heap().rerun(file.as_ref()).window(last(0)).run(|threads| walks(1)(threads));
     assert!(matches!(none, Err(Error::BadSize)), "{none:?}");
-    let many = heap().rerun(file.as_ref()).window(60_000, |threads| walks(1_000)(threads));
+    let many = heap().rerun(file.as_ref()).window(last(60_000)).run(|threads| walks(1_000)(threads));
     assert!(matches!(many, Err(Error::TooLong)), "{many:?}");
 }
 

@@ -1,0 +1,139 @@
+//! The last accesses of a run of any length.
+use crate::error::checked;
+use crate::marks_file::{Front, feed_all};
+use crate::{Error, LongBuilder, Recording, Threads};
+
+/// How many accesses of each thread a window has: its last ones. `last` makes it.
+///
+/// ```
+/// let accesses: octet::Last = octet::last(1_000);
+/// # let file = std::env::temp_dir().join("octet-no-file.octm");
+/// let window = octet::Heap::builder().object("x", 0).rerun(&file).window(accesses);
+/// # drop(window);
+/// ```
+#[derive(Clone, Copy, Debug, PartialEq, Eq)]
+pub struct Last(u16);
+
+/// So many last accesses of each thread, for `LongBuilder::window`.
+///
+/// ```
+/// assert_eq!(octet::last(1_000), octet::last(1_000));
+/// ```
+pub fn last(accesses: u16) -> Last {
+    Last(accesses)
+}
+
+/// The last accesses of a run of any length, which `run` makes a recording of: so many of each thread, or fewer where what came
+/// before what does not allow for them. The threads run twice: to their ends, and then up to these accesses.
+///
+/// The recording begins with the values that the objects have there. It has the objects that are accessed, and `o2` is the third
+/// one of the heap. Threads cannot be run again by it, since they would have to begin in the middle.
+///
+/// ```
+/// use octet::{Error, Heap, Threads, Window, last};
+///
+/// fn threads(threads: &mut Threads<'_, u64, Error>) {
+///     for _ in 0..2 {
+///         threads.spawn(|session| (0..100_000).try_fold(0, |_, _| session.fetch_add(session.object("x")?, 1)));
+///     }
+/// }
+///
+/// # let file = std::env::temp_dir().join(format!("octet-window-{}.octm", std::process::id()));
+/// # let stem = std::env::temp_dir().join(format!("octet-window-{}", std::process::id()));
+/// let heap = Heap::builder().object("x", 0);
+/// heap.clone().record(&file).run(threads)?;
+/// let window: Window = heap.rerun(&file).window(last(1_000));
+/// let recording = window.run(threads)?;
+/// recording.save(&stem)?; // for `octet trace`, `octet regions` and the other commands
+/// assert!((1_000..=2_000).contains(&recording.script().matches("\nbump o0 ").count()));
+/// # std::fs::remove_file(&file).expect("the file is there");
+/// # Ok::<(), Error>(())
+/// ```
+#[derive(Clone, Debug)]
+#[must_use]
+pub struct Window {
+    long: LongBuilder,
+    last: Last,
+}
+
+impl Window {
+    pub(crate) fn new(long: LongBuilder, last: Last) -> Window {
+        Window { long, last }
+    }
+
+    /// Runs the threads twice, and makes a recording of the window.
+    ///
+    /// ```
+    /// use octet::{Error, Heap, Threads, last};
+    ///
+    /// fn threads(threads: &mut Threads<'_, u64, Error>) {
+    ///     threads.spawn(|session| (0..9).try_fold(0, |_, _| session.fetch_add(session.object("x")?, 1)));
+    /// }
+    ///
+    /// # let file = std::env::temp_dir().join(format!("octet-window-run-{}.octm", std::process::id()));
+    /// let heap = Heap::builder().object("x", 0);
+    /// heap.clone().record(&file).run(threads)?;
+    /// assert_eq!(heap.rerun(&file).window(last(3)).run(threads)?.script().matches("\nbump o0 ").count(), 3);
+    /// # std::fs::remove_file(&file).expect("the file is there");
+    /// # Ok::<(), Error>(())
+    /// ```
+    ///
+    /// # Errors
+    /// Those of `LongBuilder::run`, and of a file that is damaged. `BadSize` where no accesses are wanted. `TooLong` where the
+    /// accesses need more than a script holds: ask for fewer. `NotWhole` and `OtherRecording` where the threads did not make the
+    /// same accesses twice.
+    ///
+    /// # Panics
+    /// Where a thread does.
+    pub fn run<'a, T: Send>(self, spawn: impl Fn(&mut Threads<'a, T, Error>)) -> Result<Recording, Error> {
+        self.try_run(spawn)
+    }
+
+    /// As `run`, with threads that fail with errors of their own.
+    ///
+    /// ```
+    /// use octet::{Heap, Threads, last};
+    /// use std::error::Error;
+    ///
+    /// type Fault = Box<dyn Error + Send + Sync>;
+    ///
+    /// fn threads(threads: &mut Threads<'_, (), Fault>) {
+    ///     threads.spawn(|session| match session.fetch_add(session.object("x")?, 1)? {
+    ///         0 => Ok(()),
+    ///         _ => Err("somebody came first".into()),
+    ///     });
+    /// }
+    ///
+    /// # let file = std::env::temp_dir().join(format!("octet-window-fault-{}.octm", std::process::id()));
+    /// let heap = Heap::builder().object("x", 0);
+    /// heap.clone().record(&file).try_run(threads)?;
+    /// assert!(heap.rerun(&file).window(last(1)).try_run(threads)?.script().contains("bump o0 "));
+    /// # std::fs::remove_file(&file).expect("the file is there");
+    /// # Ok::<(), Fault>(())
+    /// ```
+    ///
+    /// # Errors
+    /// As `run`.
+    ///
+    /// # Panics
+    /// Where a thread does.
+    pub fn try_run<'a, T, E>(self, spawn: impl Fn(&mut Threads<'a, T, E>)) -> Result<Recording, E>
+    where
+        T: Send,
+        E: From<Error> + Send,
+    {
+        let Window { long, last: Last(last) } = self;
+        if last == 0 {
+            return Err(Error::BadSize.into());
+        }
+        let mut whole = long.rerun_noting(long.path(), last, &spawn)?;
+        let (mut search, status) = whole.search();
+        checked(status, 0)?;
+        feed_all(&mut search, long.path())?;
+        let front = Front::cut(&mut search, long.path())?;
+        let mut there = long.rerun_noting(front.path(), 0, &spawn)?;
+        let (window, status) = search.window(&mut there);
+        checked(status, 0)?;
+        Ok(Recording::of(window, Vec::new())?)
+    }
+}
