@@ -1,9 +1,8 @@
 // Threads that make the same accesses by Octet's C library, on atomic words, or behind a mutex for each word. bench/run
 // --native builds and calls it: `native HOW KIND THREADS ACCESSES RUNS` says how many nanoseconds an access takes its thread,
-// in the mean over runs of so many accesses each: of its processor, or by the clock where all want one word. HOW is marks, a
-// run of any length, which goes into a file meanwhile; script, a run that is kept as one, of 87,381 accesses at most; atomic or
-// mutex. KIND is read or update, of a word for each thread; shared, reads of one word by all; wanted, updates of one word by
-// all. An update adds 1.
+// in the mean over runs of so many accesses each: of its processor, and by the clock. HOW is marks, a run of any length, which
+// goes into a file meanwhile; script, a run that is kept as one, of 87,381 accesses at most; atomic or mutex. KIND is read or
+// update, of a word for each thread; shared, reads of one word by all; wanted, updates of one word by all. An update adds 1.
 #include <pthread.h>
 #include <sched.h>
 #include <stdatomic.h>
@@ -26,9 +25,14 @@ struct word {
     uint64_t plain;
 };
 
+// In nanoseconds.
+struct times {
+    uint64_t processor, clock;
+};
+
 struct worker {
     int number;
-    uint64_t nanoseconds;
+    struct times took;
 };
 
 static struct word words[MAX_THREADS];
@@ -42,11 +46,13 @@ static void fail(const char *what) {
     exit(1);
 }
 
-static uint64_t now(void) {
+static uint64_t now_by(clockid_t clock) {
     struct timespec time;
-    clock_gettime(is_shared && is_update ? CLOCK_MONOTONIC : CLOCK_THREAD_CPUTIME_ID, &time);
+    clock_gettime(clock, &time);
     return (uint64_t)time.tv_sec * 1000000000u + (uint64_t)time.tv_nsec;
 }
+
+static struct times now(void) { return (struct times){now_by(CLOCK_THREAD_CPUTIME_ID), now_by(CLOCK_MONOTONIC)}; }
 
 static uint64_t on_atomic(struct word *word) {
     uint64_t sum = 0;
@@ -174,9 +180,11 @@ static void *work(void *argument) {
     struct word *word = &words[is_shared ? 0 : number];
     if (is_recorded) start_session(number);
     pthread_barrier_wait(&all);
-    uint64_t start = now();
+    struct times start = now();
     kept[number] += is_recorded ? in_session(number) : how == ATOMIC ? on_atomic(word) : behind_mutex(word);
-    worker->nanoseconds += now() - start;
+    struct times end = now();
+    worker->took.processor += end.processor - start.processor;
+    worker->took.clock += end.clock - start.clock;
     if (is_recorded) end_session(number);
     return NULL;
 }
@@ -204,8 +212,11 @@ int main(int arguments, char **argument) {
         for (int thread = 0; thread < threads; thread++) pthread_join(started[thread], NULL);
         if (how == MARKS || how == SCRIPT) close_heap(threads);
     }
-    double nanoseconds = 0;
-    for (int thread = 0; thread < threads; thread++) nanoseconds += (double)workers[thread].nanoseconds;
-    printf("%.2f\n", nanoseconds / ((double)count * threads * runs));
+    double processor = 0, clock = 0, made = (double)count * threads * runs;
+    for (int thread = 0; thread < threads; thread++) {
+        processor += (double)workers[thread].took.processor;
+        clock += (double)workers[thread].took.clock;
+    }
+    printf("%.2f %.2f\n", processor / made, clock / made);
     return 0;
 }
