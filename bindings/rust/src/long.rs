@@ -235,7 +235,7 @@ impl LongBuilder {
         Window::new(self, last)
     }
 
-    // Runs the threads again by the file, or by another one; each notes so many last accesses.
+    // Runs the threads again by the file, or by another one, while each notes so many last accesses: the run's record.
     pub(crate) fn rerun_noting<'a, T, E>(
         &self,
         path: &Path,
