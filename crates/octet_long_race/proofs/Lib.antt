@@ -1,9 +1,0 @@
-mod Walked
-mod Writes
-mod Fours
-mod Recorded
-mod Served
-mod Found
-mod Windowed
-mod Reruns
-mod Taken
