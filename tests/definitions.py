@@ -55,7 +55,7 @@ OTHERS = {
     "octet_script/specs/Words.antt": {32},
     "octet_state/specs/Words.antt": {32, 65536},  # Fields of a word.
     "octet_state/src/status_word.rt": {65536},
-    "octet_top/specs/Delivery.antt": {65536},  # Bytes of a piece.
+    "octet_commands/specs/Delivery.antt": {65536},  # Bytes of a piece.
     "octet_window/src/table.rt": {65536},  # Rows, which sixteen bits number.
 }
 # What the gate reads by its place: the answers to a function's goals.

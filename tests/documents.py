@@ -20,7 +20,6 @@ PAGE = re.compile(r"[A-Z]+\.md")
 END = re.compile(r"[\w./-]+\.(?:rt|antt|py)")
 # What a call of the program makes, so that a fresh copy does not have it.
 MADE = re.compile(r"crates/octet/(?:out/|build\.log)")
-WRONG_BODY = re.compile(r"^- `(\w+)`: ", re.MULTILINE)
 
 
 def documents():
@@ -179,24 +178,13 @@ def code_of_the_pages():
     return differs("how many pieces of code", printed >= 20, True)
 
 
-def wrong_bodies():
-    """The wrong bodies that a crate's page names are those that it has."""
-    for path in pages():
-        told = WRONG_BODY.findall(path.read_text().partition("\n## Wrong bodies\n")[2].partition("\n## ")[0])
-        found = sorted(edit.stem for edit in path.parent.glob("must-fail/*.edit"))
-        problem = differs(f"the wrong bodies of {path.parent.name}", sorted(told), found)
-        if problem:
-            return problem
-    return None
-
-
 def problem_of_pages():
-    return first(pages_of_all_crates(), code_of_the_pages(), wrong_bodies())
+    return first(pages_of_all_crates(), code_of_the_pages())
 
 
 TESTS = {
     "documents: how long they are": lengths,
     "documents: links and paths": links_and_paths,
     "documents: the glossary": glossary,
-    "pages: of each crate, with code that is proved and its wrong bodies": problem_of_pages,
+    "pages: of each crate, with code that is proved": problem_of_pages,
 }

@@ -1,5 +1,2 @@
-pub mod answering
-mod profiling
-pub mod reading
-pub mod serving
-pub mod writing
+mod serving
+mod writing

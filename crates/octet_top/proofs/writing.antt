@@ -1,7 +1,5 @@
-pub mod Made
+pub mod Parts
 pub mod Left
-pub mod Cut
-pub mod Lengths
 pub mod LiveFiles
 pub mod LiveMade
-pub mod Parts
+pub mod Cut

@@ -1,12 +1,12 @@
 -- The cause of each status.
 use Rattle.std.specs.Prelude.{ℕ, ◌≡◌, ◌⊎◌, List, Option, Some}
 use Rattle.octet_base.specs.Desk.{Contents, DeskState, Rose}
-use Rattle.octet_top.specs.declared.reply.Status.{Status}
-use Rattle.octet_top.specs.declared.reply.Status.TheVariants.{Done, Read, Write, Memory, NotFound}
-use Rattle.octet_top.specs.Answer.{Answer}
-use Rattle.octet_top.specs.Request.{Quarry, request_in}
-use Rattle.octet_top.specs.declared.request.Request.TheVariants.{Hunt}
-use Rattle.octet_top.specs.Commands.{IsAnswer}
+use Rattle.octet_commands.specs.declared.reply.Status.{Status}
+use Rattle.octet_commands.specs.declared.reply.Status.TheVariants.{Done, Read, Write, Memory, NotFound}
+use Rattle.octet_commands.specs.Answer.{Answer}
+use Rattle.octet_commands.specs.Request.{Quarry, request_in}
+use Rattle.octet_commands.specs.declared.request.Request.TheVariants.{Hunt}
+use Rattle.octet_commands.specs.Commands.{IsAnswer}
 
 -- the words have an answer of this status, by what is told of the files
 abbrev pub IsDue : List (List ℕ) → Option Contents → Status → Type 0

@@ -10,20 +10,20 @@ use Rattle.octet_log.specs.Spellings.{IsSpelling}
 use Rattle.octet_model.specs.Texts.{outcome_text}
 use Rattle.octet_log.specs.declared.loader.Loaded.{Loaded}
 use Rattle.octet_replay.specs.Fit.{IsOfScript}
-use Rattle.octet_top.specs.declared.inputs.Source.{Source}
-use Rattle.octet_top.specs.declared.inputs.Pair.{Pair}
-use Rattle.octet_top.specs.declared.reply.Status.{Status}
-use Rattle.octet_top.specs.declared.reply.Status.TheVariants.{Done, Read, Write, Memory, Cycle, NoEvent, NotFound}
-use Rattle.octet_top.specs.declared.request.PairTask.{PairTask}
-use Rattle.octet_top.specs.declared.request.PairTask.TheVariants.{Regions, Slice}
-use Rattle.octet_top.specs.Answer.{Answer, code_of, read_failed}
-use Rattle.octet_top.specs.Request.{Request, named_by, request_in, outputs_in}
-use Rattle.octet_top.specs.declared.request.Request.TheVariants.{Tidy, Show, Marks, OfPair, Parallel, Convert, Run, Gen, Hunt}
-use Rattle.octet_top.specs.declared.request.Way.TheVariants.{AsTheyCome}
-use Rattle.octet_top.specs.Inputs.{IsScriptRead, IsLogRead, IsScriptChosen, IsPairRead}
-use Rattle.octet_top.specs.Commands.{IsAnswer}
-use Rattle.octet_top.specs.Marks.{IsMarksRead, FileFails}
-use Rattle.octet_top.specs.Outputs.{IsWhole, IsCutShort, IsPartlyWritten}
+use Rattle.octet_commands.specs.declared.inputs.Source.{Source}
+use Rattle.octet_commands.specs.declared.inputs.Pair.{Pair}
+use Rattle.octet_commands.specs.declared.reply.Status.{Status}
+use Rattle.octet_commands.specs.declared.reply.Status.TheVariants.{Done, Read, Write, Memory, Cycle, NoEvent, NotFound}
+use Rattle.octet_commands.specs.declared.request.PairTask.{PairTask}
+use Rattle.octet_commands.specs.declared.request.PairTask.TheVariants.{Regions, Slice}
+use Rattle.octet_commands.specs.Answer.{Answer, code_of, read_failed}
+use Rattle.octet_commands.specs.Request.{Request, named_by, request_in, outputs_in}
+use Rattle.octet_commands.specs.declared.request.Request.TheVariants.{Tidy, Show, Marks, OfPair, Parallel, Convert, Run, Gen, Hunt}
+use Rattle.octet_commands.specs.declared.request.Way.TheVariants.{AsTheyCome}
+use Rattle.octet_commands.specs.Inputs.{IsScriptRead, IsLogRead, IsScriptChosen, IsPairRead}
+use Rattle.octet_commands.specs.Commands.{IsAnswer}
+use Rattle.octet_commands.specs.Marks.{IsMarksRead, FileFails}
+use Rattle.octet_commands.specs.Outputs.{IsWhole, IsCutShort, IsPartlyWritten}
 
 -- the number is one of the thirteen statuses
 abbrev pub IsStatus : ℕ → Type 0

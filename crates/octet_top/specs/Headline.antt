@@ -11,11 +11,11 @@ use Rattle.octet_model.specs.Texts.{outcome_text}
 use Rattle.octet_model.specs.Orders.{IsFaithful}
 use Rattle.octet_script.specs.Spelling.{Spells}
 use Rattle.octet_log.specs.Spellings.{IsSpelling}
-use Rattle.octet_top.specs.declared.reply.Status.TheVariants.{Done}
-use Rattle.octet_top.specs.Answer.{code_of}
-use Rattle.octet_top.specs.Request.{Way, request_in}
-use Rattle.octet_top.specs.declared.request.Request.TheVariants.{Run}
-use Rattle.octet_top.specs.declared.request.Way.TheVariants.{AsTheyCome, BehindLock, ByPicks}
+use Rattle.octet_commands.specs.declared.reply.Status.TheVariants.{Done}
+use Rattle.octet_commands.specs.Answer.{code_of}
+use Rattle.octet_commands.specs.Request.{Way, request_in}
+use Rattle.octet_commands.specs.declared.request.Request.TheVariants.{Run}
+use Rattle.octet_commands.specs.declared.request.Way.TheVariants.{AsTheyCome, BehindLock, ByPicks}
 
 -- the digest that is written with the log: that of the script's text where threads run beside each other, else none
 abbrev pub digest_kept : Way → List ℕ → Option (List ℕ)

@@ -12,10 +12,10 @@ use Rattle.octet_model.specs.declared.outcome.Outcome.{Outcome}
 use Rattle.octet_model.specs.Orders.{IsFaithful}
 use Rattle.octet_model.specs.Texts.{outcome_text}
 use Rattle.octet_log.specs.v2.Pieces.{Piece, ArePieces, head_bytes, piece_bytes, tail_bytes, pieced_bytes, SpellsPieces}
-use Rattle.octet_top.specs.declared.inputs.Source.{Source}
-use Rattle.octet_top.specs.declared.reply.Status.TheVariants.{Done}
-use Rattle.octet_top.specs.Inputs.{IsScriptRead}
-use Rattle.octet_top.specs.Delivery.{Act, Begin, Add, Finish, Say, Does, IsRefused, code_given}
+use Rattle.octet_commands.specs.declared.inputs.Source.{Source}
+use Rattle.octet_commands.specs.declared.reply.Status.TheVariants.{Done}
+use Rattle.octet_commands.specs.Inputs.{IsScriptRead}
+use Rattle.octet_commands.specs.Delivery.{Act, Begin, Add, Finish, Say, Does, IsRefused, code_given}
 
 -- the calls are made one after the other, and then what is next follows. They end at the first that is refused,
 -- or where memory is refused before one

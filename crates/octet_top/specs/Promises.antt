@@ -31,23 +31,23 @@ use Rattle.octet_hunt.specs.Hunts.{Meets}
 use Rattle.octet_gen.specs.Generated.{IsGenerated}
 use Rattle.octet_machine.specs.Turns.{IsPlayed}
 use Rattle.octet_top.specs.Headline.{IsFaithfulRun}
-use Rattle.octet_top.specs.Request.{Way, request_in, Quarry, named_by}
-use Rattle.octet_top.specs.declared.request.Request.TheVariants.{Run, OfPair, Parallel, Convert, Gen, Hunt}
-use Rattle.octet_top.specs.declared.request.Way.TheVariants.{ByPicks}
-use Rattle.octet_top.specs.declared.reply.Status.TheVariants.{Done, Misfit, Cycle}
+use Rattle.octet_commands.specs.Request.{Way, request_in, Quarry, named_by}
+use Rattle.octet_commands.specs.declared.request.Request.TheVariants.{Run, OfPair, Parallel, Convert, Gen, Hunt}
+use Rattle.octet_commands.specs.declared.request.Way.TheVariants.{ByPicks}
+use Rattle.octet_commands.specs.declared.reply.Status.TheVariants.{Done, Misfit, Cycle}
 use Rattle.std.specs.List.{sum_by}
-use Rattle.octet_top.specs.declared.inputs.Source.{Source}
-use Rattle.octet_top.specs.declared.inputs.Pair.{Pair}
-use Rattle.octet_top.specs.declared.request.PairTask.TheVariants.{Replay, Verify, Regions, Slice, Stop, Trace}
-use Rattle.octet_top.specs.Answer.{summary, code_of, try_text}
-use Rattle.octet_top.specs.Inputs.{IsScriptChosen, IsPairRead}
+use Rattle.octet_commands.specs.declared.inputs.Source.{Source}
+use Rattle.octet_commands.specs.declared.inputs.Pair.{Pair}
+use Rattle.octet_commands.specs.declared.request.PairTask.TheVariants.{Replay, Verify, Regions, Slice, Stop, Trace}
+use Rattle.octet_commands.specs.Answer.{summary, code_of, try_text}
+use Rattle.octet_commands.specs.Inputs.{IsScriptChosen, IsPairRead}
 use Rattle.octet_slice.specs.declared.finding.Found.{Found}
 use Rattle.octet_slice.specs.declared.slicing.Sliced.{Sliced}
 use Rattle.octet_slice.specs.FirstMatch.{IsFound}
 use Rattle.octet_slice.specs.Slice.{IsSliceOf}
-use Rattle.octet_top.specs.Slices.{slice_text, is_match, stop_text}
-use Rattle.octet_top.specs.TraceTexts.{trace_text}
-use Rattle.octet_top.specs.Commands.{aim_of, found_said, second_bytes, regions_said, told_before}
+use Rattle.octet_commands.specs.Slices.{slice_text, is_match, stop_text}
+use Rattle.octet_commands.specs.TraceTexts.{trace_text}
+use Rattle.octet_commands.specs.Commands.{aim_of, found_said, second_bytes, regions_said, told_before}
 
 -- the updates of a faithful run add up to the final values that were said, by the journals of each lawful order
 abbrev pub HasExactTotals : {way : Way} {script_name log_name : List ℕ} {before after : Contents} → IsFaithfulRun way script_name log_name before after → Type 0

@@ -2,17 +2,14 @@
 ghost use Rattle.std.specs.Prelude.{◌≡◌, IfOk, IfSome, None, Some};
 ghost use Rattle.octet_model.specs.Orders.{execution, lowest_order};
 ghost use Rattle.octet_clock.specs.Fronts.{OrdersConflicts};
-ghost use Rattle.octet_top.specs.declared.request.Request.TheVariants.{Parallel};
-ghost use Rattle.octet_top.specs.Commands.{ParallelReplays};
-ghost use Rattle.octet_top.specs.Replies.{Replies};
-ghost use Rattle.octet_top.specs.Answer.{IsAnswered, given_reply};
+ghost use Rattle.octet_commands.specs.declared.request.Request.TheVariants.{Parallel};
+ghost use Rattle.octet_commands.specs.Commands.{ParallelReplays};
+ghost use Rattle.octet_commands.specs.Replies.{Replies};
+ghost use Rattle.octet_commands.specs.Answer.{IsAnswered, given_reply};
 
-use crate::commands::replay_ordered;
-use crate::inputs::{Pair, read_fitting};
-use crate::refusal::Refused;
-use crate::reply::{Reply, Status};
 use octet_base::{Desk, Gate};
 use octet_clock::untied;
+use octet_commands::{Pair, Refused, Reply, Status, read_fitting, replay_ordered};
 use octet_model::{OutOfMemory, Outcome, outcome_text};
 use octet_parallel::parallel;
 use std::alloc::Global;
@@ -36,7 +33,7 @@ pub(crate) fn replay_on_threads<R: Threads + Wait + Sync, D: Desk, G: Gate>(
 }
 
 /// Where the threads give no outcome, one thread finds out why.
-#[tactic(auto, using(crate::proofs::answering::Checking::ordered_verified))]
+#[tactic(auto, using(octet_commands::proofs::lemmas::Checking::ordered_verified))]
 fn play_pair<R: Threads + Wait + Sync, G: Gate>(
     rt: &R,
     alloc: Global,

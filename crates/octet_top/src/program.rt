@@ -1,21 +1,19 @@
 //! The top calls: words in, an exit status out.
 ghost use Rattle.std.specs.Prelude.{◌≡◌, ◌⊎◌, None};
 ghost use Rattle.octet_base.specs.Desk.{Contents};
-ghost use Rattle.octet_top.specs.declared.reply.Status.{Status};
-ghost use Rattle.octet_top.specs.declared.reply.Status.TheVariants.{Memory};
-ghost use Rattle.octet_top.specs.Answer.{code_of};
-ghost use Rattle.octet_top.specs.Request.{texts, request_in, reading_in};
+ghost use Rattle.octet_commands.specs.declared.reply.Status.{Status};
+ghost use Rattle.octet_commands.specs.declared.reply.Status.TheVariants.{Memory};
+ghost use Rattle.octet_commands.specs.Answer.{code_of};
+ghost use Rattle.octet_commands.specs.Request.{texts, request_in};
 ghost use Rattle.octet_top.specs.Causes.{IsCause, IsDue, FindsOrNot, NoneFailed};
 ghost use Rattle.octet_top.specs.Effects.{IsStatus, Leaves, CutsRun, KeepsOthers, KeepsFiles, CountsFailures, IsCompleted, IsWellMet};
-ghost use Rattle.octet_top.specs.Serving.{IsReplied, IsServed};
+ghost use Rattle.octet_top.specs.Serving.{IsServed};
 ghost use Rattle.octet_top.specs.Headline.{RunsFaithfully};
 ghost use Rattle.octet_top.specs.Promises.{RunsAsPicked, RunsWithExactTotals, VerifiesOrdered, ReplaysOnThreads, FindsRegions, RepeatsRecordings, SlicesPasts, StopsAtFirst, TracesOrders, TracesMisfits, ConvertsLogs, GeneratesFaithfully, HuntsFaithfully};
 
-use crate::deliver::deliver;
-use crate::request::request_of;
 use crate::with_runtime::serve_request;
-use crate::without_runtime::reply_alone;
 use octet_base::Desk;
+use octet_commands::{deliver, reply_alone, request_of};
 use octet_threads::HeapGate;
 use std::alloc::Global;
 use std::sync::Wait;
@@ -128,14 +126,4 @@ fn serve_words<R: Threads + Wait + Sync, D: Desk, G: HeapGate>(
             deliver(alloc, desk, reply)
         }
     }
-}
-
-/// Serves words that run no script, on the calling thread alone: it waits for nobody, and so it
-/// returns. To all other words it says that they are no command.
-pub fn serve_alone<D: Desk>(alloc: Global, words: &[String], desk: &mut D) -> u8
-    requires { (D.state desk.old).begun ≡ None }
-    ensures { IsReplied (reading_in (texts words.now)) (D.state desk.old) (D.state desk.new) result }
-{
-    let reply = reply_alone(alloc, desk, request_of(words));
-    deliver(alloc, desk, reply)
 }

@@ -1,27 +1,22 @@
 //! Requests served with the runtime, which some of them need: `run SCRIPT LOG`, `locked SCRIPT LOG`,
 //! `turns SCRIPT LOG PICKS`, `gen NUMBER SCRIPT LOG` and `parallel SCRIPT LOG`; and all others.
 ghost use Rattle.std.specs.Prelude.{◌≡◌, IfOk, None, Some};
-ghost use Rattle.octet_top.specs.Answer.{answer_of, file_of, IsAnswered, given_reply, writes_file};
-ghost use Rattle.octet_top.specs.Request.{shown};
-ghost use Rattle.octet_top.specs.declared.request.Request.TheVariants.{Run};
-ghost use Rattle.octet_top.specs.declared.request.Way.TheVariants.{BehindLock, ByPicks};
-ghost use Rattle.octet_top.specs.Commands.{IsGeneration, Records};
+ghost use Rattle.octet_commands.specs.Answer.{answer_of, file_of, IsAnswered, given_reply, writes_file};
+ghost use Rattle.octet_commands.specs.Request.{shown};
+ghost use Rattle.octet_commands.specs.declared.request.Request.TheVariants.{Run};
+ghost use Rattle.octet_commands.specs.declared.request.Way.TheVariants.{BehindLock, ByPicks};
+ghost use Rattle.octet_commands.specs.Commands.{IsGeneration, Records};
 ghost use Rattle.octet_model.specs.Orders.{IsFaithful};
 ghost use Rattle.octet_model.specs.Texts.{log_bytes, outcome_text};
-ghost use Rattle.octet_top.specs.Replies.{Replies};
+ghost use Rattle.octet_commands.specs.Replies.{Replies};
 ghost use Rattle.octet_top.specs.Serving.{IsServed};
 
-use crate::deliver::deliver;
-use crate::inputs::read_script;
 use crate::live::serve_live;
-use crate::marks::serve_marks;
 use crate::parallel::replay_on_threads;
-use crate::picks::picks_of;
-use crate::refusal::Refused;
-use crate::reply::{Output, Reply};
-use crate::request::{Request, Way};
-use crate::without_runtime::reply_alone;
 use octet_base::Desk;
+use octet_commands::{
+    Output, Refused, Reply, Request, Way, deliver, picks_of, read_script, reply_alone, serve_marks,
+};
 use octet_gen::make;
 use octet_log::encode_v1;
 use octet_machine::play;
@@ -80,7 +75,7 @@ pub(crate) fn serve_request<R: Threads + Wait + Sync, D: Desk, G: HeapGate>(
 
 /// The script is run as its threads come, over a machine behind one lock; they pass the gate before
 /// each access.
-#[tactic(auto, using(crate::proofs::answering::Found::run_stops))]
+#[tactic(auto, using(octet_commands::proofs::lemmas::Found::run_stops))]
 fn run_behind_lock<R: Threads + Wait + Sync, D: Desk, G: HeapGate>(
     rt: &R,
     alloc: Global,
@@ -97,7 +92,7 @@ fn run_behind_lock<R: Threads + Wait + Sync, D: Desk, G: HeapGate>(
 }
 
 /// The script is run by picks, on the calling thread.
-#[tactic(auto, using(crate::proofs::answering::Found::run_stops))]
+#[tactic(auto, using(octet_commands::proofs::lemmas::Found::run_stops))]
 fn run_by_picks<R: Threads + Wait + Sync, D: Desk>(
     rt: &R,
     alloc: Global,

@@ -7,28 +7,30 @@ use Rattle.sha2.specs.Sha256.{sha256}
 use Rattle.std.specs.Global.{Vec}
 use Rattle.octet_model.specs.Texts.{outcome_text}
 use Rattle.octet_log.specs.v2.Pieces.{pieced_bytes}
-use Rattle.octet_top.specs.declared.reply.Reply.{Reply}
-use Rattle.octet_top.specs.declared.reply.Status.{Status}
-use Rattle.octet_top.specs.declared.reply.Status.TheVariants as exit
-use Rattle.octet_top.specs.Answer.{Answer, answer_of, code_of, read_failed, writes_file}
-use Rattle.octet_top.specs.Request.{Request, request_in}
-use Rattle.octet_top.specs.declared.request.Request.TheVariants.{Tidy, Show, Marks, OfPair, Parallel, Convert, Run, Gen, Hunt}
-use Rattle.octet_top.specs.declared.request.Way.TheVariants.{AsTheyCome, BehindLock, ByPicks}
-use Rattle.octet_top.specs.Commands.{Answers, IsAnswer}
-use Rattle.octet_top.specs.Replies.{Replies, TakesFiles}
-use Rattle.octet_top.specs.Delivery.{Act, Begin, Add, Finish, Say, Does, Makes, IsRefused, acts_of, code_given, IsGiven}
+use Rattle.octet_commands.specs.declared.reply.Reply.{Reply}
+use Rattle.octet_commands.specs.declared.reply.Status.{Status}
+use Rattle.octet_commands.specs.declared.reply.Status.TheVariants as exit
+use Rattle.octet_commands.specs.Answer.{Answer, answer_of, code_of, read_failed, writes_file}
+use Rattle.octet_commands.specs.Request.{Request, request_in}
+use Rattle.octet_commands.specs.declared.request.Request.TheVariants.{Tidy, Show, Marks, OfPair, Parallel, Convert, Run, Gen, Hunt}
+use Rattle.octet_commands.specs.declared.request.Way.TheVariants.{AsTheyCome, BehindLock, ByPicks}
+use Rattle.octet_commands.specs.Commands.{Answers, IsAnswer}
+use Rattle.octet_commands.specs.Replies.{Replies, TakesFiles}
+use Rattle.octet_commands.specs.Delivery.{Act, Begin, Add, Finish, Say, Does, Makes, IsRefused, acts_of, code_given, IsGiven}
 use Rattle.octet_top.specs.Live.{MakesSome, IsToldLive, IsWrittenLive, IsRunLive}
 use Rattle.octet_top.proofs.writing.Parts.{log_parts, parts_acts}
 use Rattle.octet_top.proofs.writing.LiveMade.{log_some, refused_log}
-use Rattle.octet_top.specs.Serving.{IsReplied, IsServed}
+use Rattle.octet_commands.specs.Serving.{IsReplied}
+use Rattle.octet_top.specs.Serving.{IsServed}
 use Rattle.octet_top.specs.Effects.{AsksRun, LeavesLog, SaysFailed}
-use Rattle.octet_top.specs.Marks.{IsFileFound, IsFileCut, WhereTold, MarksEnding, SaidWhole, SayFailed, MemoryRefused}
-use Rattle.octet_top.specs.Inputs.{IsScriptRead}
+use Rattle.octet_commands.specs.Marks.{IsFileFound, IsFileCut, WhereTold, MarksEnding, SaidWhole, SayFailed, MemoryRefused}
+use Rattle.octet_commands.specs.Inputs.{IsScriptRead}
 use Rattle.octet_top.specs.Causes.{IsCause}
-use Rattle.octet_top.specs.Outputs.{IsPartlyWritten, IsWhole, IsCutShort}
-use Rattle.octet_top.proofs.writing.Left.{IsLeft, Holds, some_is, some_of, joined, held_called, taken_held, answer_left, told_left, cut_left}
+use Rattle.octet_commands.specs.Outputs.{IsPartlyWritten, IsWhole, IsCutShort}
+use Rattle.octet_commands.proofs.lemmas.Holding.{Holds, some_is, held_called}
+use Rattle.octet_top.proofs.writing.Left.{IsLeft, some_of, joined, taken_held, answer_left, told_left, cut_left}
 use Rattle.octet_top.proofs.writing.LiveFiles.{parts_joined, live_file}
-use Rattle.octet_top.proofs.answering.Rows.{is_refusal, answers_row}
+use Rattle.octet_commands.proofs.lemmas.Rows.{is_refusal, answers_row}
 
 -- the status of a code
 abbrev pub of_code : ℕ → Status

@@ -19,22 +19,22 @@ use Rattle.octet_replay.specs.declared.fitting.FitFault.{FitFault}
 use Rattle.octet_replay.specs.declared.fitting.FitFault.TheVariants.{WrongScript}
 use Rattle.octet_replay.specs.Fit.{IsOfScript, IsOfAnother}
 use Rattle.octet_replay.proofs.lemmas.OneAnswer.{not_refused}
-use Rattle.octet_top.specs.declared.inputs.Source.{Source}
-use Rattle.octet_top.specs.declared.inputs.Pair.{Pair}
-use Rattle.octet_top.specs.declared.request.PairTask.{PairTask}
-use Rattle.octet_top.specs.declared.reply.Status.{Status}
-use Rattle.octet_top.specs.declared.reply.Status.TheVariants as exit
-use Rattle.octet_top.specs.Answer.{Answer, code_of, not_a_command, read_failed, too_long, script_refused, log_refused}
-use Rattle.octet_top.specs.Request.{Request, Quarry, named_by, request_in}
-use Rattle.octet_top.specs.declared.request.Request.TheVariants.{Tidy, Show, Marks, OfPair, Parallel, Convert, Run, Gen, Hunt}
-use Rattle.octet_top.specs.Inputs.{◌>>=◌, IsTaken, IsParsed, IsDecoded, IsChosen, IsScriptRead, IsLogRead, IsScriptChosen, IsPairRead}
-use Rattle.octet_top.specs.Marks.{ReadsTo, fed, judged, pieces_text, SaysRest, MarksAnswers, FileAnswers}
+use Rattle.octet_commands.specs.declared.inputs.Source.{Source}
+use Rattle.octet_commands.specs.declared.inputs.Pair.{Pair}
+use Rattle.octet_commands.specs.declared.request.PairTask.{PairTask}
+use Rattle.octet_commands.specs.declared.reply.Status.{Status}
+use Rattle.octet_commands.specs.declared.reply.Status.TheVariants as exit
+use Rattle.octet_commands.specs.Answer.{Answer, code_of, not_a_command, read_failed, too_long, script_refused, log_refused}
+use Rattle.octet_commands.specs.Request.{Request, Quarry, named_by, request_in}
+use Rattle.octet_commands.specs.declared.request.Request.TheVariants.{Tidy, Show, Marks, OfPair, Parallel, Convert, Run, Gen, Hunt}
+use Rattle.octet_commands.specs.Inputs.{◌>>=◌, IsTaken, IsParsed, IsDecoded, IsChosen, IsScriptRead, IsLogRead, IsScriptChosen, IsPairRead}
+use Rattle.octet_commands.specs.Marks.{ReadsTo, fed, judged, pieces_text, SaysRest, MarksAnswers, FileAnswers}
 use Rattle.octet_top.specs.Serving.{IsServed}
 use Rattle.octet_top.specs.Causes.{IsDue, FindsOrNot, NoneFailed}
-use Rattle.octet_top.proofs.reading.Chains.{Stands, has_none, one_reading as reads_once}
+use Rattle.octet_commands.proofs.lemmas.Chains.{Stands, has_none, one_reading as reads_once}
 use Rattle.octet_top.proofs.serving.Causes.{Ending, Whole, CutShort, Lacking, ended}
-use Rattle.octet_top.proofs.answering.Rows.{PairRow, AllDone, NotOrdered, NotSerial, NotThere, ParallelRow, Replayed, Apart, has_event, tidy_row, show_row, pair_row, parallel_row, run_row, none_status}
-use Rattle.octet_top.specs.Commands.{Answering, Answers, RequestAnswers, IsAnswer, TidyAnswers, ShowAnswers, Matching, PairReplays, PairAnswers, ParallelReplays, ParallelAnswers, Converts, ConvertAnswers, RunAnswers, HuntAnswers}
+use Rattle.octet_commands.proofs.lemmas.Rows.{PairRow, AllDone, NotOrdered, NotSerial, NotThere, ParallelRow, Replayed, Apart, has_event, tidy_row, show_row, pair_row, parallel_row, run_row, none_status}
+use Rattle.octet_commands.specs.Commands.{Answering, Answers, RequestAnswers, IsAnswer, TidyAnswers, ShowAnswers, Matching, PairReplays, PairAnswers, ParallelReplays, ParallelAnswers, Converts, ConvertAnswers, RunAnswers, HuntAnswers}
 
 -- a step ends in one way
 pub record Single {A : Type 0} (Step : Result A Answer → Type 0) : Type 0 where

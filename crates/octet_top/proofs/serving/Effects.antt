@@ -5,23 +5,23 @@ use Rattle.std.proofs.lemmas.List.{take_all}
 use Rattle.octet_base.specs.Desk.{Files, Contents, DeskState}
 use Rattle.octet_model.specs.Orders.{lowest_order}
 use Rattle.octet_replay.proofs.lemmas.OneAnswer.{faithful, not_refused}
-use Rattle.octet_top.specs.declared.inputs.Pair.{Pair}
-use Rattle.octet_top.specs.declared.request.PairTask.{PairTask}
-use Rattle.octet_top.specs.declared.request.PairTask.TheVariants.{Replay, Verify, Regions, Slice, Stop, Trace, Profile}
-use Rattle.octet_top.specs.declared.reply.Status.{Status}
-use Rattle.octet_top.specs.declared.reply.Status.TheVariants as exit
-use Rattle.octet_top.specs.Answer.{Answer, code_of}
-use Rattle.octet_top.specs.Request.{Request, named_by, request_in, outputs_in}
-use Rattle.octet_top.specs.declared.request.Request.TheVariants.{Tidy, Show, Marks, OfPair, Parallel, Convert, Run, Gen, Hunt}
-use Rattle.octet_top.specs.Commands.{Answers, RequestAnswers, PairAnswers, ParallelAnswers, ConvertAnswers, IsAnswer}
+use Rattle.octet_commands.specs.declared.inputs.Pair.{Pair}
+use Rattle.octet_commands.specs.declared.request.PairTask.{PairTask}
+use Rattle.octet_commands.specs.declared.request.PairTask.TheVariants.{Replay, Verify, Regions, Slice, Stop, Trace, Profile}
+use Rattle.octet_commands.specs.declared.reply.Status.{Status}
+use Rattle.octet_commands.specs.declared.reply.Status.TheVariants as exit
+use Rattle.octet_commands.specs.Answer.{Answer, code_of}
+use Rattle.octet_commands.specs.Request.{Request, named_by, request_in, outputs_in}
+use Rattle.octet_commands.specs.declared.request.Request.TheVariants.{Tidy, Show, Marks, OfPair, Parallel, Convert, Run, Gen, Hunt}
+use Rattle.octet_commands.specs.Commands.{Answers, RequestAnswers, PairAnswers, ParallelAnswers, ConvertAnswers, IsAnswer}
 use Rattle.octet_top.specs.Serving.{IsServed}
-use Rattle.octet_top.specs.Outputs.{written, ArePartlyWritten}
+use Rattle.octet_commands.specs.Outputs.{written, ArePartlyWritten}
 use Rattle.octet_top.specs.Causes.{NoneFailed}
 use Rattle.octet_top.specs.Effects.{IsStatus, CountsFailures, IsUntouched, IsCut, IsDelivered, IsGivenAnswer, Leaves, LeavesLog, IsOneOf, KeepsOthers, KeepsFiles, SaysFailed, HasFiles, MayLack, MayEndWith, IsCompleted, IsWellMet}
 use Rattle.octet_top.proofs.serving.Causes.{Ending, Whole, CutShort, Lacking, IsFound, IsShort, ended, says_failed}
-use Rattle.octet_top.proofs.answering.Rows.{AllDone, NotOrdered, NotSerial, NotThere, Replayed, Apart, HasItsEvent, JudgesRegions, IsDone, Refuses, is_refusal, answers_row, request_row, tidy_row, show_row, pair_row, parallel_row, run_row, none_status}
-use Rattle.octet_top.specs.declared.marks.TheConstants.{TOO_MANY_BYTES}
-use Rattle.octet_top.specs.Marks.{ReadsTo, fed, pieces_text, SaysRest, MarksAnswers}
+use Rattle.octet_commands.proofs.lemmas.Rows.{AllDone, NotOrdered, NotSerial, NotThere, Replayed, Apart, HasItsEvent, JudgesRegions, IsDone, Refuses, is_refusal, answers_row, request_row, tidy_row, show_row, pair_row, parallel_row, run_row, none_status}
+use Rattle.octet_commands.specs.declared.marks.TheConstants.{TOO_MANY_BYTES}
+use Rattle.octet_commands.specs.Marks.{ReadsTo, fed, pieces_text, SaysRest, MarksAnswers}
 use Rattle.octet_top.proofs.serving.Due.{some_file, marks_once, script_single, log_single, script_chosen_single, pair_single, not_of_another, comes}
 use Rattle.octet_top.proofs.writing.Left.{get-other}
 

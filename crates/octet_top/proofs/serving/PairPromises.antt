@@ -12,25 +12,25 @@ use Rattle.octet_replay.proofs.lemmas.OneAnswer.{faithful}
 use Rattle.octet_clock.specs.declared.verdict.Verdict.{Verdict}
 use Rattle.octet_clock.specs.declared.verdict.Verdict.TheVariants as verdict
 use Rattle.octet_clock.specs.Verified.{IsVerified}
-use Rattle.octet_top.specs.declared.inputs.Pair.{Pair}
-use Rattle.octet_top.specs.declared.request.PairTask.{PairTask}
-use Rattle.octet_top.specs.declared.request.PairTask.TheVariants.{Replay, Verify, Regions, Slice, Stop, Trace}
-use Rattle.octet_top.specs.declared.reply.Status.{Status}
-use Rattle.octet_top.specs.declared.reply.Status.TheVariants.{Done, Misfit, Unordered, Cycle, NoEvent}
-use Rattle.octet_top.specs.Answer.{Answer, code_of, says, verdict_said}
-use Rattle.octet_top.specs.Slices.{slice_line}
-use Rattle.octet_top.specs.Request.{Request, request_in}
-use Rattle.octet_top.specs.declared.request.Request.TheVariants.{OfPair}
-use Rattle.octet_top.specs.Inputs.{IsPairRead}
-use Rattle.octet_top.specs.Commands.{Answers, RequestAnswers, OutcomeSays, WhereOrdered, Answering, Matching, Fitting, PairSays, told_before}
+use Rattle.octet_commands.specs.declared.inputs.Pair.{Pair}
+use Rattle.octet_commands.specs.declared.request.PairTask.{PairTask}
+use Rattle.octet_commands.specs.declared.request.PairTask.TheVariants.{Replay, Verify, Regions, Slice, Stop, Trace}
+use Rattle.octet_commands.specs.declared.reply.Status.{Status}
+use Rattle.octet_commands.specs.declared.reply.Status.TheVariants.{Done, Misfit, Unordered, Cycle, NoEvent}
+use Rattle.octet_commands.specs.Answer.{Answer, code_of, says, verdict_said}
+use Rattle.octet_commands.specs.Slices.{slice_line}
+use Rattle.octet_commands.specs.Request.{Request, request_in}
+use Rattle.octet_commands.specs.declared.request.Request.TheVariants.{OfPair}
+use Rattle.octet_commands.specs.Inputs.{IsPairRead}
+use Rattle.octet_commands.specs.Commands.{Answers, RequestAnswers, OutcomeSays, WhereOrdered, Answering, Matching, Fitting, PairSays, told_before}
 use Rattle.octet_top.specs.Serving.{IsServed}
-use Rattle.octet_top.specs.Outputs.{IsWhole}
+use Rattle.octet_commands.specs.Outputs.{IsWhole}
 use Rattle.octet_top.specs.Promises.{IsOrderedPair, VerifiesOrdered, IsReplayedOnThreads, ReplaysOnThreads, IsFoundRegions, FindsRegions, RepeatsRecordings, IsSlicedPair, SlicesPasts, StopsAtFirst, TracesOrders, IsTracedMisfit, TracesMisfits}
 use Rattle.octet_top.proofs.serving.Causes.{has_cause}
 use Rattle.octet_top.proofs.serving.Due.{pair_single, not_of_another}
 use Rattle.octet_top.proofs.serving.Effects.{leaves}
 use Rattle.octet_top.proofs.serving.Promises.{Gives, at_status, at_success}
-use Rattle.octet_top.proofs.answering.Rows.{is_of_reading, not_of_reading, pair_unread}
+use Rattle.octet_commands.proofs.lemmas.Rows.{is_of_reading, not_of_reading, pair_unread}
 
 -- script and log were taken, and are of each other, and this is said of them
 record IsTold (Says : Pair → Answer → Type 0) (script log : List ℕ) (object : Option (List ℕ)) (contents : Option Contents) (answer : Answer) : Type 0 where

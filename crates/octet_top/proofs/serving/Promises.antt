@@ -5,26 +5,26 @@ use Rattle.octet_base.specs.Desk.{Files, Contents, DeskState}
 use Rattle.octet_model.specs.Texts.{log_bytes, outcome_text}
 use Rattle.octet_model.proofs.lemmas.LogLength.{faithful_log_is_short}
 use Rattle.octet_model.proofs.lemmas.Totals.{faithful_adds_up}
-use Rattle.octet_top.specs.declared.reply.Status.{Status}
-use Rattle.octet_top.specs.declared.reply.Status.TheVariants.{Done, Read, Write, Memory, NotFound}
-use Rattle.octet_top.specs.Answer.{Answer, code_of, writes_file, writes_both, summary, try_text}
-use Rattle.octet_top.specs.Request.{Way, request_in, Quarry, named_by}
-use Rattle.octet_top.specs.declared.request.Request.TheVariants.{Run, Convert, Gen, Hunt}
-use Rattle.octet_top.specs.declared.request.Way.TheVariants.{ByPicks}
+use Rattle.octet_commands.specs.declared.reply.Status.{Status}
+use Rattle.octet_commands.specs.declared.reply.Status.TheVariants.{Done, Read, Write, Memory, NotFound}
+use Rattle.octet_commands.specs.Answer.{Answer, code_of, writes_file, writes_both, summary, try_text}
+use Rattle.octet_commands.specs.Request.{Way, request_in, Quarry, named_by}
+use Rattle.octet_commands.specs.declared.request.Request.TheVariants.{Run, Convert, Gen, Hunt}
+use Rattle.octet_commands.specs.declared.request.Way.TheVariants.{ByPicks}
 use Rattle.octet_log.specs.Spellings.{IsSpelling}
 use Rattle.octet_top.specs.Headline.{digest_kept, IsFaithfulRun, RunsFaithfully}
-use Rattle.octet_top.specs.Commands.{Answers, Records, RequestAnswers, found_said, second_bytes}
+use Rattle.octet_commands.specs.Commands.{Answers, Records, RequestAnswers, found_said, second_bytes}
 use Rattle.octet_top.specs.Serving.{IsServed}
-use Rattle.octet_top.specs.Outputs.{IsWhole}
+use Rattle.octet_commands.specs.Outputs.{IsWhole}
 use Rattle.octet_top.specs.Promises.{RunsAsPicked, RunsWithExactTotals, IsConversion, ConvertsLogs, IsGeneratedRun, GeneratesFaithfully, IsHuntedRun, HuntsFaithfully}
-use Rattle.octet_top.proofs.answering.Recorded.{recorded_faithfully}
+use Rattle.octet_commands.proofs.lemmas.Recorded.{recorded_faithfully}
 use Rattle.octet_top.proofs.serving.Causes.{same_status, says_failed}
 use Rattle.octet_top.proofs.serving.Effects.{leaves}
 use Rattle.octet_top.specs.Effects.{Leaves}
 use Rattle.octet_model.specs.declared.outcome.Outcome.{Outcome}
 use Rattle.octet_model.specs.Orders.{IsFaithful, journals_after}
 use Rattle.octet_replay.proofs.lemmas.OneAnswer.{faithful}
-use Rattle.octet_top.proofs.answering.Rows.{not_done, script_refused, chosen_refused, pair_refused, none_status}
+use Rattle.octet_commands.proofs.lemmas.Rows.{not_done, script_refused, chosen_refused, pair_refused, none_status}
 use Rattle.octet_top.proofs.writing.Left.{get-inserted, get-other}
 use Rattle.octet_script.specs.Spelling.{canonical_text}
 use Rattle.std.specs.List.{sum_by}

@@ -2,19 +2,19 @@
 use Rattle.std.proofs.Common.{◌≡◌, ◌∙◌, ◌⊎◌, ℕ, List, true, inl, inr, Option, Some, sym, ap, subst}
 use Rattle.octet_base.specs.Desk.{Contents, DeskState}
 use Rattle.octet_model.specs.Texts.{outcome_text}
-use Rattle.octet_top.specs.declared.reply.Status.{Status}
-use Rattle.octet_top.specs.declared.reply.Status.TheVariants as exit
-use Rattle.octet_top.specs.Answer.{Answer, code_of, writes_file}
-use Rattle.octet_top.specs.Request.{Request, request_in}
-use Rattle.octet_top.specs.declared.request.Request.TheVariants.{Run}
-use Rattle.octet_top.specs.declared.request.Way.TheVariants.{AsTheyCome}
-use Rattle.octet_top.specs.Commands.{Answers, RequestAnswers}
+use Rattle.octet_commands.specs.declared.reply.Status.{Status}
+use Rattle.octet_commands.specs.declared.reply.Status.TheVariants as exit
+use Rattle.octet_commands.specs.Answer.{Answer, code_of, writes_file}
+use Rattle.octet_commands.specs.Request.{Request, request_in}
+use Rattle.octet_commands.specs.declared.request.Request.TheVariants.{Run}
+use Rattle.octet_commands.specs.declared.request.Way.TheVariants.{AsTheyCome}
+use Rattle.octet_commands.specs.Commands.{Answers, RequestAnswers}
 use Rattle.octet_top.specs.Effects.{IsGivenAnswer, LeavesLog, LeavesText, LeavesLine, CutsRun}
-use Rattle.octet_top.specs.Outputs.{written, IsCutShort, ArePartlyWritten}
+use Rattle.octet_commands.specs.Outputs.{written, IsCutShort, ArePartlyWritten}
 use Rattle.octet_top.specs.Serving.{IsServed}
 use Rattle.octet_top.proofs.serving.Causes.{same_status, says_failed}
 use Rattle.octet_top.proofs.serving.Effects.{leaves, names_given}
-use Rattle.octet_top.proofs.answering.Rows.{Refuses, is_refusal, not_done, script_refused}
+use Rattle.octet_commands.proofs.lemmas.Rows.{Refuses, is_refusal, not_done, script_refused}
 
 -- an answer that is given whole has another status
 never_cut : (status : Status) → (status ≡ exit.Done) ⊎ (is_refusal status ≡ true) → ¬ ((code_of status ≡ code_of exit.Write) ⊎ (code_of status ≡ code_of exit.Memory))

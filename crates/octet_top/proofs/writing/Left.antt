@@ -16,23 +16,21 @@ use Rattle.octet_base.specs.Desk.{Files, Contents, DeskState, IsCalled, with_cal
 use Rattle.octet_base.specs.declared.call.Call.{Call}
 use Rattle.octet_base.specs.declared.fault.DeskFault.{DeskFault}
 use Rattle.octet_base.specs.declared.call.Call.TheVariants as call
-use Rattle.octet_top.specs.Answer.{Answer, writes_file}
-use Rattle.octet_top.specs.Request.{Request}
-use Rattle.octet_top.specs.declared.request.Request.TheVariants.{Tidy, Show, Marks, OfPair, Parallel, Convert, Run, Gen, Hunt}
-use Rattle.octet_top.specs.Inputs.{TakesOne, TakesBoth}
-use Rattle.octet_top.specs.Replies.{TakesFiles}
-use Rattle.octet_top.specs.Delivery.{Act, Add, Finish, Say, Makes, IsRefused, pieces, pieces_within, file_acts, acts_of}
+use Rattle.octet_commands.specs.Answer.{Answer, writes_file}
+use Rattle.octet_commands.specs.Request.{Request}
+use Rattle.octet_commands.specs.declared.request.Request.TheVariants.{Tidy, Show, Marks, OfPair, Parallel, Convert, Run, Gen, Hunt}
+use Rattle.octet_commands.specs.Inputs.{TakesOne, TakesBoth}
+use Rattle.octet_commands.specs.Replies.{TakesFiles}
+use Rattle.octet_commands.specs.Delivery.{Act, Add, Finish, Say, Makes, IsRefused, pieces, pieces_within, file_acts, acts_of}
 use Rattle.octet_top.specs.Live.{MakesSome}
+use Rattle.octet_commands.proofs.lemmas.Holding.{Holds, some_is, held_called}
 use Rattle.octet_top.proofs.writing.Parts.{parts_acts}
-use Rattle.octet_top.specs.Outputs.{written, IsPartlyWritten, ArePartlyWritten, IsWhole, IsCutShort}
+use Rattle.octet_commands.specs.Outputs.{written, IsPartlyWritten, ArePartlyWritten, IsWhole, IsCutShort}
 
 -- what the calls of an answer leave, by how the last of them ended
 abbrev pub IsLeft : Answer → Result (Unit {0}) DeskFault → Contents → Contents → Type 0
 IsLeft answer (Ok done) before after = IsWhole answer before after
 IsLeft answer (Err fault) before after = IsCutShort answer before after
-
-pub some_is : {x y : Contents} → Some x ≡ Some y → x ≡ y
-some_is {x} {y} is = ap (λ o. unwrap_or o x) is
 
 pub get-inserted : (files : Files) (name bytes : List ℕ) → get (insert files name bytes) name ≡ Some bytes
 get-inserted files name bytes =
@@ -73,20 +71,6 @@ pieces_joined size zero (byte ∷ bytes) some room = absurd (omega (arith, room)
 pieces_joined size (suc n) (byte ∷ bytes) some room =
     ap (λ rest. take size (byte ∷ bytes) ++ rest) (pieces_joined size n (drop size (byte ∷ bytes)) some (omega (arith, length-drop size (byte ∷ bytes), some, room)))
     ∙ take-append-drop size (byte ∷ bytes)
-
--- a desk tells these files, and that these bytes were said
-pub record Holds (files : Files) (said : List ℕ) (state : DeskState) : Type 0 where
-  pub contents : Contents
-  pub tells : state.contents ≡ Some contents
-  pub files_are : contents.files ≡ files
-  pub said_is : contents.said ≡ said
-
--- a call that was refused, and changed nothing
-pub held_called : {T : Type 0} (result : Result T DeskFault) (made : Call) (files : Files) (said : List ℕ) (before after : DeskState) → Holds files said before → IsCalled result made before.contents after.contents → Holds files said after
-held_called result made files said before after holds (inl is) =
-    record { contents = _; tells = is ∙ ap (with_call made) holds.tells; files_are = holds.files_are; said_is = holds.said_is }
-held_called result made files said before after holds (inr (memory, is)) =
-    record { contents = holds.contents; tells = is ∙ holds.tells; files_are = holds.files_are; said_is = holds.said_is }
 
 -- files that are taken
 one_held : (name : List ℕ) (limit : ℕ) (Short : Type 0) (files : Files) (said : List ℕ) (before after : DeskState) → Holds files said before → TakesOne name limit Short before after → Holds files said after

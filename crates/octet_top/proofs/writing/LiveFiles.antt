@@ -17,10 +17,10 @@ use Rattle.octet_model.proofs.lemmas.LogLength.{marks_length, faithful_log_is_sh
 use Rattle.octet_model.proofs.lemmas.Validity.{valid_log}
 use Rattle.octet_log.specs.v2.Short.{short_bytes}
 use Rattle.octet_log.specs.v2.Pieces.{Piece, IsPiece, ArePieces, HaveMarks, marks_of, marks_in, short_mark_bytes, piece_bytes, head_bytes, tail_bytes, pieced_bytes, SpellsPieces}
-use Rattle.octet_top.specs.Commands.{IsLogFile}
+use Rattle.octet_commands.specs.Commands.{IsLogFile}
 use Rattle.octet_top.proofs.writing.Parts.{log_parts}
 use Rattle.octet_top.proofs.writing.Left.{joined}
-use Rattle.octet_top.proofs.writing.Lengths.{groups_small, marks_short, tail_short, gaps_in, gaps_within_log}
+use Rattle.octet_commands.proofs.lemmas.Lengths.{groups_small, marks_short, tail_short, gaps_in, gaps_within_log}
 
 -- the parts are the log's bytes
 pieces_joined : (pieces : List Piece) (tail : List ℕ) → joined (map piece_bytes pieces ++ tail ∷ []) ≡ flat_map piece_bytes pieces ++ tail

@@ -19,11 +19,11 @@ use Rattle.octet_model.specs.Texts.{outcome_text}
 use Rattle.octet_log.specs.declared.limits.TheConstants.{MAX_MARKS}
 use Rattle.octet_log.specs.v2.Pieces.{Piece, ArePieces, HaveMarks, head_bytes, piece_bytes, tail_bytes, pieced_bytes, marks_in, SpellsPieces}
 use Rattle.octet_live.specs.Written.{AddsPieces, IsWritten, IsPartlyWritten}
-use Rattle.octet_top.specs.declared.inputs.Source.{Source}
-use Rattle.octet_top.specs.Delivery.{Act, Begin, Add, Finish, Say, Does, IsRefused}
+use Rattle.octet_commands.specs.declared.inputs.Source.{Source}
+use Rattle.octet_commands.specs.Delivery.{Act, Begin, Add, Finish, Say, Does, IsRefused}
 use Rattle.octet_top.specs.Live.{MakesThen, MakesSome, MakesPieces, RefusesPiece, MakesUnless, opening_acts, WritesLog, IsToldLive, IsCutLive, IsWrittenLive}
 use Rattle.octet_top.proofs.writing.Parts.{log_parts, parts_acts}
-use Rattle.octet_top.proofs.answering.Recorded.{faithful_few}
+use Rattle.octet_commands.proofs.lemmas.Recorded.{faithful_few}
 
 -- calls that are made one after the other
 pub some_then : (acts more : List Act) (before mid after : DeskState) (result : Result (Unit {0}) DeskFault) → MakesSome acts before (Ok tt) mid → MakesSome more mid result after → MakesSome (acts ++ more) before result after

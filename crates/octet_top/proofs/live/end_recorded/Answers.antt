@@ -1,11 +1,11 @@
 use Rattle.std.proofs.Common.{◌≡◌, ◌∙◌, ℕ, List, [], ◌∷◌, subst}
 use Rattle.octet_model.specs.Texts.{outcome_text}
 use Rattle.octet_log.specs.v2.Pieces.{tail_bytes}
-use Rattle.octet_top.specs.declared.request.Way.TheVariants.{AsTheyCome}
-use Rattle.octet_top.specs.Delivery.{Add, Finish, Say}
+use Rattle.octet_commands.specs.declared.request.Way.TheVariants.{AsTheyCome}
+use Rattle.octet_commands.specs.Delivery.{Add, Finish, Say}
 use Rattle.octet_base.specs.Desk.{Says}
 use Rattle.octet_top.proofs.writing.LiveMade.{some_then, one_some}
-use Rattle.octet_top.proofs.answering.Recorded.{recorded_whole}
+use Rattle.octet_commands.proofs.lemmas.Recorded.{recorded_whole}
 use Rattle.octet_top.proofs.live.end_recorded.Goals as goal
 
 pub outcome_text-requires-clause-ends : goal.outcome_text-requires-clause-ends

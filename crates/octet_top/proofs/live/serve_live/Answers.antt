@@ -1,11 +1,11 @@
 use Rattle.std.proofs.Common.{Err, inl, inr}
 use Rattle.octet_model.specs.declared.limits.TheConstants.{MAX_SCRIPT_FILE}
-use Rattle.octet_top.specs.Answer.{given_reply}
-use Rattle.octet_top.specs.Inputs.{IsScriptRead}
-use Rattle.octet_top.specs.declared.request.Way.TheVariants.{AsTheyCome}
-use Rattle.octet_top.proofs.answering.Found.{run_stops, is_short}
-use Rattle.octet_top.proofs.answering.Rows.{script_refused}
-use Rattle.octet_top.proofs.answering.Steps.{was_taken}
+use Rattle.octet_commands.specs.Answer.{given_reply}
+use Rattle.octet_commands.specs.Inputs.{IsScriptRead}
+use Rattle.octet_commands.specs.declared.request.Way.TheVariants.{AsTheyCome}
+use Rattle.octet_commands.proofs.lemmas.Found.{run_stops, is_short}
+use Rattle.octet_commands.proofs.lemmas.Rows.{script_refused}
+use Rattle.octet_commands.proofs.lemmas.Steps.{was_taken}
 use Rattle.octet_top.proofs.live.serve_live.Goals as goal
 
 pub returns-in-Ok : goal.returns-in-Ok

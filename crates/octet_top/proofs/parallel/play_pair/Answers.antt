@@ -1,5 +1,5 @@
 use Rattle.octet_model.specs.Orders.{lowest_order}
-use Rattle.octet_top.proofs.answering.Recorded.{executed_if}
+use Rattle.octet_commands.proofs.lemmas.Recorded.{executed_if}
 use Rattle.octet_top.proofs.parallel.play_pair.Goals as goal
 
 pub outcome_text-requires-clause-ends : goal.outcome_text-requires-clause-ends

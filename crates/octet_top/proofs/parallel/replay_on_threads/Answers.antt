@@ -1,5 +1,5 @@
 use Rattle.std.proofs.lemmas.Result.{err_from_is_err_and}
-use Rattle.octet_top.proofs.answering.Found.{parallel_read, parallel_stop}
+use Rattle.octet_commands.proofs.lemmas.Found.{parallel_read, parallel_stop}
 use Rattle.octet_top.proofs.parallel.replay_on_threads.Goals as goal
 
 pub returns : goal.returns

@@ -1,4 +1,4 @@
-use Rattle.octet_top.specs.Request.{texts}
+use Rattle.octet_commands.specs.Request.{texts}
 use Rattle.octet_top.proofs.serving.Causes.{has_cause}
 use Rattle.octet_top.proofs.serving.Promises as promise
 use Rattle.octet_top.proofs.serving.PairPromises as of_pair

@@ -1,7 +1,7 @@
 use Rattle.std.proofs.Common.{◌∙◌, ap}
 use Rattle.octet_script.specs.Spelling.{canonical_text}
 use Rattle.octet_model.specs.Texts.{log_bytes}
-use Rattle.octet_top.specs.Answer.{file_of, writes_both}
+use Rattle.octet_commands.specs.Answer.{file_of, writes_both}
 use Rattle.octet_top.proofs.with_runtime.generate.Goals as goal
 
 pub returns : goal.returns

@@ -1,5 +1,5 @@
 use Rattle.std.proofs.Common.{◌∙◌}
-use Rattle.octet_top.proofs.answering.Recorded.{recorded_by_picks}
+use Rattle.octet_commands.proofs.lemmas.Recorded.{recorded_by_picks}
 use Rattle.octet_top.proofs.with_runtime.record_by_picks.Goals as goal
 
 pub returns : goal.returns

@@ -1,9 +1,9 @@
 use Rattle.std.proofs.Common.{Ok, refl}
 use Rattle.octet_model.specs.Texts.{log_bytes}
-use Rattle.octet_top.specs.declared.request.Way.TheVariants.{BehindLock}
-use Rattle.octet_top.proofs.writing.Lengths.{first_file}
-use Rattle.octet_top.proofs.answering.Found.{run_read}
-use Rattle.octet_top.proofs.answering.Recorded.{recorded_short}
+use Rattle.octet_commands.specs.declared.request.Way.TheVariants.{BehindLock}
+use Rattle.octet_commands.proofs.lemmas.Lengths.{first_file}
+use Rattle.octet_commands.proofs.lemmas.Found.{run_read}
+use Rattle.octet_commands.proofs.lemmas.Recorded.{recorded_short}
 use Rattle.octet_top.proofs.with_runtime.run_behind_lock.Goals as goal
 
 pub returns : goal.returns

@@ -3,7 +3,7 @@ use Rattle.std.proofs.lemmas.Result.{IfOk-weaker}
 use Rattle.octet_model.specs.Texts.{log_bytes}
 use Rattle.octet_model.specs.Texts as texts
 use Rattle.octet_replay.proofs.lemmas.WholeOutcomes.{faithful_whole}
-use Rattle.octet_top.specs.Answer.{answer_of, writes_file}
+use Rattle.octet_commands.specs.Answer.{answer_of, writes_file}
 use Rattle.octet_top.proofs.with_runtime.say_recorded.Goals as goal
 
 pub outcome_text-requires-clause-ends : goal.outcome_text-requires-clause-ends

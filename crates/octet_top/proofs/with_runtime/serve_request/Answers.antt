@@ -1,12 +1,12 @@
 use denote.Ref.{Bor}
 use Rattle.std.proofs.Common.{ℕ, List, Some, sym, subst}
-use Rattle.octet_top.specs.declared.request.Way.{Way}
-use Rattle.octet_top.specs.declared.request.Request.{Request}
-use Rattle.octet_top.specs.declared.request.Request.TheVariants.{Run}
-use Rattle.octet_top.specs.Request.{shown}
-use Rattle.octet_top.specs.Answer.{given_reply}
+use Rattle.octet_commands.specs.declared.request.Way.{Way}
+use Rattle.octet_commands.specs.declared.request.Request.{Request}
+use Rattle.octet_commands.specs.declared.request.Request.TheVariants.{Run}
+use Rattle.octet_commands.specs.Request.{shown}
+use Rattle.octet_commands.specs.Answer.{given_reply}
 use Rattle.octet_top.specs.Serving.{IsServed}
-use Rattle.octet_top.proofs.answering.Found.{generated_reply}
+use Rattle.octet_commands.proofs.lemmas.Found.{generated_reply}
 use Rattle.octet_top.proofs.with_runtime.serve_request.Goals as goal
 
 pub returns-in-AsTheyCome : goal.returns-in-AsTheyCome

@@ -1,0 +1,5 @@
+pub mod lemmas
+mod answering
+mod profiling
+mod reading
+mod writing

@@ -1,0 +1,5 @@
+pub mod Tracing
+pub mod Matches
+pub mod TraceSteps
+pub mod Told
+pub mod Hunted

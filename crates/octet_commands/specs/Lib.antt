@@ -1,0 +1,16 @@
+pub mod Answer
+pub mod EventTexts
+pub mod TraceTexts
+pub mod Tracing
+pub mod Slices
+pub mod Picks
+pub mod Request
+pub mod Profile
+pub mod Inputs
+pub mod Commands
+pub mod Checked
+pub mod Replies
+pub mod Delivery
+pub mod Outputs
+pub mod Marks
+pub mod Serving

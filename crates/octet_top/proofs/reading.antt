@@ -1,4 +1,0 @@
-pub mod Chains
-pub mod Judged
-pub mod Ended
-pub mod Told

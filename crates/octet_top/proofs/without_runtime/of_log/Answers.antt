@@ -1,6 +1,0 @@
-use Rattle.std.proofs.Common.{Ok}
-use Rattle.octet_top.proofs.answering.Found.{log_read}
-use Rattle.octet_top.proofs.without_runtime.of_log.Goals as goal
-
-pub returns : goal.returns
-returns g c = log_read c.args.log.now _ _ c.in_ok-loaded.loaded (Ok c.in_ok-show.field-0) c.in_ok-loaded.ensures.ends c.in_ok-loaded.ensures.calls c.in_ok-show.ensures
