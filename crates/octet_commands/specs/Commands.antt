@@ -42,8 +42,7 @@ use Rattle.octet_commands.specs.declared.request.PairTask.{PairTask}
 use Rattle.octet_commands.specs.declared.request.PairTask.TheVariants.{Replay, Verify, Regions, Slice, Stop, Trace, Profile}
 use Rattle.octet_commands.specs.Answer.{Answer, says, writes_file, writes_both, not_a_command, wrong_script, does_not_fit, verdict_said, serial_said, cycle_text, try_text, no_other_end, no_cycle, summary}
 use Rattle.octet_machine.specs.Turns.{IsPlayed}
-use Rattle.octet_commands.specs.Headline.{digest_kept}
-use Rattle.octet_commands.specs.Request.{Way, Quarry, named_by, Request, request_in}
+use Rattle.octet_commands.specs.Request.{Way, digest_kept, Quarry, named_by, Request, request_in}
 use Rattle.octet_commands.specs.declared.request.Request.TheVariants.{Tidy, Show, Marks, OfPair, Parallel, Convert, Run, Gen, Hunt}
 use Rattle.octet_commands.specs.declared.request.Way.TheVariants.{AsTheyCome, BehindLock, ByPicks}
 use Rattle.octet_commands.specs.declared.request.Quarry.TheVariants.{OtherEnd, AnyCycle}

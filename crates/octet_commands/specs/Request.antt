@@ -4,6 +4,7 @@ use denote.Ref.{Bor}
 use Rattle.std.specs.Option.{option_map}
 use Rattle.std.specs.Str.{bytes_eq}
 use Rattle.std.specs.Global.{Global}
+use Rattle.sha2.specs.Sha256.{sha256}
 use Rattle.octet_script.specs.Spelling.{number_of}
 use Rattle.octet_hunt.specs.declared.limits.TheConstants.{MAX_TRIES}
 use Rattle.octet_commands.specs.Picks.{are_picks}
@@ -22,6 +23,12 @@ texts words = map (λ word. string_bytes word) words
 -- the program's ways to run a script, with their texts as lists of bytes
 abbrev pub Way : Type 0
 Way = way.Way (List ℕ)
+
+-- the digest that is written with the log: that of the script's text where threads run beside each other, else none
+abbrev pub digest_kept : Way → List ℕ → Option (List ℕ)
+digest_kept AsTheyCome text = Some (sha256 text)
+digest_kept BehindLock text = None
+digest_kept (ByPicks picks) text = None
 
 -- what a hunt looks for, with its texts as lists of bytes
 abbrev pub Quarry : Type 0

@@ -1,7 +1,6 @@
 -- What status 0 of a run comes with: a faithful recording.
-use Rattle.std.specs.Prelude.{ℕ, ◌≡◌, ◌≤◌, ◌++◌, List, length, Some, Option, None}
+use Rattle.std.specs.Prelude.{ℕ, ◌≡◌, ◌≤◌, ◌++◌, List, length, Some}
 use Rattle.std.specs.FinMap.{get}
-use Rattle.sha2.specs.Sha256.{sha256}
 use Rattle.octet_base.specs.Desk.{Contents, DeskState}
 use Rattle.octet_model.specs.declared.limits.TheConstants.{MAX_LOG_FILE}
 use Rattle.octet_model.specs.declared.script.Script.{Script}
@@ -13,15 +12,8 @@ use Rattle.octet_script.specs.Spelling.{Spells}
 use Rattle.octet_log.specs.Spellings.{IsSpelling}
 use Rattle.octet_commands.specs.declared.reply.Status.TheVariants.{Done}
 use Rattle.octet_commands.specs.Answer.{code_of}
-use Rattle.octet_commands.specs.Request.{Way, request_in}
+use Rattle.octet_commands.specs.Request.{Way, digest_kept, request_in}
 use Rattle.octet_commands.specs.declared.request.Request.TheVariants.{Run}
-use Rattle.octet_commands.specs.declared.request.Way.TheVariants.{AsTheyCome, BehindLock, ByPicks}
-
--- the digest that is written with the log: that of the script's text where threads run beside each other, else none
-abbrev pub digest_kept : Way → List ℕ → Option (List ℕ)
-digest_kept AsTheyCome text = Some (sha256 text)
-digest_kept BehindLock text = None
-digest_kept (ByPicks picks) text = None
 
 -- the script's file, as it was, spells a script. The log's file, as it is now, spells a log within its limit.
 -- The text of an outcome was said, and the three are a faithful recording

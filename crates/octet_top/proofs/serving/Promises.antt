@@ -12,7 +12,8 @@ use Rattle.octet_commands.specs.Request.{Way, request_in, Quarry, named_by}
 use Rattle.octet_commands.specs.declared.request.Request.TheVariants.{Run, Convert, Gen, Hunt}
 use Rattle.octet_commands.specs.declared.request.Way.TheVariants.{ByPicks}
 use Rattle.octet_log.specs.Spellings.{IsSpelling}
-use Rattle.octet_top.specs.Headline.{digest_kept, IsFaithfulRun, RunsFaithfully}
+use Rattle.octet_commands.specs.Request.{digest_kept}
+use Rattle.octet_top.specs.Headline.{IsFaithfulRun, RunsFaithfully}
 use Rattle.octet_commands.specs.Commands.{Answers, Records, RequestAnswers, found_said, second_bytes}
 use Rattle.octet_top.specs.Serving.{IsServed}
 use Rattle.octet_commands.specs.Outputs.{IsWhole}
