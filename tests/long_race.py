@@ -242,7 +242,7 @@ def on_one_processor():
     """Threads that wait let the others have the processor, so everything ends there as well."""
 
     def race_there(verb, *more):
-        return race(verb, folder, 7, 100_000, 10, more=more, preexec_fn=lambda: os.sched_setaffinity(0, {min(os.sched_getaffinity(0))}))
+        return race(verb, folder, 7, 20_000, 10, more=more, preexec_fn=lambda: os.sched_setaffinity(0, {min(os.sched_getaffinity(0))}))
 
     with folder_with() as folder:
         status, said = race_there("record")

@@ -9,6 +9,7 @@
  * `follow` makes the run again by FILE, which it reads meanwhile. Both say how far each thread came, and the objects' values.
  * `window` writes the last accesses as a script and its log, LAST of each thread or fewer, and says which they are. The exit
  * status is 0, or one of `enum fault`; then standard error has a line. */
+#define _POSIX_C_SOURCE 200809L
 #include "octet.h"
 #include <errno.h>
 #include <inttypes.h>
@@ -20,6 +21,7 @@
 #include <stdio.h>
 #include <stdlib.h>
 #include <string.h>
+#include <time.h>
 
 /* Objects 0 to 3 are shared, and behind them each thread has eight of its own. A piece of a marks file is a frame of at most
  * 1,048,593 bytes, or the head with the five bytes before it. */
@@ -100,10 +102,16 @@ static size_t read_some(FILE *file, uint8_t *bytes) {
     return length;
 }
 
+/* Lets others have the processor. Where a machine is busy, a thread that yields gives up its whole turn, which is far longer. */
+static void rest(void) {
+    const struct timespec shortest = {0, 1000};
+    nanosleep(&shortest, NULL);
+}
+
 /* Calls again while another thread has to go on first. After some calls in a row that one may need this processor. */
 static int32_t settled(struct thread *t, int32_t status, int32_t (*again)(octet_session *, uint64_t *), uint64_t *out) {
     for (unsigned calls = 1; status == OCTET_PENDING; calls++) {
-        if (calls % 64 == 0) sched_yield();
+        if (calls % 128 == 0) rest();
         status = again(&t->session, out);
     }
     return status;
@@ -176,7 +184,7 @@ static void run_all(octet_session *sessions, const octet_stream *streams, bool (
             if (!t->is_over && serve(t)) is_idle = false;
             ended += t->is_over && atomic_load(&t->is_done);
         }
-        if (is_idle) sched_yield();
+        if (is_idle) rest();
     }
     for (int i = 0; i < THREADS; i++) {
         pthread_join(threads[i].id, NULL);
