@@ -28,8 +28,8 @@ SOURCE = TOP / "bindings" / "c" / "race.c"
 THREADS, SHARED, OWN, OBJECTS = 4, 4, 8, 36
 ALL = 2**64
 SPREAD, STEP, LOW = 0x9E3779B97F4A7C15, 0xD1342543DE82EF95, 2**20
-# A library without a proof is slow, since it has checks: over it fewer races are made.
-RACES, RACES_UNPROVED = 200, 20
+# So many races, in which a thread makes so many accesses. A library without a proof has checks, and is slow.
+RACES, RACES_UNPROVED = (200, 250_000), (20, 50_000)
 WORDS = "wanted is `record FILE SEED ACCESSES EVERY`, `follow` with the same, or `window` with the same and LAST SCRIPT LOG"
 
 
@@ -217,13 +217,14 @@ def recorded(folder, seed, accesses, every):
 
 
 def raced():
-    """Races of a million accesses, half of them with many dependences and half with few, are followed to the same lines. Their last
-    accesses are a script with its log, which leaves the same values."""
+    """Races, half of them with many dependences and half with few, are followed to the same lines. Their last accesses are a script
+    with its log, which leaves the same values."""
+    races, accesses = RACES if program()[1] else RACES_UNPROVED
     with folder_with() as folder:
-        for seed in range(RACES if program()[1] else RACES_UNPROVED):
-            words = [seed, 250_000, 10 if seed % 2 else 10_000]
+        for seed in range(races):
+            words = [seed, accesses, 10 if seed % 2 else 10_000]
             said, _ = recorded(folder, *words)
-            if said.count(b": 250000 accesses, told ") != THREADS or race("follow", folder, *words) != (0, said):
+            if said.count(b": %d accesses, told " % accesses) != THREADS or race("follow", folder, *words) != (0, said):
                 return f"{words} is not followed to what was recorded"
             left, last = values_said(said, "", ":"), race("window", folder, *words, more=[100, "S", "L"])[0]
             replayed, made = octet(["replay", "S", "L"], folder)
@@ -489,6 +490,6 @@ TESTS = {
         "a picture of the last thousand accesses": pictured,
         "a window that is none": unwindowed,
         "all of it on one processor": on_one_processor,
-        "races of a million accesses are followed, and each has a window": raced,
+        "races are followed, and each has a window": raced,
     }.items()
 }
