@@ -14,7 +14,6 @@
 #include <errno.h>
 #include <inttypes.h>
 #include <pthread.h>
-#include <sched.h>
 #include <stdarg.h>
 #include <stdatomic.h>
 #include <stdbool.h>
@@ -103,7 +102,7 @@ static size_t read_some(FILE *file, uint8_t *bytes) {
 }
 
 /* Lets others have the processor. Where a machine is busy, a thread that yields gives up its whole turn, which is far longer. */
-static void rest(void) {
+static void nap(void) {
     const struct timespec shortest = {0, 1000};
     nanosleep(&shortest, NULL);
 }
@@ -111,7 +110,7 @@ static void rest(void) {
 /* Calls again while another thread has to go on first. After some calls in a row that one may need this processor. */
 static int32_t settled(struct thread *t, int32_t status, int32_t (*again)(octet_session *, uint64_t *), uint64_t *out) {
     for (unsigned calls = 1; status == OCTET_PENDING; calls++) {
-        if (calls % 128 == 0) rest();
+        if (calls % 128 == 0) nap();
         status = again(&t->session, out);
     }
     return status;
@@ -133,7 +132,7 @@ static void *work(void *given) {
     struct thread *t = given;
     uint64_t out = 0;
     atomic_fetch_add(&begun, 1);
-    while (atomic_load(&begun) < THREADS) sched_yield();
+    while (atomic_load(&begun) < THREADS) nap();
     int32_t status = octet_start(&t->session);
     for (; status == OCTET_READY && t->made < accesses; t->made++) {
         status = make(t, &out);
@@ -184,7 +183,7 @@ static void run_all(octet_session *sessions, const octet_stream *streams, bool (
             if (!t->is_over && serve(t)) is_idle = false;
             ended += t->is_over && atomic_load(&t->is_done);
         }
-        if (is_idle) rest();
+        if (is_idle) nap();
     }
     for (int i = 0; i < THREADS; i++) {
         pthread_join(threads[i].id, NULL);
