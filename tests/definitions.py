@@ -46,7 +46,6 @@ OTHERS = {
     "octet_log/specs/v2/Refusals.antt": {32},
     "octet_log/src/loader.rt": {32},
     "octet_log/src/v2/encoder.rt": {32},
-    "octet_long_race/src/recording.rt": {16, 65536},  # The same.
     "octet_marks/specs/Bodies.antt": {32},  # Bytes of a digest.
     "octet_marks/specs/Spellings.antt": {32},
     "octet_marks/src/bodies.rt": {32},

@@ -41,6 +41,17 @@ def octet(words, folder, **how):
     return called([str(OCTET), *words], folder, **how)
 
 
+def library():
+    """The folder of the C library of these sources: where no proved one is, that of `bindings/unproved`, which takes a minute."""
+    proved = TOP / "crates" / "octet_c" / "out" / "liboctet_c.a"
+    folders = [path for path in TOP.glob("crates/octet*/src") if not path.parent.name.startswith("octet_tests")]
+    sources = [TOP / "crates.txt", *folders, *(path for folder in folders for path in folder.rglob("*"))]
+    if proved.is_file() and proved.stat().st_mtime >= max(path.stat().st_mtime for path in sources):
+        return proved.parent
+    done = subprocess.run([TOP / "bindings" / "unproved"], stdout=subprocess.PIPE, check=True)
+    return pathlib.Path(done.stdout.decode().strip())
+
+
 def in_bursts(words, folder):
     """Lets a call run for a fifth of a millisecond at a time, and gives it each time that it stands still."""
     with subprocess.Popen([str(OCTET), *words], cwd=folder, stdout=subprocess.DEVNULL) as process:

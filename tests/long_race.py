@@ -1,39 +1,78 @@
-"""The program `octet_long_race`: what it records is followed to the same lines, and a cut file to the front of its whole blocks.
+"""Runs of any length over the C library: what `bindings/c/race.c` records is followed to the same lines, and a cut file to the
+front of its whole blocks.
 
 Beside it stands a plain model: it reads a marks file by docs/FORMATS.md, takes steps as long as a mark allows one, and makes the
-accesses of the plan on plain cells. The program is tried where it is built (`rt ci`, or `rt run` in its folder).
+accesses of the plan on plain cells. The program is compiled by gcc over the library that is built of these sources: where no
+proved one is, over that of `bindings/unproved`. Without gcc these tests are left out, and say so.
 """
 
+import fcntl
+import functools
 import itertools
 import json
+import os
 import pathlib
 import re
+import shutil
 import signal
 import subprocess
+import sys
 import time
 from hashlib import sha256
 
 from case import block, end, marks_head, text
-from files import OCTET, SECONDS, TOP, called, differs, first, folder_with, octet
+from files import OCTET, SECONDS, TOP, called, differs, first, folder_with, library, octet
 
 DIAGRAM = TOP / "tools" / "diagram"
-PROGRAM = TOP / "crates" / "octet_long_race" / "out" / "octet_long_race"
+SOURCE = TOP / "bindings" / "c" / "race.c"
 THREADS, SHARED, OWN, OBJECTS = 4, 4, 8, 36
 ALL = 2**64
 SPREAD, STEP, LOW = 0x9E3779B97F4A7C15, 0xD1342543DE82EF95, 2**20
-RACES = 200
-WORDS = (
-    b"octet_long_race: wanted is `record FILE SEED ACCESSES EVERY`, `follow` with the same, or `window` with the same and "
-    b"LAST SCRIPT LOG; EVERY from 1 to 1,000,000, LAST from 1 to 65,535\n"
-)
+# So many races, in which a thread makes so many accesses. A library without a proof has checks, and is slow.
+RACES, RACES_UNPROVED = (200, 250_000), (20, 50_000)
+WORDS = "wanted is `record FILE SEED ACCESSES EVERY`, `follow` with the same, or `window` with the same and LAST SCRIPT LOG"
+
+
+def compiled(folder, place):
+    """Compiles the program over the library of a folder."""
+    kit = os.environ.get("RATTLE_KIT") or pathlib.Path(shutil.which("rt")).resolve().parent.parent
+    words = ["gcc", "-std=c11", "-O2", "-Wall", "-Wextra", "-Wpedantic", "-Werror", f"-I{TOP / 'include'}", SOURCE]
+    words += [folder / "liboctet_c.a", pathlib.Path(kit, "c", "liblibc_c.a"), "-lpthread", "-o", place]
+    subprocess.run(words, check=True)
+
+
+@functools.cache
+def program():
+    """The program, and whether its library is a proved one; or None twice, where there is no gcc."""
+    if shutil.which("gcc") is None:
+        print("tests/run: LEFT OUT: runs of any length over the C library, since there is no gcc", file=sys.stderr, flush=True)
+        return None, None
+    place = TOP / "build" / "race"
+    place.parent.mkdir(exist_ok=True)
+    # Tests may run beside each other, each in a process of its own.
+    with open(place.with_suffix(".lock"), "wb") as lock:
+        fcntl.flock(lock, fcntl.LOCK_EX)
+        folder = library()
+        compiled(folder, place.with_suffix(".new"))
+        place.with_suffix(".new").replace(place)
+    return place, folder.name != "unproved"
+
+
+def over_the_library(test):
+    """A test that is left out where there is no program."""
+
+    def tested():
+        return None if program()[0] is None else test()
+
+    return tested
 
 
 def race(verb, folder, seed, accesses, every, file="F", more=(), **how):
-    return called([PROGRAM, verb, file, str(seed), str(accesses), str(every), *map(str, more)], folder, **how)
+    return called([program()[0], verb, file, str(seed), str(accesses), str(every), *map(str, more)], folder, **how)
 
 
 def refused(status, line):
-    return status, b"", f"octet_long_race: {line}\n".encode()
+    return status, b"", f"race: {line}\n".encode()
 
 
 def frames_of(content):
@@ -178,15 +217,14 @@ def recorded(folder, seed, accesses, every):
 
 
 def raced():
-    """Races of a million accesses, half of them with many dependences and half with few, are followed to the same lines. Their last
-    accesses are a script with its log, which leaves the same values."""
-    if not PROGRAM.exists() or not OCTET.exists():
-        return None
+    """Races, half of them with many dependences and half with few, are followed to the same lines. Their last accesses are a script
+    with its log, which leaves the same values."""
+    races, accesses = RACES if program()[1] else RACES_UNPROVED
     with folder_with() as folder:
-        for seed in range(RACES):
-            words = [seed, 250_000, 10 if seed % 2 else 10_000]
+        for seed in range(races):
+            words = [seed, accesses, 10 if seed % 2 else 10_000]
             said, _ = recorded(folder, *words)
-            if said.count(b": 250000 accesses, told ") != THREADS or race("follow", folder, *words) != (0, said):
+            if said.count(b": %d accesses, told " % accesses) != THREADS or race("follow", folder, *words) != (0, said):
                 return f"{words} is not followed to what was recorded"
             left, last = values_said(said, "", ":"), race("window", folder, *words, more=[100, "S", "L"])[0]
             replayed, made = octet(["replay", "S", "L"], folder)
@@ -201,10 +239,25 @@ def raced():
     return None
 
 
+def on_one_processor():
+    """Threads that wait let the others have the processor, so everything ends there as well."""
+
+    def race_there(verb, *more):
+        return race(verb, folder, 7, 20_000, 10, more=more, preexec_fn=lambda: os.sched_setaffinity(0, {min(os.sched_getaffinity(0))}))
+
+    with folder_with() as folder:
+        status, said = race_there("record")
+        content = pathlib.Path(folder, "F").read_bytes()
+        return first(
+            differs("the recording", status, 0),
+            differs("the model", Model(content, 7, 10).said(), said),
+            differs("following", race_there("follow"), (0, said)),
+            differs("a window", race_there("window", 100, "S", "L")[0], 0),
+        )
+
+
 def modelled():
     """The plain model comes to the same lines."""
-    if not PROGRAM.exists():
-        return None
     with folder_with() as folder:
         for seed, every in itertools.product([0, 1, 2**64 - 1], [1, 10, 1_000_000]):
             said, content = recorded(folder, seed, 3_000, every)
@@ -219,8 +272,6 @@ def modelled():
 
 def cut():
     """A file that is cut at the end of each frame, and at each byte of one block, is followed to the front of its whole blocks."""
-    if not PROGRAM.exists():
-        return None
     with folder_with() as folder:
         _, content = recorded(folder, 5, 3_000, 10)
         ends = [(0, 5), *((kind, place) for kind, _, place in frames_of(content))]
@@ -278,8 +329,6 @@ def window_problem(folder, model, words, asked, last=None):
 
 def windowed():
     """The last accesses of a run, whole and cut, are a script with its log, which `octet` takes."""
-    if not PROGRAM.exists() or not OCTET.exists():
-        return None
     with folder_with() as folder:
         for every, is_cut in itertools.product([10, 1_000], [False, True]):
             words = [8, 3_000, every]
@@ -298,8 +347,6 @@ def windowed():
 
 def begun_later():
     """A window that has no room in a script's file begins later, with half of what was asked for."""
-    if not PROGRAM.exists() or not OCTET.exists():
-        return None
     with folder_with() as folder:
         # By these words no thread makes an access of a shared object. So threads 1 to 3 have as many as were asked for, and thread
         # 0, from which they take their objects, as many or fewer.
@@ -316,8 +363,6 @@ def begun_later():
 
 def pictured():
     """A picture of the last thousand accesses of a longer run, which a mark orders."""
-    if not PROGRAM.exists() or not OCTET.exists():
-        return None
     with folder_with() as folder:
         words = [9, 20_000, 100]
         recorded(folder, *words)
@@ -334,33 +379,22 @@ def pictured():
 
 def unwindowed():
     """A window that is none: wrong words, and a file that is none."""
-    if not PROGRAM.exists():
-        return None
     with folder_with() as folder:
         recorded(folder, 1, 900, 10)
         before = sorted(path.name for path in pathlib.Path(folder).iterdir())
-        bad = [(), (1, "S"), (0, "S", "L"), (65_536, "S", "L"), ("x", "S", "L"), (1, "S", "S"), (1, "F", "L"), (1, "S", "F"), (1, "S", "L", 1)]
-        unread = "the file cannot be read"
+        last, differ = "LAST is a number from 1 to 65535", "FILE, SCRIPT and LOG have to differ"
+        bad = {(): WORDS, (1, "S"): WORDS, (1, "S", "L", 1): WORDS, (0, "S", "L"): last, (65_536, "S", "L"): last, ("x", "S", "L"): last}
+        bad |= {(1, "S", "S"): differ, (1, "F", "L"): differ, (1, "S", "F"): differ}
         return first(
-            *(differs(f"{each}", race("window", folder, 1, 900, 10, more=each), (1, b"", WORDS)) for each in bad),
-            differs("record with more words", race("record", folder, 1, 900, 10, more=[1, "S", "L"]), (1, b"", WORDS)),
-            differs("no file", race("window", folder, 1, 2, 3, "N", more=[1, "S", "L"]), refused(5, unread)),
+            *(differs(f"{each}", race("window", folder, 1, 900, 10, more=each), refused(1, line)) for each, line in bad.items()),
+            differs("record with more words", race("record", folder, 1, 900, 10, more=[1, "S", "L"]), refused(1, WORDS)),
+            differs("no file", race("window", folder, 1, 2, 3, "N", more=[1, "S", "L"]), refused(5, "N cannot be read")),
             differs("nothing is written", sorted(path.name for path in pathlib.Path(folder).iterdir()), before),
         )
 
 
-def refusal_of_change(place, begin):
-    """Why a file is refused of which this byte is another one, in a frame that begins there."""
-    if place < 5:
-        return ("1 no magic" if place < 4 else "2 bad version") + " at 0"
-    within = place - (5 if begin == 0 else begin)
-    return ("3 bad length" if 1 <= within < 9 else "4 bad checksum") + f" at {begin}"
-
-
 def changed():
     """A file of which one byte is another one is refused, with the place of its frame."""
-    if not PROGRAM.exists():
-        return None
     with folder_with() as folder:
         _, content = recorded(folder, 6, 1_000, 10)
         begins = [0, *(place for _, _, place in frames_of(content))]
@@ -369,7 +403,7 @@ def changed():
                 spoiled = bytearray(content)
                 spoiled[place] ^= 64
                 pathlib.Path(folder, "F").write_bytes(spoiled)
-                wanted = refused(4, f"marks: {refusal_of_change(place, begin)}")
+                wanted = refused(4, f"the file is refused at {begin}")
                 problem = differs(f"changed at {place}", race("follow", folder, 6, 1_000, 10), wanted)
                 if problem is not None:
                     return problem
@@ -378,13 +412,11 @@ def changed():
 
 def killed():
     """A recording that is killed in the middle is followed to where its file ends."""
-    if not PROGRAM.exists():
-        return None
     with folder_with() as folder:
         for seed in range(3):
             file = pathlib.Path(folder, "F")
             file.unlink(missing_ok=True)
-            words = [PROGRAM, "record", "F", str(seed), "1000000000", "2"]
+            words = [program()[0], "record", "F", str(seed), "1000000000", "2"]
             with subprocess.Popen([str(word) for word in words], cwd=folder, stdout=subprocess.DEVNULL) as process:
                 until = time.monotonic() + SECONDS
                 while time.monotonic() < until and not (file.exists() and file.stat().st_size > 20_000):
@@ -401,11 +433,10 @@ def killed():
 
 def spoiled():
     """What is no recording, or that of another run, or that of other threads."""
-    if not PROGRAM.exists():
-        return None
     head = marks_head(THREADS, sha256(b"1 100 10").digest(), *range(OBJECTS))
     other = marks_head(THREADS, sha256(b"1 100 10").digest(), *range(1, OBJECTS + 1))
-    left = "thread 0 has left its recording between its accesses 0 and 5"
+    # It is compared at the end of its block.
+    left = "thread 0 has left its recording: found after 5 accesses"
     files = {
         "left": head + block(0, 0, 5, 0),
         "twice": head + block(0, 0, 0, 0, (16, 0, 1), (16, 0, 0)),
@@ -416,44 +447,49 @@ def spoiled():
     with folder_with(**files) as folder:
         return first(
             differs("left", race("follow", folder, 1, 100, 10, "left"), refused(7, left)),
-            differs("drawn twice", race("follow", folder, 1, 100, 10, "twice"), refused(8, "the marks of the file are no recording")),
+            differs("drawn twice", race("follow", folder, 1, 100, 10, "twice"), refused(8, "the marks of twice are no recording")),
             differs("other objects", race("follow", folder, 1, 100, 10, "other"), refused(6, "the file is the recording of another run")),
             differs("other words", race("follow", folder, 1, 101, 10, "left"), refused(6, "the file is the recording of another run")),
-            differs("behind an end", race("follow", folder, 1, 100, 10, "after"), refused(4, f"marks: 8 after the end at {len(head) + 26}")),
+            differs("behind an end", race("follow", folder, 1, 100, 10, "after"), refused(4, f"the file is refused at {len(head) + 26}")),
             differs("nothing", race("follow", folder, 1, 100, 10, "none"), (0, Model(b"", 1, 10).said())),
         )
 
 
 def words():
     """Words that mean nothing, and files that are none."""
-    if not PROGRAM.exists():
-        return None
-    bad = [[], ["record"], ["record", "F", "1", "2"], ["replay", "F", "1", "2", "3"], ["record", "F", "-1", "2", "3"]]
-    bad += [["record", "F", "1", "2", each] for each in ["0", "1000001", "x"]] + [["record", "F", "1", "4398046511105", "3"]]
+    seed, accesses, every = ("SEED", 0, ALL - 1), ("ACCESSES", 0, 2**42), ("EVERY", 1, 1_000_000)
+    numbers = {("-1", "2", "3"): seed, (str(ALL), "2", "3"): seed, ("1", str(2**42 + 1), "3"): accesses, ("1", "", "3"): accesses}
+    numbers |= {("1", "2", each): every for each in ["0", "1000001", "x", "3 "]}
+    lines = {each: f"{name} is a number from {least} to {most}" for each, (name, least, most) in numbers.items()}
+    bad = [[], ["record"], ["record", "F", "1", "2"], ["replay", "F", "1", "2", "3"]]
     with folder_with() as folder, open("/dev/full", "wb") as full:
         pathlib.Path(folder, "D").mkdir()
-        unread, unwritten = "the file cannot be read", "a file or a line cannot be written"
         return first(
-            *(differs(f"{each}", called([PROGRAM, *each], folder), (1, b"", WORDS)) for each in bad),
+            *(differs(f"{each}", called([program()[0], *each], folder), refused(1, WORDS)) for each in bad),
+            *(differs(f"{each}", race("record", folder, *each), refused(1, line)) for each, line in lines.items()),
             differs("nothing is written", sorted(path.name for path in pathlib.Path(folder).iterdir()), ["D"]),
-            differs("no file", race("follow", folder, 1, 2, 3), refused(5, unread)),
-            differs("a folder is followed", race("follow", folder, 1, 2, 3, "D"), refused(5, unread)),
-            differs("a folder is written", race("record", folder, 1, 2, 3, "D"), refused(3, unwritten)),
-            differs("a full disk", race("record", folder, 1, 100_000, 10, "/dev/full"), refused(3, unwritten)),
-            differs("a full output", race("record", folder, 1, 2, 3, stdout=full)[::2], refused(3, unwritten)[::2]),
+            differs("no file", race("follow", folder, 1, 2, 3), refused(5, "F cannot be read")),
+            differs("a folder is followed", race("follow", folder, 1, 2, 3, "D"), refused(5, "D cannot be read")),
+            differs("a folder is written", race("record", folder, 1, 2, 3, "D"), refused(3, "D cannot be written")),
+            differs("a full disk", race("record", folder, 1, 100_000, 10, "/dev/full"), refused(3, "/dev/full cannot be written")),
+            differs("a full output", race("record", folder, 1, 2, 3, stdout=full)[::2], refused(3, "what came of it cannot be said")[::2]),
         )
 
 
 TESTS = {
-    "octet_long_race: a plain model comes to the same lines": modelled,
-    "octet_long_race: a cut file is followed to the front of its whole blocks": cut,
-    "octet_long_race: a changed byte is refused": changed,
-    "octet_long_race: a killed recording is followed": killed,
-    "octet_long_race: what is no recording of these words": spoiled,
-    "octet_long_race: what it refuses": words,
-    "octet_long_race: the last accesses of a run are a script with its log": windowed,
-    "octet_long_race: a window that is too long begins later": begun_later,
-    "octet_long_race: a picture of the last thousand accesses": pictured,
-    "octet_long_race: a window that is none": unwindowed,
-    f"octet_long_race: {RACES} races of a million accesses are followed, and each has a window": raced,
+    f"long runs: {name}": over_the_library(test)
+    for name, test in {
+        "a plain model comes to the same lines": modelled,
+        "a cut file is followed to the front of its whole blocks": cut,
+        "a changed byte is refused": changed,
+        "a killed recording is followed": killed,
+        "what is no recording of these words": spoiled,
+        "what the program refuses": words,
+        "the last accesses of a run are a script with its log": windowed,
+        "a window that is too long begins later": begun_later,
+        "a picture of the last thousand accesses": pictured,
+        "a window that is none": unwindowed,
+        "all of it on one processor": on_one_processor,
+        "races are followed, and each has a window": raced,
+    }.items()
 }
