@@ -10,6 +10,7 @@ import resource
 import shutil
 import signal
 import subprocess
+import sys
 import tempfile
 import time
 
@@ -18,8 +19,22 @@ from cases import TWO_READS, TWO_READS_LOG
 
 TOP = pathlib.Path(__file__).resolve().parent.parent
 LAUNCHER = TOP / "bin" / "octet"
-OCTET = TOP / "crates" / "octet" / "out" / "octet"
 SECONDS = 60
+
+
+FOUND = subprocess.run([LAUNCHER, "--program"], capture_output=True, check=False)
+# The program that is tested: OCTET, or what is built of these sources, proved or not.
+OCTET = pathlib.Path(os.fsdecode(FOUND.stdout).rstrip("\n")).resolve()
+# `bin/octet` and the tools call it too, and so no test builds.
+os.environ["OCTET"] = str(OCTET)
+# For what is laid out in a folder of its own.
+OTHERS = {name: value for name, value in os.environ.items() if name != "OCTET"}
+
+
+def is_built():
+    """Whether there is a program to test. Where there is none, a line says how to get it."""
+    sys.stderr.write(FOUND.stderr.decode())
+    return FOUND.returncode == 0
 
 ONE = script("object x 5 / thread / read r0 x")
 ONE_SAID = text("thread 0 done 5", "object x 5")
@@ -316,7 +331,7 @@ def clone_that_cannot_be_written():
         for each in folders:
             os.chmod(each, 0o555)
         user = {"user": "nobody"} if os.geteuid() == 0 else {}
-        status, said, *errors = called([launcher, "tidy", "S"], folder, **user)
+        status, said, *errors = called([launcher, "tidy", "S"], folder, env=OTHERS, **user)
         for each in folders:
             os.chmod(each, 0o755)
         log = here.resolve() / "crates" / "octet" / "build.log"
