@@ -343,7 +343,7 @@ def finds():
             differs("no answer", call(**no_build)[:2], (70, b"")),
             differs("none, and a build", call(), (70, b"", b"built\n")),
             differs("another", call(**other), (0, b"other\n")),
-            differs("another that is not there", call(OCTET="/none"), (70, b"", lines("/none is no program"))),
+            differs("another that is not there", call(OCTET="/none"), (70, b"", lines("OCTET names /none, and that is no program"))),
             # No crate below the library has a source here.
             differs("the library", found(500, 500, "--library"), path(library.parent)),
         )
