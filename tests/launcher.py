@@ -388,7 +388,7 @@ def plans():
             early = [each for each in crates[name] if rows[each][1] > start + 1e-6]
             if early or end <= start or not 1 <= jobs <= processors:
                 problems.append(f"{name} begins at {start} with {jobs}, before {early}")
-            if len(beside) > 1 and (sum(processes) > processors + 1 or needs > memory):
+            if len(beside) > 1 and (sum(processes) > processors * 3 // 2 + 1 or needs > memory):
                 problems.append(f"{beside} together, with {processes}, by {processors} processors and {memory} gigabytes")
     said = called([BUILD, "--plan", "--processors", "4", "--memory", "16"], TOP)[1]
     return first(
@@ -422,6 +422,7 @@ elif sys.argv[1] == "lib":
         sys.exit("a hole")
     (here / "out" / "rlib").mkdir(parents=True, exist_ok=True)
     (here / "out" / "rlib" / "stamp").write_text("")
+    print(f"crate {here.name}: modules loaded=0 checked=1")
     tell("end", here.name)
 else:
     tell(sys.argv[1], here.name)
@@ -462,19 +463,45 @@ def side_by_side():
             differs("side by side", middle, (["begin left True", "begin right True"], ["end left", "end right"])),
             differs("the last", calls[6:], ["run octet"]),
             differs("what is kept", [name for name in lists if (top / "crates" / name / "out" / "rlib").is_dir()], ["low", "left", "right"]),
-            differs("the copies", list((top / "build").iterdir()), []),
+            differs("no copies are left", [path.name for path in (top / "build").iterdir()], ["proved.json"]),
             differs("its log", (top / "crates" / "octet" / "build.log").read_text().count("processor time"), 5),
             differs("once more", call()[2], ["run octet"]),
         )
-        time.sleep(0.01)
+        source = top / "crates" / "left" / "src" / "lib.rt"
+        os.utime(source)
+        whole = first(whole, differs("a newer file with what it had", call()[2], ["run octet"]))
+        source.write_text("// Changed.")
+        os.utime(source, (1, 1))
+        whole = first(whole, differs("an older file with other contents", call()[2], ["begin left True", "end left", "run octet"]))
         (top / "crates" / "right" / "src" / "bad.rt").write_text("")
         status, last, calls = call()
         return first(
             whole,
             differs("a crate that fails", (status, last, calls), (1, "a hole", ["begin right True"])),
             differs("what it kept", (top / "crates" / "right" / "out" / "rlib").is_dir(), True),
-            differs("no copies are left", list((top / "build").iterdir()), []),
+            differs("no copies are left then", [path.name for path in (top / "build").iterdir()], ["proved.json"]),
         )
+
+
+def measured_seconds():
+    """What was measured stands in the place of the first guess; what is no measure does not."""
+    crates = {"low": [], "high": ["low"]}
+    with tempfile.TemporaryDirectory() as folder:
+        kept = pathlib.Path(folder, "proved.json")
+        before, build_tool.KEPT = build_tool.KEPT, kept
+        try:
+            found = [build_tool.measured()]
+            for content in ["no rows", "[]", '{"low": {"seconds": 7}, "high": {"seconds": "7"}, "other": 7, "gone": {"seconds": 9}}']:
+                kept.write_text(content)
+                found.append(build_tool.measured())
+        finally:
+            build_tool.KEPT = before
+    plan = build_tool.Plan(crates, 2, 8, found[-1])
+    return first(
+        differs("what is read", found, [{}, {}, {}, {"low": 7, "gone": 9}]),
+        differs("the seconds", plan.seconds, {"low": 7, "high": build_tool.UNKNOWN}),
+        differs("the ways", plan.ways, {"low": 7 + build_tool.UNKNOWN, "high": build_tool.UNKNOWN}),
+    )
 
 
 TESTS = {
@@ -489,5 +516,6 @@ TESTS = {
     "bin/octet: try": tries,
     "tests/run: words and a list": words_of_the_tests,
     "tools/build: the plan": plans,
+    "tools/build: what was measured": measured_seconds,
     "tools/build: side by side": side_by_side,
 }
