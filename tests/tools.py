@@ -316,6 +316,15 @@ def wrong_bodies():
     )
 
 
+def all_parts():
+    """`tests/all` refuses other words, and `.ci/run` has the gate on a line of its own."""
+    told = b"tests/all: tests/all, tests/all --after-gate, or tests/all --quick\n"
+    return first(
+        *(differs(f"{words}", called([TOP / "tests" / "all", *words], TOP), (64, b"", told)) for words in [["--slow"], ["--quick", "x"], [""]]),
+        differs("the gate", (TOP / ".ci" / "run").read_text().split("\n").count("rt ci"), 1),
+    )
+
+
 TESTS = {
     "bin/octet: the usage and the version": usage,
     "tools/log: the text of a log and back": text_and_back,
@@ -327,6 +336,7 @@ TESTS = {
     "tools/diagram: trace events": trace_events,
     "tools/places, tools/diagram: the lines of a program": places_of_a_program,
     "tests/wrong: each body fits its crate": wrong_bodies,
+    "tests/all: its words": all_parts,
     "the code of the documents": code_of_the_documents,
     "the files that the headline needs": what_the_headline_needs,
 }
