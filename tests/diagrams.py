@@ -4,9 +4,9 @@ import re
 
 from case import text
 from cases import BANK, EARLY_UNMARKED, HANDOVER, LOST_LOG, SHARED, SHARED_LOG
-from files import TOP, called, differs, first, folder_with, octet
+from files import OCTET, TOP, called, differs, first, folder_with, octet
 
-DIAGRAM, OCTET = TOP / "tools" / "diagram", TOP / "crates" / "octet" / "out" / "octet"
+DIAGRAM = TOP / "tools" / "diagram"
 RECT = re.compile(r'<rect x="(\d+)" y="(\d+)" width="(\d+)" height="(\d+)" rx="8"')
 TEXT = re.compile(r'<text x="(\d+)" y="(\d+)" fill="([^"]*)" font-size="(\d+)" text-anchor="(\w+)"[^>]*>([^<]*)</text>')
 RED, GREY = "#dc2626", "#6b7280"

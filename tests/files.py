@@ -10,6 +10,7 @@ import resource
 import shutil
 import signal
 import subprocess
+import sys
 import tempfile
 import time
 
@@ -18,8 +19,21 @@ from cases import TWO_READS, TWO_READS_LOG
 
 TOP = pathlib.Path(__file__).resolve().parent.parent
 LAUNCHER = TOP / "bin" / "octet"
-OCTET = TOP / "crates" / "octet" / "out" / "octet"
 SECONDS = 60
+FOUND = subprocess.run([LAUNCHER, "--program"], capture_output=True, check=False)
+# The program that is tested: OCTET, or what is built of these sources, proved or not.
+OCTET = pathlib.Path(os.fsdecode(FOUND.stdout).rstrip("\n")).resolve()
+# `bin/octet` and the tools call it too, and so no test builds.
+os.environ["OCTET"] = str(OCTET)
+# For what is laid out in a folder of its own.
+OTHERS = {name: value for name, value in os.environ.items() if name != "OCTET"}
+
+
+def is_built():
+    """Whether there is a program to test. Where there is none, a line says how to get it."""
+    sys.stderr.write(FOUND.stderr.decode())
+    return FOUND.returncode == 0
+
 
 ONE = script("object x 5 / thread / read r0 x")
 ONE_SAID = text("thread 0 done 5", "object x 5")
@@ -42,14 +56,14 @@ def octet(words, folder, **how):
 
 
 def library():
-    """The folder of the C library of these sources: where no proved one is, that of `bindings/unproved`, which takes a minute."""
-    proved = TOP / "crates" / "octet_c" / "out" / "liboctet_c.a"
-    folders = [path for path in TOP.glob("crates/octet*/src") if not path.parent.name.startswith("octet_tests")]
-    sources = [TOP / "crates.txt", *folders, *(path for folder in folders for path in folder.rglob("*"))]
-    if proved.is_file() and proved.stat().st_mtime >= max(path.stat().st_mtime for path in sources):
-        return proved.parent
-    done = subprocess.run([TOP / "bindings" / "unproved"], stdout=subprocess.PIPE, check=True)
-    return pathlib.Path(done.stdout.decode().strip())
+    """The folder of the C library that is built of these sources, proved or not; else that of `bindings/unproved`, which takes a minute."""
+    if "OCTET_LIB" in os.environ:
+        return pathlib.Path(os.environ["OCTET_LIB"]).resolve()
+    for words in [[LAUNCHER, "--library"], [TOP / "bindings" / "unproved"]]:
+        done = subprocess.run(words, stdout=subprocess.PIPE, stderr=subprocess.DEVNULL, check=False)
+        if done.returncode == 0:
+            return pathlib.Path(done.stdout.decode().strip())
+    raise RuntimeError("bindings/unproved compiles no library")
 
 
 def in_bursts(words, folder):
@@ -327,7 +341,7 @@ def clone_that_cannot_be_written():
         for each in folders:
             os.chmod(each, 0o555)
         user = {"user": "nobody"} if os.geteuid() == 0 else {}
-        status, said, *errors = called([launcher, "tidy", "S"], folder, **user)
+        status, said, *errors = called([launcher, "tidy", "S"], folder, env=OTHERS, **user)
         for each in folders:
             os.chmod(each, 0o755)
         log = here.resolve() / "crates" / "octet" / "build.log"

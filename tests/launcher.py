@@ -17,7 +17,7 @@ import time
 
 from case import text
 from cases import BANK, LOST_LOG, MARKS_BYTES
-from files import LAUNCHER, ONE, SECONDS, TOP, called, differs, first, folder_with
+from files import LAUNCHER, ONE, OTHERS, SECONDS, TOP, called, differs, first, folder_with
 
 BUILD = TOP / "tools" / "build"
 _LOADER = importlib.machinery.SourceFileLoader("build_tool", str(BUILD))
@@ -191,7 +191,7 @@ def permissions():
             os.chmod(here / name, mode)
 
         def told(*words):
-            return called([tree.launcher, *words], folder, **user)[2:]
+            return by_itself([tree.launcher, *words], folder, **user)[2:]
 
         problem = first(
             differs("closed", told("tidy", "closed"), (lines("closed may not be read"),)),
@@ -202,6 +202,11 @@ def permissions():
         os.chmod(here, 0o755)
         os.chmod(here / "shut", 0o755)
         return problem
+
+
+def by_itself(words, folder, **how):
+    """A call that OCTET tells nothing."""
+    return called(words, folder, **{"env": OTHERS, **how})
 
 
 class Tree:
@@ -233,15 +238,15 @@ def statuses():
     with tempfile.TemporaryDirectory() as folder:
         tree = Tree(pathlib.Path(folder, "tree"), 'echo "$1"; cat; exit "$2"')
         numbers = [0, 2, 3, 4, 7, 8, 9, 10, 11]
-        found = {number: called([tree.launcher, "a b", str(number)], folder, input=b"in") for number in numbers}
+        found = {number: by_itself([tree.launcher, "a b", str(number)], folder, input=b"in") for number in numbers}
         wanted = {number: (number, b"a b\nin") for number in found} | {7: (7, b"a b\nin", lines("no memory"))}
         path = {"PATH": "/none"}
         quick = Tree(pathlib.Path(folder, "quick"), "echo quick")
         return first(
             differs("statuses", found, wanted),
             # A call that has nothing to explain starts the program alone: no other is to be found.
-            differs("no other program", called([quick.launcher, "run", "S", "L"], folder, env=path), (0, b"quick\n")),
-            differs("a closed input", called(["sh", "-c", '"$0" x 0 <&-', str(tree.launcher)], folder)[0], 0),
+            differs("no other program", by_itself([quick.launcher, "run", "S", "L"], folder, env=path), (0, b"quick\n")),
+            differs("a closed input", by_itself(["sh", "-c", '"$0" x 0 <&-', str(tree.launcher)], folder)[0], 0),
         )
 
 
@@ -253,7 +258,7 @@ def signals():
         calls += [(sent, "program") for sent in [signal.SIGTERM, signal.SIGKILL, signal.SIGSEGV]]
         for sent, to in calls:
             with subprocess.Popen(
-                [tree.launcher, "x"], cwd=folder, stdout=subprocess.PIPE, stderr=subprocess.PIPE, start_new_session=True
+                [tree.launcher, "x"], cwd=folder, stdout=subprocess.PIPE, stderr=subprocess.PIPE, env=OTHERS, start_new_session=True
             ) as process:
                 program = int(process.stdout.readline())
                 (os.killpg if to == "both" else os.kill)(program if to == "program" else process.pid, sent)
@@ -282,7 +287,7 @@ def builds():
         def call(change=None, when=2000):
             if change is not None:
                 os.utime(change, (when, when))
-            found = called([tree.launcher, "x"], folder)
+            found = by_itself([tree.launcher, "x"], folder)
             tree.write(tree.program, "exit 3")
             os.utime(tree.program, (1000, 1000))
             if change is not None:
@@ -301,7 +306,47 @@ def builds():
         )
         tree.write(tree.top / "tools" / "build", "echo not built >&2; exit 1")
         tree.program.unlink()
-        return first(problem, differs("a build that fails", called([tree.launcher, "x"], folder), (70, b"", b"not built\n")))
+        return first(problem, differs("a build that fails", by_itself([tree.launcher, "x"], folder), (70, b"", b"not built\n")))
+
+
+def finds():
+    """Which program `bin/octet` finds without a build, and that by OCTET, or with OCTET_BUILD, it builds none."""
+    with tempfile.TemporaryDirectory() as folder:
+        tree = Tree(pathlib.Path(folder, "tree"), "echo proved", "echo built >&2; exit 1")
+        unproved, source = tree.top / "build" / "unproved" / "octet", tree.top / "crates" / "octet_top" / "src" / "inner" / "part.rt"
+        unproved.parent.mkdir(parents=True)
+        tree.write(unproved, "echo unproved")
+        tree.write(pathlib.Path(folder, "other"), "echo other")
+        library = tree.top / "crates" / "octet_c" / "out" / "liboctet_c.a"
+        library.parent.mkdir(parents=True)
+        library.touch()
+
+        def found(proved, compiled, word="--program"):
+            for path, when in [(tree.program, proved), (unproved, compiled), (library, proved)]:
+                os.utime(path, (when, when))
+            return by_itself([tree.launcher, word], folder)
+
+        def call(**variables):
+            return by_itself([tree.launcher, "x"], folder, env={**OTHERS, **variables})
+
+        def path(place):
+            return 0, text(str(place.resolve()))
+
+        os.utime(source, (1000, 1000))
+        ways = "`tools/build --unproved` compiles one in about a minute, `tools/build` proves it first"
+        other, no_build = {"OCTET": str(pathlib.Path(folder, "other"))}, {"OCTET_BUILD": "no"}
+        return first(
+            differs("both", found(2000, 3000), path(tree.program)),
+            differs("the older proved one", found(500, 3000), path(unproved)),
+            differs("an answer by it", call(**no_build), (0, b"unproved\n")),
+            differs("none", found(500, 500), (70, b"", lines(f"no program of these sources is built: {ways}"))),
+            differs("no answer", call(**no_build)[:2], (70, b"")),
+            differs("none, and a build", call(), (70, b"", b"built\n")),
+            differs("another", call(**other), (0, b"other\n")),
+            differs("another that is not there", call(OCTET="/none"), (70, b"", lines("OCTET names /none, and that is no program"))),
+            # No crate below the library has a source here.
+            differs("the library", found(500, 500, "--library"), path(library.parent)),
+        )
 
 
 def tries():
@@ -312,10 +357,10 @@ def tries():
         tree.write(tree.top / "tools" / "build.new", 'echo "$*"; exit "$2"')
         told = "nothing of the program that answers now is proved; without `try` it is proved first, which takes long"
         return first(
-            differs("try", called([tree.launcher, "try", "show", "0"], folder), (0, b"show 0\n", lines(told))),
+            differs("try", by_itself([tree.launcher, "try", "show", "0"], folder), (0, b"show 0\n", lines(told))),
             differs(
                 "wrong words",
-                called([tree.launcher, "try", "walk", "1"], folder),
+                by_itself([tree.launcher, "try", "walk", "1"], folder),
                 (1, b"walk 1\n", lines(told, "walk is no command, see octet help")),
             ),
         )
@@ -343,7 +388,7 @@ def plans():
             early = [each for each in crates[name] if rows[each][1] > start + 1e-6]
             if early or end <= start or not 1 <= jobs <= processors:
                 problems.append(f"{name} begins at {start} with {jobs}, before {early}")
-            if len(beside) > 1 and (sum(processes) > processors + 1 or needs > memory):
+            if len(beside) > 1 and (sum(processes) > processors * 3 // 2 + 1 or needs > memory):
                 problems.append(f"{beside} together, with {processes}, by {processors} processors and {memory} gigabytes")
     said = called([BUILD, "--plan", "--processors", "4", "--memory", "16"], TOP)[1]
     return first(
@@ -377,6 +422,7 @@ elif sys.argv[1] == "lib":
         sys.exit("a hole")
     (here / "out" / "rlib").mkdir(parents=True, exist_ok=True)
     (here / "out" / "rlib" / "stamp").write_text("")
+    print(f"crate {here.name}: modules loaded=0 checked=1")
     tell("end", here.name)
 else:
     tell(sys.argv[1], here.name)
@@ -417,19 +463,45 @@ def side_by_side():
             differs("side by side", middle, (["begin left True", "begin right True"], ["end left", "end right"])),
             differs("the last", calls[6:], ["run octet"]),
             differs("what is kept", [name for name in lists if (top / "crates" / name / "out" / "rlib").is_dir()], ["low", "left", "right"]),
-            differs("the copies", list((top / "build").iterdir()), []),
+            differs("no copies are left", [path.name for path in (top / "build").iterdir()], ["proved.json"]),
             differs("its log", (top / "crates" / "octet" / "build.log").read_text().count("processor time"), 5),
             differs("once more", call()[2], ["run octet"]),
         )
-        time.sleep(0.01)
+        source = top / "crates" / "left" / "src" / "lib.rt"
+        os.utime(source)
+        whole = first(whole, differs("a newer file with what it had", call()[2], ["run octet"]))
+        source.write_text("// Changed.")
+        os.utime(source, (1, 1))
+        whole = first(whole, differs("an older file with other contents", call()[2], ["begin left True", "end left", "run octet"]))
         (top / "crates" / "right" / "src" / "bad.rt").write_text("")
         status, last, calls = call()
         return first(
             whole,
             differs("a crate that fails", (status, last, calls), (1, "a hole", ["begin right True"])),
             differs("what it kept", (top / "crates" / "right" / "out" / "rlib").is_dir(), True),
-            differs("no copies are left", list((top / "build").iterdir()), []),
+            differs("no copies are left then", [path.name for path in (top / "build").iterdir()], ["proved.json"]),
         )
+
+
+def measured_seconds():
+    """What was measured stands in the place of the first guess; what is no measure does not."""
+    crates = {"low": [], "high": ["low"]}
+    with tempfile.TemporaryDirectory() as folder:
+        kept = pathlib.Path(folder, "proved.json")
+        before, build_tool.KEPT = build_tool.KEPT, kept
+        try:
+            found = [build_tool.measured()]
+            for content in ["no rows", "[]", '{"low": {"seconds": 7}, "high": {"seconds": "7"}, "other": 7, "gone": {"seconds": 9}}']:
+                kept.write_text(content)
+                found.append(build_tool.measured())
+        finally:
+            build_tool.KEPT = before
+    plan = build_tool.Plan(crates, 2, 8, found[-1])
+    return first(
+        differs("what is read", found, [{}, {}, {}, {"low": 7, "gone": 9}]),
+        differs("the seconds", plan.seconds, {"low": 7, "high": build_tool.UNKNOWN}),
+        differs("the ways", plan.ways, {"low": 7 + build_tool.UNKNOWN, "high": build_tool.UNKNOWN}),
+    )
 
 
 TESTS = {
@@ -440,8 +512,10 @@ TESTS = {
     "bin/octet: the program's statuses and its input": statuses,
     "bin/octet: signals": signals,
     "bin/octet: when it builds": builds,
+    "bin/octet: what it finds without a build": finds,
     "bin/octet: try": tries,
     "tests/run: words and a list": words_of_the_tests,
     "tools/build: the plan": plans,
+    "tools/build: what was measured": measured_seconds,
     "tools/build: side by side": side_by_side,
 }

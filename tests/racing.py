@@ -17,7 +17,7 @@ sys.path.insert(0, str(pathlib.Path(__file__).resolve().parent))
 
 import judges  # noqa: E402
 from case import ACCESSES, script, text  # noqa: E402
-from files import OCTET, called, octet  # noqa: E402
+from files import OCTET, called, is_built, octet  # noqa: E402
 
 
 def looping(threads, times, *body):
@@ -96,6 +96,8 @@ def sixteen_threads():
 
 
 def main():
+    if len(sys.argv) < 3 and not is_built():
+        return 1
     times, failed = int((sys.argv[1:2] or ["125"])[0]), 0
     program = pathlib.Path((sys.argv[2:3] or [OCTET])[0]).resolve()
     for name, content in SCRIPTS.items():

@@ -14,6 +14,7 @@ from cases import BANK, CASES, EARLY, EARLY_UNMARKED, LOST_LOG, SHARED, SHARED_L
 from files import LAUNCHER, OCTET, TOP, called, differs, first, folder_with, octet
 
 LOG, DIAGRAM, PLACES = TOP / "tools" / "log", TOP / "tools" / "diagram", TOP / "tools" / "places"
+WRONG = TOP / "tests" / "wrong" / "try"
 COMMANDS = re.compile(r"^\| `octet ([a-z]+)", re.MULTILINE)
 STATUSES = re.compile(r"^\| ([0-9]+) \|", re.MULTILINE)
 
@@ -286,6 +287,44 @@ def what_the_headline_needs():
     )
 
 
+def unfit(edit):
+    """Why a wrong body of tests/wrong cannot be written into its crate, or None: each `old:` text stands in its file once."""
+    crate, texts, path, old = TOP / "crates" / edit.parent.name, {}, None, None
+    for line in edit.read_text().split("\n"):
+        if line.startswith("file: "):
+            path = line[6:].strip()
+            texts.setdefault(path, (crate / path).read_text())
+        elif line.startswith("old: "):
+            old = line[5:]
+        elif line.startswith("new:"):
+            if texts[path].count(old) != 1:
+                return f"{edit.relative_to(TOP)}: {old!r} stands in {path} {texts[path].count(old)} times"
+            texts[path] = texts[path].replace(old, line[4:].removeprefix(" "))
+    return None if texts else f"{edit.relative_to(TOP)} changes nothing"
+
+
+def wrong_bodies():
+    """Those that the gate does not try still fit the crates, and `tests/wrong/try --list` has them and those of the gate."""
+    others, gate = sorted(TOP.glob("tests/wrong/*/*.edit")), sorted(TOP.glob("crates/*/must-fail/*.edit"))
+    wanted = sorted([edit.parent.name, "other", edit.stem] for edit in others)
+    wanted += sorted([edit.parent.parent.name, "gate", edit.stem] for edit in gate)
+    status, listed = called([WRONG, "--list"], TOP)
+    return first(
+        *(unfit(edit) for edit in others),
+        differs("the list", (status, sorted(line.split()[:3] for line in listed.decode().splitlines())), (0, sorted(wanted))),
+        differs("a name", called([WRONG, "--list", "none"], TOP)[0], 64),
+    )
+
+
+def all_parts():
+    """`tests/all` refuses other words, and `.ci/run` has the gate on a line of its own."""
+    told = b"tests/all: tests/all, tests/all --after-gate, or tests/all --quick\n"
+    return first(
+        *(differs(f"{words}", called([TOP / "tests" / "all", *words], TOP), (64, b"", told)) for words in [["--slow"], ["--quick", "x"], [""]]),
+        differs("the gate", (TOP / ".ci" / "run").read_text().split("\n").count("rt ci"), 1),
+    )
+
+
 TESTS = {
     "bin/octet: the usage and the version": usage,
     "tools/log: the text of a log and back": text_and_back,
@@ -296,6 +335,8 @@ TESTS = {
     "tools/diagram: what is refused": refused_pictures,
     "tools/diagram: trace events": trace_events,
     "tools/places, tools/diagram: the lines of a program": places_of_a_program,
+    "tests/wrong: each body fits its crate": wrong_bodies,
+    "tests/all: its words": all_parts,
     "the code of the documents": code_of_the_documents,
     "the files that the headline needs": what_the_headline_needs,
 }
