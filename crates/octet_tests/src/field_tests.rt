@@ -110,11 +110,7 @@ const ROWS: [Row; 2] = [
     (
         b"object x 5\nthread\nread r0 x\nthread\n",
         &[(2, &[]), (0, &[])],
-        [
-            &[],
-            &[Played::Made, Played::Amiss],
-            &[Played::Through],
-        ],
+        [&[], &[Played::Made, Played::Amiss], &[Played::Through]],
         None,
     ),
 ];

@@ -1,10 +1,8 @@
 //! A window of two threads, in which a payment is lost.
 ghost use Rattle.std.specs.Prelude.{◌≡◌, length, IfOk};
 
-use octet_clock::{Verdict, verify};
 use octet_model::{Event, List, Mark, OutOfMemory};
-use octet_replay::replay;
-use octet_window::{Front, Notes, Refusal, Window, close};
+use octet_window::{Front, Notes, Refusal, close};
 use std::alloc::Global;
 use std::test::*;
 
@@ -65,18 +63,6 @@ fn lost(alloc: Global, first_count: u64) -> Result<List<Notes>, OutOfMemory>
     Ok(threads)
 }
 
-/// What a window's log says of it, and the values that it ends with.
-fn judged(alloc: Global, window: &Window) -> Result<(bool, List<u64>), Fail> {
-    let ordered = match verify(alloc, &window.script, &window.log) {
-        Ok(Verdict::Ordered) => true,
-        _ => false,
-    };
-    match replay(alloc, &window.script, &window.log) {
-        Ok(outcome) => Ok((ordered, outcome.heap)),
-        Err(_) => Err(Fail::new("no replay")),
-    }
-}
-
 #[test]
 fn a_window_has_the_values_that_are_noted(rt: HostRuntime) -> Result<(), Fail> {
     let alloc = rt.alloc();
@@ -85,9 +71,6 @@ fn a_window_has_the_values_that_are_noted(rt: HostRuntime) -> Result<(), Fail> {
         return Err(Fail::new("refused"));
     };
     assert_eq!(rt; window.objects.as_slice(), [3, 1].as_slice());
-    let (ordered, heap) = judged(alloc, &window)?;
-    assert!(rt; ordered);
-    assert_eq!(rt; heap.as_slice(), [130, 9].as_slice());
     assert_eq!(rt; window.outcome.heap.as_slice(), [130, 9].as_slice());
     Ok(())
 }

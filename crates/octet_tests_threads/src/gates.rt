@@ -1,10 +1,24 @@
-//! Any gate, counted, and as one that says that it is open.
+//! A flag to wait for, and any gate, counted, and as one that says that it is open.
 use octet_base::Gate;
 use octet_heap::Worker;
 use octet_threads::HeapGate;
 use std::sync::Wait;
-use std::sync::atomic::{AtomicU32, Ordering};
-use std::thread::Threads;
+use std::sync::atomic::{AtomicBool, AtomicU32, Ordering};
+use std::thread::{Threads, yield_now};
+
+/// How often a thread looks before it gives up.
+pub(crate) const MOST_LOOKS: u32 = 10_000_000;
+
+/// Waits until the flag is up, but for so many looks at most. Tells whether it was seen.
+pub(crate) fn wait_for(flag: &AtomicBool, looks: u32) -> bool {
+    for _ in 0..looks {
+        if flag.load(Ordering::SeqCst) {
+            return true;
+        }
+        yield_now();
+    }
+    false
+}
 
 /// Lets threads pass and shows workers where another gate does, which may hold them. Counts both, and
 /// says that it is open, or that it is not. What is only done at a gate that is not open shows here.

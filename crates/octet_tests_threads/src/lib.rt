@@ -1,4 +1,4 @@
-//! Tests of runs by threads, of the tools that the pages build, and of the program's commands.
+//! Tests across crates that start threads: runs, logs that are written meanwhile, the heap, recordings, and whole commands.
 #![tactic(auto)]
 
 #[cfg(test)]
@@ -10,13 +10,21 @@ mod heap_gate_tests;
 #[cfg(test)]
 mod live_tests;
 #[cfg(test)]
+mod locked_tests;
+#[cfg(test)]
+mod long_race_tests;
+#[cfg(test)]
 mod loop_tests;
+#[cfg(test)]
+mod race_tests;
+#[cfg(test)]
+mod races;
+#[cfg(test)]
+mod safe_tests;
 #[cfg(test)]
 mod samples;
 #[cfg(test)]
 mod thread_tests;
-#[cfg(test)]
-mod threads_tests;
 #[cfg(test)]
 mod tool_tests;
 #[cfg(test)]

@@ -4,31 +4,29 @@ ghost use Rattle.std.specs.Prelude.{◌≡◌, None, IsSome};
 ghost use Rattle.octet_base.specs.Desk.{Takes, TakesPiece, Begins, Adds, Finishes, Says};
 
 use crate::desks::{desk_with, words_of};
-use crate::gates::Counted;
+use crate::gates::{Counted, MOST_LOOKS, wait_for};
 use octet_base::{Desk, DeskFault, Gate, MemoryDesk};
 use octet_heap::Worker;
 use octet_threads::HeapGate;
 use octet_top::serve;
 use std::alloc::Global;
 use std::sync::Wait;
-use std::sync::atomic::{AtomicBool, AtomicU32, Ordering};
+use std::sync::atomic::{AtomicBool, Ordering};
 use std::test::Fail as Failed;
-use std::thread::{Threads, yield_now};
-
-/// How often a worker looks before it gives up.
-const MOST_LOOKS: u32 = 10_000_000;
+use std::thread::Threads;
 
 const APART: &[u8] =
     b"object x 0\nobject y 0\nthread\nthread\nset r0 1\nwrite x r0\nthread\nset r0 2\nwrite y r0\n";
 
-/// A desk that counts its adds.
+/// A desk that raises a flag at its second add: of a piece, after the head.
 #[derive(Drop)]
-struct Counting<'a> {
+struct Flagging<'a> {
     desk: MemoryDesk,
-    adds: &'a AtomicU32,
+    has_added: bool,
+    flag: &'a AtomicBool,
 }
 
-impl<'a> Desk for Counting<'a> {
+impl<'a> Desk for Flagging<'a> {
     ghost use Rattle.octet_base.specs.Memory.{state_in};
 
     ghost state = { λ d. state_in d.desk };
@@ -62,7 +60,8 @@ impl<'a> Desk for Counting<'a> {
         requires { IsSome (state_in self.old.desk).begun }
         ensures { Adds bytes.now (state_in self.old.desk) result (state_in self.new.desk) }
     {
-        self.adds.fetch_add(1, Ordering::SeqCst);
+        self.flag.store(self.has_added, Ordering::SeqCst);
+        self.has_added = true;
         self.desk.add(alloc, bytes)
     }
 
@@ -80,47 +79,17 @@ impl<'a> Desk for Counting<'a> {
     }
 }
 
-/// Holds thread 2 at its first access until there were two adds: of the head, and of a piece.
+/// Holds thread 2 at its first access until the flag is up.
 #[derive(Drop)]
 struct Held<'a> {
-    adds: &'a AtomicU32,
-    has_passed: AtomicBool,
-    gave_up: AtomicBool,
-}
-
-impl<'a> Held<'a> {
-    fn new(adds: &'a AtomicU32) -> Held<'a> {
-        Held {
-            adds,
-            has_passed: AtomicBool::new(false),
-            gave_up: AtomicBool::new(false),
-        }
-    }
-
-    fn has_passed(&self) -> bool {
-        self.has_passed.load(Ordering::SeqCst)
-    }
-
-    fn gave_up(&self) -> bool {
-        self.gave_up.load(Ordering::SeqCst)
-    }
-
-    fn await_piece(&self) {
-        for _look in 0..MOST_LOOKS {
-            if self.adds.load(Ordering::SeqCst) >= 2 {
-                return;
-            }
-            yield_now();
-        }
-        self.gave_up.store(true, Ordering::SeqCst);
-    }
+    flag: &'a AtomicBool,
+    has_seen: AtomicBool,
 }
 
 impl<'a> Gate for Held<'a> {
     fn pass<R: Threads + Wait + Sync>(&self, _rt: &R, thread: u8, access: u32) {
-        if thread == 2 && access == 0 {
-            self.await_piece();
-            self.has_passed.store(true, Ordering::SeqCst);
+        if thread == 2 && access == 0 && wait_for(self.flag, MOST_LOOKS) {
+            self.has_seen.store(true, Ordering::SeqCst);
         }
     }
 }
@@ -138,17 +107,25 @@ fn log_is_written_while_threads_run(rt: HostRuntime) -> Result<(), Failed> {
     let alloc = rt.alloc();
     let words = words_of(alloc, "run S L")?;
     for is_open in [false, true] {
-        let adds = AtomicU32::new(0);
-        let held = Held::new(&adds);
-        let gate = Counted::new(&held, is_open);
-        let mut counting = Counting {
-            desk: desk_with(alloc, APART, b"", &[])?,
-            adds: &adds,
+        let flag = AtomicBool::new(false);
+        let held = Held {
+            flag: &flag,
+            has_seen: AtomicBool::new(false),
         };
-        let status = serve(&rt, alloc, &words, &mut counting, &gate);
-        let found = (status, held.has_passed(), held.gave_up(), gate.passes());
-        assert_eq!(rt; found, (0, true, false, 2), "{is_open}");
-        assert_eq!(rt; counting.desk.said(), SAID, "{is_open}");
+        let gate = Counted::new(&held, is_open);
+        let mut desk = Flagging {
+            desk: desk_with(alloc, APART, b"", &[])?,
+            has_added: false,
+            flag: &flag,
+        };
+        let status = serve(&rt, alloc, &words, &mut desk, &gate);
+        let has_seen = held.has_seen.load(Ordering::SeqCst);
+        assert_eq!(rt;
+            (status, has_seen, gate.passes()),
+            (0, true, 2),
+            "{is_open}"
+        );
+        assert_eq!(rt; desk.desk.said(), SAID, "{is_open}");
     }
     Ok(())
 }

@@ -6,13 +6,16 @@ ghost use Rattle.octet_session.specs.Asking.{object_of};
 use octet_session::{Access, Change, NotMade, Session, end, make};
 use std::sync::Wait;
 
+/// What a thread came to.
+pub(crate) type Answer<H> = Result<u64, NotMade<H>>;
+
 /// How many accesses a thread makes, where the fuel lasts.
 const ROUNDS: u64 = 14;
 
 pub(crate) const OBJECTS: u16 = 3;
 
 /// A number that is far from the one for the next value, or the next round.
-pub(crate) fn mixed(told: u64, round: u64) -> u64 {
+fn mixed(told: u64, round: u64) -> u64 {
     let near = told.wrapping_add(round).wrapping_mul(0x9E37_79B9_7F4A_7C15);
     (near ^ (near >> 31)).wrapping_mul(0xBF58_476D_1CE4_E5B9) >> 3
 }
@@ -36,7 +39,7 @@ fn change_of(number: u64) -> Change {
 }
 
 /// The access that a number stands for.
-pub(crate) fn access_of(number: u64) -> Access
+fn access_of(number: u64) -> Access
     ensures { object_of result < OBJECTS }
 {
     let object = (number % 3) as u16;
@@ -85,7 +88,7 @@ pub(crate) fn work<R: Wait, S: Session>(
     session: &S,
     thread: &mut S::Thread,
     seed: u64,
-) -> Result<u64, NotMade<S::Halt>>
+) -> Answer<S::Halt>
     requires own { S.IsThreadOf session.now thread.old }
     requires rests { S.Rests thread.old }
     requires idle { (S.standing session.now thread.old).begun ≡ None }

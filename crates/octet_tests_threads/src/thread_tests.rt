@@ -1,16 +1,13 @@
 //! Runs by threads beside each other, through the top call.
 use crate::desks::log_left;
-use crate::gates::Counted;
+use crate::gates::{Counted, MOST_LOOKS, wait_for};
 use octet_base::Gate;
 use octet_heap::Worker;
 use octet_threads::HeapGate;
 use std::sync::Wait;
 use std::sync::atomic::{AtomicBool, Ordering};
 use std::test::Fail as Failed;
-use std::thread::{Threads, yield_now};
-
-/// How often a worker looks at the flags before it gives up.
-const MOST_LOOKS: u32 = 10_000_000;
+use std::thread::Threads;
 
 /// At its first access each thread raises a flag, thread 0 the first and all others the second, and
 /// waits until both are up.
@@ -33,31 +30,21 @@ impl TwoFlags {
     fn are_up(&self) -> bool {
         self.first.load(Ordering::SeqCst) && self.second.load(Ordering::SeqCst)
     }
-
-    fn raise(&self, thread: u8) {
-        if thread == 0 {
-            self.first.store(true, Ordering::SeqCst);
-        } else {
-            self.second.store(true, Ordering::SeqCst);
-        }
-    }
-
-    fn await_both(&self) {
-        for _look in 0..MOST_LOOKS {
-            if self.are_up() {
-                return;
-            }
-            yield_now();
-        }
-        self.gave_up.store(true, Ordering::SeqCst);
-    }
 }
 
 impl Gate for TwoFlags {
     fn pass<R: Threads + Wait + Sync>(&self, _rt: &R, thread: u8, access: u32) {
-        if access == 0 {
-            self.raise(thread);
-            self.await_both();
+        if access != 0 {
+            return;
+        }
+        let (own, other) = if thread == 0 {
+            (&self.first, &self.second)
+        } else {
+            (&self.second, &self.first)
+        };
+        own.store(true, Ordering::SeqCst);
+        if !wait_for(other, MOST_LOOKS) {
+            self.gave_up.store(true, Ordering::SeqCst);
         }
     }
 }

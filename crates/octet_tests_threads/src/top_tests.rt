@@ -114,7 +114,7 @@ const COMMANDS: &[(&str, Status, &[u8], Option<&[u8]>)] = &[
 
 /// With ample memory: a program that always answered that memory was refused would fail here.
 #[test]
-fn commands_answer(rt: HostRuntime) -> Result<(), Failed> {
+fn main_job_is_not_refused_for_memory(rt: HostRuntime) -> Result<(), Failed> {
     for &(line, status, said, file) in COMMANDS {
         leaves(
             &rt,
@@ -184,27 +184,15 @@ fn front(whole: &'static [u8], length: Option<usize>) -> Option<&'static [u8]> {
 /// The call after the one that ends the run would fail too, and be counted: it is not made.
 #[test]
 fn failed_calls_leave_prefixes(rt: HostRuntime) -> Result<(), Failed> {
-    for &(fails, status, written, said, faults) in FAILURES {
-        let left = (status, said, front(LOG, written), faults);
-        leaves(&rt, rt.alloc(), LOG, &fails, "locked S L", left)?;
-    }
-    Ok(())
-}
-
-#[test]
-fn failed_calls_of_a_live_run_leave_prefixes(rt: HostRuntime) -> Result<(), Failed> {
-    for &(fails, status, written, said, faults) in LIVE_FAILURES {
-        let left = (status, said, front(SECOND, written), faults);
-        leaves(&rt, rt.alloc(), LOG, &fails, "run S L", left)?;
-    }
-    Ok(())
-}
-
-#[test]
-fn failed_calls_of_marks_leave_lines(rt: HostRuntime) -> Result<(), Failed> {
-    for &(fails, status, _, said, faults) in MARKS_FAILURES {
-        let left = (status, said, None, faults);
-        leaves(&rt, rt.alloc(), MARKS, &fails, "marks K", left)?;
+    for (line, taken, whole, rows) in [
+        ("locked S L", LOG, LOG, FAILURES),
+        ("run S L", LOG, SECOND, LIVE_FAILURES),
+        ("marks K", MARKS, MARKS, MARKS_FAILURES),
+    ] {
+        for &(fails, status, written, said, faults) in rows {
+            let left = (status, said, front(whole, written), faults);
+            leaves(&rt, rt.alloc(), taken, &fails, line, left)?;
+        }
     }
     Ok(())
 }
