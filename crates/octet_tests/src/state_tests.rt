@@ -43,27 +43,17 @@ fn statuses_have_their_words(rt: HostRuntime) {
 
 const MOST: u64 = u64::MAX;
 
+const fn exchange(expected: u64, new: u64) -> Change {
+    Change::CompareExchange { expected, new }
+}
+
 // A value, and what `fetch_add` and the others of Rust's `AtomicU64` leave there, by their documentation.
 const CHANGES: [(u64, Change, u64); 14] = [
     (MOST, Change::Add(3), 2),
     (2, Change::Sub(3), MOST),
     (5, Change::Swap(9), 9),
-    (
-        5,
-        Change::CompareExchange {
-            expected: 5,
-            new: 9,
-        },
-        9,
-    ),
-    (
-        5,
-        Change::CompareExchange {
-            expected: 4,
-            new: 9,
-        },
-        5,
-    ),
+    (5, exchange(5, 9), 9),
+    (5, exchange(4, 9), 5),
     (0b1100, Change::And(0b1010), 0b1000),
     (0b1100, Change::Or(0b1010), 0b1110),
     (0b1100, Change::Xor(0b1010), 0b0110),

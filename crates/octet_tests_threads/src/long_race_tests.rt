@@ -143,7 +143,7 @@ struct Raced {
 }
 
 /// A race that is recorded.
-fn raced<R: Threads + Wait + Sync>(rt: &R, alloc: Global, seed: u64) -> Result<Raced, Fail> {
+fn record<R: Threads + Wait + Sync>(rt: &R, alloc: Global, seed: u64) -> Result<Raced, Fail> {
     let (run, mut a, mut b, from_a, from_b) = opened(alloc)?;
     let (Ok(first), Ok(second)) = race(rt, &run, &mut a, &mut b, seed) else {
         return Err(Fail::new("each thread that is recorded ends"));
@@ -218,7 +218,7 @@ fn long_races_are_made_again(rt: HostRuntime) -> Result<(), Fail> {
     let alloc = rt.alloc();
     for race in 0..20u64 {
         let seed = race.wrapping_mul(1_000_003);
-        let left = raced(&rt, alloc, seed)?;
+        let left = record(&rt, alloc, seed)?;
         let (told, values) = made_again(&rt, alloc, &left, seed)?;
         assert_eq!(rt; told, left.told);
         assert_eq!(rt; values.as_slice(), left.values.as_slice());

@@ -6,15 +6,15 @@ ghost use Rattle.octet_parallel.specs.Calls.{players_in, script_in};
 ghost use Rattle.octet_recorder.specs.Tracks.{objects_in, threads_in, IsNew, RestsAs};
 ghost use Rattle.octet_rerun.specs.Reruns.{IsAtStart, IsAtEnd};
 
-use crate::races::{Answer, OBJECTS, first_access, work};
+use crate::races::{Answer, OBJECTS, work};
 use crate::samples::script;
 use octet_clock::{Verdict, verify};
-use octet_model::{Event, List, OutOfMemory, Outcome};
+use octet_model::{List, OutOfMemory, Outcome};
 use octet_parallel::Finished;
 use octet_recorder::{Recorder, Recording, Track};
 use octet_replay::replay;
 use octet_rerun::{Follower, Rerun};
-use octet_session::{Halt, NotMade, SecondThread};
+use octet_session::{Halt, SecondThread};
 use std::alloc::Global;
 use std::convert::Infallible;
 use std::process::Abort;
@@ -50,13 +50,12 @@ fn race<R: Threads + Wait + Sync>(
     )
 }
 
-/// Both threads, run again. The first one may have another seed.
+/// Both threads, run again.
 fn race_again<R: Threads + Wait + Sync>(
     rt: &R,
     rerun: &Rerun,
     a: &mut SecondThread,
     b: &mut SecondThread,
-    first: u64,
     seed: u64,
 ) -> (Answer<Halt>, Answer<Halt>)
     requires objects { length (script_in rerun.now.field).objects ≡ OBJECTS }
@@ -71,7 +70,7 @@ fn race_again<R: Threads + Wait + Sync>(
         &mut || -> Answer<Halt>
             requires { IsSync R.row × (length (script_in rerun.now.field).objects ≡ OBJECTS) × IsAtStart rerun.now 0 a.now.follower × (a.now.begun ≡ None) }
             ensures { IfOk result (λ _. IsAtEnd rerun.entry.now 0 a.exit.now.follower) }
-        { work(rt, rerun, a, first) },
+        { work(rt, rerun, a, seed) },
         &mut || -> Answer<Halt>
             requires { IsSync R.row × (length (script_in rerun.now.field).objects ≡ OBJECTS) × IsAtStart rerun.now 1 b.now.follower × (b.now.begun ≡ None) }
             ensures { IfOk result (λ _. IsAtEnd rerun.entry.now 1 b.exit.now.follower) }
@@ -166,25 +165,22 @@ fn finished(
     rerun.close(alloc, followers)
 }
 
-/// A race that is run again, the first thread with a seed of its own: what its threads came to, and what it left, where
-/// each thread has ended.
+/// A race that is run again: what its threads were told, and what it left.
 fn run_again<R: Threads + Wait + Sync>(
     rt: &R,
     alloc: Global,
     recording: &Recording,
-    first_seed: u64,
     seed: u64,
-) -> Result<((Answer<Halt>, Answer<Halt>), Option<Finished>), Fail> {
+) -> Result<((u64, u64), Finished), Fail> {
     let (rerun, first, second) = followed(alloc, recording)?;
     let fuel = recording.script.fuel;
     let mut first = SecondThread::new(first, fuel);
     let mut second = SecondThread::new(second, fuel);
-    let answers = race_again(rt, &rerun, &mut first, &mut second, first_seed, seed);
-    let (Ok(_), Ok(_)) = answers else {
-        return Ok((answers, None));
+    let (Ok(a), Ok(b)) = race_again(rt, &rerun, &mut first, &mut second, seed) else {
+        return Err(Fail::new("each thread ends again"));
     };
     let left = finished(rerun, alloc, first.into_follower(), second.into_follower())?;
-    Ok((answers, Some(left)))
+    Ok(((a, b), left))
 }
 
 /// Two outcomes are the same.
@@ -209,10 +205,8 @@ fn race_once<R: Threads + Wait + Sync + Abort>(
     assert_eq!(rt; verdict, Verdict::Ordered);
     let replayed = replay(alloc, &recording.script, &recording.log)?;
     are_same(rt, &replayed, &recording.outcome);
-    let ((Ok(a), Ok(b)), Some(left)) = run_again(rt, alloc, &recording, seed, seed)? else {
-        return Err(Fail::new("each thread ends again"));
-    };
-    assert_eq!(rt; (a, b), told);
+    let (told_again, left) = run_again(rt, alloc, &recording, seed)?;
+    assert_eq!(rt; told_again, told);
     are_same(rt, &left.outcome, &recording.outcome);
     let marks = |thread: usize| recording
         .log
@@ -234,35 +228,5 @@ fn races_are_recorded_and_run_again(rt: HostRuntime) -> Result<(), Fail> {
     }
     // They were races: others came first where a mark says so.
     assert!(rt; marks > RACES as usize);
-    Ok(())
-}
-
-/// A thread that asks for another access is told both, and the other thread comes to its end or is told.
-#[test]
-fn both_accesses_are_named(rt: HostRuntime) -> Result<(), Fail> {
-    let (seed, other) = (4, 7_781);
-    let (recording, _) = recorded(&rt, rt.alloc(), seed)?;
-    let ((first, second), _) = run_again(&rt, rt.alloc(), &recording, other, seed)?;
-    let Err(
-        NotMade::Left {
-            halt: Halt::Diverges { divergence },
-        },
-    ) = first
-    else {
-        return Err(Fail::new("the first thread leaves its recording"));
-    };
-    assert_eq!(rt; (divergence.thread, divergence.accesses), (0, 0));
-    assert_eq!(rt; divergence.wanted, Some(first_access(other)));
-    assert!(rt; !matches!(divergence.recorded, None | Some(Event::Marked { .. })));
-    let is_told = match second {
-        Ok(_) => true,
-        Err(
-            NotMade::Left {
-                halt: Halt::Stopped { divergence: told },
-            },
-        ) => told == divergence,
-        Err(_) => false,
-    };
-    assert!(rt; is_told);
     Ok(())
 }

@@ -56,11 +56,6 @@ fn access_of(number: u64) -> Access
     }
 }
 
-/// The first access of a thread with this seed.
-pub(crate) fn first_access(seed: u64) -> Access {
-    access_of(mixed(seed, 0))
-}
-
 /// What is no access: a region, a safe point, or a rest.
 fn aside<S: Session>(session: &S, thread: &mut S::Thread, number: u64)
     requires own { S.IsThreadOf session.now thread.old }

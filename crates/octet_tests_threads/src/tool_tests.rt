@@ -1,14 +1,15 @@
 //! A tool on the heap alone, over the clauses of models: two threads of its own that add to one object.
-ghost use Rattle.std.specs.Prelude.{◌≡◌, ◌<◌, ◌+◌, [], length, IfOk};
+ghost use Rattle.std.specs.Prelude.{◌≡◌, ◌<◌, ◌+◌, []};
 ghost use Rattle.std.specs.Thread.{IsSync};
 ghost use Rattle.octet_heap.specs.Builders.{accesses_of};
 ghost use Rattle.octet_heap.specs.Models.{heap_model, worker_model};
 ghost use Rattle.octet_heap.specs.Seated.{RestsAs, Starts};
 ghost use Rattle.octet_heap.specs.Workers.{IsIdle, IsWorkerOf, Rests};
 
+use crate::samples::script;
 use crossbeam_utils::Backoff;
 use octet_heap::{Closed, Heap, Poll, Worker};
-use octet_model::{DEFAULT_FUEL, List, Name, Object, OutOfMemory, Script};
+use octet_model::{DEFAULT_FUEL, List, OutOfMemory};
 use octet_state::Mode;
 use std::alloc::Global;
 use std::sync::Wait;
@@ -17,26 +18,6 @@ use std::thread::{Threads, join_mut};
 
 /// How often each thread adds 1 to the object.
 const ROUNDS: u32 = 100;
-
-/// Two threads and one object. It needs no text, and its threads no commands: what they do is the
-/// tool's own.
-fn two_threads(alloc: Global) -> Result<Script, OutOfMemory>
-    ensures { IfOk result (λ script. (length script.threads ≡ 2) × (length script.objects ≡ 1) × (script.fuel ≡ DEFAULT_FUEL)) }
-{
-    let mut objects = List::new(alloc);
-    objects.push(Object {
-        name: Name::new(alloc, b"x")?,
-        start: 0,
-    })?;
-    let mut threads = List::new(alloc);
-    threads.push(List::new(alloc))?;
-    threads.push(List::new(alloc))?;
-    Ok(Script {
-        fuel: DEFAULT_FUEL,
-        objects,
-        threads,
-    })
-}
 
 /// One access, polled until it is made.
 fn access<R: Wait>(rt: &R, heap: &Heap, worker: &mut Worker, mode: Mode, value: u64) -> u64
@@ -111,15 +92,18 @@ fn closed(heap: Heap, alloc: Global, first: Worker, second: Worker) -> Result<Cl
     heap.close(alloc, workers)
 }
 
-/// A run, from the script to what was recorded.
-fn recorded<R: Threads + Wait + Sync>(rt: &R, alloc: Global) -> Result<Closed, OutOfMemory> {
-    let script = two_threads(alloc)?;
+/// A run, from the script to what was recorded. The script's threads have no commands: what they do is the tool's own.
+fn recorded<R: Threads + Wait + Sync>(rt: &R, alloc: Global) -> Result<Closed, Fail> {
+    let script = script(alloc, b"object x 0\nthread\nthread\n")?;
+    if script.threads.len() != 2 || script.objects.len() != 1 || script.fuel != DEFAULT_FUEL {
+        return Err(Fail::new("the script has two threads and one object"));
+    }
     let (heap, workers) = Heap::new(alloc, &script)?;
     let mut workers = workers.into_vec();
     let mut second = workers.remove(1);
     let mut first = workers.remove(0);
     run(rt, &heap, &mut first, &mut second);
-    closed(heap, alloc, first, second)
+    Ok(closed(heap, alloc, first, second)?)
 }
 
 #[test]
