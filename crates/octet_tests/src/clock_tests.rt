@@ -63,7 +63,8 @@ fn logs_are_judged(rt: HostRuntime) -> Result<(), Fail> {
         assert_eq!(rt; pair, wanted, "of row {row}");
         let is_ordered = journals_ordered(alloc, &script, &log)?;
         assert_eq!(rt; is_ordered, wanted.is_none(), "of row {row}");
-        assert!(rt; untied(alloc, &log)?, "of row {row}");
+        let is_untied = untied(alloc, &log)?;
+        assert!(rt; is_untied, "of row {row}");
     }
     Ok(())
 }

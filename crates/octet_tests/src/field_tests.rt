@@ -81,10 +81,13 @@ fn played(
     let waits = steps_to(&field, &mut second, early);
     let makes = steps_to(&field, &mut first, of_first);
     let goes_on = steps_to(&field, &mut second, late);
-    if !has_ended(&field, &mut first) || !has_ended(&field, &mut second) {
+    if !waits || !makes || !goes_on {
         return Ok(None);
     }
-    if !waits || !makes || !goes_on {
+    if !has_ended(&field, &mut first) {
+        return Ok(None);
+    }
+    if !has_ended(&field, &mut second) {
         return Ok(None);
     }
     Ok(Some(close_both(field, alloc, first, second)?))

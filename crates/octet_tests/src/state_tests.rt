@@ -47,27 +47,26 @@ const fn exchange(expected: u64, new: u64) -> Change {
     Change::CompareExchange { expected, new }
 }
 
-// A value, and what `fetch_add` and the others of Rust's `AtomicU64` leave there, by their documentation.
-const CHANGES: [(u64, Change, u64); 14] = [
-    (MOST, Change::Add(3), 2),
-    (2, Change::Sub(3), MOST),
-    (5, Change::Swap(9), 9),
-    (5, exchange(5, 9), 9),
-    (5, exchange(4, 9), 5),
-    (0b1100, Change::And(0b1010), 0b1000),
-    (0b1100, Change::Or(0b1010), 0b1110),
-    (0b1100, Change::Xor(0b1010), 0b0110),
-    (5, Change::Max(9), 9),
-    (5, Change::Max(4), 5),
-    (1 << 63, Change::Max(1), 1 << 63),
-    (5, Change::Min(9), 5),
-    (5, Change::Min(4), 4),
-    (1 << 63, Change::Min(1), 1),
-];
-
+// What `fetch_add` and the others of Rust's `AtomicU64` leave where they find a value, by their documentation.
 #[test]
 fn each_change_is_that_of_an_atomic(rt: HostRuntime) {
-    for (value, change, wanted) in CHANGES {
+    let rows = [
+        (MOST, Change::Add(3), 2),
+        (2, Change::Sub(3), MOST),
+        (5, Change::Swap(9), 9),
+        (5, exchange(5, 9), 9),
+        (5, exchange(4, 9), 5),
+        (0b1100, Change::And(0b1010), 0b1000),
+        (0b1100, Change::Or(0b1010), 0b1110),
+        (0b1100, Change::Xor(0b1010), 0b0110),
+        (5, Change::Max(9), 9),
+        (5, Change::Max(4), 5),
+        (1 << 63, Change::Max(1), 1 << 63),
+        (5, Change::Min(9), 5),
+        (5, Change::Min(4), 4),
+        (1 << 63, Change::Min(1), 1),
+    ];
+    for (value, change, wanted) in rows {
         assert_eq!(rt; change.changed(value), wanted, "{change:?} of {value}");
     }
 }

@@ -143,7 +143,7 @@ struct Raced {
 }
 
 /// A race that is recorded.
-fn record<R: Threads + Wait + Sync>(rt: &R, alloc: Global, seed: u64) -> Result<Raced, Fail> {
+fn made<R: Threads + Wait + Sync>(rt: &R, alloc: Global, seed: u64) -> Result<Raced, Fail> {
     let (run, mut a, mut b, from_a, from_b) = opened(alloc)?;
     let (Ok(first), Ok(second)) = race(rt, &run, &mut a, &mut b, seed) else {
         return Err(Fail::new("each thread that is recorded ends"));
@@ -199,10 +199,10 @@ fn made_again<R: Threads + Wait + Sync>(
     seed: u64,
 ) -> Result<((u64, u64), List<u64>), Fail> {
     let (rerun, mut a, mut b, mut to_a, mut to_b) = reopened(alloc)?;
-    for item in &race.items.0 {
+    for item in race.items.0.as_slice() {
         let _ = to_a.give(*item);
     }
-    for item in &race.items.1 {
+    for item in race.items.1.as_slice() {
         let _ = to_b.give(*item);
     }
     let answers = race_again(rt, &rerun, &mut a, &mut b, seed);
@@ -218,7 +218,7 @@ fn long_races_are_made_again(rt: HostRuntime) -> Result<(), Fail> {
     let alloc = rt.alloc();
     for race in 0..20u64 {
         let seed = race.wrapping_mul(1_000_003);
-        let left = record(&rt, alloc, seed)?;
+        let left = made(&rt, alloc, seed)?;
         let (told, values) = made_again(&rt, alloc, &left, seed)?;
         assert_eq!(rt; told, left.told);
         assert_eq!(rt; values.as_slice(), left.values.as_slice());

@@ -208,12 +208,11 @@ fn race_once<R: Threads + Wait + Sync + Abort>(
     let (told_again, left) = run_again(rt, alloc, &recording, seed)?;
     assert_eq!(rt; told_again, told);
     are_same(rt, &left.outcome, &recording.outcome);
-    let marks = |thread: usize| recording
-        .log
-        .threads
-        .get(thread)
-        .map_or(0, |log| log.marks.len());
-    Ok(marks(0).saturating_add(marks(1)))
+    let mut marks: usize = 0;
+    for thread in recording.log.threads.as_slice() {
+        marks = marks.saturating_add(thread.marks.len());
+    }
+    Ok(marks)
 }
 
 const RACES: u64 = 100;

@@ -30,21 +30,21 @@ impl TwoFlags {
     fn are_up(&self) -> bool {
         self.first.load(Ordering::SeqCst) && self.second.load(Ordering::SeqCst)
     }
+
+    fn meet(&self, own: &AtomicBool, other: &AtomicBool) {
+        own.store(true, Ordering::SeqCst);
+        if !wait_for(other, MOST_LOOKS) {
+            self.gave_up.store(true, Ordering::SeqCst);
+        }
+    }
 }
 
 impl Gate for TwoFlags {
     fn pass<R: Threads + Wait + Sync>(&self, _rt: &R, thread: u8, access: u32) {
-        if access != 0 {
-            return;
-        }
-        let (own, other) = if thread == 0 {
-            (&self.first, &self.second)
-        } else {
-            (&self.second, &self.first)
-        };
-        own.store(true, Ordering::SeqCst);
-        if !wait_for(other, MOST_LOOKS) {
-            self.gave_up.store(true, Ordering::SeqCst);
+        match (thread, access) {
+            (0, 0) => self.meet(&self.first, &self.second),
+            (_, 0) => self.meet(&self.second, &self.first),
+            (_, _) => {}
         }
     }
 }
