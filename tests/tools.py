@@ -240,7 +240,7 @@ def blocks(page, language, heading=None):
 # Of which file a page, or what stands below one heading of it, prints all but the first line, in order. Other pages print parts
 # of files.
 PRINTED = [
-    ("REPLAY.md", None, "octet_tests_replay/src/atomicity_tests.rt"),
+    ("REPLAY.md", None, "octet_tests/src/atomicity_tests.rt"),
 ]
 
 

@@ -1,24 +1,31 @@
-//! Tests of what scripts, logs and files are: their types and texts, one thread of a script, generated scripts, counts of
-//! events, and rings of marks.
+//! Tests across crates that start no thread: desks, logs and their replays, the heap step by step, and what a run becomes.
 #![tactic(auto)]
 
 #[cfg(test)]
+mod atomicity_tests;
+#[cfg(test)]
 mod base_tests;
 #[cfg(test)]
-mod gen_tests;
+mod clock_tests;
 #[cfg(test)]
-mod interp_tests;
+mod field_tests;
 #[cfg(test)]
-mod log_tests;
+mod heap_tests;
+#[cfg(test)]
+mod hunt_tests;
 #[cfg(test)]
 mod marks_tests;
 #[cfg(test)]
 mod model_tests;
 #[cfg(test)]
+mod replay_tests;
+#[cfg(test)]
 mod ring_tests;
 #[cfg(test)]
 mod samples;
 #[cfg(test)]
-mod script_tests;
+mod state_tests;
 #[cfg(test)]
-mod watch_tests;
+mod window_tests;
+#[cfg(test)]
+mod worked_tests;

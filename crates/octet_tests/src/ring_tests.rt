@@ -1,9 +1,9 @@
 //! Rings of marks, both ends on one thread.
-ghost use Rattle.std.specs.Prelude.{◌≡◌, ◌<◌, length};
+ghost use Rattle.std.specs.Prelude.{◌≡◌};
 ghost use Rattle.octet_ring.specs.Views.{received_of, IsOf, SameRings, SameSender};
 
 use octet_model::{Gapped, Mark};
-use octet_ring::{Drain, MAX_ROOM, Sender, rings};
+use octet_ring::{Drain, Sender, rings};
 use std::test::Fail;
 
 // A mark that no other number has.
@@ -34,31 +34,6 @@ fn take_rest(drain: &mut Drain, sender: &mut Sender, thread: u8) -> u32
     left
 }
 
-// Sends marks until one comes back. Tells how many did not.
-fn fill(sender: &mut Sender) -> u32
-    ensures ring { SameSender sender.old sender.new }
-{
-    for number in 0..=MAX_ROOM {
-        if sender.send(mark(number)).is_some() {
-            return number;
-        }
-    }
-    u32::MAX
-}
-
-// Takes the marks of thread 0 while they come in order. Tells how many.
-fn empty(drain: &mut Drain) -> u32
-    requires threads { 0 < length drain.old.received }
-    ensures rings { SameRings drain.old drain.new }
-{
-    for number in 0..=MAX_ROOM {
-        if drain.take(0) != Some(mark(number)) {
-            return number;
-        }
-    }
-    u32::MAX
-}
-
 #[test]
 fn both_ends_look_at_the_other(rt: HostRuntime) -> Result<(), Fail> {
     let (senders, mut drain) = rings(rt.alloc(), 1, 1)?;
@@ -74,16 +49,15 @@ fn both_ends_look_at_the_other(rt: HostRuntime) -> Result<(), Fail> {
 }
 
 #[test]
-fn every_room_holds_so_many_marks(rt: HostRuntime) -> Result<(), Fail> {
-    for room in 1..=MAX_ROOM {
-        let (senders, mut drain) = rings(rt.alloc(), 1, room)?;
-        let mut senders = senders.into_vec();
-        let mut sender = senders.remove(0);
-        assert_eq!(rt; fill(&mut sender), room);
-        assert_eq!(rt; drain.rest(&mut sender), room);
-        assert_eq!(rt; empty(&mut drain), room);
-        assert_eq!(rt; drain.rest(&mut sender), 0);
-    }
+fn a_full_ring_hands_a_mark_back(rt: HostRuntime) -> Result<(), Fail> {
+    let (senders, mut drain) = rings(rt.alloc(), 1, 1)?;
+    let mut senders = senders.into_vec();
+    let mut sender = senders.remove(0);
+    assert_eq!(rt; sender.send(mark(1)), None);
+    assert_eq!(rt; sender.send(mark(2)), Some(mark(2)));
+    assert_eq!(rt; drain.rest(&mut sender), 1);
+    assert_eq!(rt; drain.take(0), Some(mark(1)));
+    assert_eq!(rt; drain.rest(&mut sender), 0);
     Ok(())
 }
 

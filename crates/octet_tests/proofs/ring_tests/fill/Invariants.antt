@@ -1,5 +1,0 @@
-use Rattle.octet_ring.specs.Views.{SameSender}
-use Rattle.octet_tests.proofs.ring_tests.fill.Given as goal
-
-abbrev pub invariant-loop-number : goal.invariant-loop-number
-invariant-loop-number l = SameSender l.initial.sender l.sender
