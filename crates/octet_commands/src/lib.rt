@@ -22,7 +22,7 @@ mod without_runtime;
 pub use commands::replay_ordered;
 pub use giving::{code_given, deliver};
 pub use inputs::{Pair, Source, read_fitting, read_script};
-pub use marks::serve_marks;
+pub use marks::{TOO_MANY_BYTES, serve_marks};
 pub use picks::picks_of;
 pub use refusal::Refused;
 pub use reply::{Output, Reply, Status};

@@ -18,7 +18,7 @@ use std::alloc::Global;
 const TAKEN_AT_ONCE: u64 = 65_536;
 
 /// A marks file has fewer bytes: POSIX counts the bytes of a file in 63 bits.
-const TOO_MANY_BYTES: u64 = 9_223_372_036_854_775_808;
+pub const TOO_MANY_BYTES: u64 = 9_223_372_036_854_775_808;
 
 /// Lines of a marks file.
 #[derive(Drop)]

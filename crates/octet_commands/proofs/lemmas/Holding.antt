@@ -1,5 +1,5 @@
 -- What a desk that tells its contents holds, and what a call that is refused leaves of it.
-use Rattle.std.proofs.Common.{◌≡◌, ◌∙◌, ◌⊎◌, ℕ, List, Option, Some, Result, inl, inr, ap}
+use Rattle.std.proofs.Common.{◌≡◌, ◌∙◌, ℕ, List, Some, Result, inl, inr, ap}
 use Rattle.std.specs.Option.{unwrap_or}
 use Rattle.octet_base.specs.Desk.{Files, Contents, DeskState, IsCalled, with_call}
 use Rattle.octet_base.specs.declared.call.Call.{Call}

@@ -12,7 +12,7 @@ use Rattle.std.specs.FinMap.{get, insert, get-insert, same_map, slice_cmp-IsAnti
 use Rattle.std.proofs.lemmas.List.{take-append-drop, take-append-le, length-drop}
 use Rattle.std.proofs.Math.Seq.{take-append-add}
 use Rattle.std.specs.Global.{Vec}
-use Rattle.octet_base.specs.Desk.{Files, Contents, DeskState, IsCalled, with_call, with_bytes, with_empty, with_said}
+use Rattle.octet_base.specs.Desk.{Files, Contents, DeskState, with_call, with_bytes, with_empty, with_said}
 use Rattle.octet_base.specs.declared.call.Call.{Call}
 use Rattle.octet_base.specs.declared.fault.DeskFault.{DeskFault}
 use Rattle.octet_base.specs.declared.call.Call.TheVariants as call
