@@ -54,7 +54,7 @@ mod shrink;
 mod turnstile;
 mod window;
 
-pub use error::{Error, Wait};
+pub use error::{Absence, Error, Wait};
 pub use explore::{Cause, Failure, explore, try_explore};
 pub use heap::{Builder, Heap, Run, Threads};
 pub use long::{LongBuilder, LongHeap, LongRun};

@@ -1,6 +1,6 @@
 //! Runs of any length. Their marks go into a file while they go on, and by it they are run again.
 use crate::error::checked;
-use crate::heap::{Failed, Threads, all_ended, values_of};
+use crate::heap::{Failed, Rank, Threads, all_ended, values_of};
 use crate::marks_file::{Feeding, Writing};
 use crate::{Builder, Error, Heap, Last, Object, Session, Window, raw};
 use std::path::{Path, PathBuf};
@@ -265,12 +265,12 @@ impl LongBuilder {
         let (mut heap, mut sessions) = self.build()?;
         let ended = all_ended(&mut sessions, threads.works, false);
         heap.beside.end()?;
-        let follows: Vec<bool> = sessions.iter().map(Session::follows).collect();
+        let ranks: Vec<Rank> = sessions.iter().map(Session::rank).collect();
         let values = ended.into_iter().zip(&sessions).map(|(thread, session)| match thread {
             Ok(Err(_)) if session.is_cut() => Ok(Ok(None)),
             thread => thread.map(|done| done.map(Some)),
         });
-        let values = values_of(values, &follows).map_err(Failed::into_error)?;
+        let values = values_of(values, &ranks).map_err(Failed::into_error)?;
         Ok(heap.closed(sessions, values)?)
     }
 }

@@ -2,12 +2,31 @@
 use std::ffi::c_void;
 use std::ptr::null_mut;
 
+// `octet_status`.
 pub(crate) const READY: i32 = 0;
 pub(crate) const PENDING: i32 = 1;
 pub(crate) const OVER: i32 = 2;
+pub(crate) const RESTING: i32 = -2;
+pub(crate) const RUNNING: i32 = -3;
+pub(crate) const BEGUN: i32 = -4;
+pub(crate) const SPENT: i32 = -7;
+pub(crate) const NO_MEMORY: i32 = -9;
+pub(crate) const BAD_TEXT: i32 = -10;
+pub(crate) const OTHER_SESSIONS: i32 = -11;
+pub(crate) const STILL_RUNNING: i32 = -12;
+pub(crate) const TOO_LONG: i32 = -13;
 pub(crate) const DIVERGED: i32 = -15;
+pub(crate) const HALTED: i32 = -16;
+pub(crate) const MISFIT: i32 = -17;
+pub(crate) const UNORDERED: i32 = -18;
+pub(crate) const NOT_WHOLE: i32 = -19;
+pub(crate) const BAD_LOG: i32 = -20;
 pub(crate) const NO_ROOM: i32 = -24;
 pub(crate) const BAD_MARKS: i32 = -25;
+pub(crate) const OTHER_RUN: i32 = -26;
+pub(crate) const TWO_RUNS: i32 = -29;
+pub(crate) const NOT_THERE: i32 = -31;
+pub(crate) const OUT_OF_ORDER: i32 = -32;
 
 /// What a session is asked for.
 #[derive(Clone, Copy)]

@@ -2,7 +2,7 @@
 use crate::error::checked;
 use crate::raw::Handle;
 use crate::{Error, Place};
-use std::fs;
+use std::{fmt, fs};
 use std::path::{Path, PathBuf};
 
 /// A run: a script whose threads make the accesses of the run, the log that orders them, and what they left. `octet` reads both
@@ -27,7 +27,7 @@ use std::path::{Path, PathBuf};
 /// assert_eq!(add(heap.rerun(&loaded))?.value("x"), Some(7));
 /// # Ok::<(), Error>(())
 /// ```
-#[derive(Clone, Debug)]
+#[derive(Clone)]
 pub struct Recording {
     script: String,
     log: Vec<u8>,
@@ -44,6 +44,18 @@ impl PartialEq for Recording {
 }
 
 impl Eq for Recording {}
+
+// Short, since it stands in errors that are printed.
+impl fmt::Debug for Recording {
+    fn fmt(&self, out: &mut fmt::Formatter<'_>) -> fmt::Result {
+        let (script, log) = (self.script.len(), self.log.len());
+        out.debug_struct("Recording")
+            .field("threads", &self.threads())
+            .field("script", &format_args!("{script} bytes"))
+            .field("log", &format_args!("{log} bytes"))
+            .finish_non_exhaustive()
+    }
+}
 
 /// The longest script, and the longest log, that `octet` reads.
 const MAX_SCRIPT: usize = 1 << 20;
@@ -91,6 +103,7 @@ impl Recording {
     /// assert!(run.script().contains("object x 5\nthread\nset r0 7\nwrite x r0\n"), "{}", run.script());
     /// # Ok::<(), octet::Error>(())
     /// ```
+    #[must_use]
     pub fn script(&self) -> &str {
         &self.script
     }
@@ -104,6 +117,7 @@ impl Recording {
     /// assert!(run.log().starts_with(b"OCTL"));
     /// # Ok::<(), octet::Error>(())
     /// ```
+    #[must_use]
     pub fn log(&self) -> &[u8] {
         &self.log
     }
@@ -117,6 +131,7 @@ impl Recording {
     /// assert_eq!((run.value("x"), run.value("y")), (Some(7), None));
     /// # Ok::<(), octet::Error>(())
     /// ```
+    #[must_use]
     pub fn value(&self, name: &str) -> Option<u64> {
         let at = self.objects().position(|(object, _)| object == name)?;
         self.values.as_ref()?.get(at).copied()
@@ -133,12 +148,12 @@ impl Recording {
     /// assert_eq!(run.place(0, 1), None);
     /// # Ok::<(), octet::Error>(())
     /// ```
+    #[must_use]
     pub fn place(&self, thread: usize, access: usize) -> Option<&Place> {
         self.places.get(thread)?.get(access)
     }
 
-    /// Writes `STEM.octet`, `STEM.log`, and `STEM.places` with a line of source for each access. Fails with `TooLong` where
-    /// `octet` does not read such long files, and with `File`.
+    /// Writes `STEM.octet`, `STEM.log`, and `STEM.places` with a line of source for each access, over what is there.
     ///
     /// ```
     /// # let stem = std::env::temp_dir().join(format!("octet-save-{}", std::process::id()));
@@ -153,6 +168,9 @@ impl Recording {
     /// # }
     /// # Ok::<(), octet::Error>(())
     /// ```
+    ///
+    /// # Errors
+    /// `TooLong` where `octet` does not read such long files, and `File`.
     pub fn save(&self, stem: impl AsRef<Path>) -> Result<(), Error> {
         if self.script.len() > MAX_SCRIPT || self.log.len() > MAX_LOG {
             return Err(Error::TooLong);
@@ -164,7 +182,7 @@ impl Recording {
     }
 
     /// Reads `STEM.octet` and `STEM.log`, and `STEM.places` if it is there. Whether they are a recording is judged when they
-    /// are run again. Fails with `File`, and with `NoRecording` where the script is no text.
+    /// are run again.
     ///
     /// ```
     /// # let stem = std::env::temp_dir().join(format!("octet-load-{}", std::process::id()));
@@ -175,6 +193,9 @@ impl Recording {
     /// assert_eq!(&octet::Recording::load(&stem)?, run.recording());
     /// # Ok::<(), octet::Error>(())
     /// ```
+    ///
+    /// # Errors
+    /// `File`, and `NoRecording` where the script is no text.
     pub fn load(stem: impl AsRef<Path>) -> Result<Recording, Error> {
         let stem = stem.as_ref();
         let script = String::from_utf8(read(with_ending(stem, ".octet"))?).map_err(|_| Error::NoRecording)?;

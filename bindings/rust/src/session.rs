@@ -2,19 +2,20 @@
 mod access;
 mod lock;
 mod meeting;
+mod spins;
 
 use crate::error::checked;
+use crate::heap::Rank;
 use crate::raw::{self, Handle};
 use crate::shared::{Order, Shared};
-use crate::{Error, Place};
+use crate::{Error, Place, quiet};
+use spins::Recent;
 use std::cell::Cell;
-use std::hint;
 use std::marker::PhantomData;
-use std::mem;
 use std::panic::Location;
 use std::sync::Arc;
-use std::thread;
 use std::time::Instant;
+use std::{fmt, hint, mem, thread};
 
 type Caller = &'static Location<'static>;
 
@@ -32,7 +33,7 @@ const SPINS: u32 = 100;
 /// })?;
 /// # Ok::<(), octet::Error>(())
 /// ```
-#[derive(Clone, Copy, Debug, PartialEq, Eq)]
+#[derive(Clone, Copy, Debug, PartialEq, Eq, Hash)]
 pub struct Object {
     pub(crate) heap: u64,
     pub(crate) place: u16,
@@ -55,6 +56,9 @@ pub struct Object {
 /// Its accesses have the names and the answers of `std::sync::atomic`, and all are sequentially consistent. An access of a
 /// recorded run is made at once, or as soon as the threads that own the object hand it over. In a second run it waits until all
 /// that was recorded before it is made.
+///
+/// An access that has waited for too long fails, and the thread makes no other one. It is made after all once the thread is
+/// stopped, so that no other one waits for it.
 pub struct Session {
     handle: Handle,
     number: usize,
@@ -68,11 +72,21 @@ pub struct Session {
     places: Option<Vec<Caller>>,
     // Where a call stands that makes several accesses.
     caller: Option<Caller>,
-    // Whether its last error follows from another thread's.
-    follows: bool,
+    // Where the access stands that was begun, and has waited for too long.
+    given_up: Option<Caller>,
+    // Its last accesses, of a run by a schedule.
+    recent: Recent,
+    // Of which kind its last error is.
+    rank: Rank,
     // Whether its recording has ended before the thread did.
     is_cut: bool,
     not_sync: PhantomData<Cell<()>>,
+}
+
+impl fmt::Debug for Session {
+    fn fmt(&self, out: &mut fmt::Formatter<'_>) -> fmt::Result {
+        out.debug_struct("Session").field("number", &self.number).finish_non_exhaustive()
+    }
 }
 
 impl Drop for Session {
@@ -95,7 +109,9 @@ impl Session {
             held: Vec::new(),
             places: keeps_places.then(Vec::new),
             caller: None,
-            follows: false,
+            given_up: None,
+            recent: Recent::default(),
+            rank: Rank::Own,
             is_cut: false,
             not_sync: PhantomData,
         }
@@ -110,8 +126,8 @@ impl Session {
         self.heap == heap
     }
 
-    pub(crate) fn follows(&self) -> bool {
-        self.follows
+    pub(crate) fn rank(&self) -> Rank {
+        self.rank
     }
 
     pub(crate) fn is_cut(&self) -> bool {
@@ -128,6 +144,7 @@ impl Session {
     /// assert_eq!(run.values(), [0, 1]);
     /// # Ok::<(), octet::Error>(())
     /// ```
+    #[must_use]
     pub fn number(&self) -> usize {
         self.number
     }
@@ -162,16 +179,16 @@ impl Session {
     /// ```
     ///
     /// # Errors
-    /// `Running` where it is started; `Resting` where it has ended. By a schedule those of waiting: `Deadlock` and `Patience`.
+    /// `Running` where it is started; `Resting` where it has ended. By a schedule those of waiting: `Deadlock` and `NotBack`.
     pub fn start(&mut self) -> Result<(), Error> {
         if let Order::Turns(turnstile) = &self.shared.order {
-            let passed = turnstile.pass(self.number);
-            passed.map_err(|stuck| self.shared.stuck(self.number, stuck))?;
+            turnstile.pass(self.number, None).map_err(|stuck| self.shared.stuck(stuck))?;
         }
         checked(self.handle.start(), self.number)
     }
 
-    /// Ends the thread: no other one waits for it any more. In a second run it must have made all that was recorded of it.
+    /// Ends the thread: no other one waits for it any more. In a second run it must have made all that was recorded of it. By a
+    /// schedule it waits until it is picked, since its end may come long after its last access.
     ///
     /// ```
     /// let (heap, mut sessions) = octet::Heap::builder().object("x", 0).build()?;
@@ -184,8 +201,11 @@ impl Session {
     /// ```
     ///
     /// # Errors
-    /// `Resting` where it does not run. In a second run `Diverged`, `Halted` and `Patience`. It is stopped all the same.
+    /// `Resting` where it does not run. In a second run `Diverged`, `Halted` and `Patience`; by a schedule `Deadlock` and `NotBack`.
+    /// It is stopped all the same.
     pub fn stop(&mut self) -> Result<(), Error> {
+        let turned = self.take_last_turn();
+        self.finish_given_up();
         let mut out = 0;
         let status = self.handle.end(&mut out);
         let status = self.until_made(status, &mut out, |handle, out| handle.end(out));
@@ -196,10 +216,57 @@ impl Session {
         if let Order::Turns(turnstile) = &self.shared.order {
             turnstile.end(self.number);
         }
-        self.answered(status?, out, None)
+        self.answered(status?, out, None)?;
+        turned
     }
 
-    /// Does the work between `start` and `stop`, and stops also where it fails or panics. Fails as these three do.
+    fn take_last_turn(&mut self) -> Result<(), Error> {
+        if self.at_once == self.heap { Ok(()) } else { self.take_turn(None) }
+    }
+
+    /// Whether an access that was given up is made now, or there is none. Others may be waiting for it.
+    pub(crate) fn finish_if_made(&mut self) -> bool {
+        let Some(caller) = self.given_up else {
+            return true;
+        };
+        let status = self.handle.poll(&mut 0);
+        if status == raw::PENDING {
+            return false;
+        }
+        if status == raw::READY {
+            self.note_place(caller);
+        }
+        self.given_up = None;
+        // A thread that is stopped already says so, and nothing is to be done.
+        self.handle.stop();
+        true
+    }
+
+    // Makes an access that was given up, if it can be made in time. Meanwhile it answers the others.
+    fn finish_given_up(&mut self) {
+        if self.given_up.is_none() || !matches!(self.shared.order, Order::Free { .. }) {
+            return;
+        }
+        let since = Instant::now();
+        let mut round = 0_u32;
+        loop {
+            let status = self.handle.poll(&mut 0);
+            if status != raw::PENDING {
+                if let (raw::READY, Some(caller)) = (status, self.given_up) {
+                    self.note_place(caller);
+                }
+                self.given_up = None;
+                return;
+            }
+            thread::yield_now();
+            round = round.wrapping_add(1);
+            if round % 1024 == 0 && since.elapsed() >= self.shared.patience {
+                return;
+            }
+        }
+    }
+
+    /// Does the work between `start` and `stop`, and stops also where it fails or panics.
     ///
     /// ```
     /// use octet::{Error, Heap};
@@ -213,10 +280,16 @@ impl Session {
     /// assert_eq!(heap.finish(sessions)?.value("x"), Some(2));
     /// # Ok::<(), Error>(())
     /// ```
+    ///
+    /// # Errors
+    /// Those of the three.
     pub fn running<T, E: From<Error>>(&mut self, work: impl FnOnce(&mut Session) -> Result<T, E>) -> Result<T, E> {
         struct Stop<'a>(&'a mut Session);
         impl Drop for Stop<'_> {
             fn drop(&mut self) {
+                if let (true, Order::Turns(turnstile)) = (thread::panicking(), &self.0.shared.order) {
+                    turnstile.note_panic(self.0.number, quiet::last_panic());
+                }
                 // Where it was stopped, or failed in another way, this one fails too.
                 let _ = self.0.stop();
             }
@@ -248,7 +321,7 @@ impl Session {
             }
             round = round.wrapping_add(1);
             if round % 1024 == 0 && since.get_or_insert_with(Instant::now).elapsed() >= self.shared.patience {
-                self.follows = true;
+                self.rank = Rank::Follows;
                 return Err(Error::Patience { thread: self.number });
             }
             status = again(&mut self.handle, out);
@@ -259,10 +332,11 @@ impl Session {
     #[cold]
     fn answered(&mut self, status: i32, out: u64, caller: Option<Caller>) -> Result<(), Error> {
         if status == raw::DIVERGED {
+            self.rank = Rank::Left(out);
             return Err(Error::Diverged { thread: self.number, accesses: out, place: caller.map(Place::from) });
         }
         self.is_cut = self.is_cut || status == raw::OVER;
-        checked(status, self.number).inspect_err(|error| self.follows = error.follows())
+        checked(status, self.number).inspect_err(|error| self.rank = error.rank())
     }
 
     // Does the work while no other thread waits for this one.
@@ -282,21 +356,20 @@ impl Session {
 
     // Waits, stopped, for what another thread brings.
     fn wait_stopped(&mut self, wait: impl FnOnce(&Shared, usize) -> Result<(), Error>) -> Result<(), Error> {
-        self.stopped(wait)?.inspect_err(|error| self.follows = error.follows())
+        self.stopped(wait)?.inspect_err(|error| self.rank = error.rank())
     }
 
     // Waits until it is this thread's turn.
     #[cold]
-    fn take_turn(&mut self) -> Result<(), Error> {
+    fn take_turn(&mut self, at: Option<Caller>) -> Result<(), Error> {
         self.wait_stopped(|shared, number| match &shared.order {
-            Order::Turns(turnstile) => turnstile.pass(number).map_err(|stuck| shared.stuck(number, stuck)),
-            _ => Ok(()),
+            Order::Turns(turnstile) => turnstile.pass(number, at).map_err(|stuck| shared.stuck(stuck)),
+            Order::Free { .. } | Order::Again => Ok(()),
         })
     }
 
     /// Does the work with the thread marked as blocked, so that no other one waits for it: for files, sleep, and whatever may
-    /// wait for another thread. What it reads is not recorded. Fails with `Resting` where the thread does not run, and by a
-    /// schedule with `Patience`.
+    /// wait for another thread. What it reads is not recorded.
     ///
     /// ```
     /// use octet::{Error, Heap};
@@ -310,20 +383,24 @@ impl Session {
     /// })?;
     /// # Ok::<(), Error>(())
     /// ```
+    ///
+    /// # Errors
+    /// `Resting` where the thread does not run, and by a schedule `Deadlock` and `NotBack`.
+    #[track_caller]
     pub fn blocked<T>(&mut self, work: impl FnOnce() -> T) -> Result<T, Error> {
+        let at = Some(self.caller.unwrap_or(Location::caller()));
         let done = self.stopped(|shared, number| match &shared.order {
             Order::Turns(turnstile) => {
-                turnstile.block(number);
+                turnstile.block(number, at);
                 let done = work();
-                turnstile.pass(number).map_err(|stuck| shared.stuck(number, stuck)).map(|()| done)
+                turnstile.pass(number, at).map_err(|stuck| shared.stuck(stuck)).map(|()| done)
             }
             Order::Free { .. } | Order::Again => Ok(work()),
         })?;
-        done.inspect_err(|error| self.follows = error.follows())
+        done.inspect_err(|error| self.rank = error.rank())
     }
 
-    /// Answers the threads that wait for this one. Call it in long stretches without accesses. Fails with `Resting` where the
-    /// thread does not run.
+    /// Answers the threads that wait for this one. Call it in long stretches without accesses.
     ///
     /// ```
     /// # octet::Heap::builder().object("x", 12).run(|threads| threads.spawn(|session| {
@@ -341,13 +418,16 @@ impl Session {
     /// # }))?;
     /// # Ok::<(), octet::Error>(())
     /// ```
+    ///
+    /// # Errors
+    /// `Resting` where the thread does not run.
     #[inline]
     pub fn safe_point(&mut self) -> Result<(), Error> {
         checked(self.handle.safe_point(), self.number)
     }
 
     /// Begins a region with the next access, and the one before ends there. `octet regions` tells whether the regions could have
-    /// run one after another. Fails with `Resting` where the thread does not run.
+    /// run one after another.
     ///
     /// ```
     /// # octet::Heap::builder().object("x", 100).run(|threads| threads.spawn(|session| {
@@ -360,6 +440,9 @@ impl Session {
     /// # }))?;
     /// # Ok::<(), octet::Error>(())
     /// ```
+    ///
+    /// # Errors
+    /// `Resting` where the thread does not run.
     #[inline]
     pub fn region(&mut self) -> Result<(), Error> {
         checked(self.handle.region(), self.number)

@@ -9,9 +9,12 @@ use std::hash::{BuildHasher, BuildHasherDefault, DefaultHasher};
 use std::iter;
 use std::time::{Duration, Instant};
 
-/// How many runs are made at most, and for how long.
+/// How many runs are made at most, with how many picks of all of them. So the same seed is shrunk to the same failure, whatever
+/// else the machine does.
 const MOST_RUNS: usize = 200;
-const MOST_TIME: Duration = Duration::from_secs(10);
+const MOST_PICKS: usize = 150_000;
+/// Where a pick takes longer than it mostly does, as in a program that sleeps, the clock ends it.
+const MOST_TIME: Duration = Duration::from_secs(2);
 /// How many of them are made at first without a preemption, and how many with one.
 const FIRST_RUNS: usize = 40;
 
@@ -59,20 +62,21 @@ struct Search<'a, E> {
     // How often each thread was picked in the run that is shrunk.
     lengths: Vec<usize>,
     draws: Picker,
-    // The hashes of the picks that were played.
+    // The hashes of the picks that were played, and how many more picks may be.
     played: HashSet<u64>,
+    left: usize,
     until: Instant,
 }
 
 impl<E: Error + 'static> Search<'_, E> {
     // A number that the seed draws, below this one: each pick of sixteen threads is a digit.
     fn below(&mut self, end: usize) -> usize {
-        let mut digit = || self.draws.pick(&[true; 16], None).unwrap_or(0);
+        let mut digit = || self.draws.pick(&[true; 16], None).map_or(0, |picked| picked.thread);
         (0..6).fold(0, |number, _| 16 * number + digit()) % end
     }
 
     fn is_over(&self) -> bool {
-        self.played.len() >= MOST_RUNS || Instant::now() >= self.until
+        self.played.len() >= MOST_RUNS || self.left == 0 || Instant::now() >= self.until
     }
 
     // The failure by these picks, if it is like the best one.
@@ -81,7 +85,9 @@ impl<E: Error + 'static> Search<'_, E> {
         if self.is_over() || !self.played.insert(hash) {
             return None;
         }
-        let failure = play(self.program, Schedule::given(self.best.seed(), picks)).err()?;
+        let played = play(self.program, Schedule::given(self.best.seed(), picks, self.lengths.clone()));
+        self.left = self.left.saturating_sub(played.picks);
+        let failure = played.failure?;
         if failure.is_impatient() {
             // More tries would wait as long.
             self.until = Instant::now();
@@ -197,13 +203,14 @@ pub(crate) fn with_fewer_preemptions<E: Error + 'static>(
     let count = |thread| picks.iter().filter(|&&picked| picked == thread).count();
     let lengths = (0..=picks.iter().copied().max().unwrap_or(0)).map(count).collect();
     let until = Instant::now() + MOST_TIME;
-    let mut search = Search { program, best: failure, lengths, draws, played: HashSet::new(), until };
+    let mut search = Search { program, best: failure, lengths, draws, played: HashSet::new(), left: MOST_PICKS, until };
     if search.failure_by(picks).is_some() {
         search.all();
     }
     if search.best.recording().is_none() {
         // A file that the program has written is of the last run, which is to be this one.
-        let _ = play(search.program, Schedule::given(search.best.seed(), threads(search.best.picks())));
+        let picks = threads(search.best.picks());
+        play(search.program, Schedule::given(search.best.seed(), picks, search.lengths));
     }
     search.best
 }

@@ -1,5 +1,6 @@
 //! The last accesses of a run of any length.
 use crate::error::checked;
+use crate::heap::within;
 use crate::marks_file::{Front, feed_all};
 use crate::{Error, LongBuilder, Recording, Threads};
 
@@ -123,9 +124,7 @@ impl Window {
         E: From<Error> + Send,
     {
         let Window { long, last: Last(last) } = self;
-        if last == 0 {
-            return Err(Error::BadSize.into());
-        }
+        within("accesses of each thread", last.into(), 1, u16::MAX.into())?;
         let mut whole = long.rerun_noting(long.path(), last, &spawn)?;
         let (mut search, status) = whole.search();
         checked(status, 0)?;

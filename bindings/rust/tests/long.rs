@@ -129,7 +129,7 @@ fn the_last_accesses_are_a_recording() {
         assert!(heap().rerun(cut.as_ref()).window(last(10)).run(walks).unwrap().script().starts_with("fuel "));
     }
     let none = heap().rerun(file.as_ref()).window(last(0)).run(|threads| walks(1)(threads));
-    assert!(matches!(none, Err(Error::BadSize)), "{none:?}");
+    assert!(matches!(none, Err(Error::BadSize { .. })), "{none:?}");
     let many = heap().rerun(file.as_ref()).window(last(60_000)).run(|threads| walks(1_000)(threads));
     assert!(matches!(many, Err(Error::TooLong)), "{many:?}");
 }

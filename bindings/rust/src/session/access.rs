@@ -4,9 +4,12 @@ use crate::Error;
 use crate::raw::{self, Access, Change, Handle};
 use std::panic::Location;
 
-/// Accesses. Each fails with `OtherHeap` at an object of another heap, `Resting` where the thread does not run, `Spent` where it
-/// has made all that its heap allows, and `Patience` where it has waited too long. In a second run it may fail with `Diverged` or
-/// `Halted`, and by a schedule with `Deadlock`.
+/// # Accesses
+///
+/// # Errors
+/// Each fails with `OtherHeap` at an object of another heap, `Resting` where the thread does not run, `Spent` where it has made all
+/// that its heap allows, and `Patience` where it has waited too long. In a second run it may fail with `Diverged`, `Halted` or
+/// `RecordingEnds`, and by a schedule with `Deadlock`, `NotBack` or `Spins`.
 impl Session {
     // An access from this place. Where it is written which one it is, this comes to one call of the library.
     #[inline(always)]
@@ -21,7 +24,7 @@ impl Session {
     }
 
     #[inline(always)]
-    fn note_place(&mut self, caller: Caller) {
+    pub(super) fn note_place(&mut self, caller: Caller) {
         if let Some(places) = &mut self.places {
             places.push(caller);
         }
@@ -30,7 +33,7 @@ impl Session {
     // An access that was begun, or refused.
     #[cold]
     fn make_later(&mut self, status: i32, mut out: u64, caller: Caller) -> Result<u64, Error> {
-        let status = self.until_made(status, &mut out, Handle::poll)?;
+        let status = self.until_made(status, &mut out, Handle::poll).inspect_err(|_| self.given_up = Some(caller))?;
         if status != raw::READY {
             self.answered(status, out, Some(caller))?;
         }
@@ -43,15 +46,38 @@ impl Session {
     fn access(&mut self, object: Object, access: Access) -> Result<u64, Error> {
         let caller = self.caller.unwrap_or(Location::caller());
         if object.heap != self.at_once {
-            self.before_access(object)?;
+            return self.access_in_turn(object, access, caller);
         }
         self.make(object.place, access, caller)
     }
 
     // Waits for the thread's turn, if the object is one of its heap.
     #[cold]
-    fn before_access(&mut self, object: Object) -> Result<(), Error> {
-        if object.heap != self.heap { Err(Error::OtherHeap) } else { self.take_turn() }
+    fn access_in_turn(&mut self, object: Object, access: Access, caller: Caller) -> Result<u64, Error> {
+        if object.heap != self.heap {
+            return Err(Error::OtherHeap);
+        }
+        self.take_turn(Some(caller))?;
+        self.make_noted(object.place, access, caller)
+    }
+
+    // By a schedule it is noted what the thread sees, so that one that waits in a loop is told from one that goes on.
+    pub(super) fn make_noted(&mut self, object: u16, access: Access, caller: Caller) -> Result<u64, Error> {
+        let made = self.make(object, access, caller);
+        if self.at_once == self.heap {
+            return made;
+        }
+        match made {
+            Ok(told) => {
+                self.recent.note(caller, told);
+                Ok(told)
+            }
+            Err(Error::Spent { thread }) => {
+                let spins = self.recent.spins_at();
+                Err(spins.map_or(Error::Spent { thread }, |place| Error::Spins { thread, place }))
+            }
+            Err(error) => Err(error),
+        }
     }
 
     #[inline]
