@@ -284,10 +284,11 @@ fn message_of(panic: &(dyn Any + Send)) -> String {
     text.or_else(|| panic.downcast_ref::<String>().cloned()).unwrap_or_else(|| "a panic".to_string())
 }
 
-/// What a run of a program came to, and of how many picks it was.
+/// What a run of a program came to, how many picks it was of, and how often another thread was picked than before.
 pub(crate) struct Played<E> {
     pub(crate) failure: Option<Box<Failure<E>>>,
     pub(crate) picks: usize,
+    pub(crate) switches: usize,
     is_taken: bool,
 }
 
@@ -300,18 +301,20 @@ pub(crate) fn play<E>(program: &mut dyn FnMut(Schedule) -> Result<(), E>, schedu
     };
     let kept = schedule.kept();
     let (picks, is_taken) = (kept.picks.len(), kept.is_taken);
+    let switches = kept.picks.windows(2).filter(|pair| pair[0].thread != pair[1].thread).count();
     let here = quiet::last_panic();
     let (thread, place) = kept.panicked.map_or((None, here), |Panicked { thread, at }| (Some(thread), at));
     let of = |cause| Failure { seed: schedule.seed(), cause, thread, place, picks: kept.picks, recording: kept.recording };
-    Played { failure: cause.map(of).map(Box::new), picks, is_taken }
+    Played { failure: cause.map(of).map(Box::new), picks, switches, is_taken }
 }
 
 /// Runs a program by the schedule of each seed, in order, until it fails, and answers how many seeds passed. An assertion that
 /// fails, in a thread or after the run, is a failure too: it has the seed, and keeps the run.
 ///
-/// A failure is shrunk: the program runs up to 200 times more, with 150,000 picks at most, by schedules with fewer preemptions, and
-/// the failure of the same kind with the fewest is kept. So a seed is always shrunk to the same failure, but where picks take so
-/// long that the clock ends it, after two seconds. Panics are of the same kind where their messages differ in numbers alone.
+/// A failure is shrunk: the program runs up to 200 times more, and within 120,000 picks or 6,000 switches between threads, by
+/// schedules with fewer preemptions, and the failure of the same kind with the fewest is kept. So a seed is always shrunk to the
+/// same failure. Where the program does more than that, as one that sleeps, the clock ends it within three seconds, and one seed may
+/// be shrunk to several failures. Panics are of the same kind where their messages differ in numbers alone.
 /// Those of the runs that shrink are not printed. Where the program keeps its runs by `Builder::record`, its file is of the
 /// failure that is told.
 ///

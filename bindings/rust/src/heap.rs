@@ -2,6 +2,7 @@
 use crate::error::checked;
 use crate::gate::{Bell, Gate};
 use crate::long::{LongBuilder, Way};
+use crate::session::{Keeps, Noted};
 use crate::shared::{Named, Order, Shared};
 use crate::turnstile::Turnstile;
 use crate::{Error, Object, Place, Recording, Rerun, Schedule, Session, quiet, raw};
@@ -290,7 +291,7 @@ impl Builder {
     }
 
     // That each name is one, and stands once; and how many objects and threads there are.
-    pub(crate) fn judged(&self, most_objects: usize) -> Result<(), Error> {
+    pub(crate) fn judged(&self, least_objects: u64, most_objects: usize) -> Result<(), Error> {
         let mut seen = HashSet::new();
         for (name, _) in &self.objects {
             if !is_name(name) {
@@ -300,12 +301,12 @@ impl Builder {
                 return Err(Error::NamedTwice { name: name.clone() });
             }
         }
-        within("objects", self.objects.len() as u64, 0, most_objects as u64)?;
+        within("objects", self.objects.len() as u64, least_objects, most_objects as u64)?;
         within("threads", self.threads as u64, 1, MAX_THREADS as u64)
     }
 
     fn fuel(&self) -> Result<u32, Error> {
-        self.judged(MAX_OBJECTS)?;
+        self.judged(0, MAX_OBJECTS)?;
         // There are at most 16.
         let threads = self.threads as u32;
         let most = ALL_FUEL / threads;
@@ -371,11 +372,11 @@ impl Builder {
     pub fn build(self) -> Result<(Heap, Vec<Session>), Error> {
         let handles = self.opened()?;
         let order = self.order(self.rerun.is_some())?;
-        Ok(self.with_sessions(handles, order, true))
+        Ok(self.with_sessions(handles, order, Keeps::Each))
     }
 
     // The heap whose sessions are opened.
-    pub(crate) fn with_sessions(self, handles: Vec<raw::Handle>, order: Order, keeps_places: bool) -> (Heap, Vec<Session>) {
+    pub(crate) fn with_sessions(self, handles: Vec<raw::Handle>, order: Order, keeps: Keeps) -> (Heap, Vec<Session>) {
         static NEXT: AtomicU64 = AtomicU64::new(1);
         let names = self.objects.into_iter().zip(0..);
         let shared = Arc::new(Shared {
@@ -390,7 +391,7 @@ impl Builder {
         });
         let sessions = handles.into_iter().enumerate();
         let sessions: Vec<Session> =
-            sessions.map(|(number, handle)| Session::new(handle, number, &shared, keeps_places)).collect();
+            sessions.map(|(number, handle)| Session::new(handle, number, &shared, keeps)).collect();
         (Heap { threads: sessions.len(), shared }, sessions)
     }
 
@@ -835,23 +836,23 @@ impl Heap {
     /// `OtherSessions`, `NotWhole`, `TooLong` and `NoMemory`. The sessions are gone then.
     pub fn finish(self, sessions: Vec<Session>) -> Result<Recording, Error> {
         let shared = Arc::clone(&self.shared);
-        let (record, places) = self.closed(sessions)?;
-        let recording = Recording::of(record, places)?;
+        let (record, noted) = self.closed(sessions)?;
+        let recording = Recording::of(record, noted.into_iter().map(|noted| noted.places).collect())?;
         if let Order::Turns(turnstile) = &shared.order {
             turnstile.keep(&recording);
         }
         Ok(recording)
     }
 
-    pub(crate) fn closed(self, mut sessions: Vec<Session>) -> Result<(raw::Handle, Vec<Vec<Place>>), Error> {
+    pub(crate) fn closed(self, mut sessions: Vec<Session>) -> Result<(raw::Handle, Vec<Noted>), Error> {
         sessions.sort_by_key(Session::number);
         if sessions.len() != self.threads || !sessions.iter().all(|session| session.is_of(self.shared.heap)) {
             return Err(Error::OtherSessions);
         }
         finish_all(&mut sessions);
-        let (handles, places) = sessions.into_iter().map(Session::into_parts).unzip();
+        let (handles, noted) = sessions.into_iter().map(Session::into_parts).unzip();
         let (record, status) = raw::close(handles);
         checked(status, 0)?;
-        Ok((record, places))
+        Ok((record, noted))
     }
 }

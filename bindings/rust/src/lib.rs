@@ -49,6 +49,7 @@ mod recording;
 mod rerun;
 mod schedule;
 mod session;
+mod sha256;
 mod shared;
 mod shrink;
 mod turnstile;

@@ -171,7 +171,9 @@ pub(crate) fn open_long(starts: &[u64], threads: usize) -> (Vec<Handle>, Vec<Han
 }
 
 /// `octet_head`: its bytes, and the status.
-pub(crate) fn head(starts: &[u64], threads: u8, declared: &[u8]) -> (Vec<u8>, i32) {
+pub(crate) fn head(starts: &[u64], threads: usize, declared: &[u8]) -> (Vec<u8>, i32) {
+    // Too many for a byte are too many for the library.
+    let threads = u8::try_from(threads).unwrap_or(u8::MAX);
     // SAFETY: `copied` gives the call a buffer and its length; the rest is borrowed for the call, with its lengths.
     copied(|out, room, length| unsafe {
         octet_head(starts.as_ptr(), starts.len(), threads, declared.as_ptr(), declared.len(), out, room, length)
@@ -203,7 +205,7 @@ pub(crate) fn follow_long(starts: &[u64], declared: &[u8], last: u16, threads: u
 pub(crate) fn schedule(way: Way, seed: u64, most: u32) -> (Handle, i32) {
     let mut turns = Handle::empty();
     // SAFETY: the handle is this function's own.
-    let status = unsafe { octet_schedule(&mut turns, way as u8, seed, most) };
+    let status = unsafe { octet_schedule(&raw mut turns, way as u8, seed, most) };
     (turns, status)
 }
 
@@ -211,7 +213,7 @@ pub(crate) fn schedule(way: Way, seed: u64, most: u32) -> (Handle, i32) {
 pub(crate) fn close(mut sessions: Vec<Handle>) -> (Handle, i32) {
     let mut record = Handle::empty();
     // SAFETY: the handles are this function's own, and so is the record.
-    let status = unsafe { octet_close(sessions.as_mut_ptr(), sessions.len(), &mut record) };
+    let status = unsafe { octet_close(sessions.as_mut_ptr(), sessions.len(), &raw mut record) };
     (record, status)
 }
 
@@ -283,7 +285,7 @@ impl Handle {
     pub(crate) fn search(&mut self) -> (Handle, i32) {
         let mut search = Handle::empty();
         // SAFETY: the record is borrowed for the call, and the other handle is this function's own.
-        let status = unsafe { octet_search(self, &mut search) };
+        let status = unsafe { octet_search(self, &raw mut search) };
         (search, status)
     }
 
@@ -291,7 +293,7 @@ impl Handle {
     pub(crate) fn cut(&mut self) -> (Handle, i32) {
         let mut cut = Handle::empty();
         // SAFETY: as in `search`.
-        let status = unsafe { octet_cut(self, &mut cut) };
+        let status = unsafe { octet_cut(self, &raw mut cut) };
         (cut, status)
     }
 
@@ -299,7 +301,7 @@ impl Handle {
     pub(crate) fn window(&mut self, record: &mut Handle) -> (Handle, i32) {
         let mut window = Handle::empty();
         // SAFETY: both handles are borrowed for the call, and the third is this function's own.
-        let status = unsafe { octet_window(self, record, &mut window) };
+        let status = unsafe { octet_window(self, record, &raw mut window) };
         (window, status)
     }
 
@@ -308,7 +310,7 @@ impl Handle {
         let marks: Vec<u8> = ready.iter().map(|&is_ready| is_ready.into()).collect();
         let mut thread = 0;
         // SAFETY: handle, marks and `thread` are borrowed for the call, the marks with their number.
-        let status = unsafe { octet_pick(self, marks.as_ptr(), marks.len(), &mut thread) };
+        let status = unsafe { octet_pick(self, marks.as_ptr(), marks.len(), &raw mut thread) };
         (status == READY).then_some(thread.into())
     }
 

@@ -1,7 +1,8 @@
 //! What is kept of a run.
 use crate::error::checked;
 use crate::raw::Handle;
-use crate::{Error, Place};
+use crate::{Error, Place, sha256};
+use std::ops::Range;
 use std::{fmt, fs};
 use std::path::{Path, PathBuf};
 
@@ -60,6 +61,9 @@ impl fmt::Debug for Recording {
 /// The longest script, and the longest log, that `octet` reads.
 const MAX_SCRIPT: usize = 1 << 20;
 const MAX_LOG: usize = 1 << 26;
+
+/// Where a log of version 2 has the digest of its script.
+const DIGEST_IN_LOG: Range<usize> = 6..38;
 
 fn with_ending(stem: &Path, ending: &str) -> PathBuf {
     let mut name = stem.as_os_str().to_owned();
@@ -213,6 +217,21 @@ impl Recording {
 
     pub(crate) fn threads(&self) -> usize {
         self.script.lines().filter(|line| *line == "thread").count()
+    }
+
+    /// The same run, where object `oN` has the name N of these. The log then names the script that has them.
+    pub(crate) fn with_names(self, names: &[&str]) -> Recording {
+        let named = |word: &str| -> Option<&str> { names.get(word.strip_prefix('o')?.parse::<usize>().ok()?).copied() };
+        let renamed = |line: &str| -> String {
+            let words: Vec<&str> = line.split(' ').map(|word| named(word).unwrap_or(word)).collect();
+            words.join(" ") + "\n"
+        };
+        let script: String = self.script.lines().map(renamed).collect();
+        let mut log = self.log;
+        if let Some(digest) = log.get_mut(DIGEST_IN_LOG) {
+            digest.copy_from_slice(&sha256::digest(script.as_bytes()));
+        }
+        Recording { script, log, ..self }
     }
 
     pub(crate) fn of(mut record: Handle, places: Vec<Vec<Place>>) -> Result<Recording, Error> {

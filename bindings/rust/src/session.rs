@@ -2,6 +2,7 @@
 mod access;
 mod lock;
 mod meeting;
+mod noted;
 mod spins;
 
 use crate::error::checked;
@@ -9,6 +10,8 @@ use crate::heap::Rank;
 use crate::raw::{self, Handle};
 use crate::shared::{Order, Shared};
 use crate::{Error, Place, quiet};
+use noted::Places;
+pub(crate) use noted::{Keeps, Noted};
 use spins::Recent;
 use std::cell::Cell;
 use std::marker::PhantomData;
@@ -21,6 +24,8 @@ type Caller = &'static Location<'static>;
 
 // How often a thread that waits asks again before it gives its processor to others.
 const SPINS: u32 = 100;
+// After how many questions it looks at the clock. On a busy machine each may take a while.
+const LOOKS: u32 = 32;
 
 /// An object of one heap: a number of 64 bits that its threads share.
 ///
@@ -68,16 +73,15 @@ pub struct Session {
     pub(crate) shared: Arc<Shared>,
     // The locks that it holds, the last one taken last.
     held: Vec<usize>,
-    // For each access where it was asked for, unless the run may be of any length.
-    places: Option<Vec<Caller>>,
+    places: Places,
     // Where a call stands that makes several accesses.
     caller: Option<Caller>,
     // Where the access stands that was begun, and has waited for too long.
     given_up: Option<Caller>,
     // Its last accesses, of a run by a schedule.
     recent: Recent,
-    // Of which kind its last error is.
-    rank: Rank,
+    // Of which kinds its errors are: the lowest one.
+    rank: Option<Rank>,
     // Whether its recording has ended before the thread did.
     is_cut: bool,
     not_sync: PhantomData<Cell<()>>,
@@ -99,7 +103,7 @@ impl Drop for Session {
 
 /// What `Builder::build` gives, and `Heap::finish` takes.
 impl Session {
-    pub(crate) fn new(handle: Handle, number: usize, shared: &Arc<Shared>, keeps_places: bool) -> Session {
+    pub(crate) fn new(handle: Handle, number: usize, shared: &Arc<Shared>, keeps: Keeps) -> Session {
         Session {
             handle,
             number,
@@ -107,19 +111,19 @@ impl Session {
             at_once: if matches!(shared.order, Order::Turns(_)) { 0 } else { shared.heap },
             shared: Arc::clone(shared),
             held: Vec::new(),
-            places: keeps_places.then(Vec::new),
+            places: Places::new(keeps),
             caller: None,
             given_up: None,
             recent: Recent::default(),
-            rank: Rank::Own,
+            rank: None,
             is_cut: false,
             not_sync: PhantomData,
         }
     }
 
-    pub(crate) fn into_parts(mut self) -> (Handle, Vec<Place>) {
-        let places = mem::take(&mut self.places).unwrap_or_default().into_iter().map(Place::from).collect();
-        (mem::replace(&mut self.handle, Handle::empty()), places)
+    pub(crate) fn into_parts(mut self) -> (Handle, Noted) {
+        let places = mem::replace(&mut self.places, Places::Nothing);
+        (mem::replace(&mut self.handle, Handle::empty()), places.noted())
     }
 
     pub(crate) fn is_of(&self, heap: u64) -> bool {
@@ -127,7 +131,11 @@ impl Session {
     }
 
     pub(crate) fn rank(&self) -> Rank {
-        self.rank
+        self.rank.unwrap_or(Rank::Own)
+    }
+
+    fn note_rank(&mut self, rank: Rank) {
+        self.rank = Some(self.rank.map_or(rank, |before| before.min(rank)));
     }
 
     pub(crate) fn is_cut(&self) -> bool {
@@ -260,7 +268,7 @@ impl Session {
             }
             thread::yield_now();
             round = round.wrapping_add(1);
-            if round % 1024 == 0 && since.elapsed() >= self.shared.patience {
+            if round % LOOKS == 0 && since.elapsed() >= self.shared.patience {
                 return;
             }
         }
@@ -320,8 +328,8 @@ impl Session {
                 thread::yield_now();
             }
             round = round.wrapping_add(1);
-            if round % 1024 == 0 && since.get_or_insert_with(Instant::now).elapsed() >= self.shared.patience {
-                self.rank = Rank::Follows;
+            if round % LOOKS == 0 && since.get_or_insert_with(Instant::now).elapsed() >= self.shared.patience {
+                self.note_rank(Rank::Follows);
                 return Err(Error::Patience { thread: self.number });
             }
             status = again(&mut self.handle, out);
@@ -332,11 +340,11 @@ impl Session {
     #[cold]
     fn answered(&mut self, status: i32, out: u64, caller: Option<Caller>) -> Result<(), Error> {
         if status == raw::DIVERGED {
-            self.rank = Rank::Left(out);
+            self.note_rank(Rank::Left(out));
             return Err(Error::Diverged { thread: self.number, accesses: out, place: caller.map(Place::from) });
         }
         self.is_cut = self.is_cut || status == raw::OVER;
-        checked(status, self.number).inspect_err(|error| self.rank = error.rank())
+        checked(status, self.number).inspect_err(|error| self.note_rank(error.rank()))
     }
 
     // Does the work while no other thread waits for this one.
@@ -356,7 +364,7 @@ impl Session {
 
     // Waits, stopped, for what another thread brings.
     fn wait_stopped(&mut self, wait: impl FnOnce(&Shared, usize) -> Result<(), Error>) -> Result<(), Error> {
-        self.stopped(wait)?.inspect_err(|error| self.rank = error.rank())
+        self.stopped(wait)?.inspect_err(|error| self.note_rank(error.rank()))
     }
 
     // Waits until it is this thread's turn.
@@ -397,7 +405,7 @@ impl Session {
             }
             Order::Free { .. } | Order::Again => Ok(work()),
         })?;
-        done.inspect_err(|error| self.rank = error.rank())
+        done.inspect_err(|error| self.note_rank(error.rank()))
     }
 
     /// Answers the threads that wait for this one. Call it in long stretches without accesses.

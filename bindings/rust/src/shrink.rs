@@ -9,12 +9,15 @@ use std::hash::{BuildHasher, BuildHasherDefault, DefaultHasher};
 use std::iter;
 use std::time::{Duration, Instant};
 
-/// How many runs are made at most, with how many picks of all of them. So the same seed is shrunk to the same failure, whatever
-/// else the machine does.
+/// How many runs are made at most, and how much they may do in all: a pick of another thread than before, or the start of one,
+/// costs as much as so many other picks. So the same seed is shrunk to the same failure, whatever else the machine does, within a
+/// second or two.
 const MOST_RUNS: usize = 200;
-const MOST_PICKS: usize = 150_000;
-/// Where a pick takes longer than it mostly does, as in a program that sleeps, the clock ends it.
-const MOST_TIME: Duration = Duration::from_secs(2);
+const MOST_COST: usize = 120_000;
+const COST_OF_SWITCH: usize = 20;
+/// A program that does more than that, as one that sleeps, is ended by the clock. A machine that is very slow has longer.
+const MOST_TIME: Duration = Duration::from_millis(2_500);
+const TIME_OF_COST: Duration = Duration::from_micros(100);
 /// How many of them are made at first without a preemption, and how many with one.
 const FIRST_RUNS: usize = 40;
 
@@ -62,10 +65,11 @@ struct Search<'a, E> {
     // How often each thread was picked in the run that is shrunk.
     lengths: Vec<usize>,
     draws: Picker,
-    // The hashes of the picks that were played, and how many more picks may be.
+    // The hashes of the picks that were played, and what they cost.
     played: HashSet<u64>,
-    left: usize,
-    until: Instant,
+    cost: usize,
+    since: Instant,
+    waits: bool,
 }
 
 impl<E: Error + 'static> Search<'_, E> {
@@ -76,7 +80,13 @@ impl<E: Error + 'static> Search<'_, E> {
     }
 
     fn is_over(&self) -> bool {
-        self.played.len() >= MOST_RUNS || self.left == 0 || Instant::now() >= self.until
+        let time = self.since.elapsed();
+        let is_late = time >= MOST_TIME && time >= TIME_OF_COST * u32::try_from(self.cost).unwrap_or(u32::MAX);
+        self.waits || self.played.len() >= MOST_RUNS || self.cost >= MOST_COST || is_late
+    }
+
+    fn cost_of(&self, picks: usize, switches: usize) -> usize {
+        picks + COST_OF_SWITCH * (switches + self.lengths.len())
     }
 
     // The failure by these picks, if it is like the best one.
@@ -86,11 +96,11 @@ impl<E: Error + 'static> Search<'_, E> {
             return None;
         }
         let played = play(self.program, Schedule::given(self.best.seed(), picks, self.lengths.clone()));
-        self.left = self.left.saturating_sub(played.picks);
+        self.cost += self.cost_of(played.picks, played.switches);
         let failure = played.failure?;
         if failure.is_impatient() {
             // More tries would wait as long.
-            self.until = Instant::now();
+            self.waits = true;
         }
         failure.is_like(&self.best).then_some(failure)
     }
@@ -202,9 +212,11 @@ pub(crate) fn with_fewer_preemptions<E: Error + 'static>(
     let picks = threads(failure.picks());
     let count = |thread| picks.iter().filter(|&&picked| picked == thread).count();
     let lengths = (0..=picks.iter().copied().max().unwrap_or(0)).map(count).collect();
-    let until = Instant::now() + MOST_TIME;
-    let mut search = Search { program, best: failure, lengths, draws, played: HashSet::new(), left: MOST_PICKS, until };
-    if search.failure_by(picks).is_some() {
+    let switches = picks.windows(2).filter(|pair| pair[0] != pair[1]).count();
+    let (played, since) = (HashSet::new(), Instant::now());
+    let mut search = Search { program, best: failure, lengths, draws, played, cost: 0, since, waits: false };
+    // A run that does very much is not made once more by the picks that it has: what is found of it fails all the same.
+    if search.cost_of(picks.len(), switches) > MOST_COST / 4 || search.failure_by(picks).is_some() {
         search.all();
     }
     if search.best.recording().is_none() {

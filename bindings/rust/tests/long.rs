@@ -106,6 +106,42 @@ fn a_thread_that_is_at_work_on_its_own_answers_the_others() {
     heap().record(file.as_ref()).run(|threads| work_on(&taken, &given, threads)).unwrap();
 }
 
+// A window knows the names of its objects, and where each access stands.
+#[test]
+fn a_window_has_names_and_lines() {
+    let file = Kept::new("lines");
+    let threads = |threads: &mut Threads<'_, (), Error>| {
+        for _ in 0..2 {
+            threads.spawn(|session| {
+                let (first, second) = (session.object("first")?, session.object("second")?);
+                for _ in 0..200 {
+                    session.fetch_add(first, 1)?;
+                    session.fetch_add(second, 1)?;
+                }
+                Ok(())
+            });
+        }
+    };
+    let line = line!() - 7;
+    let heap = Heap::builder().object("first", 0).object("unused", 0).object("second", 0);
+    heap.clone().record(file.as_ref()).run(threads).unwrap();
+    let window = heap.rerun(file.as_ref()).window(50).run(threads).unwrap();
+    let (script, stem) = (window.script(), file.as_ref().with_extension("last"));
+    window.save(&stem).unwrap();
+    let loaded = octet::Recording::load(&stem).unwrap();
+    let mut lines = 0;
+    for (thread, text) in script.split("thread\n").skip(1).enumerate() {
+        let names = text.lines().filter_map(|line| line.strip_prefix("bump ")?.split(' ').next());
+        for (access, name) in names.enumerate() {
+            let place = loaded.place(thread, access).expect("each access has a line");
+            assert_eq!((place.file(), place.line()), (file!(), line + u32::from(name == "second")), "{script}");
+            lines += 1;
+        }
+        assert_eq!(loaded.place(thread, text.matches("bump ").count()), None);
+    }
+    assert!((50..=100).contains(&lines), "{lines}");
+}
+
 // How many accesses each thread of a script makes.
 fn accesses_of(script: &str) -> Vec<usize> {
     let updates = |thread: &str| thread.lines().filter(|line| line.starts_with("update ") || line.starts_with("bump ")).count();

@@ -38,8 +38,8 @@ fn run(schedule: Schedule) -> Result<Run<()>, Error> {
 fn a_notice_that_comes_late_is_found() {
     let failure = explore(0..2000, |schedule| run(schedule).map(|_| ())).unwrap_err();
     assert!(matches!(failure.cause(), Cause::Panic(message) if message == "there is none"), "{failure}");
-    // The first thread is stopped before its first notice, and goes on when the other one waits.
-    assert_eq!(failure.preemptions(), 1);
+    // The first thread is stopped before its first notice, until the other one waits, and after it, until that one has found none.
+    assert_eq!(failure.preemptions(), 2);
     assert_eq!((failure.thread(), failure.place().map(|place| place.file())), (Some(1), Some(file!())));
     // The notice is in the recording, and wakes a thread after its object is 0.
     let script = failure.recording().unwrap().script();
@@ -83,12 +83,12 @@ fn taking_and_freeing_a_lock_look_different() {
     let run = Heap::builder().lock("m").run(|threads| threads.spawn(|session| session.locked("m", |_| Ok::<(), Error>(())))).unwrap();
     let accesses = accesses_of(run.script(), 0);
     assert_eq!(accesses.len(), 2, "{accesses:?}");
-    assert!(accesses[0].starts_with("update m ") && accesses[1].starts_with("write m "), "{accesses:?}");
+    assert!(accesses[0].starts_with("bump m ") && accesses[1].starts_with("write m "), "{accesses:?}");
 }
 
 #[test]
 fn a_notice_that_wakes_nobody_is_seen() {
     let run = Heap::builder().condition("some").run(|threads| threads.spawn(|session| session.notify_one("some"))).unwrap();
-    assert_eq!(accesses_of(run.script(), 0), ["read r0 some"]);
+    assert_eq!(accesses_of(run.script(), 0), ["read r1 some"]);
     assert_eq!(run.place(0, 0).map(|place| place.file()), Some(file!()));
 }

@@ -25,9 +25,7 @@ impl Session {
 
     #[inline(always)]
     pub(super) fn note_place(&mut self, caller: Caller) {
-        if let Some(places) = &mut self.places {
-            places.push(caller);
-        }
+        self.places.note(caller);
     }
 
     // An access that was begun, or refused.
