@@ -33,7 +33,9 @@ fn kit_of_rt() -> Option<PathBuf> {
 
 fn kit() -> Result<PathBuf, String> {
     let named = env::var_os("RATTLE_KIT").map(PathBuf::from);
-    let kit = named.or_else(kit_of_rt).ok_or("no `rt` is on the path, and RATTLE_KIT names no kit; its shim over malloc is linked")?;
+    let kit = named
+        .or_else(kit_of_rt)
+        .ok_or("no `rt` is on the path, and RATTLE_KIT names no kit; its shim over malloc is linked")?;
     let shim = kit.join("c").join("liblibc_c.a");
     if shim.is_file() { Ok(kit) } else { Err(format!("{} is not there; RATTLE_KIT is to name Rattle's kit", shim.display())) }
 }

@@ -59,7 +59,8 @@ pub enum Error {
     /// The recording is of other objects, or of another number of threads.
     OtherRecording,
     /// The thread, run again, asked for another access than was recorded, after this many. Where it ended too early there is
-    /// no place. By a file of marks this is found up to 65,536 accesses later.
+    /// no place. By a file of marks with its checks this is found up to 64 accesses later, and without them up to 65,536: then another
+    /// thread, from which this one took a value, may have left its recording before.
     Diverged { thread: usize, accesses: u64, place: Option<Place> },
     /// The thread would wait for another one, which has diverged.
     Halted { thread: usize },
@@ -173,7 +174,10 @@ impl fmt::Display for Error {
                  Builder::record as many as it wants"
             ),
             Error::Spins { thread, place } => {
-                write!(out, "thread {thread} spins at {place}: it sees the same values again and again, until it may go on no more")
+                write!(
+                    out,
+                    "thread {thread} spins at {place}: it sees the same values again and again, until it may go on no more"
+                )
             }
             Error::BadSchedule { text } => write!(out, "{text:?} is no schedule, as one is printed"),
             Error::Held { name } => write!(out, "the thread holds {name} already"),
@@ -217,7 +221,9 @@ impl fmt::Display for Error {
                         out,
                         "thread {thread} was picked{place} and has not come back; does it wait elsewhere? use blocked"
                     ),
-                    Absence::NotStarted => write!(out, "thread {thread} is not started, and by a schedule the others wait for it"),
+                    Absence::NotStarted => {
+                        write!(out, "thread {thread} is not started, and by a schedule the others wait for it")
+                    }
                     Absence::Blocked => write!(out, "thread {thread} is blocked{place}, and no other one can go on"),
                 }
             }

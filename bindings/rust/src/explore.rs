@@ -226,7 +226,9 @@ impl<E: error::Error + 'static> Failure<E> {
             return false;
         };
         let causes = successors(Some(first as &(dyn error::Error + 'static)), |cause| cause.source());
-        causes.filter_map(|cause| cause.downcast_ref()).any(|error| matches!(error, Error::Patience { .. } | Error::NotBack { .. }))
+        causes
+            .filter_map(|cause| cause.downcast_ref())
+            .any(|error| matches!(error, Error::Patience { .. } | Error::NotBack { .. }))
     }
 }
 
@@ -244,9 +246,9 @@ impl<E: fmt::Display> fmt::Display for Failure<E> {
                 out.write_str(message)
             }
             Cause::Error(error) => write!(out, "{error}"),
-            Cause::Unscheduled => {
-                out.write_str("the program has handed its schedule to no heap; give it to Builder::schedule, else each run is free")
-            }
+            Cause::Unscheduled => out.write_str(
+                "the program has handed its schedule to no heap; give it to Builder::schedule, else each run is free",
+            ),
         }
     }
 }
@@ -280,7 +282,7 @@ fn without_numbers(message: &str) -> impl Iterator<Item = char> {
 }
 
 fn message_of(panic: &(dyn Any + Send)) -> String {
-    let text = panic.downcast_ref::<&str>().map(|text| text.to_string());
+    let text = panic.downcast_ref::<&str>().map(ToString::to_string);
     text.or_else(|| panic.downcast_ref::<String>().cloned()).unwrap_or_else(|| "a panic".to_string())
 }
 
@@ -293,7 +295,7 @@ pub(crate) struct Played<E> {
 }
 
 /// Runs a program by this schedule.
-pub(crate) fn play<E>(program: &mut dyn FnMut(Schedule) -> Result<(), E>, schedule: Schedule) -> Played<E> {
+pub(crate) fn play<E>(program: &mut dyn FnMut(Schedule) -> Result<(), E>, schedule: &Schedule) -> Played<E> {
     quiet::last_panic();
     let cause = match panic::catch_unwind(AssertUnwindSafe(|| program(schedule.clone()))) {
         Ok(ended) => ended.err().map(Cause::Error),
@@ -414,7 +416,7 @@ pub fn try_explore<E: error::Error + 'static>(
     let mut passed = 0;
     let _watch = Watch::new();
     for seed in seeds {
-        let played = play(&mut program, Schedule::new(seed));
+        let played = play(&mut program, &Schedule::new(seed));
         if let Some(failure) = played.failure {
             return Err(with_fewer_preemptions(failure, &mut program));
         }

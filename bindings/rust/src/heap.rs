@@ -236,7 +236,8 @@ impl Builder {
     }
 
     /// The run may have any length, and its marks go into this file while it goes on. A marks file that is there is written over, so
-    /// keep one that you need under another name. Any other file is left alone, and the run fails.
+    /// keep one that you need under another name. Any other file is left alone, and the run fails. Beside it `FILE.checks` is written:
+    /// by it a second run that leaves the recording tells which thread has left it, and where.
     ///
     /// ```
     /// # let file = std::env::temp_dir().join(format!("octet-record-{}.octm", std::process::id()));
@@ -307,8 +308,7 @@ impl Builder {
 
     fn fuel(&self) -> Result<u32, Error> {
         self.judged(0, MAX_OBJECTS)?;
-        // There are at most 16.
-        let threads = self.threads as u32;
+        let threads = u32::try_from(self.threads).unwrap_or(u32::MAX);
         let most = ALL_FUEL / threads;
         match self.accesses {
             Some(accesses) => {
@@ -324,7 +324,11 @@ impl Builder {
     fn text(&self) -> Result<String, Error> {
         let mut text = format!("fuel {}\n", self.fuel()?);
         for (name, start) in &self.objects {
-            text += &format!("object {name} {start}\n");
+            text += "object ";
+            text += name;
+            text += " ";
+            text += &start.to_string();
+            text += "\n";
         }
         text += &"thread\n".repeat(self.threads);
         Ok(text)
@@ -334,7 +338,7 @@ impl Builder {
     pub(crate) fn order(&self, again: bool) -> Result<Order, Error> {
         Ok(match &self.schedule {
             _ if again => Order::Again,
-            Some(schedule) => Order::Turns(Turnstile::new(schedule, self.threads, self.locks.len(), self.patience)?),
+            Some(schedule) => Order::Turns(Box::new(Turnstile::new(schedule, self.threads, self.locks.len(), self.patience)?)),
             None => Order::Free {
                 gates: self.locks.iter().map(|_| Gate::default()).collect(),
                 bells: self.conditions.iter().map(|_| Bell::default()).collect(),
@@ -372,11 +376,11 @@ impl Builder {
     pub fn build(self) -> Result<(Heap, Vec<Session>), Error> {
         let handles = self.opened()?;
         let order = self.order(self.rerun.is_some())?;
-        Ok(self.with_sessions(handles, order, Keeps::Each))
+        Ok(self.with_sessions(handles, order, &Keeps::Each))
     }
 
     // The heap whose sessions are opened.
-    pub(crate) fn with_sessions(self, handles: Vec<raw::Handle>, order: Order, keeps: Keeps) -> (Heap, Vec<Session>) {
+    pub(crate) fn with_sessions(self, handles: Vec<raw::Handle>, order: Order, keeps: &Keeps) -> (Heap, Vec<Session>) {
         static NEXT: AtomicU64 = AtomicU64::new(1);
         let names = self.objects.into_iter().zip(0..);
         let shared = Arc::new(Shared {
@@ -390,8 +394,7 @@ impl Builder {
             patience: self.patience,
         });
         let sessions = handles.into_iter().enumerate();
-        let sessions: Vec<Session> =
-            sessions.map(|(number, handle)| Session::new(handle, number, &shared, keeps)).collect();
+        let sessions: Vec<Session> = sessions.map(|(number, handle)| Session::new(handle, number, &shared, keeps)).collect();
         (Heap { threads: sessions.len(), shared }, sessions)
     }
 
@@ -478,10 +481,12 @@ impl Builder {
     }
 }
 
+type Task<'a, T, E> = Box<dyn FnOnce(&mut Session) -> Result<T, E> + Send + 'a>;
+
 /// What a thread does, and what it is named.
 pub(crate) struct Work<'a, T, E> {
     name: Option<String>,
-    work: Box<dyn FnOnce(&mut Session) -> Result<T, E> + Send + 'a>,
+    work: Task<'a, T, E>,
 }
 
 // Runs each work on a thread with its session.

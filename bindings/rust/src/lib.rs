@@ -35,6 +35,7 @@
 //! A run is repeated as far as its accesses decide what its threads do. Clocks, files and other locks are not recorded.
 #![deny(missing_docs, unsafe_code)]
 
+mod checks;
 mod error;
 mod explore;
 mod gate;

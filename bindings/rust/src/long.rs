@@ -1,13 +1,14 @@
 //! Runs of any length. Their marks go into a file while they go on, and by it they are run again.
+use crate::checks::Ledger;
 use crate::error::checked;
 use crate::heap::{Failed, Rank, Threads, all_ended, values_of};
 use crate::marks_file::{Feeding, Writing};
 use crate::session::{Keeps, Noted};
 use crate::{Builder, Error, Heap, Last, Object, Session, Window, raw};
+use std::fmt;
 use std::path::{Path, PathBuf};
 use std::sync::Arc;
 use std::sync::atomic::{AtomicBool, Ordering};
-use std::fmt;
 use std::thread::{self, JoinHandle};
 
 /// The most objects that a marks file names.
@@ -113,7 +114,7 @@ impl LongBuilder {
 
     // What the file's head declares by its digest, beside the number of threads and the objects' values.
     fn declared(&self) -> String {
-        self.heap.objects.iter().map(|(name, _)| format!("object {name}\n")).collect()
+        self.heap.objects.iter().fold(String::new(), |text, (name, _)| text + "object " + name + "\n")
     }
 
     // The sessions' handles, and what goes on beside them.
@@ -166,7 +167,12 @@ impl LongBuilder {
         let (handles, work) = self.opened()?;
         let names = self.heap.objects.iter().map(|(name, _)| name.clone()).collect();
         let order = self.heap.order(matches!(self.way, Way::Rerun))?;
-        let (heap, sessions) = self.heap.with_sessions(handles, order, self.last.map_or(Keeps::Nothing, Keeps::Last));
+        let keeps = match (self.last, self.way) {
+            (Some(last), _) => Keeps::Last(last),
+            (None, Way::Record) => Keeps::Checks(Ledger::recorded(&self.path)),
+            (None, Way::Rerun) => Keeps::Checks(Ledger::compared(&self.path)),
+        };
+        let (heap, sessions) = self.heap.with_sessions(handles, order, &keeps);
         Ok((LongHeap { heap, names, beside: Beside::start(work) }, sessions))
     }
 

@@ -153,7 +153,7 @@ impl Feeding {
         }
         let status = way.stream.feed(&way.bytes, &mut place);
         fed(status, &self.path, place)?;
-        way.bytes.drain(..place as usize);
+        way.bytes.drain(..usize::try_from(place).unwrap_or(usize::MAX));
         Ok(place > 0)
     }
 

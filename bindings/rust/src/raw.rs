@@ -29,7 +29,7 @@ pub(crate) const NOT_THERE: i32 = -31;
 pub(crate) const OUT_OF_ORDER: i32 = -32;
 
 /// What a session is asked for.
-#[derive(Clone, Copy)]
+#[derive(Clone, Copy, Debug)]
 pub(crate) enum Access {
     Read,
     Write { value: u64 },
@@ -37,7 +37,7 @@ pub(crate) enum Access {
 }
 
 /// `octet_change`.
-#[derive(Clone, Copy)]
+#[derive(Clone, Copy, Debug)]
 #[repr(u8)]
 pub(crate) enum Change {
     Add = 0,

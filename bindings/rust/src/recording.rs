@@ -3,8 +3,8 @@ use crate::error::checked;
 use crate::raw::Handle;
 use crate::{Error, Place, sha256};
 use std::ops::Range;
-use std::{fmt, fs};
 use std::path::{Path, PathBuf};
+use std::{fmt, fs};
 
 /// A run: a script whose threads make the accesses of the run, the log that orders them, and what they left. `octet` reads both
 /// files, and `Builder::rerun` runs the program again by them.
@@ -81,8 +81,8 @@ fn read(path: PathBuf) -> Result<Vec<u8>, Error> {
 
 // The text of `STEM.places`: for each thread the line `thread`, and then a line for each of its accesses.
 fn text_of(places: &[Vec<Place>]) -> String {
-    let lines = |thread: &Vec<Place>| thread.iter().map(|place| format!("{place}\n")).collect::<String>();
-    places.iter().map(|thread| format!("thread\n{}", lines(thread))).collect()
+    let with_place = |text: String, place: &Place| text + &place.to_string() + "\n";
+    places.iter().fold(String::new(), |text, thread| thread.iter().fold(text + "thread\n", with_place))
 }
 
 fn places_of(text: &str) -> Vec<Vec<Place>> {

@@ -5,8 +5,8 @@ use crate::raw::{self, Way};
 use crate::{Error, Place, Recording};
 use std::iter::repeat_n;
 use std::str::FromStr;
-use std::{fmt, mem};
 use std::sync::{Arc, Mutex, MutexGuard, PoisonError};
+use std::{fmt, mem};
 
 /// A thread that was picked, and whether the one before could have gone on.
 #[derive(Clone, Copy, Debug)]
@@ -343,7 +343,7 @@ mod tests {
     use super::Schedule;
 
     // How often another thread was picked than the one before, of three that can always move.
-    fn switches(schedule: Schedule, picks: usize) -> usize {
+    fn switches(schedule: &Schedule, picks: usize) -> usize {
         let mut picker = schedule.picker().expect("there is memory");
         let picked: Vec<_> = (0..picks).map(|_| picker.pick(&[true; 3], None)).collect();
         picked.windows(2).filter(|pair| pair[0] != pair[1]).count()
@@ -352,11 +352,11 @@ mod tests {
     #[test]
     fn ranks_switch_as_often_as_their_depth_allows() {
         for depth in 1..=4 {
-            let found = (0..200).map(|seed| switches(Schedule::new(seed).pct(depth), 60));
+            let found = (0..200).map(|seed| switches(&Schedule::new(seed).pct(depth), 60));
             assert_eq!(found.max(), Some(depth as usize - 1));
         }
         // A thread that waits in a loop lets the others go on.
-        assert_eq!(switches(Schedule::new(0).pct(1), 640), 9);
+        assert_eq!(switches(&Schedule::new(0).pct(1), 640), 9);
     }
 
     fn given(threads: Vec<usize>, lengths: Vec<usize>) -> impl FnMut(&[bool], Option<usize>) -> Option<usize> {
@@ -404,7 +404,9 @@ mod tests {
             assert_eq!(Schedule::parse(text).map(|it| it.to_string()).ok().as_deref(), Some(text));
         }
         assert_eq!(Schedule::new(7).to_string(), "bursts 7 8");
-        for text in ["", "uniform", "uniform x", "uniform 6 7", "bursts 7", "picks 9 16", "picks 9 0*", "picks 9 0*9999999", "other 1"] {
+        for text in
+            ["", "uniform", "uniform x", "uniform 6 7", "bursts 7", "picks 9 16", "picks 9 0*", "picks 9 0*9999999", "other 1"]
+        {
             assert!(Schedule::parse(text).is_err(), "{text}");
         }
     }

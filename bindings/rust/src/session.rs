@@ -5,9 +5,10 @@ mod meeting;
 mod noted;
 mod spins;
 
+use crate::checks::Found;
 use crate::error::checked;
 use crate::heap::Rank;
-use crate::raw::{self, Handle};
+use crate::raw::{self, Access, Handle};
 use crate::shared::{Order, Shared};
 use crate::{Error, Place, quiet};
 use noted::Places;
@@ -44,6 +45,14 @@ pub struct Object {
     pub(crate) place: u16,
 }
 
+/// An access, and where it stands.
+#[derive(Clone, Copy)]
+struct Begun {
+    caller: Caller,
+    object: u16,
+    access: Access,
+}
+
 /// One thread of a run. It may be sent to the thread that is to use it:
 ///
 /// ```
@@ -76,8 +85,8 @@ pub struct Session {
     places: Places,
     // Where a call stands that makes several accesses.
     caller: Option<Caller>,
-    // Where the access stands that was begun, and has waited for too long.
-    given_up: Option<Caller>,
+    // The access that was begun, and has waited for too long.
+    given_up: Option<Begun>,
     // Its last accesses, of a run by a schedule.
     recent: Recent,
     // Of which kinds its errors are: the lowest one.
@@ -103,7 +112,7 @@ impl Drop for Session {
 
 /// What `Builder::build` gives, and `Heap::finish` takes.
 impl Session {
-    pub(crate) fn new(handle: Handle, number: usize, shared: &Arc<Shared>, keeps: Keeps) -> Session {
+    pub(crate) fn new(handle: Handle, number: usize, shared: &Arc<Shared>, keeps: &Keeps) -> Session {
         Session {
             handle,
             number,
@@ -111,7 +120,7 @@ impl Session {
             at_once: if matches!(shared.order, Order::Turns(_)) { 0 } else { shared.heap },
             shared: Arc::clone(shared),
             held: Vec::new(),
-            places: Places::new(keeps),
+            places: Places::new(keeps, number),
             caller: None,
             given_up: None,
             recent: Recent::default(),
@@ -216,7 +225,7 @@ impl Session {
         self.finish_given_up();
         let mut out = 0;
         let status = self.handle.end(&mut out);
-        let status = self.until_made(status, &mut out, |handle, out| handle.end(out));
+        let status = self.until_made(status, &mut out, Handle::end);
         if !matches!(status, Ok(raw::READY)) {
             // It has left its recording, or is stopped already.
             self.handle.stop();
@@ -234,17 +243,12 @@ impl Session {
 
     /// Whether an access that was given up is made now, or there is none. Others may be waiting for it.
     pub(crate) fn finish_if_made(&mut self) -> bool {
-        let Some(caller) = self.given_up else {
+        let Some(begun) = self.given_up else {
             return true;
         };
-        let status = self.handle.poll(&mut 0);
-        if status == raw::PENDING {
+        if !self.is_out(begun) {
             return false;
         }
-        if status == raw::READY {
-            self.note_place(caller);
-        }
-        self.given_up = None;
         // A thread that is stopped already says so, and nothing is to be done.
         self.handle.stop();
         true
@@ -252,26 +256,26 @@ impl Session {
 
     // Makes an access that was given up, if it can be made in time. Meanwhile it answers the others.
     fn finish_given_up(&mut self) {
-        if self.given_up.is_none() || !matches!(self.shared.order, Order::Free { .. }) {
+        let Some(begun) = self.given_up.filter(|_| matches!(self.shared.order, Order::Free { .. })) else {
             return;
-        }
+        };
         let since = Instant::now();
-        let mut round = 0_u32;
-        loop {
-            let status = self.handle.poll(&mut 0);
-            if status != raw::PENDING {
-                if let (raw::READY, Some(caller)) = (status, self.given_up) {
-                    self.note_place(caller);
-                }
-                self.given_up = None;
-                return;
-            }
+        while !self.is_out(begun) && since.elapsed() < self.shared.patience {
             thread::yield_now();
-            round = round.wrapping_add(1);
-            if round % LOOKS == 0 && since.elapsed() >= self.shared.patience {
-                return;
-            }
         }
+    }
+
+    // Whether an access that was given up is made now, or never can be.
+    fn is_out(&mut self, Begun { caller, object, access }: Begun) -> bool {
+        let mut out = 0;
+        let status = self.handle.poll(&mut out);
+        if status == raw::READY {
+            self.places.note(caller, object, access, out);
+        }
+        if status != raw::PENDING {
+            self.given_up = None;
+        }
+        status != raw::PENDING
     }
 
     /// Does the work between `start` and `stop`, and stops also where it fails or panics.
@@ -340,6 +344,10 @@ impl Session {
     #[cold]
     fn answered(&mut self, status: i32, out: u64, caller: Option<Caller>) -> Result<(), Error> {
         if status == raw::DIVERGED {
+            if let Some(Found { thread, accesses, place, .. }) = self.places.first_left() {
+                self.note_rank(Rank::Left(accesses));
+                return Err(Error::Diverged { thread, accesses, place: Some(place) });
+            }
             self.note_rank(Rank::Left(out));
             return Err(Error::Diverged { thread: self.number, accesses: out, place: caller.map(Place::from) });
         }

@@ -32,6 +32,8 @@ fn stretched(block: &[u8]) -> [u32; 64] {
     words
 }
 
+// The names are those of the standard.
+#[allow(clippy::many_single_char_names)]
 fn with_block(state: [u32; 8], block: &[u8]) -> [u32; 8] {
     let words = stretched(block);
     let mut next = state;
@@ -81,6 +83,6 @@ mod tests {
         assert_eq!(spelled(b""), "e3b0c44298fc1c149afbf4c8996fb92427ae41e4649b934ca495991b7852b855");
         let two_blocks = b"abcdbcdecdefdefgefghfghighijhijkijkljklmklmnlmnomnopnopq";
         assert_eq!(spelled(two_blocks), "248d6a61d20638b8e5c026930c3e6039a33ce45964ff2167f6ecedd419db06c1");
-        assert_eq!(spelled(&[b'a'; 1_000_000]), "cdc76e5c9914fb9281a1c7e284d73e67f1809a48a497200e046d39ccc7112cd0");
+        assert_eq!(spelled(&vec![b'a'; 1_000_000]), "cdc76e5c9914fb9281a1c7e284d73e67f1809a48a497200e046d39ccc7112cd0");
     }
 }

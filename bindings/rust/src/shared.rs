@@ -11,7 +11,7 @@ pub(crate) enum Order {
     /// As they run.
     Free { gates: Vec<Gate>, bells: Vec<Bell> },
     /// One at a time.
-    Turns(Turnstile),
+    Turns(Box<Turnstile>),
     /// As they were recorded: no thread waits for a lock, since its access waits.
     Again,
 }
@@ -67,7 +67,9 @@ impl Shared {
     pub(crate) fn stuck(&self, stuck: Stuck) -> Error {
         match stuck {
             Stuck::Absent { thread, at, why } => Error::NotBack { thread, place: at.map(Place::from), why },
-            Stuck::Deadlock(waiters) => Error::Deadlock { waits: waiters.into_iter().map(|waiter| self.wait_of(waiter)).collect() },
+            Stuck::Deadlock(waiters) => {
+                Error::Deadlock { waits: waiters.into_iter().map(|waiter| self.wait_of(waiter)).collect() }
+            }
         }
     }
 

@@ -1,4 +1,7 @@
 //! Runs of any length, recorded by their marks alone and run again.
+// The numbers are small.
+#![allow(clippy::cast_possible_truncation)]
+
 use octet::{Builder, Error, Heap, LongRun, Session, Threads, explore, last};
 use std::fs;
 use std::path::{Path, PathBuf};
@@ -24,6 +27,7 @@ impl AsRef<Path> for Kept {
 impl Drop for Kept {
     fn drop(&mut self) {
         let _ = fs::remove_file(&self.0);
+        let _ = fs::remove_file(self.0.with_extension("octm.checks"));
     }
 }
 
@@ -180,7 +184,9 @@ fn a_file_that_is_cut_is_followed_as_far_as_it_goes() {
         fs::write(cut.as_ref(), &content[..content.len() * part / 10]).unwrap();
         let made = [const { AtomicU64::new(0) }; THREADS as usize];
         let second = heap().rerun(cut.as_ref()).run(|threads| {
-            made.iter().for_each(|made| threads.spawn(|session| walk_counted(session, 10, made)));
+            for made in &made {
+                threads.spawn(|session| walk_counted(session, 10, made));
+            }
         });
         let second = second.unwrap();
         assert_eq!(second.is_whole(), part == 10);
@@ -240,6 +246,41 @@ fn another_program_diverges() {
     let file = Kept::new("another");
     heap().record(file.as_ref()).run(walks(10)).unwrap();
     let other = heap().rerun(file.as_ref()).run(walks(11)).unwrap_err();
+    assert!(matches!(other, Error::Diverged { .. }), "{other}");
+}
+
+// One access of the second thread is another one. All others follow from what they were told.
+fn with_one_change(heap: octet::LongBuilder, every: u64, changed: Option<u64>) -> Result<LongRun<u64>, Error> {
+    heap.run(|threads| {
+        for thread in 0..THREADS {
+            threads.spawn(move |session| {
+                let (shared, own) = (session.object("shared")?, session.object(&format!("own{thread}"))?);
+                let mut told = thread;
+                for round in 0..ROUNDS {
+                    let object = if round % every == 0 { shared } else { own };
+                    let added = if thread == 1 && changed == Some(round) { 77 } else { told | 1 };
+                    told = told.wrapping_mul(31).wrapping_add(session.fetch_add(object, added)?);
+                }
+                Ok(told)
+            });
+        }
+    })
+}
+
+#[test]
+fn the_thread_that_has_left_first_is_told() {
+    let file = Kept::new("first");
+    for every in [1, 3, 50, 1_000] {
+        let first = with_one_change(heap().record(file.as_ref()), every, None).unwrap();
+        let same = with_one_change(heap().rerun(file.as_ref()), every, None).unwrap();
+        assert_eq!(same.values(), first.values());
+        let other = with_one_change(heap().rerun(file.as_ref()), every, Some(100)).unwrap_err();
+        let Error::Diverged { thread: 1, accesses, place: Some(place) } = &other else { panic!("every {every}: {other}") };
+        assert!((101..=165).contains(accesses) && place.file() == file!(), "every {every}: {other}");
+    }
+    // Without the checks it is told by marks alone.
+    fs::remove_file(file.as_ref().with_extension("octm.checks")).unwrap();
+    let other = with_one_change(heap().rerun(file.as_ref()), 1_000, Some(100)).unwrap_err();
     assert!(matches!(other, Error::Diverged { .. }), "{other}");
 }
 

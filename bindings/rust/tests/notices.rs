@@ -40,7 +40,7 @@ fn a_notice_that_comes_late_is_found() {
     assert!(matches!(failure.cause(), Cause::Panic(message) if message == "there is none"), "{failure}");
     // The first thread is stopped before its first notice, until the other one waits, and after it, until that one has found none.
     assert_eq!(failure.preemptions(), 2);
-    assert_eq!((failure.thread(), failure.place().map(|place| place.file())), (Some(1), Some(file!())));
+    assert_eq!((failure.thread(), failure.place().map(octet::Place::file)), (Some(1), Some(file!())));
     // The notice is in the recording, and wakes a thread after its object is 0.
     let script = failure.recording().unwrap().script();
     assert!(script.contains("object some 0\n") && script.contains(" some "), "{script}");
@@ -80,7 +80,8 @@ fn accesses_of(script: &str, thread: usize) -> Vec<&str> {
 
 #[test]
 fn taking_and_freeing_a_lock_look_different() {
-    let run = Heap::builder().lock("m").run(|threads| threads.spawn(|session| session.locked("m", |_| Ok::<(), Error>(())))).unwrap();
+    let run =
+        Heap::builder().lock("m").run(|threads| threads.spawn(|session| session.locked("m", |_| Ok::<(), Error>(())))).unwrap();
     let accesses = accesses_of(run.script(), 0);
     assert_eq!(accesses.len(), 2, "{accesses:?}");
     assert!(accesses[0].starts_with("bump m ") && accesses[1].starts_with("write m "), "{accesses:?}");
@@ -90,5 +91,5 @@ fn taking_and_freeing_a_lock_look_different() {
 fn a_notice_that_wakes_nobody_is_seen() {
     let run = Heap::builder().condition("some").run(|threads| threads.spawn(|session| session.notify_one("some"))).unwrap();
     assert_eq!(accesses_of(run.script(), 0), ["read r1 some"]);
-    assert_eq!(run.place(0, 0).map(|place| place.file()), Some(file!()));
+    assert_eq!(run.place(0, 0).map(octet::Place::file), Some(file!()));
 }

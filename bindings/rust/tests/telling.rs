@@ -75,13 +75,19 @@ fn a_failure_beside_a_loop_is_shrunk_soon_and_always_to_the_same() {
     assert!(first.iter().filter_map(longest).all(|most| most <= 64), "{first:?}");
 }
 
+// The first failure of a few seeds. The first thread has much to do, and the second one sleeps.
 fn sleeps(how: fn(&mut Session) -> Result<(), Error>) -> Error {
-    let heap = Heap::builder().object("x", 0).schedule(Schedule::new(0)).patience(Duration::from_millis(50));
-    let run = heap.run(|threads| {
-        threads.spawn(|session| session.store(session.object("x")?, 1));
-        threads.spawn(how);
-    });
-    run.unwrap_err()
+    let run = |seed| {
+        let heap = Heap::builder().object("x", 0).lock("m").schedule(Schedule::new(seed));
+        let run = heap.patience(Duration::from_millis(50)).run(|threads| {
+            threads.spawn(|session| {
+                (0..20).try_for_each(|_| session.locked("m", |session| session.store(session.object("x")?, 1)))
+            });
+            threads.spawn(how);
+        });
+        run.err()
+    };
+    (0..20).find_map(run).expect("some seed lets the first thread wait")
 }
 
 #[test]
@@ -94,15 +100,18 @@ fn who_does_not_come_back_is_named() {
     let Error::NotBack { thread: 1, place: Some(place), why: Absence::Picked } = &picked else { panic!("{picked}") };
     let text = format!("thread 1 was picked at {place} and has not come back; does it wait elsewhere? use blocked");
     assert_eq!((place.file(), picked.to_string()), (file!(), text));
-    let blocked = sleeps(|session| session.blocked(|| thread::sleep(Duration::from_millis(300))));
+    let blocked =
+        sleeps(|session| session.locked("m", |session| session.blocked(|| thread::sleep(Duration::from_millis(300)))));
     assert!(matches!(blocked, Error::NotBack { thread: 1, why: Absence::Blocked, .. }), "{blocked}");
 }
 
 // The first thread has the object and sleeps; the second one gives up on it. Then a third one wants what the second one has.
 fn give_up(heap: Builder) -> Result<octet::Run<u64>, Error> {
+    let (ready, is_ready) = mpsc::channel();
     let ((owns, is_owned), (gave_up, is_given_up)) = (mpsc::channel(), mpsc::channel());
     heap.object("x", 0).object("y", 0).patience(Duration::from_millis(400)).run(|threads| {
         threads.spawn(move |session| {
+            session.blocked(|| is_ready.recv().unwrap())?;
             session.store(session.object("x")?, 1)?;
             owns.send(()).unwrap();
             // This belongs into `blocked`.
@@ -111,6 +120,7 @@ fn give_up(heap: Builder) -> Result<octet::Run<u64>, Error> {
         });
         threads.spawn(move |session| {
             session.store(session.object("y")?, 7)?;
+            ready.send(()).unwrap();
             session.blocked(|| is_owned.recv().unwrap())?;
             let told = session.fetch_add(session.object("x")?, 1);
             gave_up.send(()).unwrap();
@@ -136,10 +146,13 @@ fn a_thread_that_gives_up_keeps_no_other_one_waiting_and_its_run_is_kept() {
 
 #[test]
 fn a_panic_is_told_with_its_thread_and_line() {
-    let line = line!() + 3;
+    let line = line!() + 4;
     let failure = explore(0..9, |schedule| {
         let heap = Heap::builder().object("x", 0).schedule(schedule);
-        let check = |session: &mut Session| Ok(assert_eq!(session.load(session.object("x")?)?, 1, "x is wrong"));
+        let check = |session: &mut Session| {
+            assert_eq!(session.load(session.object("x")?)?, 1, "x is wrong");
+            Ok(())
+        };
         heap.run(|threads| {
             threads.spawn(|_| Ok(()));
             threads.spawn(check);

@@ -135,10 +135,10 @@ fn one_notice_wakes_the_thread_that_came_first_and_no_other() {
 
 #[test]
 fn a_deadlock_tells_who_waits_for_whom() {
-    let both_line = line!() + 2;
     fn both(session: &mut Session, first: &str, second: &str) -> Result<(), Error> {
         session.locked(first, |session| session.locked(second, |_| Ok(())))
     }
+    let both_line = line!() - 2;
     let run = |heap: Builder| {
         heap.lock("a").lock("b").run(|threads| {
             threads.spawn(|session| both(session, "a", "b"));

@@ -1,5 +1,5 @@
 //! What a thread does with objects.
-use super::{Caller, Object, Session};
+use super::{Begun, Caller, Object, Session};
 use crate::Error;
 use crate::raw::{self, Access, Change, Handle};
 use std::panic::Location;
@@ -17,25 +17,22 @@ impl Session {
         let mut out = 0;
         let status = self.handle.access(object, access, &mut out);
         if status != raw::READY {
-            return self.make_later(status, out, caller);
+            return self.make_later(status, out, Begun { caller, object, access });
         }
-        self.note_place(caller);
+        self.places.note(caller, object, access, out);
         Ok(out)
-    }
-
-    #[inline(always)]
-    pub(super) fn note_place(&mut self, caller: Caller) {
-        self.places.note(caller);
     }
 
     // An access that was begun, or refused.
     #[cold]
-    fn make_later(&mut self, status: i32, mut out: u64, caller: Caller) -> Result<u64, Error> {
-        let status = self.until_made(status, &mut out, Handle::poll).inspect_err(|_| self.given_up = Some(caller))?;
+    fn make_later(&mut self, status: i32, mut out: u64, begun: Begun) -> Result<u64, Error> {
+        let Begun { caller, object, access } = begun;
+        self.places.before_wait(caller);
+        let status = self.until_made(status, &mut out, Handle::poll).inspect_err(|_| self.given_up = Some(begun))?;
         if status != raw::READY {
             self.answered(status, out, Some(caller))?;
         }
-        self.note_place(caller);
+        self.places.note(caller, object, access, out);
         Ok(out)
     }
 
@@ -94,6 +91,9 @@ impl Session {
     /// # }))?;
     /// # Ok::<(), octet::Error>(())
     /// ```
+    ///
+    /// # Errors
+    /// Those of all accesses.
     #[inline]
     #[track_caller]
     pub fn load(&mut self, object: Object) -> Result<u64, Error> {
@@ -111,6 +111,9 @@ impl Session {
     /// # }))?;
     /// # Ok::<(), octet::Error>(())
     /// ```
+    ///
+    /// # Errors
+    /// Those of all accesses.
     #[inline]
     #[track_caller]
     pub fn store(&mut self, object: Object, value: u64) -> Result<(), Error> {
@@ -128,6 +131,9 @@ impl Session {
     /// # }))?;
     /// # Ok::<(), octet::Error>(())
     /// ```
+    ///
+    /// # Errors
+    /// Those of all accesses.
     #[inline]
     #[track_caller]
     pub fn swap(&mut self, object: Object, value: u64) -> Result<u64, Error> {
@@ -147,6 +153,9 @@ impl Session {
     /// # }))?;
     /// # Ok::<(), octet::Error>(())
     /// ```
+    ///
+    /// # Errors
+    /// Those of all accesses.
     #[inline]
     #[track_caller]
     pub fn compare_exchange(&mut self, object: Object, current: u64, new: u64) -> Result<Result<u64, u64>, Error> {
@@ -166,6 +175,9 @@ impl Session {
     /// # }))?;
     /// # Ok::<(), octet::Error>(())
     /// ```
+    ///
+    /// # Errors
+    /// Those of all accesses.
     #[inline]
     #[track_caller]
     pub fn compare_exchange_weak(&mut self, object: Object, current: u64, new: u64) -> Result<Result<u64, u64>, Error> {
@@ -183,6 +195,9 @@ impl Session {
     /// # }))?;
     /// # Ok::<(), octet::Error>(())
     /// ```
+    ///
+    /// # Errors
+    /// Those of all accesses.
     #[inline]
     #[track_caller]
     pub fn fetch_add(&mut self, object: Object, value: u64) -> Result<u64, Error> {
@@ -200,6 +215,9 @@ impl Session {
     /// # }))?;
     /// # Ok::<(), octet::Error>(())
     /// ```
+    ///
+    /// # Errors
+    /// Those of all accesses.
     #[inline]
     #[track_caller]
     pub fn fetch_sub(&mut self, object: Object, value: u64) -> Result<u64, Error> {
@@ -217,6 +235,9 @@ impl Session {
     /// # }))?;
     /// # Ok::<(), octet::Error>(())
     /// ```
+    ///
+    /// # Errors
+    /// Those of all accesses.
     #[inline]
     #[track_caller]
     pub fn fetch_and(&mut self, object: Object, mask: u64) -> Result<u64, Error> {
@@ -235,6 +256,9 @@ impl Session {
     /// # }))?;
     /// # Ok::<(), octet::Error>(())
     /// ```
+    ///
+    /// # Errors
+    /// Those of all accesses.
     #[inline]
     #[track_caller]
     pub fn fetch_nand(&mut self, object: Object, mask: u64) -> Result<u64, Error> {
@@ -252,6 +276,9 @@ impl Session {
     /// # }))?;
     /// # Ok::<(), octet::Error>(())
     /// ```
+    ///
+    /// # Errors
+    /// Those of all accesses.
     #[inline]
     #[track_caller]
     pub fn fetch_or(&mut self, object: Object, mask: u64) -> Result<u64, Error> {
@@ -269,6 +296,9 @@ impl Session {
     /// # }))?;
     /// # Ok::<(), octet::Error>(())
     /// ```
+    ///
+    /// # Errors
+    /// Those of all accesses.
     #[inline]
     #[track_caller]
     pub fn fetch_xor(&mut self, object: Object, mask: u64) -> Result<u64, Error> {
@@ -286,6 +316,9 @@ impl Session {
     /// # }))?;
     /// # Ok::<(), octet::Error>(())
     /// ```
+    ///
+    /// # Errors
+    /// Those of all accesses.
     #[inline]
     #[track_caller]
     pub fn fetch_max(&mut self, object: Object, value: u64) -> Result<u64, Error> {
@@ -303,6 +336,9 @@ impl Session {
     /// # }))?;
     /// # Ok::<(), octet::Error>(())
     /// ```
+    ///
+    /// # Errors
+    /// Those of all accesses.
     #[inline]
     #[track_caller]
     pub fn fetch_min(&mut self, object: Object, value: u64) -> Result<u64, Error> {
@@ -323,6 +359,9 @@ impl Session {
     /// # }))?;
     /// # Ok::<(), octet::Error>(())
     /// ```
+    ///
+    /// # Errors
+    /// Those of all accesses.
     #[inline]
     #[track_caller]
     pub fn fetch_update(

@@ -1,13 +1,16 @@
 //! Where a thread's accesses stand.
 use super::Caller;
 use crate::Place;
+use crate::checks::{Checks, Found, Ledger};
+use crate::raw::Access;
 use std::collections::VecDeque;
+use std::sync::Arc;
 
 /// What is kept of a thread's accesses.
-#[derive(Clone, Copy, Debug)]
+#[derive(Clone, Debug)]
 pub(crate) enum Keeps {
-    /// Nothing: the run may be of any length.
-    Nothing,
+    /// Checks, in a file of their own: the run may be of any length.
+    Checks(Arc<Ledger>),
     /// Where each of them stands.
     Each,
     /// Their number, and where the last ones stand, so many.
@@ -18,6 +21,7 @@ pub(crate) enum Keeps {
 #[derive(Debug)]
 pub(super) enum Places {
     Nothing,
+    Checks(Box<Checks>),
     Each(Vec<Caller>),
     Last(Box<LastPlaces>),
 }
@@ -45,26 +49,42 @@ impl Noted {
 }
 
 impl Places {
-    pub(super) fn new(keeps: Keeps) -> Places {
+    pub(super) fn new(keeps: &Keeps, thread: usize) -> Places {
         match keeps {
-            Keeps::Nothing => Places::Nothing,
+            Keeps::Checks(ledger) => Places::Checks(Box::new(Checks::new(ledger, thread))),
             Keeps::Each => Places::Each(Vec::new()),
-            Keeps::Last(room) => Places::Last(Box::new(LastPlaces { room: room.into(), made: 0, places: VecDeque::new() })),
+            Keeps::Last(room) => Places::Last(Box::new(LastPlaces { room: (*room).into(), made: 0, places: VecDeque::new() })),
         }
     }
 
     #[inline(always)]
-    pub(super) fn note(&mut self, caller: Caller) {
+    pub(super) fn note(&mut self, caller: Caller, object: u16, access: Access, told: u64) {
         match self {
             Places::Nothing => {}
+            Places::Checks(checks) => checks.note(caller, object, access, told),
             Places::Each(places) => places.push(caller),
             Places::Last(last) => last.note(caller),
         }
     }
 
+    /// The thread has to wait before it makes the access that stands here.
+    pub(super) fn before_wait(&mut self, caller: Caller) {
+        if let Places::Checks(checks) = self {
+            checks.before_wait(caller);
+        }
+    }
+
+    /// The thread that has left its recording first, as far as is known.
+    pub(super) fn first_left(&self) -> Option<Found> {
+        match self {
+            Places::Checks(checks) => checks.first_left(),
+            Places::Nothing | Places::Each(_) | Places::Last(_) => None,
+        }
+    }
+
     pub(super) fn noted(self) -> Noted {
         match self {
-            Places::Nothing => Noted::default(),
+            Places::Nothing | Places::Checks(_) => Noted::default(),
             Places::Each(places) => Noted { made: places.len() as u64, places: places.into_iter().map(Place::from).collect() },
             Places::Last(last) => Noted { made: last.made, places: last.places.into_iter().map(Place::from).collect() },
         }
