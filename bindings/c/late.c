@@ -7,7 +7,7 @@
 #include <stdio.h>
 #include <stdlib.h>
 
-enum { COUNT, MUTEX, SOME, MOST_SEEDS = 2000, RIGHT_SEEDS = 200, FREE_RUNS = 50 };
+enum { COUNT, MUTEX, SOME, MOST_SEEDS = 2000, RIGHT_SEEDS = 100, FREE_RUNS = 20, BURST = 8 };
 
 static const char TEXT[] = "fuel 3000\nobject n 0\nobject m 0\nobject some 0\nthread\nthread\n";
 
@@ -55,6 +55,11 @@ static void fail(const char *what, int32_t status) {
     exit(1);
 }
 
+/* Even seeds pick any thread, and odd ones let a thread go on for a while. */
+static int32_t open_by(struct threads *all, uint64_t seed) {
+    return threads_open_by(all, TEXT, 2, seed % 2 ? OCTET_BURSTS : OCTET_UNIFORM, seed, seed % 2 ? BURST : 0);
+}
+
 /* Whether the second thread found nothing. */
 static int run(struct threads *all, int32_t opened, int asks_again, octet_record *record) {
     struct task task = {asks_again, 0};
@@ -86,7 +91,7 @@ int main(int count, char **words) {
     static struct threads all;
     octet_record record = {0}, again = {0};
     uint64_t seed = 0;
-    while (seed < MOST_SEEDS && !run(&all, threads_open_by(&all, TEXT, 2, OCTET_UNIFORM, seed, 0), 0, &record)) seed++;
+    while (seed < MOST_SEEDS && !run(&all, open_by(&all, seed), 0, &record)) seed++;
     if (seed == MOST_SEEDS) fail("no schedule shows it", 0);
     size_t length = 0, log_length = 0;
     uint8_t *script = bytes_of(&record, octet_script, &length), *log = bytes_of(&record, octet_log, &log_length);
@@ -94,7 +99,7 @@ int main(int count, char **words) {
     if (!run(&all, threads_follow(&all, script, length, log, log_length, 2), 0, &again)) fail("not again", 0);
     free(script), free(log);
     for (uint64_t other = 0; other < RIGHT_SEEDS; other++)
-        if (run(&all, threads_open_by(&all, TEXT, 2, OCTET_UNIFORM, other, 0), 1, &again)) fail("the right one fails", 0);
+        if (run(&all, open_by(&all, other), 1, &again)) fail("the right one fails", 0);
     for (int free_run = 0; free_run < FREE_RUNS; free_run++)
         if (run(&all, threads_open(&all, TEXT, 2), 1, &again)) fail("the right one fails freely", 0);
     octet_free(&record), octet_free(&again);

@@ -291,7 +291,6 @@ static inline int32_t threads_follow(struct threads *all, const uint8_t *script,
 static inline void *thread_begin(void *argument) {
     struct thread *t = (struct thread *)argument;
     uint64_t out = 0;
-    t->place = t->all->order == THREADS_BY_TURNS ? THREAD_AWAY : THREAD_MOVES;
     t->status = octet_start(&t->session);
     if (t->status == OCTET_READY) t->status = thread_pass(t);
     if (t->status == OCTET_READY) t->work(t);
@@ -312,9 +311,13 @@ static inline void *thread_begin(void *argument) {
 static inline int32_t threads_run(struct threads *all, void (*work)(struct thread *), void *given, octet_record *record) {
     octet_session sessions[THREADS_MOST] = {{0}};
     int started = 0;
+    for (int i = 0; i < all->count; i++) {
+        struct thread *t = &all->each[i];
+        t->work = work, t->given = given;
+        t->place = all->order == THREADS_BY_TURNS ? THREAD_AWAY : THREAD_MOVES;
+    }
     for (; started < all->count; started++) {
         struct thread *t = &all->each[started];
-        t->work = work, t->given = given;
         if (pthread_create(&t->thread, NULL, thread_begin, t)) break;
     }
     if (started < all->count) {

@@ -266,8 +266,8 @@ pub(crate) fn checked(status: i32, thread: usize) -> Result<(), Error> {
         raw::SPENT => Error::Spent { thread },
         raw::NO_MEMORY => Error::NoMemory,
         raw::BAD_TEXT | raw::MISFIT | raw::BAD_LOG => Error::NoRecording,
-        // Its access was given up.
-        raw::BEGUN => Error::Patience { thread },
+        // Its access was given up, and others may make it.
+        raw::BEGUN | raw::NO_SESSION => Error::Patience { thread },
         raw::OTHER_SESSIONS | raw::STILL_RUNNING | raw::TWO_RUNS | raw::OUT_OF_ORDER => Error::OtherSessions,
         raw::TOO_LONG => Error::TooLong,
         raw::HALTED => Error::Halted { thread },

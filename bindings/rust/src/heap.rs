@@ -1,6 +1,7 @@
 //! A heap, and how its threads are run.
 use crate::error::checked;
 use crate::gate::{Bell, Gate};
+use crate::given_up::AllGivenUp;
 use crate::long::{LongBuilder, Way};
 use crate::session::{Keeps, Noted};
 use crate::shared::{Named, Order, Shared};
@@ -392,6 +393,7 @@ impl Builder {
             channels: self.channels,
             order,
             patience: self.patience,
+            given_up: AllGivenUp::default(),
         });
         let sessions = handles.into_iter().enumerate();
         let sessions: Vec<Session> = sessions.map(|(number, handle)| Session::new(handle, number, &shared, keeps)).collect();
@@ -509,17 +511,6 @@ pub(crate) fn all_ended<T: Send, E: From<Error> + Send>(
         let running: Vec<_> = running.collect();
         running.into_iter().map(thread::ScopedJoinHandle::join).collect()
     })
-}
-
-// Accesses that were given up are made now, since nobody is at work any more.
-fn finish_all(sessions: &mut [Session]) {
-    let until = Instant::now() + MOST_CLOSING;
-    while sessions.iter_mut().filter_map(|session| (!session.finish_if_made()).then_some(())).count() > 0 {
-        if Instant::now() >= until {
-            return;
-        }
-        thread::yield_now();
-    }
 }
 
 /// Which of several errors is told: the lowest one.
@@ -849,12 +840,25 @@ impl Heap {
         Ok(recording)
     }
 
+    // Accesses that were given up are made now, since nobody is at work any more.
+    fn make_given_up(&self, sessions: &mut [Session]) {
+        let until = Instant::now() + MOST_CLOSING;
+        while self.shared.given_up.go_on() && Instant::now() < until {
+            thread::yield_now();
+        }
+        for given_up in self.shared.given_up.take() {
+            if let Some(session) = sessions.get_mut(given_up.thread) {
+                session.take_back(given_up);
+            }
+        }
+    }
+
     pub(crate) fn closed(self, mut sessions: Vec<Session>) -> Result<(raw::Handle, Vec<Noted>), Error> {
         sessions.sort_by_key(Session::number);
         if sessions.len() != self.threads || !sessions.iter().all(|session| session.is_of(self.shared.heap)) {
             return Err(Error::OtherSessions);
         }
-        finish_all(&mut sessions);
+        self.make_given_up(&mut sessions);
         let (handles, noted) = sessions.into_iter().map(Session::into_parts).unzip();
         let (record, status) = raw::close(handles);
         checked(status, 0)?;

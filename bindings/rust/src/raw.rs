@@ -6,6 +6,7 @@ use std::ptr::null_mut;
 pub(crate) const READY: i32 = 0;
 pub(crate) const PENDING: i32 = 1;
 pub(crate) const OVER: i32 = 2;
+pub(crate) const NO_SESSION: i32 = -1;
 pub(crate) const RESTING: i32 = -2;
 pub(crate) const RUNNING: i32 = -3;
 pub(crate) const BEGUN: i32 = -4;

@@ -7,8 +7,9 @@ mod spins;
 
 use crate::checks::Found;
 use crate::error::checked;
+use crate::given_up::{Begun, GivenUp};
 use crate::heap::Rank;
-use crate::raw::{self, Access, Handle};
+use crate::raw::{self, Handle};
 use crate::shared::{Order, Shared};
 use crate::{Error, Place, quiet};
 use noted::Places;
@@ -25,8 +26,6 @@ type Caller = &'static Location<'static>;
 
 // How often a thread that waits asks again before it gives its processor to others.
 const SPINS: u32 = 100;
-// After how many questions it looks at the clock. On a busy machine each may take a while.
-const LOOKS: u32 = 32;
 
 /// An object of one heap: a number of 64 bits that its threads share.
 ///
@@ -43,14 +42,6 @@ const LOOKS: u32 = 32;
 pub struct Object {
     pub(crate) heap: u64,
     pub(crate) place: u16,
-}
-
-/// An access, and where it stands.
-#[derive(Clone, Copy)]
-struct Begun {
-    caller: Caller,
-    object: u16,
-    access: Access,
 }
 
 /// One thread of a run. It may be sent to the thread that is to use it:
@@ -71,8 +62,8 @@ struct Begun {
 /// recorded run is made at once, or as soon as the threads that own the object hand it over. In a second run it waits until all
 /// that was recorded before it is made.
 ///
-/// An access that has waited for too long fails, and the thread makes no other one. It is made after all once the thread is
-/// stopped, so that no other one waits for it.
+/// An access that has waited for too long fails, and the thread makes no other one. It is made after all, as soon as it can be, so
+/// that no other one waits for it.
 pub struct Session {
     handle: Handle,
     number: usize,
@@ -85,8 +76,6 @@ pub struct Session {
     places: Places,
     // Where a call stands that makes several accesses.
     caller: Option<Caller>,
-    // The access that was begun, and has waited for too long.
-    given_up: Option<Begun>,
     // Its last accesses, of a run by a schedule.
     recent: Recent,
     // Of which kinds its errors are: the lowest one.
@@ -122,7 +111,6 @@ impl Session {
             held: Vec::new(),
             places: Places::new(keeps, number),
             caller: None,
-            given_up: None,
             recent: Recent::default(),
             rank: None,
             is_cut: false,
@@ -222,7 +210,6 @@ impl Session {
     /// It is stopped all the same.
     pub fn stop(&mut self) -> Result<(), Error> {
         let turned = self.take_last_turn();
-        self.finish_given_up();
         let mut out = 0;
         let status = self.handle.end(&mut out);
         let status = self.until_made(status, &mut out, Handle::end);
@@ -241,41 +228,20 @@ impl Session {
         if self.at_once == self.heap { Ok(()) } else { self.take_turn(None) }
     }
 
-    /// Whether an access that was given up is made now, or there is none. Others may be waiting for it.
-    pub(crate) fn finish_if_made(&mut self) -> bool {
-        let Some(begun) = self.given_up else {
-            return true;
-        };
-        if !self.is_out(begun) {
-            return false;
-        }
-        // A thread that is stopped already says so, and nothing is to be done.
-        self.handle.stop();
-        true
-    }
-
-    // Makes an access that was given up, if it can be made in time. Meanwhile it answers the others.
-    fn finish_given_up(&mut self) {
-        let Some(begun) = self.given_up.filter(|_| matches!(self.shared.order, Order::Free { .. })) else {
-            return;
-        };
-        let since = Instant::now();
-        while !self.is_out(begun) && since.elapsed() < self.shared.patience {
-            thread::yield_now();
+    /// What was given up is the session's again.
+    pub(crate) fn take_back(&mut self, GivenUp { handle, begun: Begun { caller, object, access }, told, .. }: GivenUp) {
+        self.handle = handle;
+        if let Some(told) = told {
+            self.places.note(caller, object, access, told);
         }
     }
 
-    // Whether an access that was given up is made now, or never can be.
-    fn is_out(&mut self, Begun { caller, object, access }: Begun) -> bool {
-        let mut out = 0;
-        let status = self.handle.poll(&mut out);
-        if status == raw::READY {
-            self.places.note(caller, object, access, out);
+    // Leaves an access that has waited for too long to those that wait for it.
+    fn give_up(&mut self, begun: Begun) {
+        if matches!(self.shared.order, Order::Free { .. }) {
+            let handle = mem::replace(&mut self.handle, Handle::empty());
+            self.shared.given_up.add(self.number, handle, begun);
         }
-        if status != raw::PENDING {
-            self.given_up = None;
-        }
-        status != raw::PENDING
     }
 
     /// Does the work between `start` and `stop`, and stops also where it fails or panics.
@@ -328,13 +294,15 @@ impl Session {
         while status == raw::PENDING {
             if round < SPINS {
                 hint::spin_loop();
+                round += 1;
             } else {
+                // On a busy machine this may take long.
                 thread::yield_now();
-            }
-            round = round.wrapping_add(1);
-            if round % LOOKS == 0 && since.get_or_insert_with(Instant::now).elapsed() >= self.shared.patience {
-                self.note_rank(Rank::Follows);
-                return Err(Error::Patience { thread: self.number });
+                self.shared.given_up.go_on();
+                if since.get_or_insert_with(Instant::now).elapsed() >= self.shared.patience {
+                    self.note_rank(Rank::Follows);
+                    return Err(Error::Patience { thread: self.number });
+                }
             }
             status = again(&mut self.handle, out);
         }

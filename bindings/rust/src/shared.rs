@@ -1,6 +1,7 @@
 //! What the sessions of a heap share, beside the heap itself.
 use crate::error::Wait;
 use crate::gate::{Bell, Gate};
+use crate::given_up::AllGivenUp;
 use crate::turnstile::{Awaited, Stuck, Turnstile, Waiter};
 use crate::{Error, Object, Place};
 use std::collections::HashMap;
@@ -33,6 +34,7 @@ pub(crate) struct Shared {
     pub(crate) channels: Vec<(String, u64)>,
     pub(crate) order: Order,
     pub(crate) patience: Duration,
+    pub(crate) given_up: AllGivenUp,
 }
 
 fn found<T>(found: Option<T>, name: &str) -> Result<T, Error> {

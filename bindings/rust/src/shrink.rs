@@ -15,9 +15,10 @@ use std::time::{Duration, Instant};
 const MOST_RUNS: usize = 200;
 const MOST_COST: usize = 120_000;
 const COST_OF_SWITCH: usize = 20;
-/// A program that does more than that, as one that sleeps, is ended by the clock. A machine that is very slow has longer.
+/// A program that is slow by itself, as one that sleeps, is ended by the clock: one whose quickest run takes so long for its cost.
+/// Where only the machine is busy some run is quicker, and the clock ends nothing.
 const MOST_TIME: Duration = Duration::from_millis(2_500);
-const TIME_OF_COST: Duration = Duration::from_micros(100);
+const SLOW_COST: Duration = Duration::from_micros(50);
 /// How many of them are made at first without a preemption, and how many with one.
 const FIRST_RUNS: usize = 40;
 
@@ -69,6 +70,8 @@ struct Search<'a, E> {
     played: HashSet<u64>,
     cost: usize,
     since: Instant,
+    // What the quickest run took for its cost.
+    quickest: Duration,
     waits: bool,
 }
 
@@ -80,8 +83,7 @@ impl<E: Error + 'static> Search<'_, E> {
     }
 
     fn is_over(&self) -> bool {
-        let time = self.since.elapsed();
-        let is_late = time >= MOST_TIME && time >= TIME_OF_COST * u32::try_from(self.cost).unwrap_or(u32::MAX);
+        let is_late = self.quickest >= SLOW_COST && self.since.elapsed() >= MOST_TIME;
         self.waits || self.played.len() >= MOST_RUNS || self.cost >= MOST_COST || is_late
     }
 
@@ -95,8 +97,11 @@ impl<E: Error + 'static> Search<'_, E> {
         if self.is_over() || !self.played.insert(hash) {
             return None;
         }
+        let began = Instant::now();
         let played = play(self.program, &Schedule::given(self.best.seed(), picks, self.lengths.clone()));
-        self.cost += self.cost_of(played.picks, played.switches);
+        let cost = self.cost_of(played.picks, played.switches);
+        self.cost += cost;
+        self.quickest = self.quickest.min(began.elapsed() / u32::try_from(cost).unwrap_or(u32::MAX).max(1));
         let failure = played.failure?;
         if failure.is_impatient() {
             // More tries would wait as long.
@@ -214,7 +219,8 @@ pub(crate) fn with_fewer_preemptions<E: Error + 'static>(
     let lengths = (0..=picks.iter().copied().max().unwrap_or(0)).map(count).collect();
     let switches = picks.windows(2).filter(|pair| pair[0] != pair[1]).count();
     let (played, since) = (HashSet::new(), Instant::now());
-    let mut search = Search { program, best: failure, lengths, draws, played, cost: 0, since, waits: false };
+    let mut search =
+        Search { program, best: failure, lengths, draws, played, cost: 0, since, quickest: Duration::MAX, waits: false };
     // A run that does very much is not made once more by the picks that it has: what is found of it fails all the same.
     if search.cost_of(picks.len(), switches) > MOST_COST / 4 || search.failure_by(picks).is_some() {
         search.all();

@@ -64,7 +64,7 @@ fn add_beside_a_loop(schedule: Schedule) -> Result<(), Error> {
 #[test]
 fn a_failure_beside_a_loop_is_shrunk_soon_and_always_to_the_same() {
     let shrunk = || {
-        let failures = (0..40).filter_map(|seed| explore([seed], add_beside_a_loop).err());
+        let failures = (0..15).filter_map(|seed| explore([seed], add_beside_a_loop).err());
         failures.map(|failure| failure.schedule().to_string()).collect::<Vec<_>>()
     };
     let first = shrunk();

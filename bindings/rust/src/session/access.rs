@@ -1,6 +1,7 @@
 //! What a thread does with objects.
-use super::{Begun, Caller, Object, Session};
+use super::{Caller, Object, Session};
 use crate::Error;
+use crate::given_up::Begun;
 use crate::raw::{self, Access, Change, Handle};
 use std::panic::Location;
 
@@ -28,7 +29,7 @@ impl Session {
     fn make_later(&mut self, status: i32, mut out: u64, begun: Begun) -> Result<u64, Error> {
         let Begun { caller, object, access } = begun;
         self.places.before_wait(caller);
-        let status = self.until_made(status, &mut out, Handle::poll).inspect_err(|_| self.given_up = Some(begun))?;
+        let status = self.until_made(status, &mut out, Handle::poll).inspect_err(|_| self.give_up(begun))?;
         if status != raw::READY {
             self.answered(status, out, Some(caller))?;
         }
