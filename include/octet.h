@@ -7,7 +7,8 @@
  *
  *   1. A handle, an `octet_session`, `octet_stream`, `octet_record` or `octet_turns`, is zeroed before its first use.
  *   2. From then on only these calls write to it. It may be moved: then its old place is not used, or zeroed.
- *   3. No pointer is null. Each points to as much as is said beside it, and no two to the same memory.
+ *   3. No pointer is null, also where it points to nothing, as `out` with no room does: any address of yours will do. Each points
+ *      to as much as is said beside it, and no two to the same memory.
  *   4. A handle is given to one call at a time. Different sessions and streams may be in calls at once.
  *   5. A handle goes to another thread by what orders memory: a lock, a thread's start or end, an atomic.
  *   6. No call is made from a signal handler, or in a child after `fork`. */
@@ -148,7 +149,7 @@ int32_t octet_close(octet_session *sessions, size_t count, octet_record *record)
 
 /* What the record has: the text of the script, the bytes of the log with the text's digest, the objects' values at
  * the end. That of a long run has values alone, and a window has none. Each call copies as much as there is room for;
- * `length` is how much there is. */
+ * `length` is how much there is. To be told the length alone, give no room: `octet_script(&record, &byte, 0, &length)`. */
 int32_t octet_script(octet_record *record, uint8_t *out, size_t room, size_t *length);
 int32_t octet_log(octet_record *record, uint8_t *out, size_t room, size_t *length);
 int32_t octet_values(octet_record *record, uint64_t *out, size_t room, size_t *length);
@@ -216,9 +217,53 @@ int32_t octet_cut(octet_stream *search, octet_stream *cut);
  * OCTET_OTHER_RUN: the accesses and the marks do not make a run. */
 int32_t octet_window(octet_stream *search, octet_record *record, octet_record *window);
 
+/* What to do about a status, in a few words. */
+static inline const char *octet_status_text(int32_t status) {
+    switch (status) {
+    case OCTET_READY: return "done";
+    case OCTET_PENDING: return "the access waits for another thread, or a thread had asked: poll";
+    case OCTET_OVER: return "the recording or the stream has no more, or no thread is ready";
+    case OCTET_NO_SESSION: return "the handle is empty: give it a session first";
+    case OCTET_OTHER_KIND: return "the handle has something else than what the call takes";
+    case OCTET_RESTING: return "the thread is not started, or is stopped: call octet_start";
+    case OCTET_RUNNING: return "the thread is started already";
+    case OCTET_BEGUN: return "an access was begun: poll it first";
+    case OCTET_NOT_BEGUN: return "no access was begun";
+    case OCTET_NO_OBJECT: return "the heap has no object of this number";
+    case OCTET_SPENT: return "the thread has used up its accesses: give more fuel";
+    case OCTET_NO_MODE: return "the mode is none of octet_mode";
+    case OCTET_NO_MEMORY: return "no memory";
+    case OCTET_BAD_TEXT: return "the text is no script";
+    case OCTET_OTHER_SESSIONS: return "not as many sessions as the heap has, or not of one kind";
+    case OCTET_OUT_OF_ORDER: return "a session is not in the place of its thread";
+    case OCTET_TWO_RUNS: return "the sessions are of two heaps";
+    case OCTET_STILL_RUNNING: return "a session is not stopped: call octet_end or octet_stop";
+    case OCTET_TOO_LONG: return "the run is too long for its files: make it shorter, or a long run";
+    case OCTET_NO_RECORD: return "the handle has no record";
+    case OCTET_DIVERGED: return "the thread leaves its recording: it asks for another access, or ends early";
+    case OCTET_HALTED: return "the access would wait for a thread that has left its recording";
+    case OCTET_MISFIT: return "the log is of another script";
+    case OCTET_UNORDERED: return "the log leaves conflicts unordered";
+    case OCTET_NOT_WHOLE: return "a thread has not made all that was recorded of it";
+    case OCTET_BAD_LOG: return "the bytes are no log";
+    case OCTET_NO_CHANGE: return "the change is none of octet_change";
+    case OCTET_BAD_SIZE: return "not 1 to 16 threads, or not 1 to 65,535 objects";
+    case OCTET_NO_STREAM: return "the handle has no stream";
+    case OCTET_NO_ROOM: return "there are more bytes than there is room for";
+    case OCTET_BAD_MARKS: return "the bytes are no marks file";
+    case OCTET_OTHER_RUN: return "the marks file is of another run";
+    case OCTET_NO_NOTES: return "the record has no accesses that were noted";
+    case OCTET_NOT_THERE: return "the record is not of a run that came just to the window";
+    case OCTET_NO_WAY: return "the way is none of octet_way";
+    case OCTET_NO_SCHEDULE: return "the handle has no schedule";
+    default: return "no status of octet.h";
+    }
+}
+
 /* Puts a new schedule behind the handle; what it held is freed. With any status but OCTET_READY the handle stays as
- * it is. By a schedule the threads go on one at a time: before each access pick one, and let that one alone make it.
- * The same way, seed and `most` pick the same threads, where the same ones are ready. */
+ * it is. By a schedule the threads go on one at a time: before each access pick one, and let that one alone make it. `threads.h`,
+ * beside `bank.c`, does so for the threads of a program, with locks and conditions. The same way, seed and `most` pick the same
+ * threads, where the same ones are ready. */
 int32_t octet_schedule(octet_turns *turns, uint8_t way, uint64_t seed, uint32_t most);
 
 /* Picks the thread that makes the next access. `ready` has a byte for each thread, of which there are 1 to 16: 0

@@ -185,6 +185,25 @@ def places_of_a_program():
         )
 
 
+def refused_words():
+    """What is missing is told in one line."""
+    here = {"S.octet": BANK, "S.log": LOST_LOG, "S.places": b"thread\nthread\n"}
+    with folder_with(**here) as folder:
+        told = {
+            (PLACES, "nosuch"): (1, b"tools/places: nosuch.octet is not there\n"),
+            (PLACES, "S"): (1, b"tools/places: S.places has no lines: `octet trace S.octet S.log` says the run without them\n"),
+            (PLACES,): (2, b"tools/places: the following arguments are required: STEM; tools/places --help says what it takes\n"),
+            (DIAGRAM, "nosuch"): (
+                2,
+                b"tools/diagram: the following arguments are required: FILE; tools/diagram --help says what it takes\n",
+            ),
+            (DIAGRAM, "nosuch", "S.log"): (1, b"tools/diagram: nosuch is not there\n"),
+            (DIAGRAM, "S.octet", "S.log", "--places", "none"): (1, b"tools/diagram: none is not there\n"),
+        }
+        found = {words: called([*words, "--octet", OCTET], folder) for words in told}
+        return first(*(differs(str(words[1:]), found[words], (told[words][0], b"", told[words][1])) for words in told))
+
+
 def refused_pictures():
     many = script("object x 0 / thread / set r0 500 / set r1 1 / while r0 / write x r0 / sub r0 r0 r1 / end")
     with folder_with(S=many, B=BANK, M=LOST_LOG, bad=b"OCTL") as folder:
@@ -333,6 +352,7 @@ TESTS = {
     "tools/diagram: the picture of the README": picture_of_the_readme,
     "tools/diagram: points, arrows, frames and what is pale": pictures,
     "tools/diagram: what is refused": refused_pictures,
+    "tools/places, tools/diagram: missing words and files": refused_words,
     "tools/diagram: trace events": trace_events,
     "tools/places, tools/diagram: the lines of a program": places_of_a_program,
     "tests/wrong: each body fits its crate": wrong_bodies,

@@ -1,9 +1,11 @@
 /* A run of two threads, of 100,000 accesses each, is recorded by its marks, which the main thread takes meanwhile. The
  * run is made again by them, with equal values, and its last accesses become a script and its log, which go to STEM.octet
  * and STEM.log if a stem is given. Then each call of long runs is misused. Says every answer that is not as it should be. */
+#define _POSIX_C_SOURCE 200809L
 #include "octet.h"
 #include <inttypes.h>
 #include <pthread.h>
+#include <sched.h>
 #include <stdio.h>
 #include <stdlib.h>
 #include <string.h>
@@ -45,7 +47,9 @@ static void *work(void *given) {
         if (w->made % 3 == 0) status = octet_access(&w->session, OCTET_READ, object, 0, &out);
         else if (w->made % 3 == 1) status = octet_access(&w->session, OCTET_WRITE, object, told, &out);
         else status = octet_update(&w->session, OCTET_ADD, object, 3, 0, &out);
-        while (status == OCTET_PENDING) status = octet_poll(&w->session, &out);
+        /* The thread that has to answer may want this processor. */
+        for (int polls = 0; status == OCTET_PENDING; status = octet_poll(&w->session, &out))
+            if (++polls > 100) sched_yield();
         if (status != OCTET_READY) break;
         told = (told ^ out) * 6364136223846793005u + 1442695040888963407u;
     }
@@ -53,6 +57,7 @@ static void *work(void *given) {
     while (status == OCTET_READY || status == OCTET_PENDING) {
         status = octet_end(&w->session, &out);
         if (status == OCTET_READY) break;
+        sched_yield();
     }
     w->status = status;
     if (status != OCTET_READY) octet_stop(&w->session);
@@ -89,7 +94,7 @@ static void add(struct bytes *to, const uint8_t *from, size_t length) {
 /* Takes what the streams have into the file, until the threads have ended. */
 static void take_all(octet_stream *streams) {
     static uint8_t piece[65536];
-    for (int over = 0; over < THREADS;) {
+    for (int over = 0; over < THREADS; sched_yield()) {
         over = 0;
         for (int i = 0; i < THREADS; i++) {
             size_t length = 0;
@@ -105,7 +110,7 @@ static void take_all(octet_stream *streams) {
 static void feed_all(octet_stream *streams, const uint8_t *bytes, size_t whole) {
     size_t fed[THREADS] = {0};
     int32_t ends[THREADS] = {OCTET_PENDING, OCTET_PENDING};
-    for (int over = 0; over < THREADS;) {
+    for (int over = 0; over < THREADS; sched_yield()) {
         over = 0;
         for (int i = 0; i < THREADS; i++) {
             uint64_t taken = 0;
@@ -383,7 +388,7 @@ static void at_feed(void) {
     EXPECT(octet_feed(&t[1], DECLARED, 1, &out), OCTET_OVER);
     EXPECT(octet_start(&s[1]), OCTET_READY);
     int32_t status = octet_access(&s[1], OCTET_READ, 0, 0, &out);
-    while (status == OCTET_PENDING) status = octet_poll(&s[1], &out);
+    while (status == OCTET_PENDING) sched_yield(), status = octet_poll(&s[1], &out);
     EXPECT(status, OCTET_OVER);
     EXPECT(octet_stop(&s[1]), OCTET_READY);
     octet_free(&t[0]), octet_free(&t[1]), octet_free(&s[0]), octet_free(&s[1]);

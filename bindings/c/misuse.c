@@ -48,6 +48,14 @@ static void without_a_session(void) {
     EXPECT(length, 7);
 }
 
+/* Each status has a text, and no other number has. */
+static void texts_of_statuses(void) {
+    const char *none = octet_status_text(OCTET_OTHER_KIND - 1);
+    for (int32_t status = OCTET_OTHER_KIND; status <= OCTET_OVER; status++)
+        EXPECT(strcmp(octet_status_text(status), none) != 0, 1);
+    EXPECT(strcmp(octet_status_text(OCTET_OVER + 1), none), 0);
+}
+
 static void at_open(void) {
     octet_session s[3] = {{0}, {0}, {0}};
     EXPECT(open_text("objekt", s, 2), OCTET_BAD_TEXT);
@@ -310,6 +318,7 @@ static void at_a_schedule(void) {
 }
 
 int main(void) {
+    texts_of_statuses();
     at_a_schedule();
     without_a_session();
     at_open();

@@ -1,6 +1,9 @@
 //! Four threads pay from account to account, half a million times each, mostly between accounts of their own. The run is recorded by its
 //! marks alone, and run again by them, and its last accesses become a script that `octet` reads. Then the file is cut, as if the
 //! program had been killed, and followed as far as it goes.
+// The numbers are small.
+#![allow(clippy::cast_possible_truncation)]
+
 use octet::{Builder, Error, Heap, LongRun, Session, Threads, last};
 use std::{env, error, fs};
 

@@ -1,5 +1,8 @@
 //! Runs of threads that race as the machine has it: `stress RUNS FOLDER OCTET`. Each is recorded, verified and replayed by the
 //! program `octet`, and run again. Says how many were wrong.
+// The numbers are small.
+#![allow(clippy::cast_possible_truncation)]
+
 use octet::{Builder, Error, Heap, Run, Session};
 use std::fmt::Write;
 use std::path::Path;

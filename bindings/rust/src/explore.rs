@@ -1,7 +1,8 @@
 //! Many schedules, until one fails.
-use crate::schedule::{Kept, Pick};
+use crate::quiet::{self, Watch};
+use crate::schedule::{Panicked, Pick};
 use crate::shrink::with_fewer_preemptions;
-use crate::{Error, Recording, Schedule};
+use crate::{Error, Place, Recording, Schedule};
 use std::any::Any;
 use std::iter::successors;
 use std::panic::{self, AssertUnwindSafe};
@@ -19,11 +20,14 @@ use std::{error, fmt, mem};
 /// assert!(matches!(failure.cause(), Cause::Error(Error::Resting)));
 /// ```
 #[derive(Debug)]
+#[non_exhaustive]
 pub enum Cause<E = Error> {
     /// An assertion failed, in a thread or after the run, with this message.
     Panic(String),
     /// The program failed: its run did, or what it did with it.
     Error(E),
+    /// The program passed, and handed its schedule to no heap: give it to `Builder::schedule`.
+    Unscheduled,
 }
 
 /// A schedule that failed: its seed, why it failed, and its run, which is shrunk to few preemptions.
@@ -44,10 +48,12 @@ pub enum Cause<E = Error> {
 /// println!("{failure}");
 /// # assert!(failure.to_string().contains("the first thread writes last"));
 /// ```
-#[derive(Debug)]
 pub struct Failure<E = Error> {
     seed: u64,
     cause: Cause<E>,
+    // The thread that has panicked, if one of the run has, and where it did.
+    thread: Option<usize>,
+    place: Option<Place>,
     picks: Vec<Pick>,
     recording: Option<Recording>,
 }
@@ -59,8 +65,68 @@ impl<E> Failure<E> {
     /// let failure = octet::explore(3..9, |_| panic!("always")).expect_err("it panics");
     /// assert_eq!(failure.seed(), 3);
     /// ```
+    #[must_use]
     pub fn seed(&self) -> u64 {
         self.seed
+    }
+
+    /// The thread of the run that has panicked, if one has.
+    ///
+    /// ```
+    /// use octet::{Heap, explore};
+    ///
+    /// let failure = explore([0], |schedule| {
+    ///     Heap::builder().schedule(schedule).run(|threads| threads.spawn(|_| if true { panic!("always") } else { Ok(()) }))?;
+    ///     Ok(())
+    /// })
+    /// .expect_err("it panics");
+    /// assert_eq!(failure.thread(), Some(0));
+    /// ```
+    #[must_use]
+    pub fn thread(&self) -> Option<usize> {
+        self.thread
+    }
+
+    /// Where the panic stands, in a thread or after the run.
+    ///
+    /// ```
+    /// let failure = octet::explore([0], |_| panic!("always")).expect_err("it panics");
+    /// assert_eq!(failure.place().map(|place| place.file()), Some(file!()));
+    /// ```
+    #[must_use]
+    pub fn place(&self) -> Option<&Place> {
+        self.place.as_ref()
+    }
+
+    /// The schedule by which it fails, as it was shrunk. It prints as a text, and `Schedule::parse` reads it.
+    ///
+    /// ```
+    /// use octet::{Error, Heap, Run, Schedule, explore};
+    ///
+    /// fn add(schedule: Schedule) -> Result<Run<()>, Error> {
+    ///     Heap::builder().object("x", 0).schedule(schedule).run(|threads| {
+    ///         for _ in 0..2 {
+    ///             threads.spawn(|session| {
+    ///                 let x = session.object("x")?;
+    ///                 let found = session.load(x)?;
+    ///                 session.store(x, found + 1)
+    ///             });
+    ///         }
+    ///     })
+    /// }
+    ///
+    /// let failure = explore(0..100, |schedule| {
+    ///     assert_eq!(add(schedule)?.value("x"), Some(2));
+    ///     Ok(())
+    /// })
+    /// .expect_err("some schedule loses an addition");
+    /// let text = failure.schedule().to_string();
+    /// assert_eq!(add(Schedule::parse(&text)?)?.value("x"), Some(1));
+    /// # Ok::<(), Error>(())
+    /// ```
+    #[must_use]
+    pub fn schedule(&self) -> Schedule {
+        Schedule::given(self.seed, self.picks.iter().map(|pick| pick.thread).collect(), Vec::new())
     }
 
     /// Why it failed.
@@ -69,6 +135,7 @@ impl<E> Failure<E> {
     /// let failure = octet::explore([0], |_| panic!("always")).expect_err("it panics");
     /// assert!(matches!(failure.cause(), octet::Cause::Panic(message) if message == "always"));
     /// ```
+    #[must_use]
     pub fn cause(&self) -> &Cause<E> {
         &self.cause
     }
@@ -93,6 +160,7 @@ impl<E> Failure<E> {
     /// });
     /// assert_eq!(failure.expect_err("some schedule loses an addition").preemptions(), 1);
     /// ```
+    #[must_use]
     pub fn preemptions(&self) -> usize {
         self.picks.iter().filter(|pick| pick.preempts).count()
     }
@@ -108,11 +176,12 @@ impl<E> Failure<E> {
     /// .expect_err("it panics");
     /// assert_eq!(failure.recording().expect("its run has ended").value("x"), Some(5));
     /// ```
+    #[must_use]
     pub fn recording(&self) -> Option<&Recording> {
         self.recording.as_ref()
     }
 
-    /// Saves the run under this stem. Fails with `NoRecording` where there is none, and as `Recording::save` does.
+    /// Saves the run under this stem.
     ///
     /// ```
     /// let failure = octet::explore([0], |schedule| {
@@ -125,8 +194,15 @@ impl<E> Failure<E> {
     /// assert_eq!(Some(&octet::Recording::load(&stem)?), failure.recording());
     /// # Ok::<(), octet::Error>(())
     /// ```
+    ///
+    /// # Errors
+    /// `NoRecording` where there is none, and those of `Recording::save`.
     pub fn save(&self, stem: impl AsRef<Path>) -> Result<(), Error> {
         self.recording.as_ref().ok_or(Error::NoRecording)?.save(stem)
+    }
+
+    fn unscheduled(seed: u64) -> Failure<E> {
+        Failure { seed, cause: Cause::Unscheduled, thread: None, place: None, picks: Vec::new(), recording: None }
     }
 
     pub(crate) fn picks(&self) -> &[Pick] {
@@ -150,23 +226,52 @@ impl<E: error::Error + 'static> Failure<E> {
             return false;
         };
         let causes = successors(Some(first as &(dyn error::Error + 'static)), |cause| cause.source());
-        causes.filter_map(|cause| cause.downcast_ref()).any(|error| matches!(error, Error::Patience { .. }))
+        causes
+            .filter_map(|cause| cause.downcast_ref())
+            .any(|error| matches!(error, Error::Patience { .. } | Error::NotBack { .. }))
     }
 }
 
 impl<E: fmt::Display> fmt::Display for Failure<E> {
     fn fmt(&self, out: &mut fmt::Formatter<'_>) -> fmt::Result {
+        write!(out, "seed {}: ", self.seed)?;
         match &self.cause {
-            Cause::Panic(message) => write!(out, "seed {}: {message}", self.seed),
-            Cause::Error(error) => write!(out, "seed {}: {error}", self.seed),
+            Cause::Panic(message) => {
+                if let Some(thread) = self.thread {
+                    write!(out, "thread {thread} ")?;
+                }
+                if let Some(place) = &self.place {
+                    write!(out, "at {place}: ")?;
+                }
+                out.write_str(message)
+            }
+            Cause::Error(error) => write!(out, "{error}"),
+            Cause::Unscheduled => out.write_str(
+                "the program has handed its schedule to no heap; give it to Builder::schedule, else each run is free",
+            ),
         }
+    }
+}
+
+// Short, since a program that ends with it prints this. The run is in files once it is saved.
+impl<E: fmt::Debug> fmt::Debug for Failure<E> {
+    fn fmt(&self, out: &mut fmt::Formatter<'_>) -> fmt::Result {
+        let mut told = out.debug_struct("Failure");
+        told.field("seed", &self.seed).field("cause", &self.cause);
+        if let Some(thread) = self.thread {
+            told.field("thread", &thread);
+        }
+        if let Some(place) = &self.place {
+            told.field("place", &format_args!("{place}"));
+        }
+        told.field("preemptions", &self.preemptions()).finish_non_exhaustive()
     }
 }
 
 impl<E: error::Error + 'static> error::Error for Failure<E> {
     fn source(&self) -> Option<&(dyn error::Error + 'static)> {
         match &self.cause {
-            Cause::Panic(_) => None,
+            Cause::Panic(_) | Cause::Unscheduled => None,
             Cause::Error(error) => Some(error),
         }
     }
@@ -177,28 +282,46 @@ fn without_numbers(message: &str) -> impl Iterator<Item = char> {
 }
 
 fn message_of(panic: &(dyn Any + Send)) -> String {
-    let text = panic.downcast_ref::<&str>().map(|text| text.to_string());
+    let text = panic.downcast_ref::<&str>().map(ToString::to_string);
     text.or_else(|| panic.downcast_ref::<String>().cloned()).unwrap_or_else(|| "a panic".to_string())
 }
 
+/// What a run of a program came to, how many picks it was of, and how often another thread was picked than before.
+pub(crate) struct Played<E> {
+    pub(crate) failure: Option<Box<Failure<E>>>,
+    pub(crate) picks: usize,
+    pub(crate) switches: usize,
+    is_taken: bool,
+}
+
 /// Runs a program by this schedule.
-pub(crate) fn play<E>(program: &mut dyn FnMut(Schedule) -> Result<(), E>, schedule: Schedule) -> Result<(), Box<Failure<E>>> {
+pub(crate) fn play<E>(program: &mut dyn FnMut(Schedule) -> Result<(), E>, schedule: &Schedule) -> Played<E> {
+    quiet::last_panic();
     let cause = match panic::catch_unwind(AssertUnwindSafe(|| program(schedule.clone()))) {
-        Ok(Ok(())) => return Ok(()),
-        Ok(Err(error)) => Cause::Error(error),
-        Err(panic) => Cause::Panic(message_of(panic.as_ref())),
+        Ok(ended) => ended.err().map(Cause::Error),
+        Err(panic) => Some(Cause::Panic(message_of(panic.as_ref()))),
     };
-    let Kept { picks, recording } = schedule.kept();
-    Err(Box::new(Failure { seed: schedule.seed(), cause, picks, recording }))
+    let kept = schedule.kept();
+    let (picks, is_taken) = (kept.picks.len(), kept.is_taken);
+    let switches = kept.picks.windows(2).filter(|pair| pair[0].thread != pair[1].thread).count();
+    let here = quiet::last_panic();
+    let (thread, place) = kept.panicked.map_or((None, here), |Panicked { thread, at }| (Some(thread), at));
+    let of = |cause| Failure { seed: schedule.seed(), cause, thread, place, picks: kept.picks, recording: kept.recording };
+    Played { failure: cause.map(of).map(Box::new), picks, switches, is_taken }
 }
 
 /// Runs a program by the schedule of each seed, in order, until it fails, and answers how many seeds passed. An assertion that
 /// fails, in a thread or after the run, is a failure too: it has the seed, and keeps the run.
 ///
-/// A failure is shrunk: the program runs up to 200 times more, for ten seconds at most, by schedules with fewer preemptions, and
-/// the failure of the same kind with the fewest is kept. Panics are of the same kind where their messages differ in numbers alone.
+/// A failure is shrunk: the program runs up to 200 times more, and within 120,000 picks or 6,000 switches between threads, by
+/// schedules with fewer preemptions, and the failure of the same kind with the fewest is kept. So a seed is always shrunk to the
+/// same failure. Where the program does more than that, as one that sleeps, the clock ends it within three seconds, and one seed may
+/// be shrunk to several failures. Panics are of the same kind where their messages differ in numbers alone.
 /// Those of the runs that shrink are not printed. Where the program keeps its runs by `Builder::record`, its file is of the
 /// failure that is told.
+///
+/// All accesses are sequentially consistent. So a mistake that only a weaker order of memory shows, as a missing `Acquire` or
+/// `Release`, is never found.
 ///
 /// ```
 /// use octet::{Builder, Error, Heap, Run, explore};
@@ -226,6 +349,9 @@ pub(crate) fn play<E>(program: &mut dyn FnMut(Schedule) -> Result<(), E>, schedu
 /// assert_eq!(pay(bank.rerun(lost))?.value("balance"), lost.value("balance"));
 /// # Ok::<(), Error>(())
 /// ```
+///
+/// # Errors
+/// The first failure. A program that passes and has handed its schedule to no heap has failed too: as `Cause::Unscheduled`.
 pub fn explore(
     seeds: impl IntoIterator<Item = u64>,
     program: impl FnMut(Schedule) -> Result<(), Error>,
@@ -280,16 +406,24 @@ pub fn explore(
 /// .expect_err("some schedule loses an addition");
 /// assert!(matches!(failure.cause(), Cause::Error(Fault::Lost(1))));
 /// ```
+///
+/// # Errors
+/// As `explore`.
 pub fn try_explore<E: error::Error + 'static>(
     seeds: impl IntoIterator<Item = u64>,
     mut program: impl FnMut(Schedule) -> Result<(), E>,
 ) -> Result<u64, Box<Failure<E>>> {
     let mut passed = 0;
+    let _watch = Watch::new();
     for seed in seeds {
-        match play(&mut program, Schedule::new(seed)) {
-            Ok(()) => passed += 1,
-            Err(failure) => return Err(with_fewer_preemptions(failure, &mut program)),
+        let played = play(&mut program, &Schedule::new(seed));
+        if let Some(failure) = played.failure {
+            return Err(with_fewer_preemptions(failure, &mut program));
         }
+        if !played.is_taken {
+            return Err(Box::new(Failure::unscheduled(seed)));
+        }
+        passed += 1;
     }
     Ok(passed)
 }

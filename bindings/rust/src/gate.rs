@@ -32,7 +32,8 @@ impl Gate {
     }
 }
 
-/// How many threads have come to wait, and how many of them, the first ones, were woken.
+/// How many threads have come to wait, and how many of them, the first ones, were woken. One may be woken just before it comes: it
+/// was counted at the condition's object before.
 #[derive(Default)]
 struct Queue {
     came: u64,
@@ -60,15 +61,9 @@ impl Bell {
         !waited.unwrap_or_else(PoisonError::into_inner).1.timed_out()
     }
 
-    pub(crate) fn wake_one(&self) {
-        let mut queue = lock(&self.queue);
-        queue.woken = queue.came.min(queue.woken + 1);
-        self.rung.notify_all();
-    }
-
-    pub(crate) fn wake_all(&self) {
-        let mut queue = lock(&self.queue);
-        queue.woken = queue.came;
+    /// Wakes so many of those that were counted, the first ones.
+    pub(crate) fn wake(&self, count: u64) {
+        lock(&self.queue).woken += count;
         self.rung.notify_all();
     }
 }

@@ -1,21 +1,26 @@
 //! A heap, and how its threads are run.
 use crate::error::checked;
 use crate::gate::{Bell, Gate};
+use crate::given_up::AllGivenUp;
 use crate::long::{LongBuilder, Way};
-use crate::shared::{Lock, Order, Shared};
+use crate::session::{Keeps, Noted};
+use crate::shared::{Named, Order, Shared};
 use crate::turnstile::Turnstile;
 use crate::{Error, Object, Place, Recording, Rerun, Schedule, Session, quiet, raw};
 use std::collections::HashSet;
-use std::ops::Deref;
-use std::path::PathBuf;
+use std::path::{Path, PathBuf};
 use std::sync::Arc;
 use std::sync::atomic::{AtomicU64, Ordering};
-use std::time::Duration;
-use std::{panic, thread};
+use std::time::{Duration, Instant};
+use std::{fmt, panic, thread};
 
 /// The fuel of all threads together, how much of it an access may take, and how many threads and objects there may be.
 const ALL_FUEL: u32 = 262_144;
 const FUEL_OF_ACCESS: u32 = 3;
+/// How many accesses of all threads there are by a schedule, if nothing is said: a script of so many can be saved.
+const SCHEDULED_ACCESSES: u32 = 16_384;
+/// For how long sessions that are given back may still be at an access.
+const MOST_CLOSING: Duration = Duration::from_secs(1);
 pub(crate) const MAX_THREADS: usize = 16;
 const MAX_OBJECTS: usize = 1024;
 const MAX_NAME: usize = 32;
@@ -43,8 +48,8 @@ fn is_name(name: &str) -> bool {
 #[must_use]
 pub struct Builder {
     pub(crate) objects: Vec<(String, u64)>,
-    locks: Vec<Lock>,
-    conditions: Vec<String>,
+    locks: Vec<Named>,
+    conditions: Vec<Named>,
     barriers: Vec<(String, u64)>,
     channels: Vec<(String, u64)>,
     pub(crate) threads: usize,
@@ -53,6 +58,11 @@ pub struct Builder {
     rerun: Option<Recording>,
     patience: Duration,
     failing: Option<PathBuf>,
+}
+
+// Whether there are as many of these as there may be.
+pub(crate) fn within(what: &'static str, found: u64, least: u64, most: u64) -> Result<(), Error> {
+    if (least..=most).contains(&found) { Ok(()) } else { Err(Error::BadSize { what, found, least, most }) }
 }
 
 impl Builder {
@@ -70,7 +80,7 @@ impl Builder {
         self
     }
 
-    /// A lock for `Session::locked`. It is an object of this name too.
+    /// A lock for `Session::locked`. It is an object of this name too: the number of the thread that holds it, counted from 1, or 0.
     ///
     /// ```
     /// let run = octet::Heap::builder().object("x", 0).lock("door").run(|threads| {
@@ -80,11 +90,16 @@ impl Builder {
     /// # Ok::<(), octet::Error>(())
     /// ```
     pub fn lock(mut self, name: &str) -> Builder {
-        self.locks.push(Lock { name: name.to_string(), object: self.objects.len() as u16 });
+        self.locks.push(self.next_object(name));
         self.object(name, 0)
     }
 
-    /// A condition for `Session::wait`.
+    // What is to have the next object. Where there are too many objects, `judged` says so.
+    fn next_object(&self, name: &str) -> Named {
+        Named { name: name.to_string(), object: u16::try_from(self.objects.len()).unwrap_or(u16::MAX) }
+    }
+
+    /// A condition for `Session::wait`. It is an object of this name too: how many threads wait for it.
     ///
     /// ```
     /// octet::Heap::builder().condition("opened").run(|threads| {
@@ -93,8 +108,8 @@ impl Builder {
     /// # Ok::<(), octet::Error>(())
     /// ```
     pub fn condition(mut self, name: &str) -> Builder {
-        self.conditions.push(name.to_string());
-        self
+        self.conditions.push(self.next_object(name));
+        self.object(name, 0)
     }
 
     /// A barrier for so many threads, for `Session::arrive`. It has a lock, a condition and objects, whose names begin with its
@@ -151,7 +166,7 @@ impl Builder {
     }
 
     /// How many accesses each thread may make at least. As many as there may be, if nothing is said: 87,381 divided by the
-    /// number of threads.
+    /// number of threads, and by a schedule 16,384. So a run that fails since threads wait in loops ends soon, and can be saved.
     ///
     /// ```
     /// use octet::{Error, Heap};
@@ -170,7 +185,8 @@ impl Builder {
         self
     }
 
-    /// The threads take turns by this schedule, one access at a time.
+    /// The threads take turns by this schedule, one access at a time. Before each access, and each call by which threads meet, as
+    /// `locked` and `notify_one`, the schedule picks which thread goes on.
     ///
     /// ```
     /// use octet::{Error, Heap, Schedule};
@@ -220,7 +236,9 @@ impl Builder {
         self
     }
 
-    /// The run may have any length, and its marks go into this file while it goes on.
+    /// The run may have any length, and its marks go into this file while it goes on. A marks file that is there is written over, so
+    /// keep one that you need under another name. Any other file is left alone, and the run fails. Beside it `FILE.checks` is written:
+    /// by it a second run that leaves the recording tells which thread has left it, and where.
     ///
     /// ```
     /// # let file = std::env::temp_dir().join(format!("octet-record-{}.octm", std::process::id()));
@@ -255,8 +273,8 @@ impl Builder {
         self
     }
 
-    /// Where a thread of `run` fails or panics, the run is saved under this stem, as far as it came. Of an exploration this is the
-    /// run before it is shrunk.
+    /// Where a thread of `run` fails or panics, the run is saved under this stem, as far as it came, over what is there. Of an
+    /// exploration this is the run before it is shrunk. Standard error says where it is, or why it is not kept.
     ///
     /// ```
     /// use octet::{Heap, Recording};
@@ -275,7 +293,7 @@ impl Builder {
     }
 
     // That each name is one, and stands once; and how many objects and threads there are.
-    pub(crate) fn judged(&self, most_objects: usize) -> Result<(), Error> {
+    pub(crate) fn judged(&self, least_objects: u64, most_objects: usize) -> Result<(), Error> {
         let mut seen = HashSet::new();
         for (name, _) in &self.objects {
             if !is_name(name) {
@@ -285,22 +303,33 @@ impl Builder {
                 return Err(Error::NamedTwice { name: name.clone() });
             }
         }
-        let is_good = self.objects.len() <= most_objects && (1..=MAX_THREADS).contains(&self.threads);
-        if is_good { Ok(()) } else { Err(Error::BadSize) }
+        within("objects", self.objects.len() as u64, least_objects, most_objects as u64)?;
+        within("threads", self.threads as u64, 1, MAX_THREADS as u64)
     }
 
     fn fuel(&self) -> Result<u32, Error> {
-        self.judged(MAX_OBJECTS)?;
-        let most = ALL_FUEL / self.threads as u32;
-        let fuel = self.accesses.map_or(most, |accesses| accesses.saturating_mul(FUEL_OF_ACCESS));
-        if fuel == 0 || fuel > most { Err(Error::BadSize) } else { Ok(fuel) }
+        self.judged(0, MAX_OBJECTS)?;
+        let threads = u32::try_from(self.threads).unwrap_or(u32::MAX);
+        let most = ALL_FUEL / threads;
+        match self.accesses {
+            Some(accesses) => {
+                within("accesses of each thread", accesses.into(), 1, (most / FUEL_OF_ACCESS).into())?;
+                Ok(accesses * FUEL_OF_ACCESS)
+            }
+            None if self.schedule.is_some() => Ok(most.min(SCHEDULED_ACCESSES * FUEL_OF_ACCESS / threads)),
+            None => Ok(most),
+        }
     }
 
     // The script that declares it.
     fn text(&self) -> Result<String, Error> {
         let mut text = format!("fuel {}\n", self.fuel()?);
         for (name, start) in &self.objects {
-            text += &format!("object {name} {start}\n");
+            text += "object ";
+            text += name;
+            text += " ";
+            text += &start.to_string();
+            text += "\n";
         }
         text += &"thread\n".repeat(self.threads);
         Ok(text)
@@ -310,7 +339,7 @@ impl Builder {
     pub(crate) fn order(&self, again: bool) -> Result<Order, Error> {
         Ok(match &self.schedule {
             _ if again => Order::Again,
-            Some(schedule) => Order::Turns(Turnstile::new(schedule, self.threads, self.locks.len(), self.patience)?),
+            Some(schedule) => Order::Turns(Box::new(Turnstile::new(schedule, self.threads, self.locks.len(), self.patience)?)),
             None => Order::Free {
                 gates: self.locks.iter().map(|_| Gate::default()).collect(),
                 bells: self.conditions.iter().map(|_| Bell::default()).collect(),
@@ -348,11 +377,11 @@ impl Builder {
     pub fn build(self) -> Result<(Heap, Vec<Session>), Error> {
         let handles = self.opened()?;
         let order = self.order(self.rerun.is_some())?;
-        Ok(self.with_sessions(handles, order, true))
+        Ok(self.with_sessions(handles, order, &Keeps::Each))
     }
 
     // The heap whose sessions are opened.
-    pub(crate) fn with_sessions(self, handles: Vec<raw::Handle>, order: Order, keeps_places: bool) -> (Heap, Vec<Session>) {
+    pub(crate) fn with_sessions(self, handles: Vec<raw::Handle>, order: Order, keeps: &Keeps) -> (Heap, Vec<Session>) {
         static NEXT: AtomicU64 = AtomicU64::new(1);
         let names = self.objects.into_iter().zip(0..);
         let shared = Arc::new(Shared {
@@ -364,10 +393,10 @@ impl Builder {
             channels: self.channels,
             order,
             patience: self.patience,
+            given_up: AllGivenUp::default(),
         });
         let sessions = handles.into_iter().enumerate();
-        let sessions: Vec<Session> =
-            sessions.map(|(number, handle)| Session::new(handle, number, &shared, keeps_places)).collect();
+        let sessions: Vec<Session> = sessions.map(|(number, handle)| Session::new(handle, number, &shared, keeps)).collect();
         (Heap { threads: sessions.len(), shared }, sessions)
     }
 
@@ -437,13 +466,13 @@ impl Builder {
         let shrinks = self.schedule.as_ref().is_some_and(Schedule::is_given);
         let (heap, mut sessions) = self.build()?;
         let ended = all_ended(&mut sessions, threads.works, shrinks);
-        let follows: Vec<bool> = sessions.iter().map(Session::follows).collect();
+        let ranks: Vec<Rank> = sessions.iter().map(Session::rank).collect();
         let recording = heap.finish(sessions);
-        match values_of(ended, &follows) {
+        match values_of(ended, &ranks) {
             Ok(values) => Ok(Run { recording: recording?, values }),
             Err(failed) => {
-                if let (Some(stem), Ok(recording), false) = (failing, &recording, shrinks) {
-                    match recording.save(&stem) {
+                if let (Some(stem), false) = (failing, shrinks) {
+                    match recording.and_then(|recording| recording.save(&stem)) {
                         Ok(()) => eprintln!("octet: the run that failed is kept in {}.octet and .log", stem.display()),
                         Err(error) => eprintln!("octet: the run that failed is not kept: {error}"),
                     }
@@ -454,7 +483,13 @@ impl Builder {
     }
 }
 
-pub(crate) type Work<'a, T, E> = Box<dyn FnOnce(&mut Session) -> Result<T, E> + Send + 'a>;
+type Task<'a, T, E> = Box<dyn FnOnce(&mut Session) -> Result<T, E> + Send + 'a>;
+
+/// What a thread does, and what it is named.
+pub(crate) struct Work<'a, T, E> {
+    name: Option<String>,
+    work: Task<'a, T, E>,
+}
 
 // Runs each work on a thread with its session.
 pub(crate) fn all_ended<T: Send, E: From<Error> + Send>(
@@ -464,15 +499,29 @@ pub(crate) fn all_ended<T: Send, E: From<Error> + Send>(
 ) -> Vec<thread::Result<Result<T, E>>> {
     thread::scope(|scope| {
         let works = sessions.iter_mut().zip(works);
-        let running = works.map(|(session, work)| {
-            scope.spawn(move || {
+        let running = works.map(|(session, Work { name, work })| {
+            let name = name.unwrap_or_else(|| format!("octet {}", session.number()));
+            let started = thread::Builder::new().name(name).spawn_scoped(scope, move || {
                 quiet::set(quietly);
                 session.running(work)
-            })
+            });
+            // As `std::thread::spawn` does where the system gives no thread.
+            started.expect("a thread could not be started")
         });
         let running: Vec<_> = running.collect();
         running.into_iter().map(thread::ScopedJoinHandle::join).collect()
     })
+}
+
+/// Which of several errors is told: the lowest one.
+#[derive(Clone, Copy, Debug, PartialEq, Eq, PartialOrd, Ord)]
+pub(crate) enum Rank {
+    /// It is the thread's own.
+    Own,
+    /// The thread has left its recording, as was found after so many accesses.
+    Left(u64),
+    /// It follows from an error of another thread.
+    Follows,
 }
 
 pub(crate) enum Failed<E> {
@@ -490,20 +539,21 @@ impl<E> Failed<E> {
     }
 }
 
-// What all threads gave back; or the first panic, or the first error that follows from no other thread's, or the first one.
+// What all threads gave back; or the first panic, or the first error that follows from no other thread's, or the first one. Of
+// threads that have left their recording the first is the one that was found after the fewest accesses.
 pub(crate) fn values_of<T, E>(
     ended: impl IntoIterator<Item = thread::Result<Result<T, E>>>,
-    follows: &[bool],
+    ranks: &[Rank],
 ) -> Result<Vec<T>, Failed<E>> {
     let (mut values, mut errors) = (Vec::new(), Vec::new());
-    for (thread, follows) in ended.into_iter().zip(follows) {
+    for (thread, rank) in ended.into_iter().zip(ranks) {
         match thread {
             Ok(Ok(value)) => values.push(value),
-            Ok(Err(error)) => errors.push((*follows, error)),
+            Ok(Err(error)) => errors.push((*rank, error)),
             Err(panic) => return Err(Failed::Panic(panic)),
         }
     }
-    match errors.into_iter().min_by_key(|(follows, _)| *follows) {
+    match errors.into_iter().min_by_key(|(rank, _)| *rank) {
         Some((_, error)) => Err(Failed::Error(error)),
         None => Ok(values),
     }
@@ -529,6 +579,12 @@ pub struct Threads<'a, T, E> {
     pub(crate) works: Vec<Work<'a, T, E>>,
 }
 
+impl<T, E> fmt::Debug for Threads<'_, T, E> {
+    fn fmt(&self, out: &mut fmt::Formatter<'_>) -> fmt::Result {
+        out.debug_struct("Threads").field("threads", &self.works.len()).finish_non_exhaustive()
+    }
+}
+
 impl<'a, T, E> Threads<'a, T, E> {
     pub(crate) fn named_by(spawn: impl FnOnce(&mut Threads<'a, T, E>)) -> Threads<'a, T, E> {
         let mut threads = Threads { works: Vec::new() };
@@ -536,7 +592,7 @@ impl<'a, T, E> Threads<'a, T, E> {
         threads
     }
 
-    /// One more thread, which does this. It starts once all are named.
+    /// One more thread, which does this. It starts once all are named. It is called `octet N`, by its number N.
     ///
     /// ```
     /// let names = ["x", "y"];
@@ -549,7 +605,22 @@ impl<'a, T, E> Threads<'a, T, E> {
     /// # Ok::<(), octet::Error>(())
     /// ```
     pub fn spawn(&mut self, work: impl FnOnce(&mut Session) -> Result<T, E> + Send + 'a) {
-        self.works.push(Box::new(work));
+        self.works.push(Work { name: None, work: Box::new(work) });
+    }
+
+    /// The same, with a name of the program's for the thread, which debuggers and panics tell.
+    ///
+    /// ```
+    /// let run = octet::Heap::builder().run(|threads| {
+    ///     threads.spawn(|_| Ok(std::thread::current().name().map(str::to_string)));
+    ///     threads.spawn_named("payer", |_| Ok(std::thread::current().name().map(str::to_string)));
+    /// })?;
+    /// assert_eq!(run.values(), [Some("octet 0".to_string()), Some("payer".to_string())]);
+    /// # Ok::<(), octet::Error>(())
+    /// ```
+    pub fn spawn_named(&mut self, name: &str, work: impl FnOnce(&mut Session) -> Result<T, E> + Send + 'a) {
+        // A name with a zero byte would be none.
+        self.works.push(Work { name: Some(name.replace('\0', " ")), work: Box::new(work) });
     }
 }
 
@@ -579,6 +650,7 @@ impl<T> Run<T> {
     /// assert_eq!(run.values(), [0, 1]);
     /// # Ok::<(), octet::Error>(())
     /// ```
+    #[must_use]
     pub fn values(&self) -> &[T] {
         &self.values
     }
@@ -591,26 +663,90 @@ impl<T> Run<T> {
     /// assert_eq!(done, ["done"]);
     /// # Ok::<(), octet::Error>(())
     /// ```
+    #[must_use]
     pub fn into_values(self) -> Vec<T> {
         self.values
     }
 
-    /// Its recording. A run may stand wherever a recording is borrowed.
+    /// Its recording.
     ///
     /// ```
     /// let run = octet::Heap::builder().object("x", 0).run(|threads| threads.spawn(|_| Ok(())))?;
     /// assert_eq!(run.recording().value("x"), Some(0));
     /// # Ok::<(), octet::Error>(())
     /// ```
+    #[must_use]
     pub fn recording(&self) -> &Recording {
         &self.recording
     }
+
+    /// The object's value at the end.
+    ///
+    /// ```
+    /// let run = octet::Heap::builder().object("x", 5).run(|threads| threads.spawn(|_| Ok(())))?;
+    /// assert_eq!((run.value("x"), run.value("y")), (Some(5), None));
+    /// # Ok::<(), octet::Error>(())
+    /// ```
+    #[must_use]
+    pub fn value(&self, name: &str) -> Option<u64> {
+        self.recording.value(name)
+    }
+
+    /// The same as `Recording::script`.
+    ///
+    /// ```
+    /// let run = octet::Heap::builder().object("x", 5).run(|threads| threads.spawn(|_| Ok(())))?;
+    /// assert_eq!(run.script(), run.recording().script());
+    /// # Ok::<(), octet::Error>(())
+    /// ```
+    #[must_use]
+    pub fn script(&self) -> &str {
+        self.recording.script()
+    }
+
+    /// The same as `Recording::log`.
+    ///
+    /// ```
+    /// let run = octet::Heap::builder().object("x", 5).run(|threads| threads.spawn(|_| Ok(())))?;
+    /// assert_eq!(run.log(), run.recording().log());
+    /// # Ok::<(), octet::Error>(())
+    /// ```
+    #[must_use]
+    pub fn log(&self) -> &[u8] {
+        self.recording.log()
+    }
+
+    /// The same as `Recording::place`.
+    ///
+    /// ```
+    /// let run = octet::Heap::builder().object("x", 5).run(|threads| threads.spawn(|_| Ok(())))?;
+    /// assert_eq!(run.place(0, 0), None);
+    /// # Ok::<(), octet::Error>(())
+    /// ```
+    #[must_use]
+    pub fn place(&self, thread: usize, access: usize) -> Option<&Place> {
+        self.recording.place(thread, access)
+    }
+
+    /// The same as `Recording::save`.
+    ///
+    /// ```
+    /// # let stem = std::env::temp_dir().join(format!("octet-run-save-{}", std::process::id()));
+    /// let run = octet::Heap::builder().object("x", 5).run(|threads| threads.spawn(|_| Ok(())))?;
+    /// run.save(&stem)?;
+    /// assert_eq!(&octet::Recording::load(&stem)?, run.recording());
+    /// # Ok::<(), octet::Error>(())
+    /// ```
+    ///
+    /// # Errors
+    /// Those of `Recording::save`.
+    pub fn save(&self, stem: impl AsRef<Path>) -> Result<(), Error> {
+        self.recording.save(stem)
+    }
 }
 
-impl<T> Deref for Run<T> {
-    type Target = Recording;
-
-    fn deref(&self) -> &Recording {
+impl<T> AsRef<Recording> for Run<T> {
+    fn as_ref(&self) -> &Recording {
         &self.recording
     }
 }
@@ -632,6 +768,13 @@ impl<T> Deref for Run<T> {
 pub struct Heap {
     threads: usize,
     shared: Arc<Shared>,
+}
+
+impl fmt::Debug for Heap {
+    fn fmt(&self, out: &mut fmt::Formatter<'_>) -> fmt::Result {
+        let objects = self.shared.objects.len();
+        out.debug_struct("Heap").field("threads", &self.threads).field("objects", &objects).finish_non_exhaustive()
+    }
 }
 
 impl Heap {
@@ -689,22 +832,36 @@ impl Heap {
     /// `OtherSessions`, `NotWhole`, `TooLong` and `NoMemory`. The sessions are gone then.
     pub fn finish(self, sessions: Vec<Session>) -> Result<Recording, Error> {
         let shared = Arc::clone(&self.shared);
-        let (record, places) = self.closed(sessions)?;
-        let recording = Recording::of(record, places)?;
+        let (record, noted) = self.closed(sessions)?;
+        let recording = Recording::of(record, noted.into_iter().map(|noted| noted.places).collect())?;
         if let Order::Turns(turnstile) = &shared.order {
             turnstile.keep(&recording);
         }
         Ok(recording)
     }
 
-    pub(crate) fn closed(self, mut sessions: Vec<Session>) -> Result<(raw::Handle, Vec<Vec<Place>>), Error> {
+    // Accesses that were given up are made now, since nobody is at work any more.
+    fn make_given_up(&self, sessions: &mut [Session]) {
+        let until = Instant::now() + MOST_CLOSING;
+        while self.shared.given_up.go_on() && Instant::now() < until {
+            thread::yield_now();
+        }
+        for given_up in self.shared.given_up.take() {
+            if let Some(session) = sessions.get_mut(given_up.thread) {
+                session.take_back(given_up);
+            }
+        }
+    }
+
+    pub(crate) fn closed(self, mut sessions: Vec<Session>) -> Result<(raw::Handle, Vec<Noted>), Error> {
         sessions.sort_by_key(Session::number);
         if sessions.len() != self.threads || !sessions.iter().all(|session| session.is_of(self.shared.heap)) {
             return Err(Error::OtherSessions);
         }
-        let (handles, places) = sessions.into_iter().map(Session::into_parts).unzip();
+        self.make_given_up(&mut sessions);
+        let (handles, noted) = sessions.into_iter().map(Session::into_parts).unzip();
         let (record, status) = raw::close(handles);
         checked(status, 0)?;
-        Ok((record, places))
+        Ok((record, noted))
     }
 }

@@ -33,11 +33,16 @@
 //! ```
 //!
 //! A run is repeated as far as its accesses decide what its threads do. Clocks, files and other locks are not recorded.
+//!
+//! All accesses are sequentially consistent. So a mistake that only a weaker order of memory shows, as a missing `Acquire` or `Release`,
+//! is never found: loom and ThreadSanitizer look for those.
 #![deny(missing_docs, unsafe_code)]
 
+mod checks;
 mod error;
 mod explore;
 mod gate;
+mod given_up;
 mod heap;
 mod long;
 mod marks_file;
@@ -49,12 +54,13 @@ mod recording;
 mod rerun;
 mod schedule;
 mod session;
+mod sha256;
 mod shared;
 mod shrink;
 mod turnstile;
 mod window;
 
-pub use error::{Error, Wait};
+pub use error::{Absence, Error, Wait};
 pub use explore::{Cause, Failure, explore, try_explore};
 pub use heap::{Builder, Heap, Run, Threads};
 pub use long::{LongBuilder, LongHeap, LongRun};

@@ -1,8 +1,11 @@
 //! Runs of any length. Their marks go into a file while they go on, and by it they are run again.
+use crate::checks::Ledger;
 use crate::error::checked;
-use crate::heap::{Failed, Threads, all_ended, values_of};
+use crate::heap::{Failed, Rank, Threads, all_ended, values_of};
 use crate::marks_file::{Feeding, Writing};
+use crate::session::{Keeps, Noted};
 use crate::{Builder, Error, Heap, Last, Object, Session, Window, raw};
+use std::fmt;
 use std::path::{Path, PathBuf};
 use std::sync::Arc;
 use std::sync::atomic::{AtomicBool, Ordering};
@@ -51,8 +54,14 @@ pub struct LongBuilder {
     heap: Builder,
     way: Way,
     path: PathBuf,
-    // How many last accesses of each thread are noted, where it runs again.
-    last: u16,
+    // How many last accesses of each thread are noted, where it runs again for a window.
+    last: Option<u16>,
+}
+
+/// What a run of any length has left, for a window of it.
+pub(crate) struct Left {
+    pub(crate) record: raw::Handle,
+    pub(crate) noted: Vec<Noted>,
 }
 
 // What is written or read beside the threads, and by what.
@@ -100,29 +109,30 @@ impl Drop for Beside {
 
 impl LongBuilder {
     pub(crate) fn new(heap: Builder, way: Way, path: PathBuf) -> LongBuilder {
-        LongBuilder { heap, way, path, last: 0 }
+        LongBuilder { heap, way, path, last: None }
     }
 
     // What the file's head declares by its digest, beside the number of threads and the objects' values.
     fn declared(&self) -> String {
-        self.heap.objects.iter().map(|(name, _)| format!("object {name}\n")).collect()
+        self.heap.objects.iter().fold(String::new(), |text, (name, _)| text + "object " + name + "\n")
     }
 
     // The sessions' handles, and what goes on beside them.
     fn opened(&self) -> Result<(Vec<raw::Handle>, Work), Error> {
-        self.heap.judged(MAX_OBJECTS)?;
+        self.heap.judged(1, MAX_OBJECTS)?;
         let starts: Vec<u64> = self.heap.objects.iter().map(|(_, start)| *start).collect();
         let (threads, declared) = (self.heap.threads, self.declared());
         match self.way {
             Way::Record => {
-                let (head, status) = raw::head(&starts, threads as u8, declared.as_bytes());
+                let (head, status) = raw::head(&starts, threads, declared.as_bytes());
                 checked(status, 0)?;
                 let (sessions, streams, status) = raw::open_long(&starts, threads);
                 checked(status, 0)?;
                 Ok((sessions, Work::Writing(Writing::begin(&self.path, &head, streams)?)))
             }
             Way::Rerun => {
-                let (sessions, streams, status) = raw::follow_long(&starts, declared.as_bytes(), self.last, threads);
+                let last = self.last.unwrap_or(0);
+                let (sessions, streams, status) = raw::follow_long(&starts, declared.as_bytes(), last, threads);
                 checked(status, 0)?;
                 Ok((sessions, Work::Feeding(Feeding::open(&self.path, streams)?)))
             }
@@ -157,7 +167,12 @@ impl LongBuilder {
         let (handles, work) = self.opened()?;
         let names = self.heap.objects.iter().map(|(name, _)| name.clone()).collect();
         let order = self.heap.order(matches!(self.way, Way::Rerun))?;
-        let (heap, sessions) = self.heap.with_sessions(handles, order, false);
+        let keeps = match (self.last, self.way) {
+            (Some(last), _) => Keeps::Last(last),
+            (None, Way::Record) => Keeps::Checks(Ledger::recorded(&self.path)),
+            (None, Way::Rerun) => Keeps::Checks(Ledger::compared(&self.path)),
+        };
+        let (heap, sessions) = self.heap.with_sessions(handles, order, &keeps);
         Ok((LongHeap { heap, names, beside: Beside::start(work) }, sessions))
     }
 
@@ -217,7 +232,7 @@ impl LongBuilder {
     /// The last accesses of the run that the file has: `Window::run` makes a recording of them.
     ///
     /// ```
-    /// use octet::{Error, Heap, Threads, last};
+    /// use octet::{Error, Heap, Threads};
     ///
     /// fn threads(threads: &mut Threads<'_, (), Error>) {
     ///     threads.spawn(|session| (0..9).try_for_each(|value| session.store(session.object("x")?, value)));
@@ -226,36 +241,41 @@ impl LongBuilder {
     /// # let file = std::env::temp_dir().join(format!("octet-last-{}.octm", std::process::id()));
     /// let heap = Heap::builder().object("x", 0);
     /// heap.clone().record(&file).run(threads)?;
-    /// let window = heap.rerun(&file).window(last(2)).run(threads)?;
-    /// assert!(window.script().contains("object o0 6\n"));
+    /// let window = heap.rerun(&file).window(2).run(threads)?;
+    /// assert!(window.script().contains("object x 6\n"));
     /// # std::fs::remove_file(&file).expect("the file is there");
     /// # Ok::<(), Error>(())
     /// ```
-    pub fn window(self, last: Last) -> Window {
-        Window::new(self, last)
+    pub fn window(self, last: impl Into<Last>) -> Window {
+        Window::new(self, last.into())
     }
 
-    // Runs the threads again by the file, or by another one, while each notes so many last accesses: the run's record.
+    // Runs the threads again by the file, or by another one, while each notes so many last accesses.
     pub(crate) fn rerun_noting<'a, T, E>(
         &self,
         path: &Path,
         last: u16,
         spawn: impl FnOnce(&mut Threads<'a, T, E>),
-    ) -> Result<raw::Handle, E>
+    ) -> Result<Left, E>
     where
         T: Send,
         E: From<Error> + Send,
     {
-        let again = LongBuilder { heap: self.heap.clone(), way: Way::Rerun, path: path.to_path_buf(), last };
-        again.ended(spawn).map(|(_, record)| record)
+        let again = LongBuilder { heap: self.heap.clone(), way: Way::Rerun, path: path.to_path_buf(), last: Some(last) };
+        again.ended(spawn).map(|(_, left)| left)
+    }
+
+    /// The names of the heap's objects, in order.
+    pub(crate) fn names(&self) -> Vec<&str> {
+        self.heap.objects.iter().map(|(name, _)| name.as_str()).collect()
     }
 
     pub(crate) fn path(&self) -> &Path {
         &self.path
     }
 
-    // What the run came to, and its record.
-    fn ended<'a, T, E>(mut self, spawn: impl FnOnce(&mut Threads<'a, T, E>)) -> Result<(LongRun<T>, raw::Handle), E>
+    // What the run came to, and what it has left.
+    fn ended<'a, T, E>(mut self, spawn: impl FnOnce(&mut Threads<'a, T, E>)) -> Result<(LongRun<T>, Left), E>
     where
         T: Send,
         E: From<Error> + Send,
@@ -265,12 +285,12 @@ impl LongBuilder {
         let (mut heap, mut sessions) = self.build()?;
         let ended = all_ended(&mut sessions, threads.works, false);
         heap.beside.end()?;
-        let follows: Vec<bool> = sessions.iter().map(Session::follows).collect();
+        let ranks: Vec<Rank> = sessions.iter().map(Session::rank).collect();
         let values = ended.into_iter().zip(&sessions).map(|(thread, session)| match thread {
             Ok(Err(_)) if session.is_cut() => Ok(Ok(None)),
             thread => thread.map(|done| done.map(Some)),
         });
-        let values = values_of(values, &follows).map_err(Failed::into_error)?;
+        let values = values_of(values, &ranks).map_err(Failed::into_error)?;
         Ok(heap.closed(sessions, values)?)
     }
 }
@@ -290,6 +310,12 @@ pub struct LongHeap {
     heap: Heap,
     names: Vec<String>,
     beside: Beside,
+}
+
+impl fmt::Debug for LongHeap {
+    fn fmt(&self, out: &mut fmt::Formatter<'_>) -> fmt::Result {
+        out.debug_struct("LongHeap").field("heap", &self.heap).finish_non_exhaustive()
+    }
 }
 
 impl LongHeap {
@@ -335,14 +361,14 @@ impl LongHeap {
         Ok(self.closed(sessions, values)?.0)
     }
 
-    // What the run came to, and its record.
-    fn closed<T>(self, sessions: Vec<Session>, values: Vec<Option<T>>) -> Result<(LongRun<T>, raw::Handle), Error> {
+    // What the run came to, and what it has left.
+    fn closed<T>(self, sessions: Vec<Session>, values: Vec<Option<T>>) -> Result<(LongRun<T>, Left), Error> {
         let LongHeap { heap, names, beside } = self;
         drop(beside);
-        let (mut record, _) = heap.closed(sessions)?;
+        let (mut record, noted) = heap.closed(sessions)?;
         let (last, status) = record.values();
         checked(status, 0)?;
-        Ok((LongRun { names, last, values }, record))
+        Ok((LongRun { names, last, values }, Left { record, noted }))
     }
 }
 
@@ -377,6 +403,7 @@ impl<T> LongRun<T> {
     /// # std::fs::remove_file(&file).expect("the file is there");
     /// # Ok::<(), octet::Error>(())
     /// ```
+    #[must_use]
     pub fn values(&self) -> &[Option<T>] {
         &self.values
     }
@@ -393,6 +420,7 @@ impl<T> LongRun<T> {
     /// # std::fs::remove_file(&file).expect("the file is there");
     /// # Ok::<(), octet::Error>(())
     /// ```
+    #[must_use]
     pub fn into_values(self) -> Vec<Option<T>> {
         self.values
     }
@@ -415,6 +443,7 @@ impl<T> LongRun<T> {
     /// # std::fs::remove_file(&file).expect("the file is there");
     /// # Ok::<(), Error>(())
     /// ```
+    #[must_use]
     pub fn is_whole(&self) -> bool {
         self.values.iter().all(Option::is_some)
     }
@@ -430,6 +459,7 @@ impl<T> LongRun<T> {
     /// # std::fs::remove_file(&file).expect("the file is there");
     /// # Ok::<(), octet::Error>(())
     /// ```
+    #[must_use]
     pub fn value(&self, name: &str) -> Option<u64> {
         let place = self.names.iter().position(|other| other == name)?;
         self.last.get(place).copied()

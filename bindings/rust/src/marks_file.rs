@@ -16,6 +16,19 @@ const REST: Duration = Duration::from_micros(200);
 /// How many bytes are read at once.
 const PIECE: usize = 32_768;
 
+/// What a marks file begins with, and what a log does.
+const MARKS: [u8; 4] = *b"OCTM";
+const LOG: [u8; 4] = *b"OCTL";
+
+// What a regular file begins with, unless it is empty. A short one is filled up with zeros.
+fn magic_of(path: &Path) -> Option<[u8; 4]> {
+    let mut begins = Vec::new();
+    File::open(path).ok().filter(|file| file.metadata().is_ok_and(|it| it.is_file()))?.take(4).read_to_end(&mut begins).ok()?;
+    let length = begins.len();
+    begins.resize(4, 0);
+    if length == 0 { None } else { begins.try_into().ok() }
+}
+
 fn named(path: &Path) -> impl Fn(std::io::Error) -> Error + '_ {
     |source| Error::File { path: path.to_path_buf(), source }
 }
@@ -47,6 +60,10 @@ pub(crate) struct Writing {
 impl Writing {
     /// A file that begins with this.
     pub(crate) fn begin(path: &Path, head: &[u8], streams: Vec<Handle>) -> Result<Writing, Error> {
+        // A file of another kind was named by mistake.
+        if !matches!(magic_of(path), None | Some(MARKS)) {
+            return Err(Error::OtherFile { path: path.to_path_buf() });
+        }
         let mut file = File::create(path).map_err(named(path))?;
         file.write_all(head).map_err(named(path))?;
         Ok(Writing { path: path.to_path_buf(), file, streams, block: vec![0; PIECE], bytes: Vec::new(), fault: None })
@@ -136,7 +153,7 @@ impl Feeding {
         }
         let status = way.stream.feed(&way.bytes, &mut place);
         fed(status, &self.path, place)?;
-        way.bytes.drain(..place as usize);
+        way.bytes.drain(..usize::try_from(place).unwrap_or(usize::MAX));
         Ok(place > 0)
     }
 
@@ -165,6 +182,7 @@ impl Feeding {
 
 fn fed(status: i32, path: &Path, place: u64) -> Result<(), Error> {
     match status {
+        raw::BAD_MARKS if magic_of(path) == Some(LOG) => Err(Error::IsLog { path: path.to_path_buf() }),
         raw::BAD_MARKS => Err(Error::BadMarks { path: path.to_path_buf(), place }),
         status => checked(status, 0),
     }

@@ -16,7 +16,7 @@ use std::panic::Location;
 /// assert_eq!(place.to_string(), format!("{}:{}", place.file(), place.line()));
 /// # Ok::<(), octet::Error>(())
 /// ```
-#[derive(Clone, Debug, PartialEq, Eq)]
+#[derive(Clone, Debug, PartialEq, Eq, Hash)]
 pub struct Place {
     file: Cow<'static, str>,
     line: u32,
@@ -33,6 +33,7 @@ impl Place {
     /// assert_eq!(place.file(), file!());
     /// # Ok::<(), octet::Error>(())
     /// ```
+    #[must_use]
     pub fn file(&self) -> &str {
         &self.file
     }
@@ -48,14 +49,19 @@ impl Place {
     /// assert_eq!(place.line(), before + 2);
     /// # Ok::<(), octet::Error>(())
     /// ```
+    #[must_use]
     pub fn line(&self) -> u32 {
         self.line
+    }
+
+    pub(crate) fn new(file: &str, line: u32) -> Place {
+        Place { file: file.to_string().into(), line }
     }
 
     // Of a line `FILE:LINE`.
     pub(crate) fn parse(text: &str) -> Option<Place> {
         let (file, line) = text.rsplit_once(':')?;
-        Some(Place { file: file.to_string().into(), line: line.parse().ok()? })
+        Some(Place::new(file, line.parse().ok()?))
     }
 }
 

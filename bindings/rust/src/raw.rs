@@ -2,15 +2,35 @@
 use std::ffi::c_void;
 use std::ptr::null_mut;
 
+// `octet_status`.
 pub(crate) const READY: i32 = 0;
 pub(crate) const PENDING: i32 = 1;
 pub(crate) const OVER: i32 = 2;
+pub(crate) const NO_SESSION: i32 = -1;
+pub(crate) const RESTING: i32 = -2;
+pub(crate) const RUNNING: i32 = -3;
+pub(crate) const BEGUN: i32 = -4;
+pub(crate) const SPENT: i32 = -7;
+pub(crate) const NO_MEMORY: i32 = -9;
+pub(crate) const BAD_TEXT: i32 = -10;
+pub(crate) const OTHER_SESSIONS: i32 = -11;
+pub(crate) const STILL_RUNNING: i32 = -12;
+pub(crate) const TOO_LONG: i32 = -13;
 pub(crate) const DIVERGED: i32 = -15;
+pub(crate) const HALTED: i32 = -16;
+pub(crate) const MISFIT: i32 = -17;
+pub(crate) const UNORDERED: i32 = -18;
+pub(crate) const NOT_WHOLE: i32 = -19;
+pub(crate) const BAD_LOG: i32 = -20;
 pub(crate) const NO_ROOM: i32 = -24;
 pub(crate) const BAD_MARKS: i32 = -25;
+pub(crate) const OTHER_RUN: i32 = -26;
+pub(crate) const TWO_RUNS: i32 = -29;
+pub(crate) const NOT_THERE: i32 = -31;
+pub(crate) const OUT_OF_ORDER: i32 = -32;
 
 /// What a session is asked for.
-#[derive(Clone, Copy)]
+#[derive(Clone, Copy, Debug)]
 pub(crate) enum Access {
     Read,
     Write { value: u64 },
@@ -18,7 +38,7 @@ pub(crate) enum Access {
 }
 
 /// `octet_change`.
-#[derive(Clone, Copy)]
+#[derive(Clone, Copy, Debug)]
 #[repr(u8)]
 pub(crate) enum Change {
     Add = 0,
@@ -152,7 +172,9 @@ pub(crate) fn open_long(starts: &[u64], threads: usize) -> (Vec<Handle>, Vec<Han
 }
 
 /// `octet_head`: its bytes, and the status.
-pub(crate) fn head(starts: &[u64], threads: u8, declared: &[u8]) -> (Vec<u8>, i32) {
+pub(crate) fn head(starts: &[u64], threads: usize, declared: &[u8]) -> (Vec<u8>, i32) {
+    // Too many for a byte are too many for the library.
+    let threads = u8::try_from(threads).unwrap_or(u8::MAX);
     // SAFETY: `copied` gives the call a buffer and its length; the rest is borrowed for the call, with its lengths.
     copied(|out, room, length| unsafe {
         octet_head(starts.as_ptr(), starts.len(), threads, declared.as_ptr(), declared.len(), out, room, length)
@@ -184,7 +206,7 @@ pub(crate) fn follow_long(starts: &[u64], declared: &[u8], last: u16, threads: u
 pub(crate) fn schedule(way: Way, seed: u64, most: u32) -> (Handle, i32) {
     let mut turns = Handle::empty();
     // SAFETY: the handle is this function's own.
-    let status = unsafe { octet_schedule(&mut turns, way as u8, seed, most) };
+    let status = unsafe { octet_schedule(&raw mut turns, way as u8, seed, most) };
     (turns, status)
 }
 
@@ -192,7 +214,7 @@ pub(crate) fn schedule(way: Way, seed: u64, most: u32) -> (Handle, i32) {
 pub(crate) fn close(mut sessions: Vec<Handle>) -> (Handle, i32) {
     let mut record = Handle::empty();
     // SAFETY: the handles are this function's own, and so is the record.
-    let status = unsafe { octet_close(sessions.as_mut_ptr(), sessions.len(), &mut record) };
+    let status = unsafe { octet_close(sessions.as_mut_ptr(), sessions.len(), &raw mut record) };
     (record, status)
 }
 
@@ -264,7 +286,7 @@ impl Handle {
     pub(crate) fn search(&mut self) -> (Handle, i32) {
         let mut search = Handle::empty();
         // SAFETY: the record is borrowed for the call, and the other handle is this function's own.
-        let status = unsafe { octet_search(self, &mut search) };
+        let status = unsafe { octet_search(self, &raw mut search) };
         (search, status)
     }
 
@@ -272,7 +294,7 @@ impl Handle {
     pub(crate) fn cut(&mut self) -> (Handle, i32) {
         let mut cut = Handle::empty();
         // SAFETY: as in `search`.
-        let status = unsafe { octet_cut(self, &mut cut) };
+        let status = unsafe { octet_cut(self, &raw mut cut) };
         (cut, status)
     }
 
@@ -280,7 +302,7 @@ impl Handle {
     pub(crate) fn window(&mut self, record: &mut Handle) -> (Handle, i32) {
         let mut window = Handle::empty();
         // SAFETY: both handles are borrowed for the call, and the third is this function's own.
-        let status = unsafe { octet_window(self, record, &mut window) };
+        let status = unsafe { octet_window(self, record, &raw mut window) };
         (window, status)
     }
 
@@ -289,7 +311,7 @@ impl Handle {
         let marks: Vec<u8> = ready.iter().map(|&is_ready| is_ready.into()).collect();
         let mut thread = 0;
         // SAFETY: handle, marks and `thread` are borrowed for the call, the marks with their number.
-        let status = unsafe { octet_pick(self, marks.as_ptr(), marks.len(), &mut thread) };
+        let status = unsafe { octet_pick(self, marks.as_ptr(), marks.len(), &raw mut thread) };
         (status == READY).then_some(thread.into())
     }
 

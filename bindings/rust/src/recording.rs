@@ -1,9 +1,10 @@
 //! What is kept of a run.
 use crate::error::checked;
 use crate::raw::Handle;
-use crate::{Error, Place};
-use std::fs;
+use crate::{Error, Place, sha256};
+use std::ops::Range;
 use std::path::{Path, PathBuf};
+use std::{fmt, fs};
 
 /// A run: a script whose threads make the accesses of the run, the log that orders them, and what they left. `octet` reads both
 /// files, and `Builder::rerun` runs the program again by them.
@@ -27,7 +28,7 @@ use std::path::{Path, PathBuf};
 /// assert_eq!(add(heap.rerun(&loaded))?.value("x"), Some(7));
 /// # Ok::<(), Error>(())
 /// ```
-#[derive(Clone, Debug)]
+#[derive(Clone)]
 pub struct Recording {
     script: String,
     log: Vec<u8>,
@@ -45,9 +46,24 @@ impl PartialEq for Recording {
 
 impl Eq for Recording {}
 
+// Short, since it stands in errors that are printed.
+impl fmt::Debug for Recording {
+    fn fmt(&self, out: &mut fmt::Formatter<'_>) -> fmt::Result {
+        let (script, log) = (self.script.len(), self.log.len());
+        out.debug_struct("Recording")
+            .field("threads", &self.threads())
+            .field("script", &format_args!("{script} bytes"))
+            .field("log", &format_args!("{log} bytes"))
+            .finish_non_exhaustive()
+    }
+}
+
 /// The longest script, and the longest log, that `octet` reads.
 const MAX_SCRIPT: usize = 1 << 20;
 const MAX_LOG: usize = 1 << 26;
+
+/// Where a log of version 2 has the digest of its script.
+const DIGEST_IN_LOG: Range<usize> = 6..38;
 
 fn with_ending(stem: &Path, ending: &str) -> PathBuf {
     let mut name = stem.as_os_str().to_owned();
@@ -65,8 +81,8 @@ fn read(path: PathBuf) -> Result<Vec<u8>, Error> {
 
 // The text of `STEM.places`: for each thread the line `thread`, and then a line for each of its accesses.
 fn text_of(places: &[Vec<Place>]) -> String {
-    let lines = |thread: &Vec<Place>| thread.iter().map(|place| format!("{place}\n")).collect::<String>();
-    places.iter().map(|thread| format!("thread\n{}", lines(thread))).collect()
+    let with_place = |text: String, place: &Place| text + &place.to_string() + "\n";
+    places.iter().fold(String::new(), |text, thread| thread.iter().fold(text + "thread\n", with_place))
 }
 
 fn places_of(text: &str) -> Vec<Vec<Place>> {
@@ -91,6 +107,7 @@ impl Recording {
     /// assert!(run.script().contains("object x 5\nthread\nset r0 7\nwrite x r0\n"), "{}", run.script());
     /// # Ok::<(), octet::Error>(())
     /// ```
+    #[must_use]
     pub fn script(&self) -> &str {
         &self.script
     }
@@ -104,6 +121,7 @@ impl Recording {
     /// assert!(run.log().starts_with(b"OCTL"));
     /// # Ok::<(), octet::Error>(())
     /// ```
+    #[must_use]
     pub fn log(&self) -> &[u8] {
         &self.log
     }
@@ -117,6 +135,7 @@ impl Recording {
     /// assert_eq!((run.value("x"), run.value("y")), (Some(7), None));
     /// # Ok::<(), octet::Error>(())
     /// ```
+    #[must_use]
     pub fn value(&self, name: &str) -> Option<u64> {
         let at = self.objects().position(|(object, _)| object == name)?;
         self.values.as_ref()?.get(at).copied()
@@ -133,12 +152,12 @@ impl Recording {
     /// assert_eq!(run.place(0, 1), None);
     /// # Ok::<(), octet::Error>(())
     /// ```
+    #[must_use]
     pub fn place(&self, thread: usize, access: usize) -> Option<&Place> {
         self.places.get(thread)?.get(access)
     }
 
-    /// Writes `STEM.octet`, `STEM.log`, and `STEM.places` with a line of source for each access. Fails with `TooLong` where
-    /// `octet` does not read such long files, and with `File`.
+    /// Writes `STEM.octet`, `STEM.log`, and `STEM.places` with a line of source for each access, over what is there.
     ///
     /// ```
     /// # let stem = std::env::temp_dir().join(format!("octet-save-{}", std::process::id()));
@@ -153,6 +172,9 @@ impl Recording {
     /// # }
     /// # Ok::<(), octet::Error>(())
     /// ```
+    ///
+    /// # Errors
+    /// `TooLong` where `octet` does not read such long files, and `File`.
     pub fn save(&self, stem: impl AsRef<Path>) -> Result<(), Error> {
         if self.script.len() > MAX_SCRIPT || self.log.len() > MAX_LOG {
             return Err(Error::TooLong);
@@ -164,7 +186,7 @@ impl Recording {
     }
 
     /// Reads `STEM.octet` and `STEM.log`, and `STEM.places` if it is there. Whether they are a recording is judged when they
-    /// are run again. Fails with `File`, and with `NoRecording` where the script is no text.
+    /// are run again.
     ///
     /// ```
     /// # let stem = std::env::temp_dir().join(format!("octet-load-{}", std::process::id()));
@@ -175,6 +197,9 @@ impl Recording {
     /// assert_eq!(&octet::Recording::load(&stem)?, run.recording());
     /// # Ok::<(), octet::Error>(())
     /// ```
+    ///
+    /// # Errors
+    /// `File`, and `NoRecording` where the script is no text.
     pub fn load(stem: impl AsRef<Path>) -> Result<Recording, Error> {
         let stem = stem.as_ref();
         let script = String::from_utf8(read(with_ending(stem, ".octet"))?).map_err(|_| Error::NoRecording)?;
@@ -192,6 +217,21 @@ impl Recording {
 
     pub(crate) fn threads(&self) -> usize {
         self.script.lines().filter(|line| *line == "thread").count()
+    }
+
+    /// The same run, where object `oN` has the name N of these. The log then names the script that has them.
+    pub(crate) fn with_names(self, names: &[&str]) -> Recording {
+        let named = |word: &str| -> Option<&str> { names.get(word.strip_prefix('o')?.parse::<usize>().ok()?).copied() };
+        let renamed = |line: &str| -> String {
+            let words: Vec<&str> = line.split(' ').map(|word| named(word).unwrap_or(word)).collect();
+            words.join(" ") + "\n"
+        };
+        let script: String = self.script.lines().map(renamed).collect();
+        let mut log = self.log;
+        if let Some(digest) = log.get_mut(DIGEST_IN_LOG) {
+            digest.copy_from_slice(&sha256::digest(script.as_bytes()));
+        }
+        Recording { script, log, ..self }
     }
 
     pub(crate) fn of(mut record: Handle, places: Vec<Vec<Place>>) -> Result<Recording, Error> {

@@ -16,7 +16,7 @@ use std::path::Path;
 ///
 /// let heap = Heap::builder().object("x", 5);
 /// let first = heap.clone().run(|threads| threads.spawn(|session| session.fetch_add(session.object("x")?, 1)))?;
-/// let recording: &Recording = &first;
+/// let recording: &Recording = first.recording();
 /// assert_eq!(again(heap.clone(), recording)?.values(), [5]);
 /// assert_eq!(again(heap, &first)?.values(), [5]);
 /// # Ok::<(), Error>(())
@@ -51,7 +51,7 @@ impl<T> Rerun for &Run<T> {
     type Builder = Builder;
 
     fn rerun(self, heap: Builder) -> Builder {
-        heap.repeating(self)
+        heap.repeating(self.recording())
     }
 }
 

@@ -2,19 +2,25 @@
 mod access;
 mod lock;
 mod meeting;
+mod noted;
+mod spins;
 
+use crate::checks::Found;
 use crate::error::checked;
+use crate::given_up::{Begun, GivenUp};
+use crate::heap::Rank;
 use crate::raw::{self, Handle};
 use crate::shared::{Order, Shared};
-use crate::{Error, Place};
+use crate::{Error, Place, quiet};
+use noted::Places;
+pub(crate) use noted::{Keeps, Noted};
+use spins::Recent;
 use std::cell::Cell;
-use std::hint;
 use std::marker::PhantomData;
-use std::mem;
 use std::panic::Location;
 use std::sync::Arc;
-use std::thread;
 use std::time::Instant;
+use std::{fmt, hint, mem, thread};
 
 type Caller = &'static Location<'static>;
 
@@ -32,7 +38,7 @@ const SPINS: u32 = 100;
 /// })?;
 /// # Ok::<(), octet::Error>(())
 /// ```
-#[derive(Clone, Copy, Debug, PartialEq, Eq)]
+#[derive(Clone, Copy, Debug, PartialEq, Eq, Hash)]
 pub struct Object {
     pub(crate) heap: u64,
     pub(crate) place: u16,
@@ -55,6 +61,9 @@ pub struct Object {
 /// Its accesses have the names and the answers of `std::sync::atomic`, and all are sequentially consistent. An access of a
 /// recorded run is made at once, or as soon as the threads that own the object hand it over. In a second run it waits until all
 /// that was recorded before it is made.
+///
+/// An access that has waited for too long fails, and the thread makes no other one. It is made after all, as soon as it can be, so
+/// that no other one waits for it.
 pub struct Session {
     handle: Handle,
     number: usize,
@@ -64,15 +73,22 @@ pub struct Session {
     pub(crate) shared: Arc<Shared>,
     // The locks that it holds, the last one taken last.
     held: Vec<usize>,
-    // For each access where it was asked for, unless the run may be of any length.
-    places: Option<Vec<Caller>>,
+    places: Places,
     // Where a call stands that makes several accesses.
     caller: Option<Caller>,
-    // Whether its last error follows from another thread's.
-    follows: bool,
+    // Its last accesses, of a run by a schedule.
+    recent: Recent,
+    // Of which kinds its errors are: the lowest one.
+    rank: Option<Rank>,
     // Whether its recording has ended before the thread did.
     is_cut: bool,
     not_sync: PhantomData<Cell<()>>,
+}
+
+impl fmt::Debug for Session {
+    fn fmt(&self, out: &mut fmt::Formatter<'_>) -> fmt::Result {
+        out.debug_struct("Session").field("number", &self.number).finish_non_exhaustive()
+    }
 }
 
 impl Drop for Session {
@@ -85,7 +101,7 @@ impl Drop for Session {
 
 /// What `Builder::build` gives, and `Heap::finish` takes.
 impl Session {
-    pub(crate) fn new(handle: Handle, number: usize, shared: &Arc<Shared>, keeps_places: bool) -> Session {
+    pub(crate) fn new(handle: Handle, number: usize, shared: &Arc<Shared>, keeps: &Keeps) -> Session {
         Session {
             handle,
             number,
@@ -93,25 +109,30 @@ impl Session {
             at_once: if matches!(shared.order, Order::Turns(_)) { 0 } else { shared.heap },
             shared: Arc::clone(shared),
             held: Vec::new(),
-            places: keeps_places.then(Vec::new),
+            places: Places::new(keeps, number),
             caller: None,
-            follows: false,
+            recent: Recent::default(),
+            rank: None,
             is_cut: false,
             not_sync: PhantomData,
         }
     }
 
-    pub(crate) fn into_parts(mut self) -> (Handle, Vec<Place>) {
-        let places = mem::take(&mut self.places).unwrap_or_default().into_iter().map(Place::from).collect();
-        (mem::replace(&mut self.handle, Handle::empty()), places)
+    pub(crate) fn into_parts(mut self) -> (Handle, Noted) {
+        let places = mem::replace(&mut self.places, Places::Nothing);
+        (mem::replace(&mut self.handle, Handle::empty()), places.noted())
     }
 
     pub(crate) fn is_of(&self, heap: u64) -> bool {
         self.heap == heap
     }
 
-    pub(crate) fn follows(&self) -> bool {
-        self.follows
+    pub(crate) fn rank(&self) -> Rank {
+        self.rank.unwrap_or(Rank::Own)
+    }
+
+    fn note_rank(&mut self, rank: Rank) {
+        self.rank = Some(self.rank.map_or(rank, |before| before.min(rank)));
     }
 
     pub(crate) fn is_cut(&self) -> bool {
@@ -128,6 +149,7 @@ impl Session {
     /// assert_eq!(run.values(), [0, 1]);
     /// # Ok::<(), octet::Error>(())
     /// ```
+    #[must_use]
     pub fn number(&self) -> usize {
         self.number
     }
@@ -162,16 +184,16 @@ impl Session {
     /// ```
     ///
     /// # Errors
-    /// `Running` where it is started; `Resting` where it has ended. By a schedule those of waiting: `Deadlock` and `Patience`.
+    /// `Running` where it is started; `Resting` where it has ended. By a schedule those of waiting: `Deadlock` and `NotBack`.
     pub fn start(&mut self) -> Result<(), Error> {
         if let Order::Turns(turnstile) = &self.shared.order {
-            let passed = turnstile.pass(self.number);
-            passed.map_err(|stuck| self.shared.stuck(self.number, stuck))?;
+            turnstile.pass(self.number, None).map_err(|stuck| self.shared.stuck(stuck))?;
         }
         checked(self.handle.start(), self.number)
     }
 
-    /// Ends the thread: no other one waits for it any more. In a second run it must have made all that was recorded of it.
+    /// Ends the thread: no other one waits for it any more. In a second run it must have made all that was recorded of it. By a
+    /// schedule it waits until it is picked, since its end may come long after its last access.
     ///
     /// ```
     /// let (heap, mut sessions) = octet::Heap::builder().object("x", 0).build()?;
@@ -184,11 +206,13 @@ impl Session {
     /// ```
     ///
     /// # Errors
-    /// `Resting` where it does not run. In a second run `Diverged`, `Halted` and `Patience`. It is stopped all the same.
+    /// `Resting` where it does not run. In a second run `Diverged`, `Halted` and `Patience`; by a schedule `Deadlock` and `NotBack`.
+    /// It is stopped all the same.
     pub fn stop(&mut self) -> Result<(), Error> {
+        let turned = self.take_last_turn();
         let mut out = 0;
         let status = self.handle.end(&mut out);
-        let status = self.until_made(status, &mut out, |handle, out| handle.end(out));
+        let status = self.until_made(status, &mut out, Handle::end);
         if !matches!(status, Ok(raw::READY)) {
             // It has left its recording, or is stopped already.
             self.handle.stop();
@@ -196,10 +220,31 @@ impl Session {
         if let Order::Turns(turnstile) = &self.shared.order {
             turnstile.end(self.number);
         }
-        self.answered(status?, out, None)
+        self.answered(status?, out, None)?;
+        turned
     }
 
-    /// Does the work between `start` and `stop`, and stops also where it fails or panics. Fails as these three do.
+    fn take_last_turn(&mut self) -> Result<(), Error> {
+        if self.at_once == self.heap { Ok(()) } else { self.take_turn(None) }
+    }
+
+    /// What was given up is the session's again.
+    pub(crate) fn take_back(&mut self, GivenUp { handle, begun: Begun { caller, object, access }, told, .. }: GivenUp) {
+        self.handle = handle;
+        if let Some(told) = told {
+            self.places.note(caller, object, access, told);
+        }
+    }
+
+    // Leaves an access that has waited for too long to those that wait for it.
+    fn give_up(&mut self, begun: Begun) {
+        if matches!(self.shared.order, Order::Free { .. }) {
+            let handle = mem::replace(&mut self.handle, Handle::empty());
+            self.shared.given_up.add(self.number, handle, begun);
+        }
+    }
+
+    /// Does the work between `start` and `stop`, and stops also where it fails or panics.
     ///
     /// ```
     /// use octet::{Error, Heap};
@@ -213,10 +258,16 @@ impl Session {
     /// assert_eq!(heap.finish(sessions)?.value("x"), Some(2));
     /// # Ok::<(), Error>(())
     /// ```
+    ///
+    /// # Errors
+    /// Those of the three.
     pub fn running<T, E: From<Error>>(&mut self, work: impl FnOnce(&mut Session) -> Result<T, E>) -> Result<T, E> {
         struct Stop<'a>(&'a mut Session);
         impl Drop for Stop<'_> {
             fn drop(&mut self) {
+                if let (true, Order::Turns(turnstile)) = (thread::panicking(), &self.0.shared.order) {
+                    turnstile.note_panic(self.0.number, quiet::last_panic());
+                }
                 // Where it was stopped, or failed in another way, this one fails too.
                 let _ = self.0.stop();
             }
@@ -243,13 +294,15 @@ impl Session {
         while status == raw::PENDING {
             if round < SPINS {
                 hint::spin_loop();
+                round += 1;
             } else {
+                // On a busy machine this may take long.
                 thread::yield_now();
-            }
-            round = round.wrapping_add(1);
-            if round % 1024 == 0 && since.get_or_insert_with(Instant::now).elapsed() >= self.shared.patience {
-                self.follows = true;
-                return Err(Error::Patience { thread: self.number });
+                self.shared.given_up.go_on();
+                if since.get_or_insert_with(Instant::now).elapsed() >= self.shared.patience {
+                    self.note_rank(Rank::Follows);
+                    return Err(Error::Patience { thread: self.number });
+                }
             }
             status = again(&mut self.handle, out);
         }
@@ -259,10 +312,15 @@ impl Session {
     #[cold]
     fn answered(&mut self, status: i32, out: u64, caller: Option<Caller>) -> Result<(), Error> {
         if status == raw::DIVERGED {
+            if let Some(Found { thread, accesses, place, .. }) = self.places.first_left() {
+                self.note_rank(Rank::Left(accesses));
+                return Err(Error::Diverged { thread, accesses, place: Some(place) });
+            }
+            self.note_rank(Rank::Left(out));
             return Err(Error::Diverged { thread: self.number, accesses: out, place: caller.map(Place::from) });
         }
         self.is_cut = self.is_cut || status == raw::OVER;
-        checked(status, self.number).inspect_err(|error| self.follows = error.follows())
+        checked(status, self.number).inspect_err(|error| self.note_rank(error.rank()))
     }
 
     // Does the work while no other thread waits for this one.
@@ -282,21 +340,20 @@ impl Session {
 
     // Waits, stopped, for what another thread brings.
     fn wait_stopped(&mut self, wait: impl FnOnce(&Shared, usize) -> Result<(), Error>) -> Result<(), Error> {
-        self.stopped(wait)?.inspect_err(|error| self.follows = error.follows())
+        self.stopped(wait)?.inspect_err(|error| self.note_rank(error.rank()))
     }
 
     // Waits until it is this thread's turn.
     #[cold]
-    fn take_turn(&mut self) -> Result<(), Error> {
+    fn take_turn(&mut self, at: Option<Caller>) -> Result<(), Error> {
         self.wait_stopped(|shared, number| match &shared.order {
-            Order::Turns(turnstile) => turnstile.pass(number).map_err(|stuck| shared.stuck(number, stuck)),
-            _ => Ok(()),
+            Order::Turns(turnstile) => turnstile.pass(number, at).map_err(|stuck| shared.stuck(stuck)),
+            Order::Free { .. } | Order::Again => Ok(()),
         })
     }
 
     /// Does the work with the thread marked as blocked, so that no other one waits for it: for files, sleep, and whatever may
-    /// wait for another thread. What it reads is not recorded. Fails with `Resting` where the thread does not run, and by a
-    /// schedule with `Patience`.
+    /// wait for another thread. What it reads is not recorded.
     ///
     /// ```
     /// use octet::{Error, Heap};
@@ -310,20 +367,24 @@ impl Session {
     /// })?;
     /// # Ok::<(), Error>(())
     /// ```
+    ///
+    /// # Errors
+    /// `Resting` where the thread does not run, and by a schedule `Deadlock` and `NotBack`.
+    #[track_caller]
     pub fn blocked<T>(&mut self, work: impl FnOnce() -> T) -> Result<T, Error> {
+        let at = Some(self.caller.unwrap_or(Location::caller()));
         let done = self.stopped(|shared, number| match &shared.order {
             Order::Turns(turnstile) => {
-                turnstile.block(number);
+                turnstile.block(number, at);
                 let done = work();
-                turnstile.pass(number).map_err(|stuck| shared.stuck(number, stuck)).map(|()| done)
+                turnstile.pass(number, at).map_err(|stuck| shared.stuck(stuck)).map(|()| done)
             }
             Order::Free { .. } | Order::Again => Ok(work()),
         })?;
-        done.inspect_err(|error| self.follows = error.follows())
+        done.inspect_err(|error| self.note_rank(error.rank()))
     }
 
-    /// Answers the threads that wait for this one. Call it in long stretches without accesses. Fails with `Resting` where the
-    /// thread does not run.
+    /// Answers the threads that wait for this one. Call it in long stretches without accesses.
     ///
     /// ```
     /// # octet::Heap::builder().object("x", 12).run(|threads| threads.spawn(|session| {
@@ -341,13 +402,16 @@ impl Session {
     /// # }))?;
     /// # Ok::<(), octet::Error>(())
     /// ```
+    ///
+    /// # Errors
+    /// `Resting` where the thread does not run.
     #[inline]
     pub fn safe_point(&mut self) -> Result<(), Error> {
         checked(self.handle.safe_point(), self.number)
     }
 
     /// Begins a region with the next access, and the one before ends there. `octet regions` tells whether the regions could have
-    /// run one after another. Fails with `Resting` where the thread does not run.
+    /// run one after another.
     ///
     /// ```
     /// # octet::Heap::builder().object("x", 100).run(|threads| threads.spawn(|session| {
@@ -360,6 +424,9 @@ impl Session {
     /// # }))?;
     /// # Ok::<(), octet::Error>(())
     /// ```
+    ///
+    /// # Errors
+    /// `Resting` where the thread does not run.
     #[inline]
     pub fn region(&mut self) -> Result<(), Error> {
         checked(self.handle.region(), self.number)

@@ -1,8 +1,9 @@
 //! What the sessions of a heap share, beside the heap itself.
 use crate::error::Wait;
 use crate::gate::{Bell, Gate};
-use crate::turnstile::{Awaited, Stuck, Turnstile};
-use crate::{Error, Object};
+use crate::given_up::AllGivenUp;
+use crate::turnstile::{Awaited, Stuck, Turnstile, Waiter};
+use crate::{Error, Object, Place};
 use std::collections::HashMap;
 use std::time::Duration;
 
@@ -11,14 +12,15 @@ pub(crate) enum Order {
     /// As they run.
     Free { gates: Vec<Gate>, bells: Vec<Bell> },
     /// One at a time.
-    Turns(Turnstile),
+    Turns(Box<Turnstile>),
     /// As they were recorded: no thread waits for a lock, since its access waits.
     Again,
 }
 
-/// A lock: its name and its object.
+/// A lock, or a condition: its name and its object. Of a lock that is the number of the thread that holds it, counted from 1, or 0
+/// where it is free; of a condition how many threads wait for it.
 #[derive(Clone, Debug)]
-pub(crate) struct Lock {
+pub(crate) struct Named {
     pub(crate) name: String,
     pub(crate) object: u16,
 }
@@ -26,12 +28,13 @@ pub(crate) struct Lock {
 pub(crate) struct Shared {
     pub(crate) heap: u64,
     pub(crate) objects: HashMap<String, u16>,
-    pub(crate) locks: Vec<Lock>,
-    pub(crate) conditions: Vec<String>,
+    pub(crate) locks: Vec<Named>,
+    pub(crate) conditions: Vec<Named>,
     pub(crate) barriers: Vec<(String, u64)>,
     pub(crate) channels: Vec<(String, u64)>,
     pub(crate) order: Order,
     pub(crate) patience: Duration,
+    pub(crate) given_up: AllGivenUp,
 }
 
 fn found<T>(found: Option<T>, name: &str) -> Result<T, Error> {
@@ -49,7 +52,7 @@ impl Shared {
     }
 
     pub(crate) fn condition(&self, name: &str) -> Result<usize, Error> {
-        found(self.conditions.iter().position(|condition| condition == name), name)
+        found(self.conditions.iter().position(|condition| condition.name == name), name)
     }
 
     /// For how many threads the barrier is.
@@ -63,14 +66,26 @@ impl Shared {
     }
 
     /// Why the thread has not come through the turnstile.
-    pub(crate) fn stuck(&self, thread: usize, stuck: Stuck) -> Error {
-        let Stuck::Deadlock(waits) = stuck else {
-            return Error::Patience { thread };
+    pub(crate) fn stuck(&self, stuck: Stuck) -> Error {
+        match stuck {
+            Stuck::Absent { thread, at, why } => Error::NotBack { thread, place: at.map(Place::from), why },
+            Stuck::Deadlock(waiters) => {
+                Error::Deadlock { waits: waiters.into_iter().map(|waiter| self.wait_of(waiter)).collect() }
+            }
+        }
+    }
+
+    fn wait_of(&self, Waiter { thread, at, awaited }: Waiter) -> Wait {
+        let (named, holder) = match awaited {
+            Awaited::Lock { lock, holder } => (&self.locks[lock], holder),
+            Awaited::Condition { condition } => (&self.conditions[condition], None),
         };
-        let named = |(thread, awaited): (usize, Awaited)| match awaited {
-            Awaited::Lock { lock, holder } => Wait { thread, name: self.locks[lock].name.clone(), holder },
-            Awaited::Condition { condition } => Wait { thread, name: self.conditions[condition].clone(), holder: None },
-        };
-        Error::Deadlock { waits: waits.into_iter().map(named).collect() }
+        Wait {
+            thread,
+            name: named.name.clone(),
+            holder: holder.map(|holder| holder.thread),
+            place: at.map(Place::from),
+            held_at: holder.and_then(|holder| holder.at).map(Place::from),
+        }
     }
 }

@@ -9,9 +9,16 @@ use std::hash::{BuildHasher, BuildHasherDefault, DefaultHasher};
 use std::iter;
 use std::time::{Duration, Instant};
 
-/// How many runs are made at most, and for how long.
+/// How many runs are made at most, and how much they may do in all: a pick of another thread than before, or the start of one,
+/// costs as much as so many other picks. So the same seed is shrunk to the same failure, whatever else the machine does, within a
+/// second or two.
 const MOST_RUNS: usize = 200;
-const MOST_TIME: Duration = Duration::from_secs(10);
+const MOST_COST: usize = 120_000;
+const COST_OF_SWITCH: usize = 20;
+/// A program that is slow by itself, as one that sleeps, is ended by the clock: one whose quickest run takes so long for its cost.
+/// Where only the machine is busy some run is quicker, and the clock ends nothing.
+const MOST_TIME: Duration = Duration::from_millis(2_500);
+const SLOW_COST: Duration = Duration::from_micros(50);
 /// How many of them are made at first without a preemption, and how many with one.
 const FIRST_RUNS: usize = 40;
 
@@ -59,20 +66,29 @@ struct Search<'a, E> {
     // How often each thread was picked in the run that is shrunk.
     lengths: Vec<usize>,
     draws: Picker,
-    // The hashes of the picks that were played.
+    // The hashes of the picks that were played, and what they cost.
     played: HashSet<u64>,
-    until: Instant,
+    cost: usize,
+    since: Instant,
+    // What the quickest run took for its cost.
+    quickest: Duration,
+    waits: bool,
 }
 
 impl<E: Error + 'static> Search<'_, E> {
     // A number that the seed draws, below this one: each pick of sixteen threads is a digit.
     fn below(&mut self, end: usize) -> usize {
-        let mut digit = || self.draws.pick(&[true; 16], None).unwrap_or(0);
+        let mut digit = || self.draws.pick(&[true; 16], None).map_or(0, |picked| picked.thread);
         (0..6).fold(0, |number, _| 16 * number + digit()) % end
     }
 
     fn is_over(&self) -> bool {
-        self.played.len() >= MOST_RUNS || Instant::now() >= self.until
+        let is_late = self.quickest >= SLOW_COST && self.since.elapsed() >= MOST_TIME;
+        self.waits || self.played.len() >= MOST_RUNS || self.cost >= MOST_COST || is_late
+    }
+
+    fn cost_of(&self, picks: usize, switches: usize) -> usize {
+        picks + COST_OF_SWITCH * (switches + self.lengths.len())
     }
 
     // The failure by these picks, if it is like the best one.
@@ -81,10 +97,15 @@ impl<E: Error + 'static> Search<'_, E> {
         if self.is_over() || !self.played.insert(hash) {
             return None;
         }
-        let failure = play(self.program, Schedule::given(self.best.seed(), picks)).err()?;
+        let began = Instant::now();
+        let played = play(self.program, &Schedule::given(self.best.seed(), picks, self.lengths.clone()));
+        let cost = self.cost_of(played.picks, played.switches);
+        self.cost += cost;
+        self.quickest = self.quickest.min(began.elapsed() / u32::try_from(cost).unwrap_or(u32::MAX).max(1));
+        let failure = played.failure?;
         if failure.is_impatient() {
             // More tries would wait as long.
-            self.until = Instant::now();
+            self.waits = true;
         }
         failure.is_like(&self.best).then_some(failure)
     }
@@ -196,14 +217,18 @@ pub(crate) fn with_fewer_preemptions<E: Error + 'static>(
     let picks = threads(failure.picks());
     let count = |thread| picks.iter().filter(|&&picked| picked == thread).count();
     let lengths = (0..=picks.iter().copied().max().unwrap_or(0)).map(count).collect();
-    let until = Instant::now() + MOST_TIME;
-    let mut search = Search { program, best: failure, lengths, draws, played: HashSet::new(), until };
-    if search.failure_by(picks).is_some() {
+    let switches = picks.windows(2).filter(|pair| pair[0] != pair[1]).count();
+    let (played, since) = (HashSet::new(), Instant::now());
+    let mut search =
+        Search { program, best: failure, lengths, draws, played, cost: 0, since, quickest: Duration::MAX, waits: false };
+    // A run that does very much is not made once more by the picks that it has: what is found of it fails all the same.
+    if search.cost_of(picks.len(), switches) > MOST_COST / 4 || search.failure_by(picks).is_some() {
         search.all();
     }
     if search.best.recording().is_none() {
         // A file that the program has written is of the last run, which is to be this one.
-        let _ = play(search.program, Schedule::given(search.best.seed(), threads(search.best.picks())));
+        let picks = threads(search.best.picks());
+        play(search.program, &Schedule::given(search.best.seed(), picks, search.lengths));
     }
     search.best
 }

@@ -1,8 +1,12 @@
 //! One thread moves at a time, and a schedule picks which.
 use crate::schedule::{Pick, Picker};
-use crate::{Error, Recording, Schedule};
+use crate::{Absence, Error, Recording, Schedule};
+use std::panic::Location;
 use std::sync::{Condvar, Mutex, MutexGuard, PoisonError};
 use std::time::{Duration, Instant};
+
+/// Where a thread stands in the program, if it has said so.
+pub(crate) type Caller = Option<&'static Location<'static>>;
 
 #[derive(Clone, Copy, Debug, PartialEq, Eq)]
 enum Place {
@@ -26,26 +30,48 @@ enum Place {
     Over,
 }
 
-/// What a thread waits for in a deadlock: a lock with the thread that holds it, or a condition.
+/// Who holds a lock, and where it was taken.
+#[derive(Clone, Copy, Debug)]
+pub(crate) struct Holder {
+    pub(crate) thread: usize,
+    pub(crate) at: Caller,
+}
+
+/// What a thread waits for in a deadlock: a lock with who holds it, or a condition.
 #[derive(Clone, Copy, Debug)]
 pub(crate) enum Awaited {
-    Lock { lock: usize, holder: Option<usize> },
+    Lock { lock: usize, holder: Option<Holder> },
     Condition { condition: usize },
+}
+
+/// A thread that waits in a deadlock, and where.
+#[derive(Clone, Copy, Debug)]
+pub(crate) struct Waiter {
+    pub(crate) thread: usize,
+    pub(crate) at: Caller,
+    pub(crate) awaited: Awaited,
 }
 
 /// Why a thread has not passed.
 #[derive(Clone, Debug)]
 pub(crate) enum Stuck {
-    Deadlock(Vec<(usize, Awaited)>),
-    Patience,
+    Deadlock(Vec<Waiter>),
+    /// This thread is waited for, and does not come.
+    Absent {
+        thread: usize,
+        at: Caller,
+        why: Absence,
+    },
 }
 
 struct State {
     schedule: Schedule,
     picker: Picker,
     places: Vec<Place>,
+    // Where each thread stood last.
+    at: Vec<Caller>,
     // Who holds each lock.
-    holders: Vec<Option<usize>>,
+    holders: Vec<Option<Holder>>,
     // Who sleeps, in the order in which they came.
     sleepers: Vec<usize>,
     last: Option<usize>,
@@ -69,12 +95,22 @@ impl State {
         }
     }
 
-    fn awaited(&self, thread: usize) -> Option<(usize, Awaited)> {
-        match self.places[thread] {
-            Place::WaitsFor { lock } => Some((thread, Awaited::Lock { lock, holder: self.holders[lock] })),
-            Place::Sleeps { condition, .. } => Some((thread, Awaited::Condition { condition })),
-            _ => None,
-        }
+    fn waiter(&self, thread: usize) -> Option<Waiter> {
+        let awaited = match self.places[thread] {
+            Place::WaitsFor { lock } => Awaited::Lock { lock, holder: self.holders[lock] },
+            Place::Sleeps { condition, .. } => Awaited::Condition { condition },
+            _ => return None,
+        };
+        Some(Waiter { thread, at: self.at[thread], awaited })
+    }
+
+    // Whom all others wait for.
+    fn absent(&self) -> Option<Stuck> {
+        let whys = [(Place::Moves, Absence::Picked), (Place::Away, Absence::NotStarted), (Place::Blocked, Absence::Blocked)];
+        whys.into_iter().find_map(|(place, why)| {
+            let thread = self.places.iter().position(|&it| it == place)?;
+            Some(Stuck::Absent { thread, at: self.at[thread], why })
+        })
     }
 
     // Picks a thread, once none moves.
@@ -85,16 +121,17 @@ impl State {
         let threads = 0..self.places.len();
         let ready: Vec<bool> = threads.clone().map(|thread| self.may_move(thread)).collect();
         let Some(picked) = self.picker.pick(&ready, self.last) else {
-            let waits: Vec<_> = threads.filter_map(|thread| self.awaited(thread)).collect();
+            let waits: Vec<_> = threads.filter_map(|thread| self.waiter(thread)).collect();
             if !waits.is_empty() && !self.places.contains(&Place::Blocked) {
                 self.stuck = Some(Stuck::Deadlock(waits));
             }
             return None;
         };
-        let preempts = self.last.is_some_and(|last| last != picked && ready[last]);
+        let preempts = self.last.is_some_and(|last| last != picked.thread && ready[last]) && !picked.is_forced;
+        let picked = picked.thread;
         self.schedule.note(Pick { thread: picked, preempts });
         if let Place::WaitsFor { lock } = self.places[picked] {
-            self.holders[lock] = Some(picked);
+            self.holders[lock] = Some(Holder { thread: picked, at: self.at[picked] });
         }
         self.places[picked] = Place::Moves;
         self.last = Some(picked);
@@ -102,18 +139,15 @@ impl State {
         Some(picked)
     }
 
-    fn wake(&mut self, condition: usize, all: bool) {
-        while let Some(at) = self
-            .sleepers
-            .iter()
-            .position(|&it| matches!(self.places[it], Place::Sleeps { condition: its, .. } if its == condition))
-        {
+    fn wake(&mut self, condition: usize, count: u64) {
+        for _ in 0..count {
+            let sleeps = |&it: &usize| matches!(self.places[it], Place::Sleeps { condition: its, .. } if its == condition);
+            let Some(at) = self.sleepers.iter().position(sleeps) else {
+                return;
+            };
             let thread = self.sleepers.remove(at);
             if let Place::Sleeps { lock, .. } = self.places[thread] {
                 self.places[thread] = Place::WaitsFor { lock };
-            }
-            if !all {
-                break;
             }
         }
     }
@@ -126,6 +160,7 @@ impl Turnstile {
                 schedule: schedule.clone(),
                 picker: schedule.picker()?,
                 places: vec![Place::Away; threads],
+                at: vec![None; threads],
                 holders: vec![None; locks],
                 sleepers: Vec::new(),
                 last: None,
@@ -139,6 +174,13 @@ impl Turnstile {
 
     fn state(&self) -> MutexGuard<'_, State> {
         self.state.lock().unwrap_or_else(PoisonError::into_inner)
+    }
+
+    // The state, once it is noted where the thread stands.
+    fn state_at(&self, thread: usize, at: Caller) -> MutexGuard<'_, State> {
+        let mut state = self.state();
+        state.at[thread] = at.or(state.at[thread]);
+        state
     }
 
     // Puts the thread there, and lets another one move.
@@ -163,7 +205,7 @@ impl Turnstile {
             if turns != state.turns {
                 (turns, since) = (state.turns, Instant::now());
             } else if since.elapsed() >= self.patience && state.stuck.is_none() {
-                state.stuck = Some(Stuck::Patience);
+                state.stuck = state.absent();
                 self.turned.iter().for_each(Condvar::notify_one);
             }
         }
@@ -171,38 +213,44 @@ impl Turnstile {
     }
 
     /// Waits until the thread is picked.
-    pub(crate) fn pass(&self, thread: usize) -> Result<(), Stuck> {
-        self.wait_until_picked(self.go(self.state(), thread, Place::Waits), thread)
+    pub(crate) fn pass(&self, thread: usize, at: Caller) -> Result<(), Stuck> {
+        self.wait_until_picked(self.go(self.state_at(thread, at), thread, Place::Waits), thread)
     }
 
     /// Waits until the thread is picked, and then holds the lock.
-    pub(crate) fn take(&self, thread: usize, lock: usize) -> Result<(), Stuck> {
-        self.wait_until_picked(self.go(self.state(), thread, Place::WaitsFor { lock }), thread)
+    pub(crate) fn take(&self, thread: usize, lock: usize, at: Caller) -> Result<(), Stuck> {
+        self.wait_until_picked(self.go(self.state_at(thread, at), thread, Place::WaitsFor { lock }), thread)
     }
 
     /// Frees the lock, waits for the condition, and then holds the lock again.
-    pub(crate) fn sleep(&self, thread: usize, condition: usize, lock: usize) -> Result<(), Stuck> {
-        let mut state = self.state();
+    pub(crate) fn sleep(&self, thread: usize, condition: usize, lock: usize, at: Caller) -> Result<(), Stuck> {
+        let mut state = self.state_at(thread, at);
         state.holders[lock] = None;
         state.sleepers.push(thread);
         self.wait_until_picked(self.go(state, thread, Place::Sleeps { condition, lock }), thread)
     }
 
-    pub(crate) fn wake(&self, condition: usize, all: bool) {
-        self.state().wake(condition, all);
+    /// Wakes so many of those that sleep, the first ones.
+    pub(crate) fn wake(&self, condition: usize, count: u64) {
+        self.state().wake(condition, count);
     }
 
     pub(crate) fn free(&self, lock: usize) {
         self.state().holders[lock] = None;
     }
 
-    pub(crate) fn block(&self, thread: usize) {
-        drop(self.go(self.state(), thread, Place::Blocked));
+    pub(crate) fn block(&self, thread: usize, at: Caller) {
+        drop(self.go(self.state_at(thread, at), thread, Place::Blocked));
     }
 
     /// For whoever made the schedule.
     pub(crate) fn keep(&self, recording: &Recording) {
         self.state().schedule.keep(recording);
+    }
+
+    /// A thread panics.
+    pub(crate) fn note_panic(&self, thread: usize, at: Option<crate::Place>) {
+        self.state().schedule.note_panic(thread, at);
     }
 
     pub(crate) fn end(&self, thread: usize) {

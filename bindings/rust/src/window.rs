@@ -1,5 +1,6 @@
 //! The last accesses of a run of any length.
 use crate::error::checked;
+use crate::heap::within;
 use crate::marks_file::{Front, feed_all};
 use crate::{Error, LongBuilder, Recording, Threads};
 
@@ -11,14 +12,21 @@ use crate::{Error, LongBuilder, Recording, Threads};
 /// let window = octet::Heap::builder().object("x", 0).rerun(&file).window(accesses);
 /// # drop(window);
 /// ```
-#[derive(Clone, Copy, Debug, PartialEq, Eq)]
+#[derive(Clone, Copy, Debug, PartialEq, Eq, Hash)]
 pub struct Last(u16);
 
-/// So many last accesses of each thread, for `LongBuilder::window`.
+impl From<u16> for Last {
+    fn from(accesses: u16) -> Last {
+        Last(accesses)
+    }
+}
+
+/// So many last accesses of each thread, for `LongBuilder::window`, which takes the number alone too.
 ///
 /// ```
 /// assert_eq!(octet::last(1_000), octet::last(1_000));
 /// ```
+#[must_use]
 pub fn last(accesses: u16) -> Last {
     Last(accesses)
 }
@@ -26,8 +34,8 @@ pub fn last(accesses: u16) -> Last {
 /// The last accesses of a run of any length, which `run` makes a recording of: so many of each thread, or fewer where what came
 /// before what does not allow for them. The threads run twice: to their ends, and then up to these accesses.
 ///
-/// The recording begins with the values that the objects have there. It has the objects that are accessed, and `o2` is the third
-/// one of the heap. Threads cannot be run again by it, since they would have to begin in the middle.
+/// The recording begins with the values that the objects have there. It has the objects that are accessed, by their names, and
+/// where each access stands in the program. Threads cannot be run again by it, since they would have to begin in the middle.
 ///
 /// ```
 /// use octet::{Error, Heap, Threads, Window, last};
@@ -45,7 +53,7 @@ pub fn last(accesses: u16) -> Last {
 /// let window: Window = heap.rerun(&file).window(last(1_000));
 /// let recording = window.run(threads)?;
 /// recording.save(&stem)?; // for `octet trace`, `octet regions` and the other commands
-/// assert!((1_000..=2_000).contains(&recording.script().matches("\nbump o0 ").count()));
+/// assert!((1_000..=2_000).contains(&recording.script().matches("\nbump x ").count()));
 /// # std::fs::remove_file(&file).expect("the file is there");
 /// # Ok::<(), Error>(())
 /// ```
@@ -64,7 +72,7 @@ impl Window {
     /// Runs the threads twice, and makes a recording of the window.
     ///
     /// ```
-    /// use octet::{Error, Heap, Threads, last};
+    /// use octet::{Error, Heap, Threads};
     ///
     /// fn threads(threads: &mut Threads<'_, u64, Error>) {
     ///     threads.spawn(|session| (0..9).try_fold(0, |_, _| session.fetch_add(session.object("x")?, 1)));
@@ -73,7 +81,7 @@ impl Window {
     /// # let file = std::env::temp_dir().join(format!("octet-window-run-{}.octm", std::process::id()));
     /// let heap = Heap::builder().object("x", 0);
     /// heap.clone().record(&file).run(threads)?;
-    /// assert_eq!(heap.rerun(&file).window(last(3)).run(threads)?.script().matches("\nbump o0 ").count(), 3);
+    /// assert_eq!(heap.rerun(&file).window(3).run(threads)?.script().matches("\nbump x ").count(), 3);
     /// # std::fs::remove_file(&file).expect("the file is there");
     /// # Ok::<(), Error>(())
     /// ```
@@ -92,7 +100,7 @@ impl Window {
     /// As `run`, with threads that fail with errors of their own.
     ///
     /// ```
-    /// use octet::{Heap, Threads, last};
+    /// use octet::{Heap, Threads};
     /// use std::error::Error;
     ///
     /// type Fault = Box<dyn Error + Send + Sync>;
@@ -107,7 +115,7 @@ impl Window {
     /// # let file = std::env::temp_dir().join(format!("octet-window-fault-{}.octm", std::process::id()));
     /// let heap = Heap::builder().object("x", 0);
     /// heap.clone().record(&file).try_run(threads)?;
-    /// assert!(heap.rerun(&file).window(last(1)).try_run(threads)?.script().contains("bump o0 "));
+    /// assert!(heap.rerun(&file).window(1).try_run(threads)?.script().contains("bump x "));
     /// # std::fs::remove_file(&file).expect("the file is there");
     /// # Ok::<(), Fault>(())
     /// ```
@@ -123,17 +131,17 @@ impl Window {
         E: From<Error> + Send,
     {
         let Window { long, last: Last(last) } = self;
-        if last == 0 {
-            return Err(Error::BadSize.into());
-        }
+        within("accesses of each thread", last.into(), 1, u16::MAX.into())?;
         let mut whole = long.rerun_noting(long.path(), last, &spawn)?;
-        let (mut search, status) = whole.search();
+        let (mut search, status) = whole.record.search();
         checked(status, 0)?;
         feed_all(&mut search, long.path())?;
         let front = Front::cut(&mut search, long.path())?;
         let mut there = long.rerun_noting(front.path(), 0, &spawn)?;
-        let (window, status) = search.window(&mut there);
+        let (window, status) = search.window(&mut there.record);
         checked(status, 0)?;
-        Ok(Recording::of(window, Vec::new())?)
+        let both = whole.noted.into_iter().zip(there.noted);
+        let places = both.map(|(whole, there)| whole.after(there.made)).collect();
+        Ok(Recording::of(window, places)?.with_names(&long.names()))
     }
 }

@@ -1,4 +1,7 @@
 //! Runs of any length, recorded by their marks alone and run again.
+// The numbers are small.
+#![allow(clippy::cast_possible_truncation)]
+
 use octet::{Builder, Error, Heap, LongRun, Session, Threads, explore, last};
 use std::fs;
 use std::path::{Path, PathBuf};
@@ -24,6 +27,7 @@ impl AsRef<Path> for Kept {
 impl Drop for Kept {
     fn drop(&mut self) {
         let _ = fs::remove_file(&self.0);
+        let _ = fs::remove_file(self.0.with_extension("octm.checks"));
     }
 }
 
@@ -106,6 +110,42 @@ fn a_thread_that_is_at_work_on_its_own_answers_the_others() {
     heap().record(file.as_ref()).run(|threads| work_on(&taken, &given, threads)).unwrap();
 }
 
+// A window knows the names of its objects, and where each access stands.
+#[test]
+fn a_window_has_names_and_lines() {
+    let file = Kept::new("lines");
+    let threads = |threads: &mut Threads<'_, (), Error>| {
+        for _ in 0..2 {
+            threads.spawn(|session| {
+                let (first, second) = (session.object("first")?, session.object("second")?);
+                for _ in 0..200 {
+                    session.fetch_add(first, 1)?;
+                    session.fetch_add(second, 1)?;
+                }
+                Ok(())
+            });
+        }
+    };
+    let line = line!() - 7;
+    let heap = Heap::builder().object("first", 0).object("unused", 0).object("second", 0);
+    heap.clone().record(file.as_ref()).run(threads).unwrap();
+    let window = heap.rerun(file.as_ref()).window(50).run(threads).unwrap();
+    let (script, stem) = (window.script(), file.as_ref().with_extension("last"));
+    window.save(&stem).unwrap();
+    let loaded = octet::Recording::load(&stem).unwrap();
+    let mut lines = 0;
+    for (thread, text) in script.split("thread\n").skip(1).enumerate() {
+        let names = text.lines().filter_map(|line| line.strip_prefix("bump ")?.split(' ').next());
+        for (access, name) in names.enumerate() {
+            let place = loaded.place(thread, access).expect("each access has a line");
+            assert_eq!((place.file(), place.line()), (file!(), line + u32::from(name == "second")), "{script}");
+            lines += 1;
+        }
+        assert_eq!(loaded.place(thread, text.matches("bump ").count()), None);
+    }
+    assert!((50..=100).contains(&lines), "{lines}");
+}
+
 // How many accesses each thread of a script makes.
 fn accesses_of(script: &str) -> Vec<usize> {
     let updates = |thread: &str| thread.lines().filter(|line| line.starts_with("update ") || line.starts_with("bump ")).count();
@@ -129,7 +169,7 @@ fn the_last_accesses_are_a_recording() {
         assert!(heap().rerun(cut.as_ref()).window(last(10)).run(walks).unwrap().script().starts_with("fuel "));
     }
     let none = heap().rerun(file.as_ref()).window(last(0)).run(|threads| walks(1)(threads));
-    assert!(matches!(none, Err(Error::BadSize)), "{none:?}");
+    assert!(matches!(none, Err(Error::BadSize { .. })), "{none:?}");
     let many = heap().rerun(file.as_ref()).window(last(60_000)).run(|threads| walks(1_000)(threads));
     assert!(matches!(many, Err(Error::TooLong)), "{many:?}");
 }
@@ -144,7 +184,9 @@ fn a_file_that_is_cut_is_followed_as_far_as_it_goes() {
         fs::write(cut.as_ref(), &content[..content.len() * part / 10]).unwrap();
         let made = [const { AtomicU64::new(0) }; THREADS as usize];
         let second = heap().rerun(cut.as_ref()).run(|threads| {
-            made.iter().for_each(|made| threads.spawn(|session| walk_counted(session, 10, made)));
+            for made in &made {
+                threads.spawn(|session| walk_counted(session, 10, made));
+            }
         });
         let second = second.unwrap();
         assert_eq!(second.is_whole(), part == 10);
@@ -204,6 +246,41 @@ fn another_program_diverges() {
     let file = Kept::new("another");
     heap().record(file.as_ref()).run(walks(10)).unwrap();
     let other = heap().rerun(file.as_ref()).run(walks(11)).unwrap_err();
+    assert!(matches!(other, Error::Diverged { .. }), "{other}");
+}
+
+// One access of the second thread is another one. All others follow from what they were told.
+fn with_one_change(heap: octet::LongBuilder, every: u64, changed: Option<u64>) -> Result<LongRun<u64>, Error> {
+    heap.run(|threads| {
+        for thread in 0..THREADS {
+            threads.spawn(move |session| {
+                let (shared, own) = (session.object("shared")?, session.object(&format!("own{thread}"))?);
+                let mut told = thread;
+                for round in 0..ROUNDS {
+                    let object = if round % every == 0 { shared } else { own };
+                    let added = if thread == 1 && changed == Some(round) { 77 } else { told | 1 };
+                    told = told.wrapping_mul(31).wrapping_add(session.fetch_add(object, added)?);
+                }
+                Ok(told)
+            });
+        }
+    })
+}
+
+#[test]
+fn the_thread_that_has_left_first_is_told() {
+    let file = Kept::new("first");
+    for every in [1, 3, 50, 1_000] {
+        let first = with_one_change(heap().record(file.as_ref()), every, None).unwrap();
+        let same = with_one_change(heap().rerun(file.as_ref()), every, None).unwrap();
+        assert_eq!(same.values(), first.values());
+        let other = with_one_change(heap().rerun(file.as_ref()), every, Some(100)).unwrap_err();
+        let Error::Diverged { thread: 1, accesses, place: Some(place) } = &other else { panic!("every {every}: {other}") };
+        assert!((101..=165).contains(accesses) && place.file() == file!(), "every {every}: {other}");
+    }
+    // Without the checks it is told by marks alone.
+    fs::remove_file(file.as_ref().with_extension("octm.checks")).unwrap();
+    let other = with_one_change(heap().rerun(file.as_ref()), 1_000, Some(100)).unwrap_err();
     assert!(matches!(other, Error::Diverged { .. }), "{other}");
 }
 

@@ -157,17 +157,17 @@ fn sessions_are_started_and_stopped_by_hand() {
 #[test]
 fn limits_are_told() {
     let refused = |bank: Builder| run(bank, 50, 2).unwrap_err();
-    assert!(matches!(refused(bank().accesses(100_000)), Error::BadSize));
-    assert!(matches!(refused(bank().accesses(0)), Error::BadSize));
+    assert!(matches!(refused(bank().accesses(100_000)), Error::BadSize { .. }));
+    assert!(matches!(refused(bank().accesses(0)), Error::BadSize { .. }));
     assert!(matches!(refused(bank().object("balance", 1)), Error::NamedTwice { .. }));
     for name in ["two words", "", "1st", "line\nthread", &"n".repeat(33)] {
         assert!(matches!(refused(bank().object(name, 1)), Error::BadName { .. }), "{name}");
     }
     let many = (0..1023).fold(bank(), |bank, number| bank.object(&format!("x{number}"), 0));
-    assert!(matches!(refused(many), Error::BadSize));
+    assert!(matches!(refused(many), Error::BadSize { .. }));
     assert!(matches!(refused(bank().accesses(4)), Error::Spent { .. }));
     assert!(run(bank().accesses(6), 50, 2).is_ok());
-    assert!(matches!(bank().run::<()>(|_| ()), Err(Error::BadSize)));
+    assert!(matches!(bank().run::<()>(|_| ()), Err(Error::BadSize { .. })));
 }
 
 #[test]

@@ -138,6 +138,7 @@ fn a_deadlock_tells_who_waits_for_whom() {
     fn both(session: &mut Session, first: &str, second: &str) -> Result<(), Error> {
         session.locked(first, |session| session.locked(second, |_| Ok(())))
     }
+    let both_line = line!() - 2;
     let run = |heap: Builder| {
         heap.lock("a").lock("b").run(|threads| {
             threads.spawn(|session| both(session, "a", "b"));
@@ -148,8 +149,16 @@ fn a_deadlock_tells_who_waits_for_whom() {
     let Cause::Error(Error::Deadlock { waits }) = failure.cause() else { panic!("{failure}") };
     let told: Vec<_> = waits.iter().map(|wait| (wait.thread, wait.name.as_str(), wait.holder)).collect();
     assert_eq!(told, [(0, "b", Some(1)), (1, "a", Some(0))]);
-    let message = "deadlock: thread 0 waits for b, which thread 1 holds; thread 1 waits for a, which thread 0 holds";
-    assert!(failure.to_string().ends_with(message), "{failure}");
+    // Each waits on the line on which the other one took what it holds.
+    let places: Vec<_> = waits.iter().map(|wait| (wait.place.clone().unwrap(), wait.held_at.clone().unwrap())).collect();
+    assert!(places.iter().all(|(place, held_at)| place == held_at), "{places:?}");
+    let here = &places[0].0;
+    assert_eq!((here.file(), here.line()), (file!(), both_line));
+    let message = format!(
+        "deadlock: thread 0 waits for b at {here}, which thread 1 has taken at {here}; \
+         thread 1 waits for a at {here}, which thread 0 has taken at {here}"
+    );
+    assert!(failure.to_string().ends_with(&message), "{failure}");
     // Where they waited, nothing is recorded.
     let again = run(Heap::builder().rerun(failure.recording().unwrap())).unwrap_err();
     assert!(matches!(&again, Error::Diverged { accesses: 1, place: Some(_), .. }), "{again}");

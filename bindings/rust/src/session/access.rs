@@ -1,12 +1,16 @@
 //! What a thread does with objects.
 use super::{Caller, Object, Session};
 use crate::Error;
+use crate::given_up::Begun;
 use crate::raw::{self, Access, Change, Handle};
 use std::panic::Location;
 
-/// Accesses. Each fails with `OtherHeap` at an object of another heap, `Resting` where the thread does not run, `Spent` where it
-/// has made all that its heap allows, and `Patience` where it has waited too long. In a second run it may fail with `Diverged` or
-/// `Halted`, and by a schedule with `Deadlock`.
+/// # Accesses
+///
+/// # Errors
+/// Each fails with `OtherHeap` at an object of another heap, `Resting` where the thread does not run, `Spent` where it has made all
+/// that its heap allows, and `Patience` where it has waited too long. In a second run it may fail with `Diverged`, `Halted` or
+/// `RecordingEnds`, and by a schedule with `Deadlock`, `NotBack` or `Spins`.
 impl Session {
     // An access from this place. Where it is written which one it is, this comes to one call of the library.
     #[inline(always)]
@@ -14,27 +18,22 @@ impl Session {
         let mut out = 0;
         let status = self.handle.access(object, access, &mut out);
         if status != raw::READY {
-            return self.make_later(status, out, caller);
+            return self.make_later(status, out, Begun { caller, object, access });
         }
-        self.note_place(caller);
+        self.places.note(caller, object, access, out);
         Ok(out)
-    }
-
-    #[inline(always)]
-    fn note_place(&mut self, caller: Caller) {
-        if let Some(places) = &mut self.places {
-            places.push(caller);
-        }
     }
 
     // An access that was begun, or refused.
     #[cold]
-    fn make_later(&mut self, status: i32, mut out: u64, caller: Caller) -> Result<u64, Error> {
-        let status = self.until_made(status, &mut out, Handle::poll)?;
+    fn make_later(&mut self, status: i32, mut out: u64, begun: Begun) -> Result<u64, Error> {
+        let Begun { caller, object, access } = begun;
+        self.places.before_wait(caller);
+        let status = self.until_made(status, &mut out, Handle::poll).inspect_err(|_| self.give_up(begun))?;
         if status != raw::READY {
             self.answered(status, out, Some(caller))?;
         }
-        self.note_place(caller);
+        self.places.note(caller, object, access, out);
         Ok(out)
     }
 
@@ -43,15 +42,38 @@ impl Session {
     fn access(&mut self, object: Object, access: Access) -> Result<u64, Error> {
         let caller = self.caller.unwrap_or(Location::caller());
         if object.heap != self.at_once {
-            self.before_access(object)?;
+            return self.access_in_turn(object, access, caller);
         }
         self.make(object.place, access, caller)
     }
 
     // Waits for the thread's turn, if the object is one of its heap.
     #[cold]
-    fn before_access(&mut self, object: Object) -> Result<(), Error> {
-        if object.heap != self.heap { Err(Error::OtherHeap) } else { self.take_turn() }
+    fn access_in_turn(&mut self, object: Object, access: Access, caller: Caller) -> Result<u64, Error> {
+        if object.heap != self.heap {
+            return Err(Error::OtherHeap);
+        }
+        self.take_turn(Some(caller))?;
+        self.make_noted(object.place, access, caller)
+    }
+
+    // By a schedule it is noted what the thread sees, so that one that waits in a loop is told from one that goes on.
+    pub(super) fn make_noted(&mut self, object: u16, access: Access, caller: Caller) -> Result<u64, Error> {
+        let made = self.make(object, access, caller);
+        if self.at_once == self.heap {
+            return made;
+        }
+        match made {
+            Ok(told) => {
+                self.recent.note(caller, told);
+                Ok(told)
+            }
+            Err(Error::Spent { thread }) => {
+                let spins = self.recent.spins_at();
+                Err(spins.map_or(Error::Spent { thread }, |place| Error::Spins { thread, place }))
+            }
+            Err(error) => Err(error),
+        }
     }
 
     #[inline]
@@ -70,6 +92,9 @@ impl Session {
     /// # }))?;
     /// # Ok::<(), octet::Error>(())
     /// ```
+    ///
+    /// # Errors
+    /// Those of all accesses.
     #[inline]
     #[track_caller]
     pub fn load(&mut self, object: Object) -> Result<u64, Error> {
@@ -87,6 +112,9 @@ impl Session {
     /// # }))?;
     /// # Ok::<(), octet::Error>(())
     /// ```
+    ///
+    /// # Errors
+    /// Those of all accesses.
     #[inline]
     #[track_caller]
     pub fn store(&mut self, object: Object, value: u64) -> Result<(), Error> {
@@ -104,6 +132,9 @@ impl Session {
     /// # }))?;
     /// # Ok::<(), octet::Error>(())
     /// ```
+    ///
+    /// # Errors
+    /// Those of all accesses.
     #[inline]
     #[track_caller]
     pub fn swap(&mut self, object: Object, value: u64) -> Result<u64, Error> {
@@ -123,6 +154,9 @@ impl Session {
     /// # }))?;
     /// # Ok::<(), octet::Error>(())
     /// ```
+    ///
+    /// # Errors
+    /// Those of all accesses.
     #[inline]
     #[track_caller]
     pub fn compare_exchange(&mut self, object: Object, current: u64, new: u64) -> Result<Result<u64, u64>, Error> {
@@ -142,6 +176,9 @@ impl Session {
     /// # }))?;
     /// # Ok::<(), octet::Error>(())
     /// ```
+    ///
+    /// # Errors
+    /// Those of all accesses.
     #[inline]
     #[track_caller]
     pub fn compare_exchange_weak(&mut self, object: Object, current: u64, new: u64) -> Result<Result<u64, u64>, Error> {
@@ -159,6 +196,9 @@ impl Session {
     /// # }))?;
     /// # Ok::<(), octet::Error>(())
     /// ```
+    ///
+    /// # Errors
+    /// Those of all accesses.
     #[inline]
     #[track_caller]
     pub fn fetch_add(&mut self, object: Object, value: u64) -> Result<u64, Error> {
@@ -176,6 +216,9 @@ impl Session {
     /// # }))?;
     /// # Ok::<(), octet::Error>(())
     /// ```
+    ///
+    /// # Errors
+    /// Those of all accesses.
     #[inline]
     #[track_caller]
     pub fn fetch_sub(&mut self, object: Object, value: u64) -> Result<u64, Error> {
@@ -193,6 +236,9 @@ impl Session {
     /// # }))?;
     /// # Ok::<(), octet::Error>(())
     /// ```
+    ///
+    /// # Errors
+    /// Those of all accesses.
     #[inline]
     #[track_caller]
     pub fn fetch_and(&mut self, object: Object, mask: u64) -> Result<u64, Error> {
@@ -211,6 +257,9 @@ impl Session {
     /// # }))?;
     /// # Ok::<(), octet::Error>(())
     /// ```
+    ///
+    /// # Errors
+    /// Those of all accesses.
     #[inline]
     #[track_caller]
     pub fn fetch_nand(&mut self, object: Object, mask: u64) -> Result<u64, Error> {
@@ -228,6 +277,9 @@ impl Session {
     /// # }))?;
     /// # Ok::<(), octet::Error>(())
     /// ```
+    ///
+    /// # Errors
+    /// Those of all accesses.
     #[inline]
     #[track_caller]
     pub fn fetch_or(&mut self, object: Object, mask: u64) -> Result<u64, Error> {
@@ -245,6 +297,9 @@ impl Session {
     /// # }))?;
     /// # Ok::<(), octet::Error>(())
     /// ```
+    ///
+    /// # Errors
+    /// Those of all accesses.
     #[inline]
     #[track_caller]
     pub fn fetch_xor(&mut self, object: Object, mask: u64) -> Result<u64, Error> {
@@ -262,6 +317,9 @@ impl Session {
     /// # }))?;
     /// # Ok::<(), octet::Error>(())
     /// ```
+    ///
+    /// # Errors
+    /// Those of all accesses.
     #[inline]
     #[track_caller]
     pub fn fetch_max(&mut self, object: Object, value: u64) -> Result<u64, Error> {
@@ -279,6 +337,9 @@ impl Session {
     /// # }))?;
     /// # Ok::<(), octet::Error>(())
     /// ```
+    ///
+    /// # Errors
+    /// Those of all accesses.
     #[inline]
     #[track_caller]
     pub fn fetch_min(&mut self, object: Object, value: u64) -> Result<u64, Error> {
@@ -299,6 +360,9 @@ impl Session {
     /// # }))?;
     /// # Ok::<(), octet::Error>(())
     /// ```
+    ///
+    /// # Errors
+    /// Those of all accesses.
     #[inline]
     #[track_caller]
     pub fn fetch_update(

@@ -5,9 +5,22 @@ use crate::raw::{Access, Change};
 use crate::shared::Order;
 use std::panic::Location;
 
-/// Locks and conditions. Taking a lock, and freeing it, is an access to the lock's object, so the order of its holders is
-/// recorded, and a second run has the same one. Each call fails as an access does, and with `NoName` where the builder has made
-/// no such thing.
+const READ: Access = Access::Read;
+const FREE: Access = Access::Write { value: 0 };
+
+fn update(change: Change, operand: u64, expected: u64) -> Access {
+    Access::Update { change, operand, expected }
+}
+
+/// # Locks and conditions
+///
+/// Each call is an access to the object of the lock or of the condition. So the order of a lock's holders, and of waits and notices,
+/// is recorded, and a second run has the same one. In a trace `update door 0 2` says that thread 1 takes the lock, and `write door 0`
+/// that it frees it. `update opened 0 1` says that a thread begins to wait for the condition, and `update opened 1 0` that one is
+/// woken. `read opened 0` is a notice that wakes nobody.
+///
+/// # Errors
+/// Each call fails as an access does, and with `NoName` where the builder has made no such thing.
 impl Session {
     // What a call of several accesses does: all of them stand where it stands.
     pub(super) fn standing_at<T>(&mut self, caller: Caller, work: impl FnOnce(&mut Session) -> T) -> T {
@@ -17,9 +30,10 @@ impl Session {
         done
     }
 
-    fn touch(&mut self, lock: usize, caller: Caller) -> Result<(), Error> {
-        let touch = Access::Update { change: Change::Add, operand: 1, expected: 0 };
-        self.make(self.shared.locks[lock].object, touch, self.caller.unwrap_or(caller)).map(|_| ())
+    // Tells that the thread takes the lock, which it has.
+    fn note_taken(&mut self, lock: usize, caller: Caller) -> Result<(), Error> {
+        let taken = update(Change::Swap, self.number as u64 + 1, 0);
+        self.make_noted(self.shared.locks[lock].object, taken, caller).map(|_| ())
     }
 
     fn take(&mut self, lock: usize, caller: Caller) -> Result<(), Error> {
@@ -29,19 +43,21 @@ impl Session {
         self.wait_stopped(|shared, thread| match &shared.order {
             Order::Free { gates, .. } if gates[lock].take(shared.patience) => Ok(()),
             Order::Free { .. } => Err(Error::Patience { thread }),
-            Order::Turns(turnstile) => turnstile.take(thread, lock).map_err(|stuck| shared.stuck(thread, stuck)),
+            Order::Turns(turnstile) => turnstile.take(thread, lock, Some(caller)).map_err(|stuck| shared.stuck(stuck)),
             Order::Again => Ok(()),
         })?;
         self.held.push(lock);
-        self.touch(lock, caller).inspect_err(|_| self.free(lock))
+        self.note_taken(lock, caller).inspect_err(|_| self.free(lock))
     }
 
-    // Notes that the lock is freed.
-    fn note_free(&mut self, lock: usize, caller: Caller) -> Result<(), Error> {
-        if self.at_once != self.heap {
-            self.take_turn()?;
-        }
-        self.touch(lock, caller)
+    // Waits for a turn, where threads take turns.
+    fn take_turn_if_any(&mut self, caller: Caller) -> Result<(), Error> {
+        if self.at_once == self.heap { Ok(()) } else { self.take_turn(Some(caller)) }
+    }
+
+    // Tells that the thread frees the lock, which it has still.
+    fn note_freed(&mut self, lock: usize, caller: Caller) -> Result<(), Error> {
+        self.make_noted(self.shared.locks[lock].object, FREE, caller).map(|_| ())
     }
 
     // Frees the lock, if it is held.
@@ -58,7 +74,6 @@ impl Session {
     }
 
     /// Does the work while the thread holds the lock, which a builder's `lock` has made. Other threads that ask for it wait.
-    /// Fails with `Held` where the thread holds it already, and as the work does.
     ///
     /// ```
     /// use octet::{Error, Heap};
@@ -77,6 +92,9 @@ impl Session {
     /// assert_eq!(run.value("balance"), Some(180));
     /// # Ok::<(), Error>(())
     /// ```
+    ///
+    /// # Errors
+    /// `Held` where the thread holds it already, and what the work fails with.
     #[track_caller]
     pub fn locked<T, E: From<Error>>(&mut self, name: &str, work: impl FnOnce(&mut Session) -> Result<T, E>) -> Result<T, E> {
         struct Free<'a>(&'a mut Session, usize);
@@ -85,22 +103,21 @@ impl Session {
                 self.0.free(self.1);
             }
         }
-        let caller = Location::caller();
+        let caller = self.caller.unwrap_or(Location::caller());
         let lock = self.shared.lock(name)?;
         self.take(lock, caller)?;
         let holding = Free(self, lock);
         let done = work(holding.0);
         // A wait that failed has freed it.
         if holding.0.held.contains(&lock) {
-            let noted = holding.0.note_free(lock, caller);
+            let noted = holding.0.take_turn_if_any(caller).and_then(|()| holding.0.note_freed(lock, caller));
             return done.and_then(|done| noted.map(|()| done).map_err(E::from));
         }
         done
     }
 
     /// Frees the lock that was taken last, waits until another thread notifies the condition, which a builder's `condition` has
-    /// made, and takes the lock again. Ask then whether what you wait for is so: another thread may have come first. Fails with
-    /// `NotHeld` where the thread holds no lock; after any other failure it holds this one no more.
+    /// made, and takes the lock again. Ask then whether what you wait for is so: another thread may have come first.
     ///
     /// ```
     /// use octet::{Error, Heap};
@@ -123,25 +140,31 @@ impl Session {
     /// })?;
     /// # Ok::<(), Error>(())
     /// ```
+    ///
+    /// # Errors
+    /// `NotHeld` where the thread holds no lock. After any other failure it holds this one no more.
     #[track_caller]
     pub fn wait(&mut self, condition: &str) -> Result<(), Error> {
-        let caller = Location::caller();
+        let caller = self.caller.unwrap_or(Location::caller());
         let at = self.shared.condition(condition)?;
         let Some(&lock) = self.held.last() else {
             return Err(Error::NotHeld { name: condition.to_string() });
         };
+        // That it waits, and that it frees the lock, is one step of a schedule.
+        self.take_turn_if_any(caller)?;
+        self.make_noted(self.shared.conditions[at].object, update(Change::Add, 1, 0), caller)?;
         let place = match &self.shared.order {
             Order::Free { bells, .. } => bells[at].place(),
             Order::Turns(_) | Order::Again => 0,
         };
-        self.note_free(lock, caller)?;
+        self.note_freed(lock, caller)?;
         let waited = self.wait_stopped(|shared, thread| match &shared.order {
             Order::Free { gates, bells } => {
                 gates[lock].free();
                 let woken = bells[at].wait(place, shared.patience) && gates[lock].take(shared.patience);
                 if woken { Ok(()) } else { Err(Error::Patience { thread }) }
             }
-            Order::Turns(turnstile) => turnstile.sleep(thread, at, lock).map_err(|stuck| shared.stuck(thread, stuck)),
+            Order::Turns(turnstile) => turnstile.sleep(thread, at, lock, Some(caller)).map_err(|stuck| shared.stuck(stuck)),
             Order::Again => Ok(()),
         });
         if let Err(error) = waited {
@@ -149,7 +172,7 @@ impl Session {
             self.held.retain(|&held| held != lock);
             return Err(error);
         }
-        self.touch(lock, caller)
+        self.note_taken(lock, caller)
     }
 
     /// Wakes the thread that has waited longest for the condition, if there is one.
@@ -173,8 +196,12 @@ impl Session {
     /// })?;
     /// # Ok::<(), octet::Error>(())
     /// ```
+    ///
+    /// # Errors
+    /// Those of all calls for locks and conditions.
+    #[track_caller]
     pub fn notify_one(&mut self, condition: &str) -> Result<(), Error> {
-        self.notify(condition, false)
+        self.notify(condition, Session::count_one, Location::caller())
     }
 
     /// Wakes all threads that wait for the condition.
@@ -198,18 +225,49 @@ impl Session {
     /// })?;
     /// # Ok::<(), octet::Error>(())
     /// ```
+    ///
+    /// # Errors
+    /// Those of all calls for locks and conditions.
+    #[track_caller]
     pub fn notify_all(&mut self, condition: &str) -> Result<(), Error> {
-        self.notify(condition, true)
+        self.notify(condition, Session::count_all, Location::caller())
     }
 
-    fn notify(&mut self, condition: &str, all: bool) -> Result<(), Error> {
+    // Wakes as many as are counted.
+    fn notify(
+        &mut self,
+        condition: &str,
+        counted: fn(&mut Session, u16, Caller) -> Result<u64, Error>,
+        caller: Caller,
+    ) -> Result<(), Error> {
+        let caller = self.caller.unwrap_or(caller);
         let at = self.shared.condition(condition)?;
+        self.take_turn_if_any(caller)?;
+        let count = counted(self, self.shared.conditions[at].object, caller)?;
         match &self.shared.order {
-            Order::Free { bells, .. } if all => bells[at].wake_all(),
-            Order::Free { bells, .. } => bells[at].wake_one(),
-            Order::Turns(turnstile) => turnstile.wake(at, all),
+            Order::Free { bells, .. } => bells[at].wake(count),
+            Order::Turns(turnstile) => turnstile.wake(at, count),
             Order::Again => {}
         }
         Ok(())
+    }
+
+    // Counts one thread that waits as woken, if there is one.
+    fn count_one(&mut self, condition: u16, caller: Caller) -> Result<u64, Error> {
+        loop {
+            let waiting = self.make_noted(condition, READ, caller)?;
+            if waiting == 0 {
+                return Ok(0);
+            }
+            let one_less = update(Change::CompareExchange, waiting - 1, waiting);
+            if self.make_noted(condition, one_less, caller)? == waiting {
+                return Ok(1);
+            }
+        }
+    }
+
+    // Counts all that wait as woken.
+    fn count_all(&mut self, condition: u16, caller: Caller) -> Result<u64, Error> {
+        self.make_noted(condition, update(Change::Swap, 0, 0), caller)
     }
 }

@@ -2,7 +2,10 @@
 use crate::{Error, Session};
 use std::panic::Location;
 
-/// Barriers and channels. Each call fails as `Session::locked` does.
+/// # Barriers and channels
+///
+/// # Errors
+/// Each call fails as `Session::locked` does.
 impl Session {
     /// Waits at the barrier, which a builder's `barrier` has made, until as many threads have come as it is for. The last one to
     /// come is told true.
@@ -22,6 +25,9 @@ impl Session {
     /// assert_eq!(run.values(), [1, 1]);
     /// # Ok::<(), Error>(())
     /// ```
+    ///
+    /// # Errors
+    /// Those of all calls for locks and conditions.
     #[track_caller]
     pub fn arrive(&mut self, barrier: &str) -> Result<bool, Error> {
         let wanted = self.shared.barrier(barrier)?;
@@ -71,6 +77,9 @@ impl Session {
     /// assert_eq!(run.values(), [0, 55]);
     /// # Ok::<(), Error>(())
     /// ```
+    ///
+    /// # Errors
+    /// Those of all calls for locks and conditions.
     #[track_caller]
     pub fn send(&mut self, channel: &str, value: u64) -> Result<bool, Error> {
         let room = self.shared.channel(channel)?;
@@ -109,6 +118,9 @@ impl Session {
     /// assert_eq!(run.values()[1], [Some(3), None]);
     /// # Ok::<(), octet::Error>(())
     /// ```
+    ///
+    /// # Errors
+    /// Those of all calls for locks and conditions.
     #[track_caller]
     pub fn receive(&mut self, channel: &str) -> Result<Option<u64>, Error> {
         let room = self.shared.channel(channel)?;
@@ -146,6 +158,9 @@ impl Session {
     /// assert_eq!(run.values(), [false]);
     /// # Ok::<(), octet::Error>(())
     /// ```
+    ///
+    /// # Errors
+    /// Those of all calls for locks and conditions.
     #[track_caller]
     pub fn close(&mut self, channel: &str) -> Result<(), Error> {
         let [_, _, closed] = self.parts(channel)?;
