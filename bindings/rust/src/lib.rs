@@ -35,7 +35,7 @@
 //! A run is repeated as far as its accesses decide what its threads do. Clocks, files and other locks are not recorded.
 //!
 //! All accesses are sequentially consistent. So a mistake that only a weaker order of memory shows, as a missing `Acquire` or `Release`,
-//! is never found: loom and ThreadSanitizer look for those.
+//! is never found: `loom` and `ThreadSanitizer` look for those.
 #![deny(missing_docs, unsafe_code)]
 
 mod checks;

@@ -221,9 +221,9 @@ impl Recording {
 
     /// The same run, where object `oN` has the name N of these. The log then names the script that has them.
     pub(crate) fn with_names(self, names: &[&str]) -> Recording {
-        let named = |word: &str| -> Option<&str> { names.get(word.strip_prefix('o')?.parse::<usize>().ok()?).copied() };
+        let name_of = |word: &str| -> Option<&str> { names.get(word.strip_prefix('o')?.parse::<usize>().ok()?).copied() };
         let renamed = |line: &str| -> String {
-            let words: Vec<&str> = line.split(' ').map(|word| named(word).unwrap_or(word)).collect();
+            let words: Vec<&str> = line.split(' ').map(|word| name_of(word).unwrap_or(word)).collect();
             words.join(" ") + "\n"
         };
         let script: String = self.script.lines().map(renamed).collect();

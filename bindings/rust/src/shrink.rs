@@ -6,8 +6,9 @@ use crate::schedule::{Pick, Picker};
 use std::collections::HashSet;
 use std::error::Error;
 use std::hash::{BuildHasher, BuildHasherDefault, DefaultHasher};
-use std::iter;
+use std::sync::mpsc;
 use std::time::{Duration, Instant};
+use std::{iter, thread};
 
 /// How many runs are made at most, and how much they may do in all: a pick of another thread than before, or the start of one,
 /// costs as much as so many other picks. So the same seed is shrunk to the same failure, whatever else the machine does, within a
@@ -15,10 +16,11 @@ use std::time::{Duration, Instant};
 const MOST_RUNS: usize = 200;
 const MOST_COST: usize = 120_000;
 const COST_OF_SWITCH: usize = 20;
-/// A program that is slow by itself, as one that sleeps, is ended by the clock: one whose quickest run takes so long for its cost.
-/// Where only the machine is busy some run is quicker, and the clock ends nothing.
+/// A program that is slow by itself, as one that sleeps, is ended by the clock. Where the machine is busy, so that two threads take
+/// as long as this to hand a word to each other, it ends nothing.
 const MOST_TIME: Duration = Duration::from_millis(2_500);
-const SLOW_COST: Duration = Duration::from_micros(50);
+const BUSY_SWITCH: Duration = Duration::from_micros(300);
+const LOOKS: u32 = 8;
 /// How many of them are made at first without a preemption, and how many with one.
 const FIRST_RUNS: usize = 40;
 
@@ -69,10 +71,21 @@ struct Search<'a, E> {
     // The hashes of the picks that were played, and what they cost.
     played: HashSet<u64>,
     cost: usize,
-    since: Instant,
-    // What the quickest run took for its cost.
-    quickest: Duration,
-    waits: bool,
+    // When the clock is looked at, and whether no more runs are made.
+    until: Instant,
+    is_ended: bool,
+}
+
+// Whether threads of any program wait long for a processor.
+fn machine_is_busy() -> bool {
+    let ((ask, asked), (answer, answered)) = (mpsc::channel(), mpsc::channel());
+    thread::scope(|scope| {
+        scope.spawn(move || asked.iter().try_for_each(|()| answer.send(())));
+        let began = Instant::now();
+        let is_answered = (0..LOOKS).all(|_| ask.send(()).is_ok() && answered.recv().is_ok());
+        drop(ask);
+        is_answered && began.elapsed() > 2 * LOOKS * BUSY_SWITCH
+    })
 }
 
 impl<E: Error + 'static> Search<'_, E> {
@@ -83,8 +96,7 @@ impl<E: Error + 'static> Search<'_, E> {
     }
 
     fn is_over(&self) -> bool {
-        let is_late = self.quickest >= SLOW_COST && self.since.elapsed() >= MOST_TIME;
-        self.waits || self.played.len() >= MOST_RUNS || self.cost >= MOST_COST || is_late
+        self.is_ended || self.played.len() >= MOST_RUNS || self.cost >= MOST_COST
     }
 
     fn cost_of(&self, picks: usize, switches: usize) -> usize {
@@ -97,15 +109,16 @@ impl<E: Error + 'static> Search<'_, E> {
         if self.is_over() || !self.played.insert(hash) {
             return None;
         }
-        let began = Instant::now();
         let played = play(self.program, &Schedule::given(self.best.seed(), picks, self.lengths.clone()));
-        let cost = self.cost_of(played.picks, played.switches);
-        self.cost += cost;
-        self.quickest = self.quickest.min(began.elapsed() / u32::try_from(cost).unwrap_or(u32::MAX).max(1));
+        self.cost += self.cost_of(played.picks, played.switches);
+        if Instant::now() >= self.until {
+            self.is_ended = !machine_is_busy();
+            self.until = Instant::now() + MOST_TIME;
+        }
         let failure = played.failure?;
         if failure.is_impatient() {
             // More tries would wait as long.
-            self.waits = true;
+            self.is_ended = true;
         }
         failure.is_like(&self.best).then_some(failure)
     }
@@ -218,9 +231,8 @@ pub(crate) fn with_fewer_preemptions<E: Error + 'static>(
     let count = |thread| picks.iter().filter(|&&picked| picked == thread).count();
     let lengths = (0..=picks.iter().copied().max().unwrap_or(0)).map(count).collect();
     let switches = picks.windows(2).filter(|pair| pair[0] != pair[1]).count();
-    let (played, since) = (HashSet::new(), Instant::now());
-    let mut search =
-        Search { program, best: failure, lengths, draws, played, cost: 0, since, quickest: Duration::MAX, waits: false };
+    let (played, until) = (HashSet::new(), Instant::now() + MOST_TIME);
+    let mut search = Search { program, best: failure, lengths, draws, played, cost: 0, until, is_ended: false };
     // A run that does very much is not made once more by the picks that it has: what is found of it fails all the same.
     if search.cost_of(picks.len(), switches) > MOST_COST / 4 || search.failure_by(picks).is_some() {
         search.all();
