@@ -9,7 +9,7 @@ ghost use Rattle.octet_heap.specs.Seated.{RestsAs, IsNew};
 
 use crate::samples::script;
 use octet_heap::{Closed, Heap, Poll, Worker};
-use octet_model::{DEFAULT_FUEL, Gapped, List, Mark, OutOfMemory};
+use octet_model::{DEFAULT_FUEL, List, Mark, OutOfMemory};
 use octet_state::{Mode, Why};
 use std::alloc::Global;
 use std::process::Abort;
@@ -105,10 +105,10 @@ fn take_turns<R: Abort>(rt: &R, heap: &Heap, first: &mut Worker, second: &mut Wo
 /// The one mark of a thread, which is a join before its one access.
 fn join_of(closed: &Closed, thread: usize) -> Option<Mark> {
     let log = closed.logs.get(thread)?;
-    match log.marks.as_slice() {
-        [Gapped { gap: 0, mark }] if log.accesses == 1 => Some(*mark),
-        _ => None,
-    }
+    let marks = log.marks.as_slice();
+    let first = *marks.first()?;
+    let is_one = marks.len() == 1 && first.gap == 0 && log.accesses == 1;
+    is_one.then_some(first.mark)
 }
 
 #[test]
