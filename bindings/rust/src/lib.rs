@@ -35,13 +35,18 @@
 //! A run is repeated as far as its accesses decide what its threads do. Clocks, files and other locks are not recorded.
 #![deny(missing_docs, unsafe_code)]
 
+#[allow(unsafe_code)]
+pub mod cell;
 mod error;
 mod explore;
 mod gate;
 mod heap;
+pub mod hint;
 mod long;
 mod marks_file;
 mod place;
+#[allow(unsafe_code)]
+pub mod program;
 mod quiet;
 #[allow(unsafe_code)]
 mod raw;
@@ -51,6 +56,11 @@ mod schedule;
 mod session;
 mod shared;
 mod shrink;
+#[allow(unsafe_code)]
+pub mod sync;
+#[allow(unsafe_code)]
+pub mod thread;
+pub mod time;
 mod turnstile;
 mod window;
 
@@ -59,8 +69,10 @@ pub use explore::{Cause, Failure, explore, try_explore};
 pub use heap::{Builder, Heap, Run, Threads};
 pub use long::{LongBuilder, LongHeap, LongRun};
 pub use place::Place;
+pub use program::{Found, Program, Race, Touch, model};
 pub use recording::Recording;
 pub use rerun::Rerun;
 pub use schedule::Schedule;
 pub use session::{Object, Session};
+pub use std::thread_local;
 pub use window::{Last, Window, last};
