@@ -13,7 +13,6 @@ pub(crate) mod ctx;
 mod found;
 mod notes;
 mod pointers;
-mod processor;
 pub(crate) mod slot;
 mod turns;
 pub(crate) mod world;
@@ -93,13 +92,6 @@ fn run_in<T: Send + 'static>(world: &Arc<World>, work: impl FnOnce() -> T + Send
     if world.way == Way::Turns {
         world.turns().seat(seat, true);
     }
-    let is_by_turns = world.way == Way::Turns;
-    let work = move || {
-        if is_by_turns && std::env::var_os("OCTET_PIN").is_some() {
-            processor::stay();
-        }
-        work()
-    };
     let main = thread::start(world, seat, thread::Builder::new().name("octet-main".to_string()), work);
     let main = main.expect("the system has a thread for the program");
     world.wait_ended();

@@ -183,8 +183,7 @@ pub fn sleep(time: Duration) {
     }
 }
 
-/// As [`std::thread::available_parallelism`]. By a schedule it is what it was before, though the threads of a run share a
-/// processor.
+/// As [`std::thread::available_parallelism`]. By a schedule it is what it was when the first one began.
 ///
 /// # Errors
 /// As that of `std`.

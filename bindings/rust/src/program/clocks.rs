@@ -93,9 +93,21 @@ struct Touches {
 /// One of the two accesses of a data race.
 ///
 /// ```
-/// let race = octet::doc::race();
-/// assert_ne!(race.first.thread, race.second.thread);
-/// assert!(race.first.writes || race.second.writes);
+/// use octet::{Cause, Error, cell::UnsafeCell, program, sync::Arc, thread};
+///
+/// struct Shared(UnsafeCell<u32>);
+/// unsafe impl Sync for Shared {}
+///
+/// let found = program::explore(0..100, || {
+///     let here = Arc::new(Shared(UnsafeCell::new(0)));
+///     let there = Arc::clone(&here);
+///     thread::spawn(move || there.0.with_mut(|value| unsafe { *value = 1 }));
+///     here.0.with(|value| unsafe { *value });
+/// });
+/// let found = found.expect_err("nothing orders them");
+/// let Cause::Error(Error::DataRace(race)) = found.cause() else { panic!("{found}") };
+/// assert_ne!(race.first.writes, race.second.writes);
+/// assert_eq!(race.first.thread + race.second.thread, 1);
 /// ```
 #[derive(Clone, Debug, PartialEq, Eq)]
 pub struct Touch {
@@ -117,8 +129,26 @@ impl fmt::Display for Touch {
 /// Two accesses to one cell by different threads, at least one of which writes, and which nothing orders.
 ///
 /// ```
-/// let race = octet::doc::race();
-/// assert!(race.to_string().starts_with("data race: thread "), "{race}");
+/// use octet::sync::atomic::{AtomicBool, Ordering::{Acquire, Relaxed}};
+/// use octet::{Cause, Error, cell::UnsafeCell, program, sync::Arc, thread};
+///
+/// struct Published(AtomicBool, UnsafeCell<u32>);
+/// unsafe impl Sync for Published {}
+///
+/// let found = program::explore(0..100, || {
+///     let here = Arc::new(Published(AtomicBool::new(false), UnsafeCell::new(0)));
+///     let there = Arc::clone(&here);
+///     thread::spawn(move || {
+///         there.1.with_mut(|value| unsafe { *value = 1 });
+///         there.0.store(true, Relaxed);
+///     });
+///     if here.0.load(Acquire) {
+///         here.1.with(|value| unsafe { *value });
+///     }
+/// });
+/// let found = found.expect_err("the store releases nothing");
+/// let Cause::Error(Error::DataRace(race)) = found.cause() else { panic!("{found}") };
+/// assert!(race.hint.as_ref().is_some_and(|hint| hint.contains("would have to be a Release")));
 /// ```
 #[derive(Clone, Debug, PartialEq, Eq)]
 pub struct Race {

@@ -65,8 +65,8 @@ impl<T> OnceLock<T> {
     #[track_caller]
     pub fn set(&self, value: T) -> Result<(), T> {
         let mut value = Some(value);
-        let make = || Ok::<T, Infallible>(value.take().expect("it is asked once"));
-        self.init(Poison::Ignored, make, Location::caller());
+        // It is asked once, so that there is one.
+        self.init(Poison::Ignored, || value.take().ok_or(()), Location::caller());
         value.map_or(Ok(()), Err)
     }
 

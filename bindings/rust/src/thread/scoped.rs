@@ -12,7 +12,7 @@ use std::sync::atomic::Ordering;
 ///
 /// ```
 /// let five = 5;
-/// let answer = octet::thread::scope(|scope: &octet::thread::Scope<'_, '_>| scope.spawn(|| five + 1).join());
+/// let answer = octet::thread::scope(|scope| scope.spawn(|| five + 1).join());
 /// assert_eq!(answer.unwrap(), 6);
 /// ```
 #[repr(transparent)]
@@ -106,7 +106,7 @@ fn wait_for_all(scope: usize, caller: Caller) {
 ///
 /// ```
 /// let mut both = [1, 2];
-/// octet::thread::scope(|scope| both.iter_mut().for_each(|each| { scope.spawn(|| *each += 1); }));
+/// octet::thread::scope(|scope| both.iter_mut().for_each(|each| { scope.spawn(move || *each += 1); }));
 /// assert_eq!(both, [2, 3]);
 /// ```
 #[track_caller]
