@@ -1,5 +1,6 @@
 //! Why a call was refused.
 use crate::heap::Rank;
+use crate::program::Race;
 use crate::{Place, raw};
 use std::path::PathBuf;
 use std::{error, fmt, io};
@@ -82,6 +83,10 @@ pub enum Error {
     NotBack { thread: usize, place: Option<Place>, why: Absence },
     /// A file could not be read or written.
     File { path: PathBuf, source: io::Error },
+    /// Two accesses to a cell of a program's, by different threads, which nothing orders.
+    DataRace(Box<Race>),
+    /// What a program does that its run does not allow: this is told, with its line.
+    Refused { what: String },
     /// The library has answered a status that no call of this crate expects.
     Status(i32),
 }
@@ -228,6 +233,8 @@ impl fmt::Display for Error {
                 }
             }
             Error::File { path, source } => write!(out, "{} could not be read or written: {source}", path.display()),
+            Error::DataRace(race) => race.fmt(out),
+            Error::Refused { what } => out.write_str(what),
             Error::Status(status) => write!(out, "status {status} of the library"),
         }
     }

@@ -281,7 +281,7 @@ fn without_numbers(message: &str) -> impl Iterator<Item = char> {
     message.chars().filter(|letter| !letter.is_ascii_digit())
 }
 
-fn message_of(panic: &(dyn Any + Send)) -> String {
+pub(crate) fn message_of(panic: &(dyn Any + Send)) -> String {
     let text = panic.downcast_ref::<&str>().map(ToString::to_string);
     text.or_else(|| panic.downcast_ref::<String>().cloned()).unwrap_or_else(|| "a panic".to_string())
 }

@@ -38,15 +38,20 @@
 //! is never found: `loom` and `ThreadSanitizer` look for those.
 #![deny(missing_docs, unsafe_code)]
 
+#[allow(unsafe_code)]
+pub mod cell;
 mod checks;
 mod error;
 mod explore;
 mod gate;
 mod given_up;
 mod heap;
+pub mod hint;
 mod long;
 mod marks_file;
 mod place;
+#[allow(unsafe_code)]
+pub mod program;
 mod quiet;
 #[allow(unsafe_code)]
 mod raw;
@@ -57,6 +62,11 @@ mod session;
 mod sha256;
 mod shared;
 mod shrink;
+#[allow(unsafe_code)]
+pub mod sync;
+#[allow(unsafe_code)]
+pub mod thread;
+pub mod time;
 mod turnstile;
 mod window;
 
@@ -65,8 +75,10 @@ pub use explore::{Cause, Failure, explore, try_explore};
 pub use heap::{Builder, Heap, Run, Threads};
 pub use long::{LongBuilder, LongHeap, LongRun};
 pub use place::Place;
+pub use program::{Found, Program, Race, Touch, model};
 pub use recording::Recording;
 pub use rerun::Rerun;
 pub use schedule::Schedule;
 pub use session::{Object, Session};
+pub use std::thread_local;
 pub use window::{Last, Window, last};

@@ -65,19 +65,19 @@ pub(crate) struct Left {
 }
 
 // What is written or read beside the threads, and by what.
-enum Work {
+pub(crate) enum Work {
     Writing(Writing),
     Feeding(Feeding),
 }
 
 /// A thread that writes or reads the file until it is told that the others have ended.
-struct Beside {
+pub(crate) struct Beside {
     are_done: Arc<AtomicBool>,
     thread: Option<JoinHandle<Result<(), Error>>>,
 }
 
 impl Beside {
-    fn start(work: Work) -> Beside {
+    pub(crate) fn start(work: Work) -> Beside {
         let are_done = Arc::new(AtomicBool::new(false));
         let told = Arc::clone(&are_done);
         let thread = thread::spawn(move || {
@@ -91,7 +91,7 @@ impl Beside {
     }
 
     // What went wrong with the file, once all of it is written or read.
-    fn end(&mut self) -> Result<(), Error> {
+    pub(crate) fn end(&mut self) -> Result<(), Error> {
         self.are_done.store(true, Ordering::Release);
         let Some(thread) = self.thread.take() else {
             return Ok(());

@@ -1,4 +1,4 @@
-//! The calls of `include/octet.h`. All of this crate's `unsafe` code stands here.
+//! The calls of `include/octet.h`. All `unsafe` code of sessions stands here; that of the look-alikes of `std` stands beside it.
 use std::ffi::c_void;
 use std::ptr::null_mut;
 

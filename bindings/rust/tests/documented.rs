@@ -1,4 +1,4 @@
-//! What is public has an example.
+//! What is public has an example. A method of a look-alike that says `As that of` has the one of `std` or loom.
 use std::fs;
 use std::path::{Path, PathBuf};
 
@@ -17,12 +17,13 @@ fn each_public_item_has_an_example() {
     for file in sources(&Path::new(env!("CARGO_MANIFEST_DIR")).join("src")) {
         let text = fs::read_to_string(file).unwrap();
         let mut has_example = false;
-        for line in text.lines().map(str::trim_start) {
+        for (line, is_method) in text.lines().map(|line| (line.trim_start(), line.starts_with("    "))) {
             if is_public(line) && !has_example {
                 without.push(line.to_string());
             }
             let is_before_item = line.starts_with("//") || line.starts_with("#[");
-            has_example = is_before_item && (has_example || line == "/// ```");
+            let is_example = line == "/// ```" || is_method && line.starts_with("/// As that of ");
+            has_example = is_before_item && (has_example || is_example);
         }
     }
     assert!(without.is_empty(), "{without:#?}");
