@@ -26,7 +26,7 @@ OCTET = pathlib.Path(os.fsdecode(FOUND.stdout).rstrip("\n")).resolve()
 # `bin/octet` and the tools call it too, and so no test builds.
 os.environ["OCTET"] = str(OCTET)
 # For what is laid out in a folder of its own.
-OTHERS = {name: value for name, value in os.environ.items() if name != "OCTET"}
+OTHERS = {name: value for name, value in os.environ.items() if name not in ("OCTET", "OCTET_LIB")}
 
 
 def is_built():

@@ -30,15 +30,14 @@ fn path_of(marks: &Path) -> PathBuf {
     name.into()
 }
 
-/// A thread that has left its recording: after how many accesses this was found, and where. It has left it between two moments of a
-/// clock that all threads share.
+/// A thread that has left its recording: after how many accesses this was found, and where. The accesses of which one was another
+/// than in the recording began at a moment of a clock that all threads share.
 #[derive(Clone, Debug)]
 pub(crate) struct Found {
     pub(crate) thread: usize,
     pub(crate) accesses: u64,
     pub(crate) place: Place,
     began: u64,
-    ended: u64,
 }
 
 /// What the checks of all threads of a run share.
@@ -89,9 +88,9 @@ impl Ledger {
         self.clock.fetch_add(1, Ordering::SeqCst)
     }
 
-    // The thread that has left its recording first. Of two whose moments overlap the earlier middle counts.
+    // The thread that has left its recording first. One that follows another's change has had to wait for it, and begins after it.
     fn first(&self) -> Option<Found> {
-        locked(&self.found).iter().min_by_key(|found| found.began + found.ended).cloned()
+        locked(&self.found).iter().min_by_key(|found| found.began).cloned()
     }
 }
 
@@ -110,7 +109,7 @@ pub(crate) struct Checks {
     // How many accesses are left until the next check, of so many.
     left: u32,
     length: u32,
-    // How many were made until the last one, and when that was.
+    // How many were made until the last one, and when the first access after it was made.
     made: u64,
     began: u64,
     thread: usize,
@@ -155,10 +154,20 @@ impl Checks {
     /// One more access was made.
     #[inline(always)]
     pub(crate) fn note(&mut self, caller: &'static Location<'static>, object: u16, access: Access, told: u64) {
+        if self.left == self.length {
+            self.begin();
+        }
         self.digest = (self.digest.rotate_left(5) ^ word_of(object, access, told)).wrapping_mul(STEP);
         self.left -= 1;
         if self.left == 0 {
             self.check(caller);
+        }
+    }
+
+    // The first access after a check was made.
+    fn begin(&mut self) {
+        if matches!(self.work, Work::Compare { .. }) {
+            self.began = self.ledger.tick();
         }
     }
 
@@ -195,11 +204,9 @@ impl Checks {
                 }
             }
             Work::Compare { wanted, .. } => {
-                let (began, ended) = (self.began, self.ledger.tick());
-                self.began = ended;
                 if *wanted != bits {
-                    let (thread, accesses, place) = (self.thread, self.made, Place::from(caller));
-                    locked(&self.ledger.found).push(Found { thread, accesses, place, began, ended });
+                    let (thread, accesses, place, began) = (self.thread, self.made, Place::from(caller), self.began);
+                    locked(&self.ledger.found).push(Found { thread, accesses, place, began });
                     self.work = Work::Done;
                 }
             }

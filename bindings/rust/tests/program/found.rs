@@ -50,7 +50,8 @@ fn a_deadlock_names_each_line_and_who_holds_what() {
     // The program's own thread has seat 0, and the other one seat 1.
     for (thread, wait) in waits.iter().enumerate() {
         assert_eq!((wait.thread, wait.holder), (thread, Some(1 - thread)));
-        assert!(wait.name.ends_with(&format!("found.rs:{}", lines[1 - thread])), "{}", wait.name);
+        let place = wait.place.as_ref().map(ToString::to_string).unwrap_or_default();
+        assert!(place.ends_with(&format!("found.rs:{}", lines[1 - thread])), "{wait}");
     }
     assert_eq!(waits.len(), 2);
     assert!(found.left_behind() >= 2, "{}", found.left_behind());
