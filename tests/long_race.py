@@ -59,12 +59,8 @@ def program():
 
 
 def over_the_library(test):
-    """A test that is left out where there is no program."""
-
-    def tested():
-        return None if program()[0] is None else test()
-
-    return tested
+    """What is wrong by a test that calls the program; nothing where there is no program."""
+    return None if program()[0] is None else test()
 
 
 def race(verb, folder, seed, accesses, every, file="F", more=(), **how):
@@ -477,7 +473,7 @@ def words():
 
 
 TESTS = {
-    f"long runs: {name}": over_the_library(test)
+    f"long runs: {name}": functools.partial(over_the_library, test)
     for name, test in {
         "a plain model comes to the same lines": modelled,
         "a cut file is followed to the front of its whole blocks": cut,
