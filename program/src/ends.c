@@ -30,6 +30,7 @@ void go_away(struct thread *t)
     t->last = NO_OBJECT;
     me = NULL;
     octet_stop(&t->session);
+    give_turn(t);
     __atomic_store_n(&t->state, RESTING, __ATOMIC_SEQ_CST);
 }
 
@@ -79,6 +80,7 @@ _Noreturn void park(struct thread *t)
         tell_end(t, end_session(t, &made), made);
     else
         octet_stop(&t->session);
+    give_turn(t);
     __atomic_store_n(&t->state, PARKED, __ATOMIC_SEQ_CST);
     stand_still();
 }
@@ -209,6 +211,8 @@ void end_run(const char *cause, int number)
     if (me != NULL && me->watched.from != NULL)
         watch_tell(me);
     me = NULL;
+    if (number >= 0)
+        give_turn(&threads[number]);
     arena_number = ARENA_OF_RUNTIME;
     if (mode == RECORD)
         __atomic_store_n(&closing, 1, __ATOMIC_SEQ_CST);
@@ -222,27 +226,50 @@ void end_run(const char *cause, int number)
     arena_number = number < 0 ? 0 : number;
 }
 
-/* Called by the helper of a second run from time to time: where the recording was cut, threads stand still that have no more, and
- * other ones wait for them for good. */
-void end_where_cut(void)
+/* Whether no thread can go on: each stands still or rests, or waits for marks and has made no call since the last look. */
+static bool all_stand(bool *parked)
 {
     static uint64_t calls_before, waits_before[THREADS];
-    static int looks;
     uint64_t calls = 0;
-    bool parked = false, works = false;
+    bool works = false;
+    *parked = false;
     for (int i = 0; i < THREADS; i++) {
         struct thread *t = &threads[i];
         int state = __atomic_load_n(&t->state, __ATOMIC_SEQ_CST);
-        calls += *(volatile uint64_t *)&t->calls;
         uint64_t waits = *(volatile uint64_t *)&t->waits;
-        parked = parked || state == PARKED;
-        works = works || (state == RUNNING && waits == waits_before[i]);
+        calls += *(volatile uint64_t *)&t->calls;
+        *parked = *parked || state == PARKED;
+        works = works || (state == RUNNING && (waits == waits_before[i] || recording_is_whole));
         waits_before[i] = waits;
     }
-    looks = parked && !works && calls == calls_before ? looks + 1 : 0;
+    works = works || calls != calls_before;
     calls_before = calls;
-    if (looks < 10)
+    return *parked && !works;
+}
+
+static _Noreturn void end_as_recorded(void)
+{
+    int number = 0;
+    sscanf(recorded_cause, "signal %d", &number);
+    say("octet: signal %d ended the process here, from outside\n", number);
+    end_run(recorded_cause, -1);
+    die_by_signal(number);
+}
+
+/* Called by the helper of a second run from time to time: the end may be none of the program's. Where the recording was cut, threads
+ * stand still that have no more, and other ones wait for them for good. */
+void end_from_outside(void)
+{
+    enum { LOOKS = 10 };
+    static int looks;
+    bool parked;
+    if (recording_is_whole && (recorded_number >= 0 || recorded_cause[0] != 's'))
         return;
+    looks = all_stand(&parked) ? looks + 1 : 0;
+    if (looks < LOOKS)
+        return;
+    if (recording_is_whole)
+        end_as_recorded();
     say("octet: the recording ends here: the process that was recorded was ended from outside\n");
     leave_process(EXIT_CUT);
 }

@@ -108,8 +108,8 @@ static void *feed_all(void *nothing)
         if (any)
             continue;
         sleep_short(50000);
-        if (!recording_is_whole && turns % 512 == 0)
-            end_where_cut();
+        if (turns % 256 == 0)
+            end_from_outside();
     }
     return nothing;
 }

@@ -42,6 +42,7 @@ struct thread {
     uintptr_t stack_low, stack_size;
     int number;
     int state;
+    bool has_turn;
     int away;            /* how many calls that may wait it is in */
     octet_session session;
     uint64_t accesses;   /* of the program, with those that are skipped */
@@ -131,6 +132,7 @@ HIDDEN void own_lock(struct thread *t, uint32_t object);
 HIDDEN void access_memory(uintptr_t at, size_t size, int how, void *from);
 HIDDEN void access_range(const void *at, size_t length, int how, void *from);
 HIDDEN void watch_tell(struct thread *t);
+HIDDEN void give_turn(struct thread *t);
 
 /* ends.c: how threads stop, and how the run begins and ends. */
 HIDDEN void go_away(struct thread *t);
@@ -144,7 +146,8 @@ static inline bool is_closing(void)
 HIDDEN void ends_begin(void);
 HIDDEN void end_run(const char *cause, int number);
 HIDDEN void end_by_signal(void);
-HIDDEN void end_where_cut(void);
+HIDDEN void end_from_outside(void);
+HIDDEN _Noreturn void die_by_signal(int number);
 
 /* marks.c: the thread that takes what is recorded, or feeds what was. */
 HIDDEN void marks_begin(const char *folder);

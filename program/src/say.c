@@ -56,15 +56,16 @@ _Noreturn void leave_process(int status)
     __builtin_unreachable();
 }
 
-/* A wait that begins short, since mostly another thread goes on at once, and then leaves the processor to others. */
+/* A wait that begins short, since mostly another thread goes on at once. Then it sleeps: on a busy machine the thread that can go
+ * on would wait for a processor behind all that only look. */
 void pause_short(unsigned tries)
 {
-    if (tries < 100) {
+    if (tries < 200) {
         __builtin_ia32_pause();
-    } else if (tries < 2000) {
+    } else if (tries < 210) {
         syscall(SYS_sched_yield);
     } else {
-        struct timespec time = {0, tries < 20000 ? 20000 : 500000};
+        struct timespec time = {0, tries < 2000 ? 20000 : 500000};
         syscall(SYS_nanosleep, &time, NULL);
     }
 }

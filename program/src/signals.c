@@ -41,6 +41,14 @@ static void note_ending(int number)
     ending = number;
 }
 
+_Noreturn void die_by_signal(int number)
+{
+    restore(number);
+    syscall(SYS_kill, syscall(SYS_getpid), number);
+    for (;;)
+        syscall(SYS_pause);
+}
+
 /* Called by the helper. */
 void end_by_signal(void)
 {
@@ -49,10 +57,7 @@ void end_by_signal(void)
         return;
     snprintf(cause, sizeof cause, "signal %d", ending);
     end_run(cause, -1);
-    restore(ending);
-    syscall(SYS_kill, syscall(SYS_getpid), ending);
-    for (;;)
-        syscall(SYS_pause);
+    die_by_signal(ending);
 }
 
 /* A stack for handlers, since that of the thread may be what has overflowed. */

@@ -1,0 +1,50 @@
+/* More threads than there are numbers, one after another: joined, and detached; and one that runs when the process ends. */
+#include <pthread.h>
+#include <semaphore.h>
+#include <stdio.h>
+#include <unistd.h>
+
+static sem_t ended;
+static pthread_key_t key;
+static int made, destroyed;
+static long beats;
+
+static void destroy(void *given)
+{
+    (void)given;
+    destroyed++;
+}
+
+static void *work(void *given)
+{
+    pthread_setspecific(key, &made);
+    made++;
+    sem_post(&ended);
+    return given;
+}
+
+static void *beat(void *given)
+{
+    (void)given;
+    for (;;)
+        beats++;
+    return NULL;
+}
+
+int main(void)
+{
+    pthread_t thread, other;
+    sem_init(&ended, 0, 0);
+    pthread_key_create(&key, destroy);
+    pthread_create(&other, NULL, beat, NULL);
+    for (int i = 0; i < 40; i++) {
+        pthread_create(&thread, NULL, work, NULL);
+        if (i % 2 == 0)
+            pthread_detach(thread);
+        else
+            pthread_join(thread, NULL);
+        sem_wait(&ended);
+    }
+    printf("made %d beats %ld\n", made, beats);
+    return 0;
+}
