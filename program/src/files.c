@@ -10,6 +10,8 @@
 #include <sys/uio.h>
 #include <sys/vfs.h>
 
+#undef snprintf
+
 enum { MAGIC_PROC = 0x9fa0, MAGIC_SYSFS = 0x62656572 };
 
 static uint32_t file_object(int file)

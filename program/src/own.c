@@ -117,11 +117,12 @@ void own_lock(struct thread *t, uint32_t object)
 /* What the last watched access has left there: said at the thread's next, when no other thread can have come between. */
 void watch_tell(struct thread *t)
 {
+    struct watched watched = t->watched;
     uint64_t value = 0;
-    raw_copy(&value, (void *)watch_at, watch_size > 8 ? 8 : watch_size);
-    say_to(watch_file, "%d %lu %s %lx %lx %lu\n", t->number, t->watched.access, t->watched.mode ? "write" : "read",
-           (uintptr_t)t->watched.from - 1, t->watched.at, value);
     t->watched.from = NULL;
+    raw_copy(&value, (void *)watch_at, watch_size > 8 ? 8 : watch_size);
+    say_to(watch_file, "%d %lu %s %lx %lx %lu\n", t->number, watched.access, watched.mode ? "write" : "read",
+           (uintptr_t)watched.from - 1, watched.at, value);
 }
 
 static inline void own_unless_last(struct thread *t, int how, uint32_t object, uintptr_t at, void *from)

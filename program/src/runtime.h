@@ -82,6 +82,8 @@ extern HIDDEN bool recording_is_whole;
 /* say.c. The program's calls of `syscall` are followed, and those of the runtime are not. */
 HIDDEN long raw_syscall(long number, ...);
 #define syscall raw_syscall
+HIDDEN int raw_print(char *to, size_t room, const char *format, ...) __attribute__((format(printf, 3, 4)));
+#define snprintf raw_print
 HIDDEN void say(const char *format, ...) __attribute__((format(printf, 1, 2)));
 HIDDEN void say_to(int file, const char *format, ...) __attribute__((format(printf, 2, 3)));
 HIDDEN _Noreturn void leave_process(int status);

@@ -24,10 +24,19 @@ long raw_syscall(long number, ...)
     return -1;
 }
 
+int raw_print(char *to, size_t room, const char *format, ...)
+{
+    va_list values;
+    va_start(values, format);
+    int length = real.vsnprintf(to, room, format, values);
+    va_end(values);
+    return length;
+}
+
 static void put_text(int file, const char *format, va_list values)
 {
     char text[1024];
-    int length = vsnprintf(text, sizeof text, format, values);
+    int length = real.vsnprintf(text, sizeof text, format, values);
     if (length > (int)sizeof text - 1)
         length = sizeof text - 1;
     if (length > 0)

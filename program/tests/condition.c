@@ -11,14 +11,14 @@ static unsigned long hash;
 
 static void *produce(void *given)
 {
-    for (int i = 0; i < 200; i++) {
+    for (int i = 0; i < 60; i++) {
         pthread_mutex_lock(&lock);
         while (count == 16)
             pthread_cond_wait(&room, &lock);
         queue[count++] = (int)(long)given * 1000 + i;
         pthread_cond_signal(&some);
         pthread_mutex_unlock(&lock);
-        if (i % 50 == 0)
+        if (i % 20 == 0)
             usleep(100);
     }
     return NULL;

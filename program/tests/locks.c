@@ -52,7 +52,7 @@ static void touch_rest(long number, int round)
 static void *work(void *given)
 {
     long number = (long)given;
-    for (int round = 0; round < 10; round++) {
+    for (int round = 0; round < 5; round++) {
         pthread_once(&once, begin);
         touch_table(number);
         touch_rest(number, round);
@@ -95,7 +95,7 @@ int main(void)
     pthread_barrier_init(&all, NULL, 4);
     if (pipe(ends) != 0)
         return 1;
-    for (int i = 0; i < 6; i++)
+    for (int i = 0; i < 3; i++)
         turn(i);
     for (int i = 0; i < 60; i++)
         putchar(text[i] != 0 ? text[i] : '.');

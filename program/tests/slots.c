@@ -37,7 +37,7 @@ int main(void)
     sem_init(&ended, 0, 0);
     pthread_key_create(&key, destroy);
     pthread_create(&other, NULL, beat, NULL);
-    for (int i = 0; i < 40; i++) {
+    for (int i = 0; i < 20; i++) {
         pthread_create(&thread, NULL, work, NULL);
         if (i % 2 == 0)
             pthread_detach(thread);

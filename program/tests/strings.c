@@ -17,7 +17,7 @@ static void *work(void *given)
 {
     long number = (long)given;
     char mine[300], *rest = NULL;
-    for (int i = 0; i < 60; i++) {
+    for (int i = 0; i < 20; i++) {
         snprintf(other + number * 40, 40, "thread %ld turn %d", number, i);
         memmove(text + 1, text, 100);
         text[0] = (char)('a' + (i + number) % 26);
@@ -27,7 +27,7 @@ static void *work(void *given)
         for (char *word = strtok_r(mine, " ", &rest); word != NULL; word = strtok_r(NULL, " ", &rest))
             hash[number] = hash[number] * 7 + strspn(word, "abc") + (strchr(word, 'e') != NULL);
         numbers[(i * 7 + number) % 64] = (int)(hash[number] % 1000);
-        if (i % 20 == 0)
+        if (i % 10 == 0)
             qsort(numbers, 64, sizeof *numbers, compare);
         char *copy = strdup(other + number * 40);
         hash[number] += copy != NULL ? (unsigned)memcmp(copy, other, 8) : 0;

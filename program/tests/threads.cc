@@ -28,7 +28,7 @@ static std::vector<int> &table()
 
 static void produce(int number)
 {
-    for (int i = 0; i < 100; i++) {
+    for (int i = 0; i < 25; i++) {
         {
             std::lock_guard<std::mutex> guard(lock);
             queue.push_back("p" + std::to_string(number) + "-" + std::to_string(i));
