@@ -2,7 +2,7 @@
 #include <pthread.h>
 #include <stdio.h>
 
-static int value = 5, *pointer = &value;
+static int value = 5, *volatile pointer = &value;
 static long uses;
 
 static void *use(void *given)

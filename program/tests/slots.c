@@ -7,7 +7,7 @@
 static sem_t ended;
 static pthread_key_t key;
 static int made, destroyed;
-static long beats;
+static volatile long beats;
 
 static void destroy(void *given)
 {
