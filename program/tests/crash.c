@@ -2,15 +2,19 @@
 #include <pthread.h>
 #include <stdio.h>
 
-static int value = 5, *volatile pointer = &value;
-static long uses;
+/* Of objects of their own, so that another thread may come between two accesses of the pointer. */
+static int value = 5;
+static int *volatile pointer __attribute__((aligned(64))) = &value;
+static volatile long uses __attribute__((aligned(64)));
 
 static void *use(void *given)
 {
     (void)given;
     for (;;) {
-        if (pointer != NULL)
+        if (pointer != NULL) {
+            uses++;
             uses += *pointer;
+        }
     }
     return NULL;
 }
