@@ -1,8 +1,9 @@
 /* A pointer that one thread clears while another one uses it. */
 #include <pthread.h>
+#include <sched.h>
 #include <stdio.h>
 
-/* Of objects of their own, so that another thread may come between two accesses of the pointer. */
+/* Of objects of their own. */
 static int value = 5;
 static int *volatile pointer __attribute__((aligned(64))) = &value;
 static volatile long uses __attribute__((aligned(64)));
@@ -12,7 +13,7 @@ static void *use(void *given)
     (void)given;
     for (;;) {
         if (pointer != NULL) {
-            uses++;
+            sched_yield();
             uses += *pointer;
         }
     }
