@@ -1,30 +1,18 @@
-/* A pointer that one thread clears while another one uses it. */
+/* Two threads race for a total, and then the program ends by a null pointer. */
 #include <pthread.h>
 #include <sched.h>
 #include <stdio.h>
 
-/* Of objects of their own. */
-static int value = 5;
-static int *volatile pointer __attribute__((aligned(64))) = &value;
-static volatile long uses __attribute__((aligned(64)));
+enum { TURNS = 20000 };
+static volatile long total;
 
-static void *use(void *given)
+static void *count(void *given)
 {
-    (void)given;
-    for (;;) {
-        if (pointer != NULL) {
+    for (int i = 0; i < TURNS; i++) {
+        long found = total;
+        if (i % 64 == 0)
             sched_yield();
-            uses += *pointer;
-        }
-    }
-    return NULL;
-}
-
-static void *clear(void *given)
-{
-    for (int i = 0; i < 1000000; i++) {
-        pointer = NULL;
-        pointer = &value;
+        total = found + 1;
     }
     return given;
 }
@@ -32,10 +20,15 @@ static void *clear(void *given)
 int main(void)
 {
     pthread_t threads[2];
+    volatile int *volatile none = NULL;
     puts("begins");
     fflush(stdout);
-    pthread_create(&threads[0], NULL, use, NULL);
-    pthread_create(&threads[1], NULL, clear, NULL);
-    pthread_join(threads[0], NULL);
+    for (int i = 0; i < 2; i++)
+        pthread_create(&threads[i], NULL, count, NULL);
+    for (int i = 0; i < 2; i++)
+        pthread_join(threads[i], NULL);
+    printf("total %ld\n", total);
+    fflush(stdout);
+    *none = 1;
     return 0;
 }

@@ -1,4 +1,4 @@
-/* More threads than there are numbers, one after another: joined, and detached; and one that runs when the process ends. */
+/* More threads than there are numbers, one after another: joined, and detached. */
 #include <pthread.h>
 #include <semaphore.h>
 #include <stdio.h>
@@ -7,7 +7,6 @@
 static sem_t ended;
 static pthread_key_t key;
 static int made, destroyed;
-static volatile long beats;
 
 static void destroy(void *given)
 {
@@ -23,20 +22,11 @@ static void *work(void *given)
     return given;
 }
 
-static void *beat(void *given)
-{
-    (void)given;
-    for (;;)
-        beats++;
-    return NULL;
-}
-
 int main(void)
 {
-    pthread_t thread, other;
+    pthread_t thread;
     sem_init(&ended, 0, 0);
     pthread_key_create(&key, destroy);
-    pthread_create(&other, NULL, beat, NULL);
     for (int i = 0; i < 20; i++) {
         pthread_create(&thread, NULL, work, NULL);
         if (i % 2 == 0)
@@ -45,6 +35,6 @@ int main(void)
             pthread_join(thread, NULL);
         sem_wait(&ended);
     }
-    printf("made %d beats %ld\n", made, beats);
+    printf("made %d\n", made);
     return 0;
 }
