@@ -1,0 +1,179 @@
+/* The right to an object, by the library.
+ *
+ * From OCTET_READY to the thread's next call of the library no conflicting access of another thread is let pass. So the program
+ * makes its real access after the call, and an access of the same object again needs no call, if no other one came between. This
+ * rests on the thread's own accesses alone: it is the same in both runs, and so is the number of calls. */
+#include "runtime.h"
+
+struct thread threads[THREADS];
+__thread struct thread *me __attribute__((tls_model("initial-exec")));
+enum mode mode;
+bool all_stacks;
+int watch_file = -1;
+uintptr_t watch_at, watch_size;
+
+/* After so many accesses without a call one is made, so that others need not wait for long. */
+enum { MOST_WITHOUT_CALL = 1024 };
+
+static _Noreturn void left_recording(struct thread *t, int32_t status, void *from, uint64_t made)
+{
+    if (status == OCTET_OVER || (status == OCTET_HALTED && is_closing()))
+        park(t);
+    if (status == OCTET_DIVERGED) {
+        say("octet: thread %d leaves its recording at its access %lu; it was still by it at call %lu of %lu\n", t->number,
+            t->accesses, made, t->calls);
+        say("octet: at address %lx of the program: addr2line -fie PROGRAM %lx\n", (uintptr_t)from - 1, (uintptr_t)from - 1);
+    } else if (status == OCTET_HALTED) {
+        say("octet: thread %d waits for one that has left its recording, or the recording is damaged\n", t->number);
+    } else if (status == OCTET_NO_MEMORY) {
+        say("octet: there is no memory for the recording\n");
+    } else {
+        say("octet: thread %d: the library answers %d at call %lu, from %lx\n", t->number, status, t->calls, (uintptr_t)from);
+    }
+    leave_process(EXIT_DIVERGED);
+}
+
+/* The turn, in a second run: one thread at a time goes on from its call of the library to its next.
+ *
+ * The library shows an access to other threads within the call, and the program makes its real access after it. In a recording
+ * this is no matter, since there the others ask and this thread answers at its next call. In a second run they would go on. So a
+ * thread keeps its turn until it is in a call again, or rests. Who waits for marks gives it up: so the thread whose access is the
+ * earliest that is not made gets it, and goes on. */
+static volatile int turn, waiting;
+enum { MOST_CALLS_IN_TURN = 256 };
+
+static void take_turn(struct thread *t)
+{
+    int free = 0;
+    if (t->has_turn)
+        return;
+    __atomic_fetch_add(&waiting, 1, __ATOMIC_SEQ_CST);
+    for (unsigned tries = 0; !__atomic_compare_exchange_n(&turn, &free, 1, false, __ATOMIC_ACQUIRE, __ATOMIC_RELAXED); tries++) {
+        pause_short(tries);
+        free = 0;
+    }
+    __atomic_fetch_sub(&waiting, 1, __ATOMIC_SEQ_CST);
+    t->has_turn = true;
+}
+
+void give_turn(struct thread *t)
+{
+    if (!t->has_turn)
+        return;
+    t->has_turn = false;
+    __atomic_store_n(&turn, 0, __ATOMIC_RELEASE);
+}
+
+static void keep_turn(struct thread *t)
+{
+    if (waiting > 0 && t->calls % MOST_CALLS_IN_TURN == 0)
+        give_turn(t);
+    take_turn(t);
+}
+
+static __attribute__((noinline)) void wait_for_right(struct thread *t, void *from)
+{
+    uint64_t value = 0;
+    int32_t status = OCTET_PENDING;
+    for (unsigned tries = 0; status == OCTET_PENDING; tries++) {
+        give_turn(t);
+        pause_short(tries);
+        t->waits++;
+        if (mode == AGAIN)
+            take_turn(t);
+        status = octet_poll(&t->session, &value);
+    }
+    if (unlikely(status != OCTET_READY))
+        left_recording(t, status, from, value);
+}
+
+/* One call of the library. `tag` goes into the digest by which a second run is compared. */
+void own(struct thread *t, int how, uint32_t object, uint64_t tag, void *from)
+{
+    uint64_t value = 0;
+    if (unlikely(is_closing()) || unlikely(t->stops && t->calls == t->stop_after))
+        park(t);
+    if (mode == AGAIN)
+        keep_turn(t);
+    t->calls++;
+    int32_t status = octet_access(&t->session, (uint8_t)how, (uint16_t)object, tag, &value);
+    if (unlikely(status == OCTET_PENDING))
+        wait_for_right(t, from);
+    else if (unlikely(status != OCTET_READY))
+        left_recording(t, status, from, value);
+    t->last = object;
+    t->last_mode = (uint32_t)how;
+    t->hits = 0;
+}
+
+/* The data of a lock, or of a thing of the runtime's that is shared as one. */
+void own_lock(struct thread *t, uint32_t object)
+{
+    if (unlikely(t->watched.from != NULL))
+        watch_tell(t);
+    own(t, OCTET_WRITE, object, object, CALLER);
+}
+
+/* What the last watched access has left there: said at the thread's next, when no other thread can have come between. */
+void watch_tell(struct thread *t)
+{
+    struct watched watched = t->watched;
+    uint64_t value = 0;
+    t->watched.from = NULL;
+    raw_copy(&value, (void *)watch_at, watch_size > 8 ? 8 : watch_size);
+    say_to(watch_file, "%d %lu %s %lx %lx %lu\n", t->number, watched.access, watched.mode ? "write" : "read",
+           (uintptr_t)watched.from - 1, watched.at, value);
+}
+
+static inline void own_unless_last(struct thread *t, int how, uint32_t object, uintptr_t at, void *from)
+{
+    if (object == t->last && how <= (int)t->last_mode && ++t->hits < MOST_WITHOUT_CALL)
+        return;
+    own(t, how, object, at, from);
+}
+
+void access_memory(uintptr_t at, size_t size, int how, void *from)
+{
+    struct thread *t = me;
+    if (unlikely(t == NULL))
+        return;
+    t->accesses++;
+    if (unlikely(t->watched.from != NULL))
+        watch_tell(t);
+    if (at - t->stack_low < t->stack_size)
+        return;
+    uint32_t object = object_of(at);
+    if (unlikely(object - FIRST_STACK < THREADS * STACKS))
+        t->foreign++;
+    own_unless_last(t, how, object, at, from);
+    if (unlikely(size > left_in_object(at))) {
+        uint32_t second = object_of(at + size - 1);
+        if (second != object) {
+            /* The right to the first may be gone with this call. */
+            t->crossing++;
+            own_unless_last(t, how, second, at + size - 1, from);
+        }
+    }
+    if (unlikely(at + size - watch_at < watch_size + size && watch_size != 0 && at + size != watch_at))
+        t->watched = (struct watched){at, from, t->accesses, how};
+}
+
+/* Memory that the program touches as a whole after this. */
+void access_range(const void *from_here, size_t length, int how, void *from)
+{
+    uintptr_t at = (uintptr_t)from_here;
+    struct thread *t = me;
+    if (t == NULL || length == 0)
+        return;
+    bool is_own = at - t->stack_low < t->stack_size;
+    if (length > left_in_object(at) && !is_own)
+        t->crossing++;
+    while (length > 0) {
+        size_t piece = left_in_object(at);
+        if (piece > length)
+            piece = length;
+        access_memory(at, piece, how, from);
+        at += piece;
+        length -= piece;
+    }
+}
