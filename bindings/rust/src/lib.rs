@@ -34,8 +34,8 @@
 //!
 //! A run is repeated as far as its accesses decide what its threads do. Clocks, files and other locks are not recorded.
 //!
-//! All accesses are sequentially consistent. So a mistake that only a weaker order of memory shows, as a missing `Acquire` or `Release`,
-//! is never found: `loom` and `ThreadSanitizer` look for those.
+//! All accesses of a [`Session`] are sequentially consistent. So a mistake that only a weaker order of memory shows, as a missing
+//! `Acquire` or `Release`, is not found there: `loom` and `ThreadSanitizer` look for those.
 #![deny(missing_docs, unsafe_code)]
 
 #[allow(unsafe_code)]
