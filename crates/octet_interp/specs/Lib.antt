@@ -4,3 +4,4 @@ pub mod Demands
 pub mod Context
 pub mod Laws
 pub mod Following
+pub mod Standing

@@ -8,7 +8,9 @@ mod demand;
 mod follower;
 pub mod laws;
 mod leads;
+mod program;
 
 pub use config::Config;
 pub use demand::Demand;
 pub use follower::Follower;
+pub use program::{Program, Stand};

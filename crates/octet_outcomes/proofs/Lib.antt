@@ -1,0 +1,6 @@
+pub mod RowsIn
+pub mod Naming
+pub mod Closing
+pub mod Fuel
+pub mod Mirroring
+pub mod Converse
