@@ -26,7 +26,8 @@ pub(crate) struct Met {
     pub(crate) hops: List<Hop>,
 }
 
-fn are_done(ends: &[End]) -> bool
+/// Whether all threads came to their ends.
+pub(crate) fn are_done(ends: &[End]) -> bool
     ensures { result ≡ list_all is_done ends.now }
 {
     for end in ends {

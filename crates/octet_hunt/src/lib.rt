@@ -5,10 +5,12 @@
 
 mod aim;
 mod fewer;
+mod given;
 mod limits;
 mod runs;
 mod tries;
 
 pub use aim::Aim;
+pub use given::{find_by, run_by};
 pub use limits::MAX_TRIES;
 pub use tries::{Find, hunt};

@@ -65,9 +65,9 @@ impl Course {
         }
     }
 
-    // Runs the machine by the schedule until all threads have ended, or have been picked as often as
-    // their fuel allows. Counts how often a thread was stopped that could have gone on.
-    fn play(
+    /// Runs the machine by the schedule until all threads have ended, or have been picked as often as
+    /// their fuel allows. Counts how often a thread was stopped that could have gone on.
+    pub(crate) fn play(
         &mut self,
         machine: &mut Machine,
         schedule: &mut Schedule,
