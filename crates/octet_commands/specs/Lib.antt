@@ -7,6 +7,7 @@ pub mod Picks
 pub mod Request
 pub mod Profile
 pub mod Inputs
+pub mod Outcomes
 pub mod Commands
 pub mod Checked
 pub mod Replies

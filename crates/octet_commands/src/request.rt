@@ -1,11 +1,17 @@
 //! What words ask for: which task, and of which files.
 ghost use Rattle.std.specs.Prelude.{◌≡◌};
 ghost use Rattle.std.specs.Option.{option_map};
-ghost use Rattle.octet_commands.specs.Request.{texts, shown, request_in, asked_by_two, asked_by_three, asked_by_four, asked_by_five, asked_by_six, tries_of, shown_quarry, named_by, name_in};
+ghost use Rattle.octet_commands.specs.Request.{texts, shown, request_in, asked_by_two, asked_by_three, asked_by_four, asked_by_five, asked_by_six, most_of, tries_of, shown_quarry, named_by, name_in};
 
 use crate::picks::are_picks;
 use octet_hunt::MAX_TRIES;
 use octet_script::number_of;
+
+/// Moments of a search, where no words say how many.
+pub const DEFAULT_MOMENTS: u64 = 10_000_000;
+
+/// Moments of a search; there is at least 1.
+pub const MOST_MOMENTS: u64 = 2_147_483_648;
 
 /// Tasks on a script and a log.
 #[derive(Clone, Copy)]
@@ -53,6 +59,13 @@ impl<'a> Quarry<&'a str> {
             Quarry::AnyCycle => None,
         }
     }
+}
+
+/// What is claimed of runs: where all threads are done, this number is left in the object of this name.
+#[derive(Clone, Copy)]
+pub struct Claim<Text> {
+    pub name: Text,
+    pub number: u64,
 }
 
 /// What words ask for, with the names of its files. The program's texts are `&str`; definitions
@@ -108,6 +121,19 @@ pub enum Request<Text> {
         log: Text,
         tries: u32,
     },
+    /// All final heaps of the script's interleavings, by so many moments.
+    Outcomes {
+        script: Text,
+        most: u64,
+    },
+    /// Whether the claim holds of every interleaving, by so many moments. The log of a run of which it
+    /// does not hold is written.
+    Always {
+        claim: Claim<Text>,
+        script: Text,
+        log: Text,
+        most: u64,
+    },
 }
 
 /// What words ask for, if they ask for anything.
@@ -131,6 +157,10 @@ fn of_two<'a>(word: &str, file: &'a str) -> Option<Request<&'a str>>
         "tidy" => Some(Request::Tidy { script: file }),
         "show" => Some(Request::Show { log: file }),
         "marks" => Some(Request::Marks { file }),
+        "outcomes" => Some(Request::Outcomes {
+            script: file,
+            most: DEFAULT_MOMENTS,
+        }),
         _ => None,
     }
 }
@@ -159,6 +189,12 @@ fn of_three<'a>(word: &str, script: &'a str, log: &'a str) -> Option<Request<&'a
         "regions" => PairTask::Regions,
         "trace" => PairTask::Trace,
         "profile" => PairTask::Profile,
+        "outcomes" => {
+            return Some(Request::Outcomes {
+                script,
+                most: most_of(log)?,
+            });
+        }
         _ => return None,
     };
     Some(Request::OfPair {
@@ -236,6 +272,15 @@ fn of_five<'a>(
             log,
             object: Some(third),
         }),
+        "always" => Some(Request::Always {
+            claim: Claim {
+                name: third,
+                number: number_of(last.as_bytes())?,
+            },
+            script,
+            log,
+            most: DEFAULT_MOMENTS,
+        }),
         _ => None,
     }
 }
@@ -260,8 +305,28 @@ fn of_six<'a>(
             log,
             tries: tries_of(last)?,
         }),
+        "always" => Some(Request::Always {
+            claim: Claim {
+                name,
+                number: number_of(number.as_bytes())?,
+            },
+            script,
+            log,
+            most: most_of(last)?,
+        }),
         _ => None,
     }
+}
+
+// A number of moments.
+fn most_of(word: &str) -> Option<u64>
+    ensures { result ≡ most_of word.now }
+{
+    let number = number_of(word.as_bytes())?;
+    if number < 1 || number > MOST_MOMENTS {
+        return None;
+    }
+    Some(number)
 }
 
 // A number of tries.

@@ -1,0 +1,88 @@
+-- What the top call promises of searches through all interleavings.
+use Rattle.std.specs.Prelude.{ℕ, ◌≡◌, ◌<◌, ◌⊎◌, ◌++◌, true, List, codes, length, map, get_or, Contains, Option, None, Some, Ok}
+use Rattle.std.specs.FinMap.{get}
+use Rattle.std.specs.List.{All, list_all}
+use Rattle.sha2.specs.Sha256.{sha256}
+use Rattle.octet_base.specs.Desk.{Contents, DeskState}
+use Rattle.octet_model.specs.declared.log.ThreadLog.{ThreadLog}
+use Rattle.octet_model.specs.declared.outcome.Outcome.{Outcome}
+use Rattle.octet_model.specs.declared.outcome.Recorded.{Recorded}
+use Rattle.octet_model.specs.declared.script.Script.{Script}
+use Rattle.octet_model.specs.Orders.{is_done, IsFaithful}
+use Rattle.octet_hunt.specs.Hunts.{EndsOtherwise}
+use Rattle.octet_outcomes.specs.Interleavings.{IsFinal}
+use Rattle.octet_outcomes.specs.Moments.{Moment}
+use Rattle.octet_outcomes.specs.Runs.{IsReached, LeadsToEnd}
+use Rattle.octet_commands.specs.declared.inputs.Source.{Source}
+use Rattle.octet_commands.specs.declared.outcomes.Told.{Told}
+use Rattle.octet_commands.specs.declared.reply.Status.TheVariants.{Done, Otherwise}
+use Rattle.octet_commands.specs.declared.request.Request.TheVariants.{Outcomes, Always}
+use Rattle.octet_commands.specs.Answer.{code_of}
+use Rattle.octet_commands.specs.Commands.{second_bytes, IsLogFile}
+use Rattle.octet_commands.specs.Inputs.{IsScriptChosen, IsScriptRead}
+use Rattle.octet_commands.specs.Outcomes.{otherwise_text, search_text, AlwaysLeaves, IsTold, LeavesOther, SomeIsStuck}
+use Rattle.octet_commands.specs.Request.{request_in, Claim}
+
+-- what holds of every run of a script that was recorded faithfully and whose threads are all done, by its final heap
+abbrev pub OfRecorded : Script → (List ℕ → Type 0) → Type 0
+OfRecorded script Holds = (log : List ThreadLog) (outcome : Outcome) → IsFaithful script log outcome → list_all is_done outcome.ends ≡ true → Holds outcome.heap
+
+-- a script was taken, and all final heaps of its interleavings were said. Each is one of the plain machine with fuel enough,
+-- and each recorded run whose threads are all done ends with one of them. Where no moment is stuck, every one leads to an end
+pub record IsSearched (script_name : List ℕ) (before after : Contents) : Type 0 where
+  pub source : Source
+  pub read : IsScriptRead script_name (Some before) (Ok source)
+  pub told : List Told
+  pub moments : ℕ
+  pub stuck : ℕ
+  pub each : All (IsTold source.script) told
+  pub final : All (λ t. IsFinal source.script t.heap) told
+  pub all : OfRecorded source.script (Contains (map (λ t. t.heap) told))
+  pub some_stuck : 0 < stuck → SomeIsStuck source.script
+  pub none_stuck : stuck ≡ 0 → (m : Moment) → IsReached source.script m → LeadsToEnd source.script m
+  pub contents : after.said ≡ before.said ++ search_text source.script told moments stuck
+
+-- `outcomes` with all done has searched its script, where the desk tells its contents
+abbrev pub FindsOutcomes : List (List ℕ) → DeskState → DeskState → ℕ → Type 0
+FindsOutcomes words before after code =
+    (script_name : List ℕ) (most : ℕ) (contents contents' : Contents) → request_in words ≡ Some (Outcomes script_name most) → code ≡ code_of Done → before.contents ≡ Some contents → after.contents ≡ Some contents'
+    → IsSearched script_name contents contents'
+
+-- a script with the named object was taken, and it was said that the claim holds. Every run whose threads are all done
+-- leaves the number in the object, and so does each that is recorded
+pub record IsAlways (claim : Claim) (script_name : List ℕ) (before after : Contents) : Type 0 where
+  pub source : Source
+  pub object : ℕ
+  pub read : IsScriptChosen script_name (Some claim.name) (Some before) (Ok (source, Some object))
+  pub always : AlwaysLeaves source.script object claim.number
+  pub recorded : OfRecorded source.script (λ heap. get_or heap object 0 ≡ claim.number)
+  pub contents : after.said ≡ before.said ++ codes "always\n"
+
+-- `always` with all done has shown its claim, where the desk tells its contents
+abbrev pub ShowsAlways : List (List ℕ) → DeskState → DeskState → ℕ → Type 0
+ShowsAlways words before after code =
+    (claim : Claim) (script_name log_name : List ℕ) (most : ℕ) (contents contents' : Contents) → request_in words ≡ Some (Always claim script_name log_name most) → code ≡ code_of Done → before.contents ≡ Some contents → after.contents ≡ Some contents'
+    → IsAlways claim script_name contents contents'
+
+-- the log of a run of which the claim does not hold was written in version 2, with the script's digest.
+-- The preemptions and the outcome were said
+pub record IsRefuted (claim : Claim) (source : Source) (object : ℕ) (log_name : List ℕ) (before after : Contents) : Type 0 where
+  pub preemptions : ℕ
+  pub recorded : Recorded
+  pub ends : EndsOtherwise source.script object claim.number recorded
+  pub written : get after.files log_name ≡ Some (second_bytes source.text recorded.log.threads)
+  pub file : IsLogFile (second_bytes source.text recorded.log.threads) (Some (sha256 source.text)) recorded.log.threads
+  pub contents : after.said ≡ before.said ++ otherwise_text source.script preemptions recorded.outcome
+
+-- a script with the named object was taken, and the claim does not hold: a recorded run shows it, or one that needs more fuel
+pub record IsNotAlways (claim : Claim) (script_name log_name : List ℕ) (before after : Contents) : Type 0 where
+  pub source : Source
+  pub object : ℕ
+  pub read : IsScriptChosen script_name (Some claim.name) (Some before) (Ok (source, Some object))
+  pub shown : IsRefuted claim source object log_name before after ⊎ ((value : ℕ) × LeavesOther source.script object claim.number value)
+
+-- `always` with the status 14 has found that its claim does not hold, where the desk tells its contents
+abbrev pub RefutesAlways : List (List ℕ) → DeskState → DeskState → ℕ → Type 0
+RefutesAlways words before after code =
+    (claim : Claim) (script_name log_name : List ℕ) (most : ℕ) (contents contents' : Contents) → request_in words ≡ Some (Always claim script_name log_name most) → code ≡ code_of Otherwise → before.contents ≡ Some contents → after.contents ≡ Some contents'
+    → IsNotAlways claim script_name log_name contents contents'
