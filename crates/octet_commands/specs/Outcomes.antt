@@ -8,7 +8,8 @@ use Rattle.octet_model.specs.declared.script.Script.{Script}
 use Rattle.octet_model.specs.Orders.{is_done, IsFaithful}
 use Rattle.octet_model.specs.Texts.{object_lines, outcome_text}
 use Rattle.octet_outcomes.specs.Moments.{Moment}
-use Rattle.octet_outcomes.specs.Runs.{AreAllOutcomes, IsOutcome, IsReached, LeadsToEnd}
+use Rattle.octet_outcomes.specs.Runs.{AreAllOutcomes, IsOutcome, IsReached}
+use Rattle.octet_outcomes.specs.Stuck.{IsStuck, LeadsToEnd}
 use Rattle.octet_commands.specs.declared.outcomes.Told.{Told}
 use Rattle.octet_commands.specs.declared.reply.Status.TheVariants.{Done, NotAll, Otherwise}
 use Rattle.octet_commands.specs.Answer.{Answer, says}
@@ -30,7 +31,7 @@ pub record IsTold (script : Script) (told : Told) : Type 0 where
 pub record SomeIsStuck (script : Script) : Type 0 where
   pub moment : Moment
   pub reached : IsReached script moment
-  pub stuck : ¬ LeadsToEnd script moment
+  pub stuck : IsStuck script moment
 
 -- these heaps are told, with so many stuck moments. A whole search tells each heap of every interleaving,
 -- and where it finds no stuck moment, every interleaving can go on until all threads are done

@@ -29,5 +29,7 @@ pub use outcomes::Told;
 pub use picks::picks_of;
 pub use refusal::Refused;
 pub use reply::{Output, Reply, Status};
-pub use request::{Claim, DEFAULT_MOMENTS, MOST_MOMENTS, PairTask, Quarry, Request, Way, request_of};
+pub use request::{
+    Claim, DEFAULT_MOMENTS, MOST_MOMENTS, PairTask, Quarry, Request, Way, request_of,
+};
 pub use without_runtime::{reply_alone, serve_alone};

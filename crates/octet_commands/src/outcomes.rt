@@ -1,7 +1,7 @@
 //! The command `outcomes SCRIPT [MOST]`.
 ghost use Rattle.std.specs.Prelude.{◌≡◌, ◌++◌, true, length, map as list_map, IfOk, OnOk};
 ghost use Rattle.std.specs.List.{All, flat_map};
-ghost use Rattle.octet_outcomes.specs.Runs.{IsEnding};
+ghost use Rattle.octet_outcomes.specs.Endings.{heap_of, IsEnding};
 ghost use Rattle.octet_commands.specs.Answer.{answer_of};
 ghost use Rattle.octet_commands.specs.Outcomes.{search_said, search_text, told_text, IsRecorded, IsTold, OutcomesAnswers};
 
@@ -19,11 +19,7 @@ pub struct Told {
 }
 
 /// All final heaps are said, or as many as were found, and how many moments lead to none.
-pub(crate) fn outcomes(
-    alloc: Global,
-    script: &Script,
-    most: u64,
-) -> Result<Reply, OutOfMemory>
+pub(crate) fn outcomes(alloc: Global, script: &Script, most: u64) -> Result<Reply, OutOfMemory>
     ensures { IfOk result (λ reply. OutcomesAnswers script.now (answer_of reply)) }
 {
     let found = explore(alloc, script, most as usize)?;
@@ -53,14 +49,10 @@ fn is_within(alloc: Global, script: &Script, ending: &Ending) -> Result<bool, Ou
     Ok(recorded.outcome.heap.as_slice() == ending.heap.as_slice())
 }
 
-fn told_of(
-    alloc: Global,
-    script: &Script,
-    endings: &[Ending],
-) -> Result<List<Told>, OutOfMemory>
+fn told_of(alloc: Global, script: &Script, endings: &[Ending]) -> Result<List<Told>, OutOfMemory>
     requires { All (IsEnding script.now) endings.now }
     ensures each { IfOk result (λ told. All (IsTold script.now) told) }
-    ensures heaps { IfOk result (λ told. list_map (λ t. t.heap) told ≡ list_map (λ e. e.heap) endings.now) }
+    ensures heaps { IfOk result (λ told. list_map (λ t. t.heap) told ≡ list_map heap_of endings.now) }
 {
     let mut told = List::new(alloc);
     for ending in endings {

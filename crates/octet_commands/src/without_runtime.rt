@@ -122,9 +122,7 @@ fn of_always<D: Desk>(
     ensures { Replies (Some (Always (shown_claim claim.entry) script.now log.now most)) (D.state desk.old) (given_reply result) (D.state desk.new) }
 {
     let (source, wanted) = read_chosen(alloc, desk, script, Some(claim.name))?;
-    let Some(place) = wanted else {
-        unreachable!()
-    };
+    let Some(place) = wanted else { unreachable!() };
     Ok(always(alloc, &source, place as u16, claim.number, most, log)?)
 }
 

@@ -12,7 +12,8 @@ use Rattle.octet_model.specs.Orders.{is_done, IsFaithful}
 use Rattle.octet_hunt.specs.Hunts.{EndsOtherwise}
 use Rattle.octet_outcomes.specs.Interleavings.{IsFinal}
 use Rattle.octet_outcomes.specs.Moments.{Moment}
-use Rattle.octet_outcomes.specs.Runs.{IsReached, LeadsToEnd}
+use Rattle.octet_outcomes.specs.Runs.{IsReached}
+use Rattle.octet_outcomes.specs.Stuck.{LeadsToEnd}
 use Rattle.octet_commands.specs.declared.inputs.Source.{Source}
 use Rattle.octet_commands.specs.declared.outcomes.Told.{Told}
 use Rattle.octet_commands.specs.declared.reply.Status.TheVariants.{Done, Otherwise}
