@@ -4,15 +4,19 @@ use Rattle.std.specs.Fmt.{decimal}
 use Rattle.std.specs.List.{All, flat_map, list_all}
 use Rattle.octet_model.specs.declared.log.ThreadLog.{ThreadLog}
 use Rattle.octet_model.specs.declared.outcome.Outcome.{Outcome}
+use Rattle.octet_model.specs.declared.outcome.Recorded.{Recorded}
 use Rattle.octet_model.specs.declared.script.Script.{Script}
 use Rattle.octet_model.specs.Orders.{is_done, IsFaithful}
 use Rattle.octet_model.specs.Texts.{object_lines, outcome_text}
+use Rattle.octet_hunt.specs.Hunts.{EndsOtherwise}
 use Rattle.octet_outcomes.specs.Moments.{Moment}
 use Rattle.octet_outcomes.specs.Runs.{AreAllOutcomes, IsOutcome, IsReached}
 use Rattle.octet_outcomes.specs.Stuck.{IsStuck, LeadsToEnd}
 use Rattle.octet_commands.specs.declared.outcomes.Told.{Told}
 use Rattle.octet_commands.specs.declared.reply.Status.TheVariants.{Done, NotAll, Otherwise}
+use Rattle.octet_commands.specs.declared.request.Claim.TheVariants.{Leaves, CanEnd}
 use Rattle.octet_commands.specs.Answer.{Answer, says}
+use Rattle.octet_commands.specs.Request.{Claim}
 
 -- some faithful recording whose threads are all done ends with this heap
 pub record IsRecorded (script : Script) (heap : List ℕ) : Type 0 where
@@ -33,13 +37,17 @@ pub record SomeIsStuck (script : Script) : Type 0 where
   pub reached : IsReached script moment
   pub stuck : IsStuck script moment
 
+-- every run can go on until all its threads are done
+abbrev pub CanAlwaysEnd : Script → Type 0
+CanAlwaysEnd script = (m : Moment) → IsReached script m → LeadsToEnd script m
+
 -- these heaps are told, with so many stuck moments. A whole search tells each heap of every interleaving,
 -- and where it finds no stuck moment, every interleaving can go on until all threads are done
 pub record IsExplored (script : Script) (told : List Told) (stuck : ℕ) (whole : Bool) : Type 0 where
   pub each : All (IsTold script) told
   pub all : whole ≡ true → AreAllOutcomes script (map (λ t. t.heap) told)
   pub some_stuck : 0 < stuck → SomeIsStuck script
-  pub none_stuck : whole ≡ true → stuck ≡ 0 → (m : Moment) → IsReached script m → LeadsToEnd script m
+  pub none_stuck : whole ≡ true → stuck ≡ 0 → CanAlwaysEnd script
 
 -- the text of a heap that is told
 abbrev pub told_text : Script → Told → List ℕ
@@ -74,15 +82,38 @@ pub record LeavesOther (script : Script) (object number value : ℕ) : Type 0 wh
   pub leaves : get_or heap object 0 ≡ value
   pub other : value ≢ number
 
--- the answer where no other value was found: that it is always so, if all was seen
+-- the claim holds of every run of a script, with this object
+abbrev pub Holds : Script → Claim → Option ℕ → Type 0
+Holds script (Leaves name number) (Some object) = AlwaysLeaves script object number
+Holds script (Leaves name number) None = ⊥
+Holds script CanEnd wanted = CanAlwaysEnd script
+
+-- there is a run of which the claim does not hold
+abbrev pub Fails : Script → Claim → Option ℕ → Type 0
+Fails script (Leaves name number) (Some object) = (value : ℕ) × LeavesOther script object number value
+Fails script (Leaves name number) None = ⊥
+Fails script CanEnd wanted = SomeIsStuck script
+
+-- a faithful recording of a run of which not all threads are done
+pub record IsUnfinished (script : Script) (recorded : Recorded) : Type 0 where
+  pub faithful : IsFaithful script recorded.log.threads recorded.outcome
+  pub unfinished : list_all is_done recorded.outcome.ends ≡ false
+
+-- the recording is of a run of which the claim does not hold
+abbrev pub Refutes : Script → Claim → Option ℕ → Recorded → Type 0
+Refutes script (Leaves name number) (Some object) recorded = EndsOtherwise script object number recorded
+Refutes script (Leaves name number) None recorded = ⊥
+Refutes script CanEnd wanted recorded = IsUnfinished script recorded
+
+-- the answer where no run was found of which a claim does not hold: that it always holds, if all was seen
 abbrev pub none_other : Bool → Answer
 none_other true = says Done (codes "always\n")
 none_other false = says NotAll not_all_line
 
--- the text of a run that ends otherwise: how often its threads are preempted, and its outcome
+-- the text of a run of which a claim does not hold: how often its threads are preempted, and its outcome
 abbrev pub otherwise_text : Script → ℕ → Outcome → List ℕ
 otherwise_text script preemptions outcome = codes "otherwise\npreemptions " ++ decimal preemptions ++ codes "\n" ++ outcome_text script outcome
 
--- the answer that it is otherwise after a run for which the script's fuel is not enough. No log is written
-abbrev pub past_fuel_said : ℕ → Answer
-past_fuel_said value = says Otherwise (codes "otherwise " ++ decimal value ++ codes " past the fuel\n")
+-- the answer where the script's fuel is not enough for such a run. No log is written
+abbrev pub past_fuel : Answer
+past_fuel = says Otherwise (codes "otherwise past the fuel\n")

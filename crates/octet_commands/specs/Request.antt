@@ -15,6 +15,7 @@ use Rattle.octet_commands.specs.declared.request.Way.TheVariants.{AsTheyCome, Be
 use Rattle.octet_commands.specs.declared.request.Quarry as quarry
 use Rattle.octet_commands.specs.declared.request.Quarry.TheVariants.{OtherEnd, AnyCycle}
 use Rattle.octet_commands.specs.declared.request.Claim as claim
+use Rattle.octet_commands.specs.declared.request.Claim.TheVariants.{Leaves, CanEnd}
 use Rattle.octet_commands.specs.declared.request.Request as request
 use Rattle.octet_commands.specs.declared.request.Request.TheVariants.{Tidy, Show, Marks, OfPair, Parallel, Convert, Run, Gen, Hunt, Outcomes, Always}
 
@@ -36,7 +37,7 @@ digest_kept (ByPicks picks) text = None
 abbrev pub Quarry : Type 0
 Quarry = quarry.Quarry (List ℕ)
 
--- what is claimed of runs, with its name as a list of bytes
+-- what is claimed of every run, with its name as a list of bytes
 abbrev pub Claim : Type 0
 Claim = claim.Claim (List ℕ)
 
@@ -48,6 +49,11 @@ Request = request.Request (List ℕ)
 abbrev pub named_by : Quarry → Option (List ℕ)
 named_by (OtherEnd name number) = Some name
 named_by AnyCycle = None
+
+-- the object that a claim names
+abbrev pub claimed_of : Claim → Option (List ℕ)
+claimed_of (Leaves name number) = Some name
+claimed_of CanEnd = None
 
 -- the number of tries that a word says, from 1 to 1,000,000
 abbrev pub tries_of : List ℕ → Option ℕ
@@ -76,7 +82,8 @@ asked_by_three word script log =
     else (if bytes_eq word (codes "regions") then Some (OfPair Regions script log None)
     else (if bytes_eq word (codes "trace") then Some (OfPair Trace script log None)
     else (if bytes_eq word (codes "profile") then Some (OfPair Profile script log None)
-    else (if bytes_eq word (codes "outcomes") then option_map (λ most. Outcomes script most) (most_of log) else None))))))))
+    else (if bytes_eq word (codes "outcomes") then option_map (λ most. Outcomes script most) (most_of log)
+    else (if bytes_eq word (codes "always") then Some (Always CanEnd script log DEFAULT_MOMENTS) else None)))))))))
 
 -- what four words ask for
 abbrev pub asked_by_four : List ℕ → List ℕ → List ℕ → List ℕ → Option Request
@@ -85,20 +92,21 @@ asked_by_four word first second third =
     else (if bytes_eq word (codes "turns") && are_picks third then Some (Run (ByPicks third) first second)
     else (if bytes_eq word (codes "profile") then Some (OfPair Profile first second (Some third))
     else (if bytes_eq word (codes "convert") then Some (Convert first second third)
-    else (if bytes_eq word (codes "hunt") then option_map (λ tries. Hunt AnyCycle first second tries) (tries_of third) else None))))
+    else (if bytes_eq word (codes "hunt") then option_map (λ tries. Hunt AnyCycle first second tries) (tries_of third)
+    else (if bytes_eq word (codes "always") then option_map (λ most. Always CanEnd first second most) (most_of third) else None)))))
 
 -- what five words ask for
 abbrev pub asked_by_five : List ℕ → List ℕ → List ℕ → List ℕ → List ℕ → Option Request
 asked_by_five word script log third last =
     if bytes_eq word (codes "slice") then elim (number_of third) [ None ↦ None | Some thread ↦ option_map (λ event. OfPair (Slice thread event) script log None) (number_of last) ]
     else (if bytes_eq word (codes "stop") then option_map (λ value. OfPair (Stop value) script log (Some third)) (number_of last)
-    else (if bytes_eq word (codes "always") then option_map (λ number. Always (record { name = third; number = number }) script log DEFAULT_MOMENTS) (number_of last) else None))
+    else (if bytes_eq word (codes "always") then option_map (λ number. Always (Leaves third number) script log DEFAULT_MOMENTS) (number_of last) else None))
 
 -- what six words ask for
 abbrev pub asked_by_six : List ℕ → List ℕ → List ℕ → List ℕ → List ℕ → List ℕ → Option Request
 asked_by_six word script log name number last =
     if bytes_eq word (codes "hunt") then elim (number_of number) [ None ↦ None | Some n ↦ option_map (λ tries. Hunt (OtherEnd name n) script log tries) (tries_of last) ]
-    else (if bytes_eq word (codes "always") then elim (number_of number) [ None ↦ None | Some n ↦ option_map (λ most. Always (record { name = name; number = n }) script log most) (most_of last) ] else None)
+    else (if bytes_eq word (codes "always") then elim (number_of number) [ None ↦ None | Some n ↦ option_map (λ most. Always (Leaves name n) script log most) (most_of last) ] else None)
 
 -- what words ask for, if they ask for anything
 abbrev pub request_in : List (List ℕ) → Option Request
@@ -161,7 +169,8 @@ shown_quarry AnyCycle = AnyCycle
 
 -- the claim that the program holds, by the bytes of its name
 abbrev pub shown_claim : claim.Claim (Bor (List ℕ)) → Claim
-shown_claim claim = record { name = claim.name.now; number = claim.number }
+shown_claim (Leaves name number) = Leaves name.now number
+shown_claim CanEnd = CanEnd
 
 -- the request that the program holds, by the bytes of its texts
 abbrev pub shown : request.Request (Bor (List ℕ)) → Request

@@ -1,41 +1,114 @@
-//! The command `always SCRIPT LOG NAME NUMBER [MOST]`.
-ghost use Rattle.std.specs.Prelude.{◌≡◌, ◌≢◌, ◌<◌, Some, get_or, length, IfOk, IfSome, IsNone};
+//! The commands `always SCRIPT LOG NAME NUMBER [MOST]` and `always SCRIPT LOG [MOST]`.
+ghost use Rattle.std.specs.Prelude.{ℕ, ◌≡◌, ◌≢◌, ◌<◌, ◌×◌, Ok, get_or, length, IfOk, IfSome, IsNone};
 ghost use Rattle.std.specs.List.{All, Exists};
 ghost use Rattle.octet_hunt.specs.Hunts.{EndsOtherwise};
 ghost use Rattle.octet_commands.specs.Answer.{answer_of};
 ghost use Rattle.octet_commands.specs.Commands.{AlwaysAnswers, IsWitness};
-ghost use Rattle.octet_commands.specs.Outcomes.{none_other, otherwise_text, past_fuel_said};
+ghost use Rattle.octet_commands.specs.Inputs.{IsChosen};
+ghost use Rattle.octet_commands.specs.Judging.{IsJudged, IsJudgedBy};
+ghost use Rattle.octet_commands.specs.Outcomes.{none_other, otherwise_text, past_fuel, AlwaysLeaves, CanAlwaysEnd, IsUnfinished, LeavesOther, Refutes, SomeIsStuck};
+ghost use Rattle.octet_commands.specs.Request.{claimed_of, shown_claim};
 
 use crate::inputs::Source;
 use crate::reply::{Reply, Status};
-use octet_hunt::{Aim, Find, find_by};
+use crate::request::Claim;
+use octet_hunt::{Aim, Find, are_done, find_by, record_by};
 use octet_log::{digest, encode_v2};
-use octet_model::{OutOfMemory, outcome_text};
+use octet_model::{OutOfMemory, Script, outcome_text};
 use octet_outcomes::{Ending, explore};
 use std::alloc::Global;
 
-/// Whether every run whose threads are all done leaves the number in the object is said. Where one
-/// leaves another, the log of such a run is written in version 2, and its outcome is said.
+/// What is known of a claim about every run.
+#[derive(Drop)]
+pub(crate) enum Judged {
+    /// It holds of each.
+    Always,
+    /// There is a run of which it does not hold; with what was recorded of one, if the script's fuel is
+    /// enough.
+    Otherwise { find: Option<Find> },
+    /// Not all was seen.
+    Unsure,
+}
+
+/// Whether the claim holds of every run of the script is said, where all was seen. Else the log of a
+/// run of which it does not hold is written in version 2, and its outcome is said.
 pub(crate) fn always(
     alloc: Global,
     source: &Source,
-    object: u16,
-    number: u64,
+    wanted: Option<usize>,
+    claim: Claim<&str>,
     most: u64,
     log_name: &str,
 ) -> Result<Reply, OutOfMemory>
-    requires { object < length source.now.script.objects }
-    ensures { IfOk result (λ reply. AlwaysAnswers number log_name.now (source.now, Some object) (answer_of reply)) }
+    requires { IsChosen source.now.script (claimed_of (shown_claim claim)) (Ok wanted) }
+    ensures { IfOk result (λ reply. AlwaysAnswers (shown_claim claim.entry) log_name.now (source.now, wanted) (answer_of reply)) }
 {
-    let found = explore(alloc, &source.script, most as usize)?;
-    let endings = found.endings.as_slice();
-    let Some(value) = other_value(endings, object, number) else {
-        return say_none(alloc, found.is_whole);
-    };
-    match find_run(alloc, source, object, number, endings)? {
-        Some(find) => say_otherwise(alloc, source, object, number, &find, log_name),
-        None => say_past_fuel(alloc, value),
+    match judge(alloc, &source.script, wanted, claim, most)? {
+        Judged::Always => say_none(alloc, true),
+        Judged::Unsure => say_none(alloc, false),
+        Judged::Otherwise { find: None } => say_past_fuel(alloc),
+        Judged::Otherwise { find: Some(find) } => {
+            say_otherwise(alloc, source, wanted, claim, &find, log_name)
+        }
     }
+}
+
+#[tactic(auto, using(crate::proofs::answering::Hunted::wanted_is_there, crate::proofs::answering::Hunted::few_objects))]
+fn judge(
+    alloc: Global,
+    script: &Script,
+    wanted: Option<usize>,
+    claim: Claim<&str>,
+    most: u64,
+) -> Result<Judged, OutOfMemory>
+    requires { IsChosen script.now (claimed_of (shown_claim claim)) (Ok wanted) }
+    ensures { IfOk result (IsJudged script.now (shown_claim claim.entry) wanted) }
+{
+    match (claim, wanted) {
+        (Claim::Leaves { number, .. }, Some(place)) => {
+            judge_leaves(alloc, script, place as u16, number, most)
+        }
+        (Claim::Leaves { .. }, None) => unreachable!(),
+        (Claim::CanEnd, _) => judge_can_end(alloc, script, most),
+    }
+}
+
+// Whether every run whose threads are all done leaves the number in the object.
+fn judge_leaves(
+    alloc: Global,
+    script: &Script,
+    object: u16,
+    number: u64,
+    most: u64,
+) -> Result<Judged, OutOfMemory>
+    requires { object < length script.now.objects }
+    ensures { IfOk result (IsJudgedBy (AlwaysLeaves script.now object number) ((value : ℕ) × LeavesOther script.now object number value) (EndsOtherwise script.now object number)) }
+{
+    let found = explore(alloc, script, most as usize)?;
+    let endings = found.endings.as_slice();
+    if has_other(endings, object, number) {
+        let find = find_run(alloc, script, object, number, endings)?;
+        return Ok(Judged::Otherwise { find });
+    }
+    if found.is_whole {
+        return Ok(Judged::Always);
+    }
+    Ok(Judged::Unsure)
+}
+
+// Whether every run can go on until all its threads are done.
+fn judge_can_end(alloc: Global, script: &Script, most: u64) -> Result<Judged, OutOfMemory>
+    ensures { IfOk result (IsJudgedBy (CanAlwaysEnd script.now) (SomeIsStuck script.now) (IsUnfinished script.now)) }
+{
+    let found = explore(alloc, script, most as usize)?;
+    if found.stuck > 0 {
+        let find = unfinished_run(alloc, script, found.way.as_slice())?;
+        return Ok(Judged::Otherwise { find });
+    }
+    if found.is_whole {
+        return Ok(Judged::Always);
+    }
+    Ok(Judged::Unsure)
 }
 
 fn value_at(heap: &[u64], object: u16) -> u64
@@ -44,41 +117,53 @@ fn value_at(heap: &[u64], object: u16) -> u64
     heap.get(object as usize).copied().unwrap_or(0)
 }
 
-// The first value other than the number that the object has at an ending.
-fn other_value(endings: &[Ending], object: u16, number: u64) -> Option<u64>
-    ensures none { IsNone result → All (λ ending. get_or ending.heap object 0 ≡ number) endings.now }
-    ensures some { IfSome result (λ value. (value ≢ number) × Exists (λ ending. get_or ending.heap object 0 ≡ value) endings.now) }
+// Whether some ending has another value than the number at the object.
+fn has_other(endings: &[Ending], object: u16, number: u64) -> bool
+    ensures none { result ≡ false → All (λ ending. get_or ending.heap object 0 ≡ number) endings.now }
+    ensures some { result ≡ true → Exists (λ ending. get_or ending.heap object 0 ≢ number) endings.now }
 {
     for ending in endings {
-        let value = value_at(ending.heap.as_slice(), object);
-        if value != number {
-            return Some(value);
+        if value_at(ending.heap.as_slice(), object) != number {
+            return true;
         }
     }
-    None
+    false
 }
 
 // A run by the way to one of the endings that leaves another value in the object.
 fn find_run(
     alloc: Global,
-    source: &Source,
+    script: &Script,
     object: u16,
     number: u64,
     endings: &[Ending],
 ) -> Result<Option<Find>, OutOfMemory>
-    requires { object < length source.now.script.objects }
-    ensures { IfOk result (λ found. IfSome found (λ find. EndsOtherwise source.now.script object number find.recorded)) }
+    requires { object < length script.now.objects }
+    ensures { IfOk result (λ found. IfSome found (λ find. EndsOtherwise script.now object number find.recorded)) }
 {
     let aim = Aim::OtherValue { object, number };
     for ending in endings {
         if value_at(ending.heap.as_slice(), object) == number {
             continue;
         }
-        if let Some(find) = find_by(alloc, &source.script, aim, ending.picks.as_slice())? {
+        if let Some(find) = find_by(alloc, script, aim, ending.picks.as_slice())? {
             return Ok(Some(find));
         }
     }
     Ok(None)
+}
+
+// The run by this way, if it ends before all its threads are done.
+fn unfinished_run(alloc: Global, script: &Script, way: &[u8]) -> Result<Option<Find>, OutOfMemory>
+    ensures { IfOk result (λ found. IfSome found (λ find. IsUnfinished script.now find.recorded)) }
+{
+    let Some(find) = record_by(alloc, script, way)? else {
+        return Ok(None);
+    };
+    if are_done(find.recorded.outcome.ends.as_slice()) {
+        return Ok(None);
+    }
+    Ok(Some(find))
 }
 
 fn say_none(alloc: Global, is_whole: bool) -> Result<Reply, OutOfMemory>
@@ -92,25 +177,25 @@ fn say_none(alloc: Global, is_whole: bool) -> Result<Reply, OutOfMemory>
     Ok(Reply::saying(alloc, Status::NotAll, line))
 }
 
-fn say_past_fuel(alloc: Global, value: u64) -> Result<Reply, OutOfMemory>
-    ensures { IfOk result (λ reply. answer_of reply ≡ past_fuel_said value) }
+fn say_past_fuel(alloc: Global) -> Result<Reply, OutOfMemory>
+    ensures { IfOk result (λ reply. answer_of reply ≡ past_fuel) }
 {
-    let line = format!(in alloc; "otherwise {value} past the fuel\n")?;
-    Ok(Reply::saying(alloc, Status::Otherwise, line.into_bytes()))
+    let line = Vec::from_slice(alloc, b"otherwise past the fuel\n")?;
+    Ok(Reply::saying(alloc, Status::Otherwise, line))
 }
 
 fn say_otherwise(
     alloc: Global,
     source: &Source,
-    object: u16,
-    number: u64,
+    wanted: Option<usize>,
+    claim: Claim<&str>,
     find: &Find,
     log_name: &str,
 ) -> Result<Reply, OutOfMemory>
-    requires { EndsOtherwise source.now.script object number find.now.recorded }
-    ensures { IfOk result (λ reply. IsWitness log_name.now source.now object number (answer_of reply)) }
+    requires { Refutes source.now.script (shown_claim claim) wanted find.now.recorded }
+    ensures { IfOk result (λ reply. IsWitness (shown_claim claim.entry) log_name.now source.now wanted (answer_of reply)) }
 {
-    let text = otherwise_text(alloc, source, object, number, find)?;
+    let text = otherwise_text(alloc, source, wanted, claim, find)?;
     let digest = digest(source.text.as_slice());
     let bytes = encode_v2(alloc, &find.recorded.log, &digest)?;
     Reply::reporting(alloc, Status::Otherwise, log_name, bytes, text)
@@ -119,11 +204,11 @@ fn say_otherwise(
 fn otherwise_text(
     alloc: Global,
     source: &Source,
-    object: u16,
-    number: u64,
+    wanted: Option<usize>,
+    claim: Claim<&str>,
     find: &Find,
 ) -> Result<Vec<u8>, OutOfMemory>
-    requires { EndsOtherwise source.now.script object number find.now.recorded }
+    requires { Refutes source.now.script (shown_claim claim) wanted find.now.recorded }
     ensures { IfOk result (λ text. text.items ≡ otherwise_text source.now.script find.now.preemptions find.now.recorded.outcome) }
 {
     let line = format!(in alloc; "otherwise\npreemptions {}\n", find.preemptions)?;

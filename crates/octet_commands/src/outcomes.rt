@@ -6,7 +6,7 @@ ghost use Rattle.octet_commands.specs.Answer.{answer_of};
 ghost use Rattle.octet_commands.specs.Outcomes.{search_said, search_text, told_text, IsRecorded, IsTold, OutcomesAnswers};
 
 use crate::reply::{Reply, Status};
-use octet_hunt::run_by;
+use octet_hunt::{are_done, record_by};
 use octet_model::{List, OutOfMemory, Script, push_object_lines};
 use octet_outcomes::{Ending, Outcomes, explore};
 use std::alloc::Global;
@@ -43,10 +43,11 @@ fn say_search(alloc: Global, text: Vec<u8>, is_whole: bool) -> Result<Reply, Out
 fn is_within(alloc: Global, script: &Script, ending: &Ending) -> Result<bool, OutOfMemory>
     ensures { IfOk result (λ within. within ≡ true → IsRecorded script.now ending.now.heap) }
 {
-    let Some(recorded) = run_by(alloc, script, ending.picks.as_slice())? else {
+    let Some(find) = record_by(alloc, script, ending.picks.as_slice())? else {
         return Ok(false);
     };
-    Ok(recorded.outcome.heap.as_slice() == ending.heap.as_slice())
+    let outcome = &find.recorded.outcome;
+    Ok(are_done(outcome.ends.as_slice()) && outcome.heap.as_slice() == ending.heap.as_slice())
 }
 
 fn told_of(alloc: Global, script: &Script, endings: &[Ending]) -> Result<List<Told>, OutOfMemory>

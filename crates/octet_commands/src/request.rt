@@ -1,7 +1,7 @@
 //! What words ask for: which task, and of which files.
 ghost use Rattle.std.specs.Prelude.{◌≡◌};
 ghost use Rattle.std.specs.Option.{option_map};
-ghost use Rattle.octet_commands.specs.Request.{texts, shown, request_in, asked_by_two, asked_by_three, asked_by_four, asked_by_five, asked_by_six, most_of, tries_of, shown_quarry, named_by, name_in};
+ghost use Rattle.octet_commands.specs.Request.{texts, shown, request_in, asked_by_two, asked_by_three, asked_by_four, asked_by_five, asked_by_six, most_of, tries_of, shown_claim, shown_quarry, claimed_of, named_by, name_in};
 
 use crate::picks::are_picks;
 use octet_hunt::MAX_TRIES;
@@ -61,11 +61,25 @@ impl<'a> Quarry<&'a str> {
     }
 }
 
-/// What is claimed of runs: where all threads are done, this number is left in the object of this name.
+/// What is claimed of every run.
 #[derive(Clone, Copy)]
-pub struct Claim<Text> {
-    pub name: Text,
-    pub number: u64,
+pub enum Claim<Text> {
+    /// Where all its threads are done, it leaves this number in the object of this name.
+    Leaves { name: Text, number: u64 },
+    /// It can go on until all its threads are done.
+    CanEnd,
+}
+
+impl<'a> Claim<&'a str> {
+    /// The object that is named.
+    pub(crate) fn name(self) -> Option<&'a str>
+        ensures { name_in result ≡ claimed_of (shown_claim self.entry) }
+    {
+        match self {
+            Claim::Leaves { name, .. } => Some(name),
+            Claim::CanEnd => None,
+        }
+    }
 }
 
 /// What words ask for, with the names of its files. The program's texts are `&str`; definitions
@@ -195,6 +209,14 @@ fn of_three<'a>(word: &str, script: &'a str, log: &'a str) -> Option<Request<&'a
                 most: most_of(log)?,
             });
         }
+        "always" => {
+            return Some(Request::Always {
+                claim: Claim::CanEnd,
+                script,
+                log,
+                most: DEFAULT_MOMENTS,
+            });
+        }
         _ => return None,
     };
     Some(Request::OfPair {
@@ -241,6 +263,12 @@ fn of_four<'a>(
             log: second,
             tries: tries_of(third)?,
         }),
+        "always" => Some(Request::Always {
+            claim: Claim::CanEnd,
+            script: first,
+            log: second,
+            most: most_of(third)?,
+        }),
         _ => None,
     }
 }
@@ -273,7 +301,7 @@ fn of_five<'a>(
             object: Some(third),
         }),
         "always" => Some(Request::Always {
-            claim: Claim {
+            claim: Claim::Leaves {
                 name: third,
                 number: number_of(last.as_bytes())?,
             },
@@ -306,7 +334,7 @@ fn of_six<'a>(
             tries: tries_of(last)?,
         }),
         "always" => Some(Request::Always {
-            claim: Claim {
+            claim: Claim::Leaves {
                 name,
                 number: number_of(number.as_bytes())?,
             },

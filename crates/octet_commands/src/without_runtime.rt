@@ -111,6 +111,7 @@ fn of_outcomes<D: Desk>(
     Ok(outcomes(alloc, &source.script, most)?)
 }
 
+#[tactic(auto, using(crate::proofs::lemmas::Found::always_stops))]
 fn of_always<D: Desk>(
     alloc: Global,
     desk: &mut D,
@@ -121,9 +122,8 @@ fn of_always<D: Desk>(
 ) -> Result<Reply, Refused>
     ensures { Replies (Some (Always (shown_claim claim.entry) script.now log.now most)) (D.state desk.old) (given_reply result) (D.state desk.new) }
 {
-    let (source, wanted) = read_chosen(alloc, desk, script, Some(claim.name))?;
-    let Some(place) = wanted else { unreachable!() };
-    Ok(always(alloc, &source, place as u16, claim.number, most, log)?)
+    let (source, wanted) = read_chosen(alloc, desk, script, claim.name())?;
+    Ok(always(alloc, &source, wanted, claim, most, log)?)
 }
 
 /// The reply to a request that needs no runtime; to another, that it is no command.

@@ -27,7 +27,7 @@ pub(crate) struct Met {
 }
 
 /// Whether all threads came to their ends.
-pub(crate) fn are_done(ends: &[End]) -> bool
+pub fn are_done(ends: &[End]) -> bool
     ensures { result ≡ list_all is_done ends.now }
 {
     for end in ends {

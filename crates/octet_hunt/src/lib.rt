@@ -10,7 +10,7 @@ mod limits;
 mod runs;
 mod tries;
 
-pub use aim::Aim;
-pub use given::{find_by, run_by};
+pub use aim::{Aim, are_done};
+pub use given::{find_by, record_by};
 pub use limits::MAX_TRIES;
 pub use tries::{Find, hunt};

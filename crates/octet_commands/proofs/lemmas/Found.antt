@@ -13,7 +13,7 @@ use Rattle.octet_replay.specs.declared.fitting.FitFault.{FitFault}
 use Rattle.octet_replay.specs.Fit.{IsOfScript, IsOfAnother}
 use Rattle.octet_model.specs.declared.limits.TheConstants.{MAX_LOG_FILE, MAX_SCRIPT_FILE}
 use Rattle.octet_commands.specs.declared.inputs.Source.{Source}
-use Rattle.octet_commands.specs.Request.{Way, Request, Claim, Quarry, named_by}
+use Rattle.octet_commands.specs.Request.{Way, Request, Claim, claimed_of, Quarry, named_by}
 use Rattle.octet_commands.specs.declared.request.Request.TheVariants.{Tidy, Show, OfPair, Parallel, Convert, Run, Gen, Hunt, Outcomes, Always}
 use Rattle.octet_commands.specs.Inputs.{IsScriptRead, IsLogRead, IsScriptChosen, IsPairRead, Ends, WasRefused, TakesOne, TakesBoth}
 use Rattle.octet_commands.specs.Checked.{IsPairTaken, IsFittingTaken}
@@ -116,17 +116,17 @@ module _ (script : List ℕ) (most : ℕ) where
   outcomes_stop = one_stops (Outcomes script most) script MAX_SCRIPT_FILE Source (IsScriptRead script) (λ source. OutcomesAnswers source.script) (λ short before after calls. calls) (λ contents answer answers. answers) (script_refused script)
 
 module _ (claim : Claim) (script log : List ℕ) (most : ℕ) where
-  pub always_read : (before after : DeskState) (input : Source × Option ℕ) (result : Result Reply Refused) → Ends (IsScriptChosen script (Some claim.name) before.contents) before.take_faults (Ok input) after.take_faults
-      → TakesOne script MAX_SCRIPT_FILE (WasRefused {T = Source × Option ℕ} {E = Refused} (Ok input)) before after → IsAnswered (AlwaysAnswers claim.number log input) result → Replies (Some (Always claim script log most)) before (given_reply result) after
+  pub always_read : (before after : DeskState) (input : Source × Option ℕ) (result : Result Reply Refused) → Ends (IsScriptChosen script (claimed_of claim) before.contents) before.take_faults (Ok input) after.take_faults
+      → TakesOne script MAX_SCRIPT_FILE (WasRefused {T = Source × Option ℕ} {E = Refused} (Ok input)) before after → IsAnswered (AlwaysAnswers claim log input) result → Replies (Some (Always claim script log most)) before (given_reply result) after
   always_read =
-      one_read (Always claim script log most) script MAX_SCRIPT_FILE (Source × Option ℕ) (IsScriptChosen script (Some claim.name)) (AlwaysAnswers claim.number log) (λ short before after calls. calls) (λ contents answer answers. answers)
-      (chosen_refused script (Some claim.name))
+      one_read (Always claim script log most) script MAX_SCRIPT_FILE (Source × Option ℕ) (IsScriptChosen script (claimed_of claim)) (AlwaysAnswers claim log) (λ short before after calls. calls) (λ contents answer answers. answers)
+      (chosen_refused script (claimed_of claim))
 
-  pub always_stops : (before after : DeskState) (stop : Refused) → Ends (IsScriptChosen script (Some claim.name) before.contents) before.take_faults (Err stop) after.take_faults
+  pub always_stops : (before after : DeskState) (stop : Refused) → Ends (IsScriptChosen script (claimed_of claim) before.contents) before.take_faults (Err stop) after.take_faults
       → TakesOne script MAX_SCRIPT_FILE (WasRefused {T = Source × Option ℕ} (Err stop)) before after → Replies (Some (Always claim script log most)) before (given_reply (Err stop)) after
   always_stops =
-      one_stops (Always claim script log most) script MAX_SCRIPT_FILE (Source × Option ℕ) (IsScriptChosen script (Some claim.name)) (AlwaysAnswers claim.number log) (λ short before after calls. calls) (λ contents answer answers. answers)
-      (chosen_refused script (Some claim.name))
+      one_stops (Always claim script log most) script MAX_SCRIPT_FILE (Source × Option ℕ) (IsScriptChosen script (claimed_of claim)) (AlwaysAnswers claim log) (λ short before after calls. calls) (λ contents answer answers. answers)
+      (chosen_refused script (claimed_of claim))
 
 -- the log is of another script, which is said
 another_script : (Next : Answer → Type 0) (pair : Pair) (fault : FitFault) (stop : Refused) → IsOfAnother pair.source.text pair.loaded.digest fault → RefusesBy (λ answer. answer ≡ wrong_script fault) stop → IsAnswered (Matching Next pair) (Err stop)

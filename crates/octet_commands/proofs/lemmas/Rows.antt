@@ -24,13 +24,13 @@ use Rattle.octet_commands.specs.declared.reply.Status.{Status}
 use Rattle.octet_commands.specs.declared.reply.Status.TheVariants as exit
 use Rattle.octet_log.specs.declared.loader.Loaded.{Loaded}
 use Rattle.octet_commands.specs.Answer.{Answer, verdict_said}
-use Rattle.octet_commands.specs.Request.{Way, Request, Quarry, named_by, outputs_of, outputs_in}
+use Rattle.octet_commands.specs.Request.{Way, Request, Claim, claimed_of, Quarry, named_by, outputs_of, outputs_in}
 use Rattle.octet_commands.specs.declared.request.Request.TheVariants.{Tidy, Show, Marks, OfPair, Parallel, Convert, Run, Gen, Hunt, Outcomes, Always}
 use Rattle.octet_commands.specs.declared.request.Quarry.TheVariants.{OtherEnd, AnyCycle}
 use Rattle.octet_commands.specs.Inputs.{IsTaken, IsScriptRead, IsLogRead, IsScriptChosen, IsPairRead}
 use Rattle.octet_commands.specs.Marks.{FileAnswers}
 use Rattle.octet_commands.specs.Commands.{Answers, RequestAnswers, TidyAnswers, ShowAnswers, OutcomeSays, WhereOrdered, PairSays, RunAnswers, AlwaysAnswers, none_found}
-use Rattle.octet_commands.specs.Outcomes.{none_other, past_fuel_said, search_said, search_text, OutcomesAnswers}
+use Rattle.octet_commands.specs.Outcomes.{none_other, past_fuel, search_said, search_text, OutcomesAnswers}
 use Rattle.octet_model.specs.declared.script.Script.{Script}
 
 -- a status that comes with a refusal
@@ -281,16 +281,15 @@ outcomes_row script answer (told, moments, stuck, whole, explored, is) = by whol
     by true is = of_done [] answer (done [] answer _ is refl refl)
     by false is = of_refused [] answer (refuses answer _ is refl refl)
 
-always_row : (number : ℕ) (log : List ℕ) (chosen : Source × Option ℕ) (answer : Answer) → AlwaysAnswers number log chosen answer → Row (log ∷ []) answer
-always_row number log (source, None) answer never = absurd never
-always_row number log (source, Some object) answer (inl (always, is)) = of_nothing (log ∷ []) answer (done [] answer (none_other true) is refl refl) (ap (λ (a : Answer). a.files) is)
-always_row number log (source, Some object) answer (inr (inl is)) = of_refused (log ∷ []) answer (refuses answer (none_other false) is refl refl)
-always_row number log (source, Some object) answer (inr (inr (inl witness))) = record {
+always_row : (claim : Claim) (log : List ℕ) (chosen : Source × Option ℕ) (answer : Answer) → AlwaysAnswers claim log chosen answer → Row (log ∷ []) answer
+always_row claim log (source, wanted) answer (inl (holds, is)) = of_nothing (log ∷ []) answer (done [] answer (none_other true) is refl refl) (ap (λ (a : Answer). a.files) is)
+always_row claim log (source, wanted) answer (inr (inl is)) = of_refused (log ∷ []) answer (refuses answer (none_other false) is refl refl)
+always_row claim log (source, wanted) answer (inr (inr (fails, inl witness))) = record {
   names = inl (ap (λ (a : Answer). map (λ file. file.0) a.files) witness.is);
   own = inr (ap (λ (a : Answer). is_refusal a.status) witness.is);
   plain = λ not_done other. absurd (other (ap (λ (a : Answer). a.status) witness.is));
 }
-always_row number log (source, Some object) answer (inr (inr (inr (value, leaves, is)))) = of_refused (log ∷ []) answer (refuses answer (past_fuel_said value) is refl refl)
+always_row claim log (source, wanted) answer (inr (inr (fails, inr is))) = of_refused (log ∷ []) answer (refuses answer past_fuel is refl refl)
 
 -- what a request is answered with
 pub request_row : (request : Request) (contents : Option Contents) (answer : Answer) → RequestAnswers request contents answer → Row (outputs_of request) answer
@@ -319,8 +318,8 @@ request_row (Hunt quarry script log tries) contents answer (inr (chosen, read, i
 request_row (Hunt quarry script log tries) contents answer (inr (chosen, read, inr is)) = of_refused _ answer (refuses answer (none_found quarry tries) is (ap is_refusal (none_status quarry tries)) (none_files quarry tries))
 request_row (Outcomes script most) contents answer (inl read) = of_refused _ answer (script_refused script contents answer read)
 request_row (Outcomes script most) contents answer (inr (source, read, is)) = outcomes_row source.script answer is
-request_row (Always claim script log most) contents answer (inl read) = of_refused _ answer (chosen_refused script (Some claim.name) contents answer read)
-request_row (Always claim script log most) contents answer (inr (chosen, read, is)) = always_row claim.number log chosen answer is
+request_row (Always claim script log most) contents answer (inl read) = of_refused _ answer (chosen_refused script (claimed_of claim) contents answer read)
+request_row (Always claim script log most) contents answer (inr (chosen, read, is)) = always_row claim log chosen answer is
 
 pub answers_row : (request : Option Request) (contents : Option Contents) (answer : Answer) → Answers request contents answer → Row (outputs_in request) answer
 answers_row None contents answer is = of_refused _ answer (refuses answer _ is refl refl)

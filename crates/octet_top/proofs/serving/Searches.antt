@@ -1,5 +1,5 @@
 -- From what is served to the promises of searches through all interleavings.
-use Rattle.std.proofs.Common.{◌≡◌, ◌∙◌, ℕ, Bool, true, false, List, [], ◌∷◌, Option, Some, None, inl, inr, ap, sym, refl, subst, arith}
+use Rattle.std.proofs.Common.{◌≡◌, ◌∙◌, ℕ, Bool, true, false, List, Option, Some, None, inl, inr, ap, sym, refl, subst, arith, get_or}
 use Rattle.std.specs.FinMap.{get}
 use Rattle.std.specs.List.{All}
 use Rattle.octet_base.specs.Desk.{Files, Contents, DeskState}
@@ -30,8 +30,7 @@ of_recorded : (script : Script) (Holds : List ℕ → Type 0) → ((heap : List 
 of_recorded script Holds all log outcome faithful done = all outcome.heap (faithful_ends script log outcome faithful done)
 
 told_final : (script : Script) (told : List Told) → All (IsTold script) told → All (λ t. IsFinal script t.heap) told
-told_final script [] each = tt
-told_final script (t ∷ told) each = (outcomes_final script t.heap each.0.outcome, told_final script told each.1)
+told_final script told each k default there = outcomes_final script (get_or told k default).heap (each k default there).outcome
 
 -- all final heaps
 searched_by : (script_name : List ℕ) (source : Source) (contents contents' : Contents) (answer : Answer) → IsScriptRead script_name (Some contents) (Ok source) → OutcomesAnswers source.script answer → answer.status ≡ Done → IsWhole answer contents contents'
