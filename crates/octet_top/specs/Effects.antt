@@ -17,7 +17,7 @@ use Rattle.octet_commands.specs.declared.reply.Status.TheVariants.{Done, Read, W
 use Rattle.octet_commands.specs.declared.request.PairTask.{PairTask}
 use Rattle.octet_commands.specs.declared.request.PairTask.TheVariants.{Regions, Slice}
 use Rattle.octet_commands.specs.Answer.{Answer, code_of, read_failed}
-use Rattle.octet_commands.specs.Request.{Request, named_by, request_in, outputs_in}
+use Rattle.octet_commands.specs.Request.{Request, claimed_of, named_by, request_in, outputs_in}
 use Rattle.octet_commands.specs.declared.request.Request.TheVariants.{Tidy, Show, Marks, OfPair, Parallel, Convert, Run, Gen, Hunt, Outcomes, Always}
 use Rattle.octet_commands.specs.declared.request.Way.TheVariants.{AsTheyCome}
 use Rattle.octet_commands.specs.Inputs.{IsScriptRead, IsLogRead, IsScriptChosen, IsPairRead}
@@ -145,7 +145,7 @@ HasFiles (Run task script log) contents = (source : Source) × IsScriptRead scri
 HasFiles (Gen number script log) contents = Unit {0}
 HasFiles (Hunt quarry script log tries) contents = (chosen : Source × Option ℕ) × IsScriptChosen script (named_by quarry) (Some contents) (Ok chosen)
 HasFiles (Outcomes script most) contents = (source : Source) × IsScriptRead script (Some contents) (Ok source)
-HasFiles (Always claim script log most) contents = (chosen : Source × Option ℕ) × IsScriptChosen script (Some claim.name) (Some contents) (Ok chosen)
+HasFiles (Always claim script log most) contents = (chosen : Source × Option ℕ) × IsScriptChosen script (claimed_of claim) (Some contents) (Ok chosen)
 
 -- a task may end with this status although it has all that it takes:
 -- regions may be in a cycle, and a log may lack the event asked for

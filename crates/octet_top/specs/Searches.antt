@@ -9,11 +9,7 @@ use Rattle.octet_model.specs.declared.outcome.Outcome.{Outcome}
 use Rattle.octet_model.specs.declared.outcome.Recorded.{Recorded}
 use Rattle.octet_model.specs.declared.script.Script.{Script}
 use Rattle.octet_model.specs.Orders.{is_done, IsFaithful}
-use Rattle.octet_hunt.specs.Hunts.{EndsOtherwise}
 use Rattle.octet_outcomes.specs.Interleavings.{IsFinal}
-use Rattle.octet_outcomes.specs.Moments.{Moment}
-use Rattle.octet_outcomes.specs.Runs.{IsReached}
-use Rattle.octet_outcomes.specs.Stuck.{LeadsToEnd}
 use Rattle.octet_commands.specs.declared.inputs.Source.{Source}
 use Rattle.octet_commands.specs.declared.outcomes.Told.{Told}
 use Rattle.octet_commands.specs.declared.reply.Status.TheVariants.{Done, Otherwise}
@@ -21,8 +17,9 @@ use Rattle.octet_commands.specs.declared.request.Request.TheVariants.{Outcomes, 
 use Rattle.octet_commands.specs.Answer.{code_of}
 use Rattle.octet_commands.specs.Commands.{second_bytes, IsLogFile}
 use Rattle.octet_commands.specs.Inputs.{IsScriptChosen, IsScriptRead}
-use Rattle.octet_commands.specs.Outcomes.{otherwise_text, search_text, AlwaysLeaves, IsTold, LeavesOther, SomeIsStuck}
-use Rattle.octet_commands.specs.Request.{request_in, Claim}
+use Rattle.octet_commands.specs.Outcomes.{otherwise_text, past_fuel, search_text, CanAlwaysEnd, Fails, Holds, IsTold, Refutes, SomeIsStuck}
+use Rattle.octet_commands.specs.Request.{request_in, Claim, claimed_of}
+use Rattle.octet_commands.specs.declared.request.Claim.TheVariants.{Leaves}
 
 -- what holds of every run of a script that was recorded faithfully and whose threads are all done, by its final heap
 abbrev pub OfRecorded : Script → (List ℕ → Type 0) → Type 0
@@ -40,7 +37,7 @@ pub record IsSearched (script_name : List ℕ) (before after : Contents) : Type 
   pub final : All (λ t. IsFinal source.script t.heap) told
   pub all : OfRecorded source.script (Contains (map (λ t. t.heap) told))
   pub some_stuck : 0 < stuck → SomeIsStuck source.script
-  pub none_stuck : stuck ≡ 0 → (m : Moment) → IsReached source.script m → LeadsToEnd source.script m
+  pub none_stuck : stuck ≡ 0 → CanAlwaysEnd source.script
   pub contents : after.said ≡ before.said ++ search_text source.script told moments stuck
 
 -- `outcomes` with all done has searched its script, where the desk tells its contents
@@ -49,14 +46,19 @@ FindsOutcomes words before after code =
     (script_name : List ℕ) (most : ℕ) (contents contents' : Contents) → request_in words ≡ Some (Outcomes script_name most) → code ≡ code_of Done → before.contents ≡ Some contents → after.contents ≡ Some contents'
     → IsSearched script_name contents contents'
 
--- a script with the named object was taken, and it was said that the claim holds. Every run whose threads are all done
--- leaves the number in the object, and so does each that is recorded
+-- the claim, said of each recorded run whose threads are all done. That every run can end says nothing of those
+abbrev pub HoldsOfRecorded : Script → Claim → Option ℕ → Type 0
+HoldsOfRecorded script (Leaves name number) (Some object) = OfRecorded script (λ heap. get_or heap object 0 ≡ number)
+HoldsOfRecorded script _ _ = Unit {0}
+
+-- a script was taken, with the object that the claim names, and it was said that the claim holds. It holds of every run,
+-- and so of each that is recorded
 pub record IsAlways (claim : Claim) (script_name : List ℕ) (before after : Contents) : Type 0 where
   pub source : Source
-  pub object : ℕ
-  pub read : IsScriptChosen script_name (Some claim.name) (Some before) (Ok (source, Some object))
-  pub always : AlwaysLeaves source.script object claim.number
-  pub recorded : OfRecorded source.script (λ heap. get_or heap object 0 ≡ claim.number)
+  pub wanted : Option ℕ
+  pub read : IsScriptChosen script_name (claimed_of claim) (Some before) (Ok (source, wanted))
+  pub holds : Holds source.script claim wanted
+  pub recorded : HoldsOfRecorded source.script claim wanted
   pub contents : after.said ≡ before.said ++ codes "always\n"
 
 -- `always` with all done has shown its claim, where the desk tells its contents
@@ -67,20 +69,22 @@ ShowsAlways words before after code =
 
 -- the log of a run of which the claim does not hold was written in version 2, with the script's digest.
 -- The preemptions and the outcome were said
-pub record IsRefuted (claim : Claim) (source : Source) (object : ℕ) (log_name : List ℕ) (before after : Contents) : Type 0 where
+pub record IsRefuted (claim : Claim) (source : Source) (wanted : Option ℕ) (log_name : List ℕ) (before after : Contents) : Type 0 where
   pub preemptions : ℕ
   pub recorded : Recorded
-  pub ends : EndsOtherwise source.script object claim.number recorded
+  pub refutes : Refutes source.script claim wanted recorded
   pub written : get after.files log_name ≡ Some (second_bytes source.text recorded.log.threads)
   pub file : IsLogFile (second_bytes source.text recorded.log.threads) (Some (sha256 source.text)) recorded.log.threads
   pub contents : after.said ≡ before.said ++ otherwise_text source.script preemptions recorded.outcome
 
--- a script with the named object was taken, and the claim does not hold: a recorded run shows it, or one that needs more fuel
+-- a script was taken, with the object that the claim names. There is a run of which the claim does not hold:
+-- one was recorded, or it was said that the script's fuel is not enough
 pub record IsNotAlways (claim : Claim) (script_name log_name : List ℕ) (before after : Contents) : Type 0 where
   pub source : Source
-  pub object : ℕ
-  pub read : IsScriptChosen script_name (Some claim.name) (Some before) (Ok (source, Some object))
-  pub shown : IsRefuted claim source object log_name before after ⊎ ((value : ℕ) × LeavesOther source.script object claim.number value)
+  pub wanted : Option ℕ
+  pub read : IsScriptChosen script_name (claimed_of claim) (Some before) (Ok (source, wanted))
+  pub fails : Fails source.script claim wanted
+  pub shown : IsRefuted claim source wanted log_name before after ⊎ (after.said ≡ before.said ++ past_fuel.text)
 
 -- `always` with the status 14 has found that its claim does not hold, where the desk tells its contents
 abbrev pub RefutesAlways : List (List ℕ) → DeskState → DeskState → ℕ → Type 0

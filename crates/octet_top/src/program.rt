@@ -77,9 +77,9 @@ pub fn serve<R: Threads + Wait + Sync, D: Desk, G: HeapGate>(
     // each recorded run whose threads are all done. Where no moment is stuck, each leads to an end.
     ensures outcomes { FindsOutcomes (texts words.now) (D.state desk.old) (D.state desk.new) result }
 
-    // Status 0 of `always` comes only where every run whose threads are all done leaves the number in
-    // the object. Status 14 comes with a faithful recording of one that does not, or with none, where
-    // that takes more fuel than the script has.
+    // Status 0 of `always` comes only where the claim holds of every run. Status 14 comes with a
+    // faithful recording of one of which it does not hold, or with none, where the script's fuel is not
+    // enough for it.
     ensures always { ShowsAlways (texts words.now) (D.state desk.old) (D.state desk.new) result }
     ensures otherwise { RefutesAlways (texts words.now) (D.state desk.old) (D.state desk.new) result }
 

@@ -25,7 +25,7 @@ use Rattle.octet_commands.specs.declared.request.PairTask.{PairTask}
 use Rattle.octet_commands.specs.declared.reply.Status.{Status}
 use Rattle.octet_commands.specs.declared.reply.Status.TheVariants as exit
 use Rattle.octet_commands.specs.Answer.{Answer, code_of, not_a_command, read_failed, too_long, script_refused, log_refused}
-use Rattle.octet_commands.specs.Request.{Request, Claim, Quarry, named_by, request_in}
+use Rattle.octet_commands.specs.Request.{Request, Claim, claimed_of, Quarry, named_by, request_in}
 use Rattle.octet_commands.specs.declared.request.Request.TheVariants.{Tidy, Show, Marks, OfPair, Parallel, Convert, Run, Gen, Hunt, Outcomes, Always}
 use Rattle.octet_commands.specs.Inputs.{◌>>=◌, IsTaken, IsParsed, IsDecoded, IsChosen, IsScriptRead, IsLogRead, IsScriptChosen, IsPairRead}
 use Rattle.octet_commands.specs.Marks.{ReadsTo, fed, judged, pieces_text, SaysRest, MarksAnswers, FileAnswers}
@@ -35,8 +35,8 @@ use Rattle.octet_commands.proofs.lemmas.Chains.{Stands, has_none, one_reading as
 use Rattle.octet_top.proofs.serving.Causes.{Ending, Whole, CutShort, Lacking, ended}
 use Rattle.octet_commands.proofs.lemmas.Rows.{PairRow, AllDone, NotOrdered, NotSerial, NotThere, ParallelRow, Replayed, Apart, has_event, tidy_row, show_row, pair_row, parallel_row, run_row, none_status}
 use Rattle.octet_commands.specs.Commands.{Answering, Answers, RequestAnswers, IsAnswer, TidyAnswers, ShowAnswers, Matching, PairReplays, PairAnswers, ParallelReplays, ParallelAnswers, Converts, ConvertAnswers, RunAnswers, HuntAnswers, AlwaysAnswers}
-use Rattle.octet_commands.specs.Outcomes.{search_said, search_text, AlwaysLeaves, LeavesOther, OutcomesAnswers}
-use Rattle.octet_outcomes.proofs.Mirroring.{faithful_ends}
+use Rattle.octet_commands.specs.Outcomes.{search_said, search_text, Fails, Holds, OutcomesAnswers}
+use Rattle.octet_commands.specs.declared.request.Claim.TheVariants.{Leaves, CanEnd}
 
 -- a step ends in one way
 pub record Single {A : Type 0} (Step : Result A Answer → Type 0) : Type 0 where
@@ -281,43 +281,39 @@ outcomes_status t script most a b (inl p) (inr (y, is, q)) = absurd ((script_sin
 outcomes_status t script most a b (inr (x, is, p)) (inl q) = absurd ((script_single t script).never x b is q)
 outcomes_status t script most a b (inr (x, is, p)) (inr (y, is', q)) = both_searched a.status b.status (search_status x.script a p) (search_status y.script b q)
 
--- the claim was shown of all runs, not all was seen, or some run is one of which it does not hold
-abbrev pub IsTellingOf : ℕ → Source × Option ℕ → Status → Type 0
-IsTellingOf number (source, wanted) status =
-    ((status ≡ exit.Done) × ((object : ℕ) → wanted ≡ Some object → AlwaysLeaves source.script object number))
-    ⊎ ((status ≡ exit.NotAll) ⊎ ((status ≡ exit.Otherwise) × ((object : ℕ) × (wanted ≡ Some object) × ((value : ℕ) × LeavesOther source.script object number value))))
+-- the claim holds of all runs, not all was seen, or there is a run of which it does not hold
+abbrev pub IsTellingOf : Claim → Source × Option ℕ → Status → Type 0
+IsTellingOf claim (source, wanted) status =
+    ((status ≡ exit.Done) × Holds source.script claim wanted) ⊎ ((status ≡ exit.NotAll) ⊎ ((status ≡ exit.Otherwise) × Fails source.script claim wanted))
 
-pub always_status : (number : ℕ) (log : List ℕ) (chosen : Source × Option ℕ) (a : Answer) → AlwaysAnswers number log chosen a → IsTellingOf number chosen a.status
-always_status number log (source, None) a never = absurd never
-always_status number log (source, Some object) a (inl (always, is)) = inl (ap (λ (x : Answer). x.status) is, λ other same. (let one : object ≡ other = cc in subst (λ (o : ℕ). AlwaysLeaves source.script o number) one always))
-always_status number log (source, Some object) a (inr (inl is)) = inr (inl (ap (λ (x : Answer). x.status) is))
-always_status number log (source, Some object) a (inr (inr (inl witness))) = inr (inr (ap (λ (x : Answer). x.status) witness.is, object, refl, (_, record {
-  heap = witness.recorded.outcome.heap;
-  outcome = faithful_ends source.script witness.recorded.log.threads witness.recorded.outcome witness.ends.faithful witness.ends.done;
-  leaves = refl;
-  other = witness.ends.other;
-})))
-always_status number log (source, Some object) a (inr (inr (inr (value, leaves, is)))) = inr (inr (ap (λ (x : Answer). x.status) is, object, refl, (value, leaves)))
+pub always_status : (claim : Claim) (log : List ℕ) (chosen : Source × Option ℕ) (a : Answer) → AlwaysAnswers claim log chosen a → IsTellingOf claim chosen a.status
+always_status claim log (source, wanted) a (inl (holds, is)) = inl (ap (λ (x : Answer). x.status) is, holds)
+always_status claim log (source, wanted) a (inr (inl is)) = inr (inl (ap (λ (x : Answer). x.status) is))
+always_status claim log (source, wanted) a (inr (inr (fails, inl witness))) = inr (inr (ap (λ (x : Answer). x.status) witness.is, fails))
+always_status claim log (source, wanted) a (inr (inr (fails, inr is))) = inr (inr (ap (λ (x : Answer). x.status) is, fails))
 
--- what always holds leaves no other value
-never_other : (script : Script) (object number value : ℕ) → AlwaysLeaves script object number → LeavesOther script object number value → ⊥
-never_other script object number value always leaves = leaves.other (sym leaves.leaves ∙ always leaves.heap leaves.outcome)
+-- no claim both holds and fails
+never_both : (script : Script) (claim : Claim) (wanted : Option ℕ) → Holds script claim wanted → Fails script claim wanted → ⊥
+never_both script (Leaves name number) None never fails = never
+never_both script (Leaves name number) (Some object) always (value, leaves) = leaves.other (sym leaves.leaves ∙ always leaves.heap leaves.outcome)
+never_both script CanEnd wanted can_end stuck = let leads = can_end stuck.moment stuck.reached in stuck.stuck leads.picks leads.last leads.follows leads.done
 
-both_told : (number : ℕ) (chosen : Source × Option ℕ) (s s' : Status) → IsTellingOf number chosen s → IsTellingOf number chosen s' → (s ≡ s') ⊎ IsCutEither s s'
-both_told number chosen s s' (inr (inl cut)) q = inr (inl cut)
-both_told number chosen s s' p (inr (inl cut)) = inr (inr cut)
-both_told number chosen s s' (inl (is, always)) (inl (is', always')) = inl (is ∙ sym is')
-both_told number chosen s s' (inl (is, always)) (inr (inr (is', object, there, (value, leaves)))) = absurd (never_other _ object number value (always object there) leaves)
-both_told number chosen s s' (inr (inr (is, object, there, (value, leaves)))) (inl (is', always)) = absurd (never_other _ object number value (always object there) leaves)
-both_told number chosen s s' (inr (inr (is, told))) (inr (inr (is', told'))) = inl (is ∙ sym is')
+both_told : (claim : Claim) (chosen : Source × Option ℕ) (s s' : Status) → IsTellingOf claim chosen s → IsTellingOf claim chosen s' → (s ≡ s') ⊎ IsCutEither s s'
+both_told claim chosen s s' (inr (inl cut)) q = inr (inl cut)
+both_told claim chosen s s' (inl (is, holds)) (inr (inl cut)) = inr (inr cut)
+both_told claim chosen s s' (inl (is, holds)) (inl (is', holds')) = inl (is ∙ sym is')
+both_told claim chosen s s' (inl (is, holds)) (inr (inr (is', fails))) = absurd (never_both chosen.0.script claim chosen.1 holds fails)
+both_told claim chosen s s' (inr (inr (is, fails))) (inl (is', holds)) = absurd (never_both chosen.0.script claim chosen.1 holds fails)
+both_told claim chosen s s' (inr (inr (is, fails))) (inr (inl cut)) = inr (inr cut)
+both_told claim chosen s s' (inr (inr (is, fails))) (inr (inr (is', fails'))) = inl (is ∙ sym is')
 
 claim_status : (t : Contents) (claim : Claim) (script log : List ℕ) (most : ℕ) (a b : Answer) → RequestAnswers (Always claim script log most) (Some t) a → RequestAnswers (Always claim script log most) (Some t) b → (a.status ≡ b.status) ⊎ IsCutEither a.status b.status
-claim_status t claim script log most a b (inl p) (inl q) = inl (ap (λ (x : Answer). x.status) ((script_chosen_single t script (Some claim.name)).same a b p q))
-claim_status t claim script log most a b (inl p) (inr (y, is, q)) = absurd ((script_chosen_single t script (Some claim.name)).never y a is p)
-claim_status t claim script log most a b (inr (x, is, p)) (inl q) = absurd ((script_chosen_single t script (Some claim.name)).never x b is q)
+claim_status t claim script log most a b (inl p) (inl q) = inl (ap (λ (x : Answer). x.status) ((script_chosen_single t script (claimed_of claim)).same a b p q))
+claim_status t claim script log most a b (inl p) (inr (y, is, q)) = absurd ((script_chosen_single t script (claimed_of claim)).never y a is p)
+claim_status t claim script log most a b (inr (x, is, p)) (inl q) = absurd ((script_chosen_single t script (claimed_of claim)).never x b is q)
 claim_status t claim script log most a b (inr (x, is, p)) (inr (y, is', q)) =
-    both_told claim.number x a.status b.status (always_status claim.number log x a p)
-    (subst (λ (z : Source × Option ℕ). IsTellingOf claim.number z b.status) ((script_chosen_single t script (Some claim.name)).one y x is' is) (always_status claim.number log y b q))
+    both_told claim x a.status b.status (always_status claim log x a p)
+    (subst (λ (z : Source × Option ℕ). IsTellingOf claim z b.status) ((script_chosen_single t script (claimed_of claim)).one y x is' is) (always_status claim log y b q))
 
 -- two answers to words have one status, or the words ask for a hunt or a search
 answers_status : (words : List (List ℕ)) (t : Contents) (request : Option Request) (a b : Answer) → request_in words ≡ request → Answers request (Some t) a → Answers request (Some t) b → (a.status ≡ b.status) ⊎ MayDiffer words a.status b.status

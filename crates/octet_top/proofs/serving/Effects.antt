@@ -11,7 +11,7 @@ use Rattle.octet_commands.specs.declared.request.PairTask.TheVariants.{Replay, V
 use Rattle.octet_commands.specs.declared.reply.Status.{Status}
 use Rattle.octet_commands.specs.declared.reply.Status.TheVariants as exit
 use Rattle.octet_commands.specs.Answer.{Answer, code_of}
-use Rattle.octet_commands.specs.Request.{Request, named_by, request_in, outputs_in}
+use Rattle.octet_commands.specs.Request.{Request, claimed_of, named_by, request_in, outputs_in}
 use Rattle.octet_commands.specs.declared.request.Request.TheVariants.{Tidy, Show, Marks, OfPair, Parallel, Convert, Run, Gen, Hunt, Outcomes, Always}
 use Rattle.octet_commands.specs.Commands.{Answers, RequestAnswers, PairAnswers, ParallelAnswers, ConvertAnswers, IsAnswer}
 use Rattle.octet_top.specs.Serving.{IsServed}
@@ -190,11 +190,11 @@ met_done (Outcomes script most) contents answer (source, read) (inr (other, is, 
     by : (whole : Bool) → answer ≡ search_said (search_text other.script told moments stuck) whole → IsMet (Outcomes script most) answer
     by true said = inl (ap (λ (a : Answer). a.status) said)
     by false said = inr (exit.NotAll, refl, ap (λ (a : Answer). a.status) said)
-met_done (Always claim script log most) contents answer (chosen, read) (inl refused) = absurd ((script_chosen_single contents script (Some claim.name)).never chosen answer read refused)
-met_done (Always claim script log most) contents answer (chosen, read) (inr (other, is, answers)) = elim (always_status claim.number log other answer answers) [
-  | inl (done, always) ↦ inl done
+met_done (Always claim script log most) contents answer (chosen, read) (inl refused) = absurd ((script_chosen_single contents script (claimed_of claim)).never chosen answer read refused)
+met_done (Always claim script log most) contents answer (chosen, read) (inr (other, is, answers)) = elim (always_status claim log other answer answers) [
+  | inl (done, holds) ↦ inl done
   | inr (inl cut) ↦ inr (exit.NotAll, inl refl, cut)
-  | inr (inr (refuted, leaves)) ↦ inr (exit.Otherwise, inr refl, refuted)
+  | inr (inr (refuted, fails)) ↦ inr (exit.Otherwise, inr refl, refuted)
 ]
 
 -- and such a status comes, where no call fails, unless memory was refused

@@ -13,13 +13,14 @@ use Rattle.octet_commands.specs.declared.outcomes.Told.{Told}
 use Rattle.octet_commands.specs.declared.reply.Status.TheVariants.{Done, NotAll, Otherwise}
 use Rattle.octet_commands.specs.declared.request.Request.TheVariants.{Outcomes, Always}
 use Rattle.octet_commands.specs.Answer.{Answer, code_of, reports, says}
-use Rattle.octet_commands.specs.Commands.{Answers, RequestAnswers, AlwaysAnswers, IsWitness, second_bytes}
+use Rattle.octet_commands.specs.Commands.{Answers, RequestAnswers, AlwaysAnswers, second_bytes}
 use Rattle.octet_commands.specs.Inputs.{IsScriptChosen, IsScriptRead}
-use Rattle.octet_commands.specs.Outcomes.{none_other, otherwise_text, past_fuel_said, search_said, search_text, IsExplored, IsTold, OutcomesAnswers}
+use Rattle.octet_commands.specs.Outcomes.{none_other, otherwise_text, past_fuel, search_said, search_text, Holds, IsExplored, IsTold, OutcomesAnswers}
 use Rattle.octet_commands.specs.Outputs.{IsWhole}
-use Rattle.octet_commands.specs.Request.{request_in, Claim}
+use Rattle.octet_commands.specs.Request.{request_in, Claim, claimed_of}
+use Rattle.octet_commands.specs.declared.request.Claim.TheVariants.{Leaves, CanEnd}
 use Rattle.octet_commands.proofs.lemmas.Rows.{not_done, script_refused, chosen_refused, chosen_unread, not_of_reading}
-use Rattle.octet_top.specs.Searches.{FindsOutcomes, IsAlways, IsNotAlways, IsRefuted, IsSearched, OfRecorded, RefutesAlways, ShowsAlways}
+use Rattle.octet_top.specs.Searches.{FindsOutcomes, HoldsOfRecorded, IsAlways, IsNotAlways, IsSearched, OfRecorded, RefutesAlways, ShowsAlways}
 use Rattle.octet_top.specs.Serving.{IsServed}
 use Rattle.octet_top.proofs.serving.Effects.{leaves}
 use Rattle.octet_top.proofs.serving.Promises.{at_status, at_success}
@@ -68,19 +69,23 @@ finds_outcomes words before after code served script_name most contents contents
     searched script_name most contents contents' success.answer (subst (λ request. Answers request (Some contents) success.answer) asked success.answers) success.done success.given
 
 -- a claim that holds
-always_by : (claim : Claim) (script_name log_name : List ℕ) (contents contents' : Contents) (answer : Answer) (source : Source) (wanted : Option ℕ) → IsScriptChosen script_name (Some claim.name) (Some contents) (Ok (source, wanted))
-    → AlwaysAnswers claim.number log_name (source, wanted) answer → answer.status ≡ Done → IsWhole answer contents contents' → IsAlways claim script_name contents contents'
-always_by claim script_name log_name contents contents' answer source None read never done given = absurd never
-always_by claim script_name log_name contents contents' answer source (Some object) read (inl (always, is)) done given =
+holds_of_recorded : (script : Script) (claim : Claim) (wanted : Option ℕ) → Holds script claim wanted → HoldsOfRecorded script claim wanted
+holds_of_recorded script (Leaves name number) None holds = tt
+holds_of_recorded script (Leaves name number) (Some object) holds = of_recorded script _ holds
+holds_of_recorded script CanEnd wanted holds = tt
+
+always_by : (claim : Claim) (script_name log_name : List ℕ) (contents contents' : Contents) (answer : Answer) (source : Source) (wanted : Option ℕ) → IsScriptChosen script_name (claimed_of claim) (Some contents) (Ok (source, wanted))
+    → AlwaysAnswers claim log_name (source, wanted) answer → answer.status ≡ Done → IsWhole answer contents contents' → IsAlways claim script_name contents contents'
+always_by claim script_name log_name contents contents' answer source wanted read (inl (holds, is)) done given =
     let said : IsWhole (none_other true) contents contents' = subst (λ (a : Answer). IsWhole a contents contents') is given in
-    record { source = source; object = object; read = read; always = always; recorded = of_recorded source.script _ always; contents = said.said }
-always_by claim script_name log_name contents contents' answer source (Some object) read (inr (inl is)) done given = absurd (let both : Done ≡ NotAll = sym done ∙ ap (λ (a : Answer). a.status) is in cc)
-always_by claim script_name log_name contents contents' answer source (Some object) read (inr (inr (inl witness))) done given = absurd (let both : Done ≡ Otherwise = sym done ∙ ap (λ (a : Answer). a.status) witness.is in cc)
-always_by claim script_name log_name contents contents' answer source (Some object) read (inr (inr (inr (value, other, is)))) done given = absurd (let both : Done ≡ Otherwise = sym done ∙ ap (λ (a : Answer). a.status) is in cc)
+    record { source = source; wanted = wanted; read = read; holds = holds; recorded = holds_of_recorded source.script claim wanted holds; contents = said.said }
+always_by claim script_name log_name contents contents' answer source wanted read (inr (inl is)) done given = absurd (let both : Done ≡ NotAll = sym done ∙ ap (λ (a : Answer). a.status) is in cc)
+always_by claim script_name log_name contents contents' answer source wanted read (inr (inr (fails, inl witness))) done given = absurd (let both : Done ≡ Otherwise = sym done ∙ ap (λ (a : Answer). a.status) witness.is in cc)
+always_by claim script_name log_name contents contents' answer source wanted read (inr (inr (fails, inr is))) done given = absurd (let both : Done ≡ Otherwise = sym done ∙ ap (λ (a : Answer). a.status) is in cc)
 
 always_shown : (claim : Claim) (script_name log_name : List ℕ) (most : ℕ) (contents contents' : Contents) (answer : Answer) → RequestAnswers (Always claim script_name log_name most) (Some contents) answer → answer.status ≡ Done → IsWhole answer contents contents'
     → IsAlways claim script_name contents contents'
-always_shown claim script_name log_name most contents contents' answer (inl refused) done given = absurd (not_done answer (chosen_refused script_name (Some claim.name) (Some contents) answer refused) done)
+always_shown claim script_name log_name most contents contents' answer (inl refused) done given = absurd (not_done answer (chosen_refused script_name (claimed_of claim) (Some contents) answer refused) done)
 always_shown claim script_name log_name most contents contents' answer (inr ((source, wanted), read, answers)) done given = always_by claim script_name log_name contents contents' answer source wanted read answers done given
 
 pub shows_always : (words : List (List ℕ)) (before after : DeskState) (code : ℕ) → IsServed (request_in words) before after code → ShowsAlways words before after code
@@ -89,33 +94,34 @@ shows_always words before after code served claim script_name log_name most cont
     always_shown claim script_name log_name most contents contents' success.answer (subst (λ request. Answers request (Some contents) success.answer) asked success.answers) success.done success.given
 
 -- a claim that does not hold
-refuted_by : (claim : Claim) (script_name log_name : List ℕ) (contents contents' : Contents) (answer : Answer) (source : Source) (wanted : Option ℕ) → IsScriptChosen script_name (Some claim.name) (Some contents) (Ok (source, wanted))
-    → AlwaysAnswers claim.number log_name (source, wanted) answer → answer.status ≡ Otherwise → IsWhole answer contents contents' → IsNotAlways claim script_name log_name contents contents'
-refuted_by claim script_name log_name contents contents' answer source None read never other given = absurd never
-refuted_by claim script_name log_name contents contents' answer source (Some object) read (inl (always, is)) other given = absurd (let both : Otherwise ≡ Done = sym other ∙ ap (λ (a : Answer). a.status) is in cc)
-refuted_by claim script_name log_name contents contents' answer source (Some object) read (inr (inl is)) other given = absurd (let both : Otherwise ≡ NotAll = sym other ∙ ap (λ (a : Answer). a.status) is in cc)
-refuted_by claim script_name log_name contents contents' answer source (Some object) read (inr (inr (inl witness))) other given =
+refuted_by : (claim : Claim) (script_name log_name : List ℕ) (contents contents' : Contents) (answer : Answer) (source : Source) (wanted : Option ℕ) → IsScriptChosen script_name (claimed_of claim) (Some contents) (Ok (source, wanted))
+    → AlwaysAnswers claim log_name (source, wanted) answer → answer.status ≡ Otherwise → IsWhole answer contents contents' → IsNotAlways claim script_name log_name contents contents'
+refuted_by claim script_name log_name contents contents' answer source wanted read (inl (holds, is)) other given = absurd (let both : Otherwise ≡ Done = sym other ∙ ap (λ (a : Answer). a.status) is in cc)
+refuted_by claim script_name log_name contents contents' answer source wanted read (inr (inl is)) other given = absurd (let both : Otherwise ≡ NotAll = sym other ∙ ap (λ (a : Answer). a.status) is in cc)
+refuted_by claim script_name log_name contents contents' answer source wanted read (inr (inr (fails, inl witness))) other given =
     let bytes = second_bytes source.text witness.recorded.log.threads in
     let said : IsWhole (reports Otherwise log_name bytes (otherwise_text source.script witness.preemptions witness.recorded.outcome)) contents contents' = subst (λ (a : Answer). IsWhole a contents contents') witness.is given in
     record {
       source = source;
-      object = object;
+      wanted = wanted;
       read = read;
+      fails = fails;
       shown = inl (record {
         preemptions = witness.preemptions;
         recorded = witness.recorded;
-        ends = witness.ends;
+        refutes = witness.refutes;
         written = ap (λ (fs : Files). get fs log_name) said.files ∙ get-inserted contents.files log_name bytes;
         file = witness.file;
         contents = said.said;
       });
     }
-refuted_by claim script_name log_name contents contents' answer source (Some object) read (inr (inr (inr (value, leaves_other, is)))) other given =
-    record { source = source; object = object; read = read; shown = inr (value, leaves_other) }
+refuted_by claim script_name log_name contents contents' answer source wanted read (inr (inr (fails, inr is))) other given =
+    let said : IsWhole past_fuel contents contents' = subst (λ (a : Answer). IsWhole a contents contents') is given in
+    record { source = source; wanted = wanted; read = read; fails = fails; shown = inr said.said }
 
 refuted : (claim : Claim) (script_name log_name : List ℕ) (most : ℕ) (contents contents' : Contents) (answer : Answer) → RequestAnswers (Always claim script_name log_name most) (Some contents) answer → answer.status ≡ Otherwise → IsWhole answer contents contents'
     → IsNotAlways claim script_name log_name contents contents'
-refuted claim script_name log_name most contents contents' answer (inl refused) other given = absurd (not_of_reading answer Otherwise refl (chosen_unread script_name (Some claim.name) (Some contents) answer refused) other)
+refuted claim script_name log_name most contents contents' answer (inl refused) other given = absurd (not_of_reading answer Otherwise refl (chosen_unread script_name (claimed_of claim) (Some contents) answer refused) other)
 refuted claim script_name log_name most contents contents' answer (inr ((source, wanted), read, answers)) other given = refuted_by claim script_name log_name contents contents' answer source wanted read answers other given
 
 pub refutes_always : (words : List (List ℕ)) (before after : DeskState) (code : ℕ) → IsServed (request_in words) before after code → RefutesAlways words before after code
