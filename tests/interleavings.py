@@ -204,7 +204,10 @@ def worked_by_hand():
         (["outcomes", "S"], LONG, 0, text("outcome past the fuel", "object n 0", "moments 7", "stuck 0")),
         (["always", "S", "L", "n", "2"], TWICE, 0, text("always")),
         (["always", "S", "L", "n", "2", "2"], TWICE, 13, text(NOT_ALL)),
-        (["always", "S", "L", "n", "1"], LONG, 14, text("otherwise 0 past the fuel")),
+        (["always", "S", "L", "n", "1"], LONG, 14, text("otherwise past the fuel")),
+        (["always", "S", "L"], TWICE, 0, text("always")),
+        (["always", "S", "L", "4"], TWICE, 0, text("always")),
+        (["always", "S", "L", "3"], TWICE, 13, text(NOT_ALL)),
         (["always", "S", "L", "n", "2"], LOST, 14, text("otherwise", "preemptions 1", "thread 0 done 0", "thread 1 done 0", "object n 1")),
     ]
     with tempfile.TemporaryDirectory() as folder:
@@ -221,6 +224,16 @@ def worked_by_hand():
         )
 
 
+def stuck_problem(folder):
+    """That a run can stick is told, with a recording of one: each lock is taken, and both threads wait until their fuel is spent."""
+    status, said = octet(["always", "S", "L"], folder)
+    lines = said.decode().split("\n")
+    outcome = "\n".join(lines[2:]).encode()
+    if status != 14 or lines[:2] != ["otherwise", "preemptions 1"] or [line.split()[2] for line in lines[2:4]] != ["spent", "spent"]:
+        return f"two locks taken crosswise: status {status}, {lines[:2]}"
+    return differs("its replay", octet(["replay", "S", "L"], folder), (0, outcome))
+
+
 def locks():
     """Peterson's lock always counts right; a lock that is tested and then set does not; two locks taken crosswise stick."""
     with tempfile.TemporaryDirectory() as folder:
@@ -233,9 +246,7 @@ def locks():
             status, said = octet(["always", "S", "L", object_name, str(number)], folder)
             other = refutation_problem(pathlib.Path(folder), content, said, object_name, number) if status == 14 else f"status {status}"
             wrong = wrong or (other and f"{name}: {other}")
-        searched = Searched(CROSSED)
-        wrong = wrong or (None if searched.stuck > 0 else "the plain program finds no stuck moment")
-        return wrong or search_problem(folder, CROSSED, searched)
+        return wrong or search_problem(folder, CROSSED, Searched(CROSSED)) or stuck_problem(pathlib.Path(folder))
 
 
 TESTS = {

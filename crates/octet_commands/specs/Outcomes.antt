@@ -1,5 +1,5 @@
 -- What `outcomes` and `always` answer.
-use Rattle.std.specs.Prelude.{ℕ, ◌≡◌, ◌≢◌, ◌<◌, ◌⊎◌, ◌++◌, Bool, true, false, List, [], map, codes, get_or, if◌then◌else◌, Option, None, Some}
+use Rattle.std.specs.Prelude.{ℕ, ◌≡◌, ◌≢◌, ◌<◌, ◌⊎◌, ◌++◌, Bool, true, false, List, map, codes, get_or, Option, None, Some}
 use Rattle.std.specs.Fmt.{decimal}
 use Rattle.std.specs.List.{All, flat_map, list_all}
 use Rattle.octet_model.specs.declared.log.ThreadLog.{ThreadLog}
@@ -49,9 +49,14 @@ pub record IsExplored (script : Script) (told : List Told) (stuck : ℕ) (whole 
   pub some_stuck : 0 < stuck → SomeIsStuck script
   pub none_stuck : whole ≡ true → stuck ≡ 0 → CanAlwaysEnd script
 
+-- the line that stands before a heap, by whether the script's fuel is enough for it
+abbrev pub told_line : Bool → List ℕ
+told_line true = codes "outcome\n"
+told_line false = codes "outcome past the fuel\n"
+
 -- the text of a heap that is told
 abbrev pub told_text : Script → Told → List ℕ
-told_text script told = codes "outcome" ++ (if told.within then [] else codes " past the fuel") ++ codes "\n" ++ object_lines script.objects told.heap
+told_text script told = told_line told.within ++ object_lines script.objects told.heap
 
 -- the text of what a search has found: the heaps, how many moments there were, and how many of them are stuck
 abbrev pub search_text : Script → List Told → ℕ → ℕ → List ℕ

@@ -1,11 +1,11 @@
 //! The commands `always SCRIPT LOG NAME NUMBER [MOST]` and `always SCRIPT LOG [MOST]`.
-ghost use Rattle.std.specs.Prelude.{ℕ, ◌≡◌, ◌≢◌, ◌<◌, ◌×◌, Ok, get_or, length, IfOk, IfSome, IsNone};
-ghost use Rattle.std.specs.List.{All, Exists};
+ghost use Rattle.std.specs.Prelude.{ℕ, true, false, ◌≡◌, ◌<◌, Ok, get_or, length, IfOk, IfSome};
+ghost use Rattle.std.specs.List.{All};
 ghost use Rattle.octet_hunt.specs.Hunts.{EndsOtherwise};
 ghost use Rattle.octet_commands.specs.Answer.{answer_of};
 ghost use Rattle.octet_commands.specs.Commands.{AlwaysAnswers, IsWitness};
 ghost use Rattle.octet_commands.specs.Inputs.{IsChosen};
-ghost use Rattle.octet_commands.specs.Judging.{IsJudged, IsJudgedBy};
+ghost use Rattle.octet_commands.specs.Judging.{IsJudged, IsJudgedBy, OneLeavesOther};
 ghost use Rattle.octet_commands.specs.Outcomes.{none_other, otherwise_text, past_fuel, AlwaysLeaves, CanAlwaysEnd, IsUnfinished, LeavesOther, Refutes, SomeIsStuck};
 ghost use Rattle.octet_commands.specs.Request.{claimed_of, shown_claim};
 
@@ -120,7 +120,7 @@ fn value_at(heap: &[u64], object: u16) -> u64
 // Whether some ending has another value than the number at the object.
 fn has_other(endings: &[Ending], object: u16, number: u64) -> bool
     ensures none { result ≡ false → All (λ ending. get_or ending.heap object 0 ≡ number) endings.now }
-    ensures some { result ≡ true → Exists (λ ending. get_or ending.heap object 0 ≢ number) endings.now }
+    ensures some { result ≡ true → OneLeavesOther endings.now object number }
 {
     for ending in endings {
         if value_at(ending.heap.as_slice(), object) != number {

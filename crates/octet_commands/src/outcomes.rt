@@ -3,7 +3,7 @@ ghost use Rattle.std.specs.Prelude.{◌≡◌, ◌++◌, true, length, map as li
 ghost use Rattle.std.specs.List.{All, flat_map};
 ghost use Rattle.octet_outcomes.specs.Endings.{heap_of, IsEnding};
 ghost use Rattle.octet_commands.specs.Answer.{answer_of};
-ghost use Rattle.octet_commands.specs.Outcomes.{search_said, search_text, told_text, IsRecorded, IsTold, OutcomesAnswers};
+ghost use Rattle.octet_commands.specs.Outcomes.{search_said, search_text, told_line, told_text, IsRecorded, IsTold, OutcomesAnswers};
 
 use crate::reply::{Reply, Status};
 use octet_hunt::{are_done, record_by};
@@ -64,16 +64,23 @@ fn told_of(alloc: Global, script: &Script, endings: &[Ending]) -> Result<List<To
     Ok(told)
 }
 
+fn told_line(within: bool) -> &'static [u8]
+    ensures { result.now ≡ told_line within }
+{
+    if within {
+        b"outcome\n"
+    } else {
+        b"outcome past the fuel\n"
+    }
+}
+
 fn push_told(out: &mut Vec<u8>, script: &Script, told: &Told) -> Result<(), OutOfMemory>
     requires { length told.now.heap ≡ length script.now.objects }
     ensures { OnOk result (out.new.items ≡ out.old.items ++ told_text script.now told.now) }
 {
-    out.extend_from_slice(b"outcome")?;
-    if !told.within {
-        out.extend_from_slice(b" past the fuel")?;
-    }
-    out.extend_from_slice(b"\n")?;
-    push_object_lines(out, script.objects.as_slice(), told.heap.as_slice())
+    out.extend_from_slice(told_line(told.within))?;
+    push_object_lines(out, script.objects.as_slice(), told.heap.as_slice())?;
+    Ok(())
 }
 
 fn search_text(
