@@ -1,14 +1,17 @@
 -- The steps of a search lead to its moments.
-use Rattle.std.proofs.Common.{◌≡◌, ℕ, zero, suc, ◌+◌, ◌<◌, ◌≤◌, List, [], ◌∷◌, ◌++◌, length, get_or, reverse, refl, sym, ap, subst, ◌∙◌, inl, inr, arith, length-append, Option, Some, None, below_more}
+use Rattle.std.proofs.Common.{◌≡◌, ℕ, zero, suc, ◌+◌, ◌<◌, ◌≤◌, List, [], ◌∷◌, ◌++◌, length, get_or, reverse, refl, sym, ap, ap₂, map, subst, ◌∙◌, inl, inr, arith, length-append, Option, Some, None, below_more}
 use Rattle.std.proofs.lemmas.List.{reverse-append}
 use Rattle.octet_model.specs.declared.command.Command.{Command}
 use Rattle.octet_model.specs.declared.script.Script.{Script}
-use Rattle.octet_model.specs.Orders.{commands_of}
+use Rattle.octet_model.specs.Orders.{commands_of, starting_heap}
+use Rattle.octet_interp.specs.declared.program.Stand.{Stand}
+use Rattle.octet_interp.specs.Standing.{ThreadProgram}
 use Rattle.octet_outcomes.specs.declared.tree.Step.{Step}
 use Rattle.octet_outcomes.specs.Rows.{Grows}
-use Rattle.octet_outcomes.specs.Moments.{Moment, MomentsState, no_moment, next_by, next_moment, first_moment, AddsMoment, Finds}
-use Rattle.octet_outcomes.specs.Runs.{Follows}
+use Rattle.octet_outcomes.specs.Moments.{Moment, MomentsState, no_moment, next_by, next_moment, first_moment, start_of, AddsMoment, Finds}
+use Rattle.octet_outcomes.specs.Runs.{AreProgramsOf, Follows}
 use Rattle.octet_outcomes.specs.Searches.{AreFound, IsStep, no_step}
+use Rattle.octet_outcomes.proofs.Closing.{starts_first}
 use Rattle.octet_outcomes.proofs.Naming.{grow_at}
 
 pub at_end : {A : Type 0} (xs : List A) (x d : A) (n : ℕ) → length xs ≡ n → get_or (xs ++ x ∷ []) n d ≡ x
@@ -105,3 +108,11 @@ follows_back script moments steps at place picks more step of some below is grow
     let turned : reverse more ≡ step.thread ∷ reverse picks = ap reverse grown ∙ reverse-append picks (step.thread ∷ []) in
     subst (λ (ts : List ℕ). Follows script (get_or moments step.from no_moment) ts (get_or moments place no_moment)) (sym turned)
     (s.thread, (get_or moments at no_moment, s.makes, follows))
+
+-- the first moment alone, as the programs start
+pub found_begun : (script : Script) (programs : List ThreadProgram) (heap : List ℕ) (s : MomentsState) (steps : List Step) → AreProgramsOf script programs → heap ≡ starting_heap script
+    → s ≡ record { threads = length programs; objects = length heap; moments = record { stands = map (start_of script.fuel) programs; heap = heap } ∷ [] } → length steps ≡ 1 → AreFound script s.moments steps
+found_begun script programs heap s steps of heaped is one =
+    let m : record { stands = map (start_of script.fuel) programs; heap = heap } ≡ first_moment script = ap₂ (λ (ss : List Stand) (h : List ℕ). record { stands = ss; heap = h }) (starts_first script programs of) heaped in
+    let all : s.moments ≡ first_moment script ∷ [] = ap (λ (t : MomentsState). t.moments) is ∙ ap (λ (k : Moment). k ∷ []) m in
+    found_first script s.moments steps (ap length all) (ap (λ (ms : List Moment). get_or ms 0 no_moment) all) one
