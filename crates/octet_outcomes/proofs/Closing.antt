@@ -49,7 +49,7 @@ followed_more script xs ys m place threads within grows followed thread lt after
 pub all_followed_more : (script : Script) (xs ys : List Moment) (m : Moment) (places : ℕ) → places ≤ length xs → Grows xs m ys → AreFollowed script places xs → AreFollowed script places ys
 all_followed_more script xs ys m places within grows followed place lt = followed_more script xs ys m place (length script.threads) (omega arith) grows (followed place lt)
 
-below_suc : (P : ℕ → Type 0) (n : ℕ) → ((k : ℕ) → k < n → P k) → P n → (k : ℕ) → k < suc n → P k
+pub below_suc : (P : ℕ → Type 0) (n : ℕ) → ((k : ℕ) → k < n → P k) → P n → (k : ℕ) → k < suc n → P k
 below_suc P n below here k lt = below_more P n below here k (omega arith)
 
 reached_more : (script : Script) (xs ys : List Moment) (m : Moment) → Grows xs m ys → IsReached script m → All (IsReached script) xs → All (IsReached script) ys

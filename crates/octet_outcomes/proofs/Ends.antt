@@ -82,3 +82,8 @@ all_ended script s places endings ordered of followed ends same permutation heap
     let all = all_outcomes script s (map (heap_at s.moments) places) of followed ends.listed heap outcome in
     Contains-permutation (map heap_of endings) (map heap_of ordered) heap (IsPermutation-map heap_of endings ordered permutation)
     (subst (λ (hs : List (List ℕ)). Contains hs heap) (sym same) all)
+
+-- the same, with how wide the heaps are
+pub record AreKept (script : Script) (moments : List Moment) (objects many : ℕ) (heaps : RowsState) (places : List ℕ) : Type 0 where
+  pub width : heaps.width ≡ objects
+  pub final : AreFinal script moments many heaps.rows places

@@ -1,5 +1,5 @@
 -- Where runs can come to an end, and where they cannot.
-use Rattle.std.proofs.Common.{◌≡◌, ℕ, Bool, true, false, suc, ◌<◌, ◌≤◌, List, [], ◌∷◌, length, set, get_or, refl, sym, ap, subst, ◌∙◌, arith, Option, Some}
+use Rattle.std.proofs.Common.{◌≡◌, ℕ, Bool, true, false, zero, suc, ◌+◌, ◌<◌, ◌≤◌, List, [], ◌∷◌, ◌++◌, length, set, get_or, refl, sym, ap, subst, ◌∙◌, inr, arith, Option, Some, below_more}
 use Rattle.std.specs.List.{Contains}
 use Rattle.octet_model.specs.declared.script.Script.{Script}
 use Rattle.octet_outcomes.specs.declared.search.Searched.{Searched}
@@ -9,6 +9,8 @@ use Rattle.octet_outcomes.specs.Runs.{Follows, IsReached, AreFollowed}
 use Rattle.octet_outcomes.specs.Searches.{IsSearched}
 use Rattle.octet_outcomes.specs.Stuck.{LeadsToEnd, IsStuck, AreMarks, IsUnmarked, IsApart, IsCounted}
 use Rattle.octet_outcomes.proofs.Closing.{any_default, below_suc, fewer_followed, reached_all}
+use Rattle.octet_outcomes.proofs.Naming.{grow_at}
+use Rattle.octet_outcomes.proofs.Ways.{at_end}
 
 -- one access more at the front
 pub leads_on : (script : Script) (m after : Moment) (thread : ℕ) → thread < length script.threads → next_moment script m thread ≡ Some after → LeadsToEnd script after → LeadsToEnd script m
@@ -20,9 +22,9 @@ done_leads script m done = record { last = m; picks = []; follows = refl; done =
 -- one mark more
 pub set_marked : (marks : List Bool) (place k : ℕ) (P : ℕ → Type 0) → place < length marks → P place → (get_or marks k false ≡ true → P k) → get_or (set marks place true) k false ≡ true → P k
 set_marked [] place k P lt here there is = absurd (omega arith)
-set_marked (mark ∷ marks) 0 0 P lt here there is = here
-set_marked (mark ∷ marks) 0 (suc k) P lt here there is = there is
-set_marked (mark ∷ marks) (suc place) 0 P lt here there is = there is
+set_marked (mark ∷ marks) zero zero P lt here there is = here
+set_marked (mark ∷ marks) zero (suc k) P lt here there is = there is
+set_marked (mark ∷ marks) (suc place) zero P lt here there is = there is
 set_marked (mark ∷ marks) (suc place) (suc k) P lt here there is = set_marked marks place k (λ n. P (suc n)) (omega arith) here there is
 
 pub mark_more : (script : Script) (found : Searched) (marks more : List Bool) (place : ℕ) → place < length found.moments.moments → more ≡ set marks place true → length more ≡ length marks
@@ -33,6 +35,16 @@ mark_more script found marks more place lt is len leads of = record {
       set_marked marks place k (λ n. LeadsToEnd script (get_or found.moments.moments n no_moment)) (omega (arith, lt, of.len)) (leads whole) (λ before. of.leads k (omega (arith, below, len)) before whole)
       (ap (λ (ms : List Bool). get_or ms k false) (sym is) ∙ marked);
 }
+
+-- one mark at the end
+pub mark_pushed : (script : Script) (found : Searched) (marks more : List Bool) (place : ℕ) (mark : Bool) → length marks ≡ place → more ≡ marks ++ mark ∷ []
+    → (mark ≡ true → length found.moments.moments ≤ found.followed → LeadsToEnd script (get_or found.moments.moments place no_moment))
+    → ((k : ℕ) → k < place → get_or marks k false ≡ true → length found.moments.moments ≤ found.followed → LeadsToEnd script (get_or found.moments.moments k no_moment))
+    → (k : ℕ) → k < place + 1 → get_or more k false ≡ true → length found.moments.moments ≤ found.followed → LeadsToEnd script (get_or found.moments.moments k no_moment)
+mark_pushed script found marks more place mark len grown here before =
+    below_more (λ (k : ℕ). get_or more k false ≡ true → length found.moments.moments ≤ found.followed → LeadsToEnd script (get_or found.moments.moments k no_moment)) place
+    (λ k lt marked. before k lt (sym (grow_at marks more mark k false (omega (arith, lt, len)) (inr grown)) ∙ marked))
+    (λ marked. here (sym (ap (λ (ms : List Bool). get_or ms place false) grown ∙ at_end marks mark false place len) ∙ marked))
 
 -- from a moment that is apart no accesses lead to an end
 pub apart_stuck : (script : Script) (moments : List Moment) (marks : List Bool) → ((k : ℕ) → k < length moments → get_or marks k false ≡ false → IsApart script moments marks k)
@@ -75,7 +87,7 @@ count_unmarked script found marks many stuck more unmarked apart same_whole one 
 }
   where
     first : (n : ℕ) → stuck.count ≡ n → (P : ℕ → Type 0) → P many → (0 < stuck.count → P stuck.first) → P more.first
-    first 0 is P here before = subst P (sym (start is)) here
+    first zero is P here before = subst P (sym (start is)) here
     first (suc n) is P here before = let some : 0 < stuck.count = omega (arith, is) in subst P (sym (later some)) (before some)
 
 -- all are counted
