@@ -68,7 +68,7 @@ pub count_marked : (script : Script) (found : Searched) (marks : List Bool) (man
 count_marked script found marks many stuck marked c = record {
   whole = c.whole;
   few = omega (arith, c.few);
-  none = λ zero. below_suc (λ k. get_or marks k false ≡ true) many (c.none zero) marked;
+  none = λ none. below_suc (λ k. get_or marks k false ≡ true) many (c.none none) marked;
   there = λ some. omega (arith, c.there some);
   some = c.some;
   apart = below_suc (λ k. get_or marks k false ≡ false → IsApart script found.moments.moments marks k) many c.apart (λ un. absurd (let no : true ≡ false = sym marked ∙ un in cc));
@@ -80,7 +80,7 @@ pub count_unmarked : (script : Script) (found : Searched) (marks : List Bool) (m
 count_unmarked script found marks many stuck more unmarked apart same_whole one start later c = record {
   whole = λ w. c.whole (sym same_whole ∙ w);
   few = omega (arith, one, c.few);
-  none = λ zero. absurd (omega (arith, zero, one));
+  none = λ none. absurd (omega (arith, none, one));
   there = λ _. first stuck.count refl (λ n. n < suc many) (omega arith) (λ some. omega (arith, c.there some));
   some = λ _. first stuck.count refl (λ n. get_or marks n false ≡ false) unmarked c.some;
   apart = below_suc (λ k. get_or marks k false ≡ false → IsApart script found.moments.moments marks k) many c.apart (λ _. apart);
@@ -98,13 +98,13 @@ is_counted script found marks many stuck of marked all c = record {
   there = λ some. omega (arith, c.there some, all);
   some = λ some. apart_stuck script found.moments.moments marks (λ k lt un. c.apart k (omega (arith, lt, all)) un) (get_or found.moments.moments stuck.first no_moment)
       (record { place = stuck.first; there = omega (arith, c.there some, all); is = refl; unmarked = c.some some });
-  none = λ whole zero m reached. leads (c.whole whole) zero m reached;
+  none = λ whole none m reached. leads (c.whole whole) none m reached;
 }
   where
     leads : length found.moments.moments ≤ found.followed → stuck.count ≡ 0 → (m : Moment) → IsReached script m → LeadsToEnd script m
-    leads whole zero m reached =
+    leads whole none m reached =
         let followed : AreFollowed script (length found.moments.moments) found.moments.moments = fewer_followed script found.followed (length found.moments.moments) found.moments.moments whole of.followed in
         let there : Contains found.moments.moments m = reached_all script found.moments.moments followed (first_moment script) m reached.picks of.moments.first reached.follows in
         let at : get_or found.moments.moments there.0 no_moment ≡ m = any_default found.moments.moments there.0 no_moment m there.1 ∙ there.2 in
         subst (λ (k : Moment). LeadsToEnd script k) at
-        (marked.leads there.0 (omega (arith, there.1, marked.len)) (c.none zero there.0 (omega (arith, there.1, all))) whole)
+        (marked.leads there.0 (omega (arith, there.1, marked.len)) (c.none none there.0 (omega (arith, there.1, all))) whole)
