@@ -1,5 +1,5 @@
 -- The ends of a script's runs, and their heaps.
-use Rattle.std.proofs.Common.{◌≡◌, ℕ, suc, ◌<◌, ◌≤◌, List, [], ◌∷◌, ◌++◌, length, map, get_or, All, refl, sym, ap, subst, ◌∙◌, inl, inr, arith, length-append}
+use Rattle.std.proofs.Common.{◌≡◌, ℕ, suc, ◌<◌, ◌≤◌, List, [], ◌∷◌, ◌++◌, length, map, get_or, All, sym, ap, subst, ◌∙◌, inl, inr, arith, length-append}
 use Rattle.std.specs.List.{Contains}
 use Rattle.std.specs.List.Sorted.{IsPermutation}
 use Rattle.std.proofs.lemmas.List.{length-map, map-append, get_or_default}
@@ -9,7 +9,7 @@ use Rattle.octet_model.specs.declared.script.Script.{Script}
 use Rattle.octet_outcomes.specs.declared.endings.Ending.{Ending}
 use Rattle.octet_outcomes.specs.Rows.{RowsState, Keeps, Grows}
 use Rattle.octet_outcomes.specs.Moments.{Moment, MomentsState, no_moment, AllDone}
-use Rattle.octet_outcomes.specs.Runs.{AreAllOutcomes, AreFollowed, AreMomentsOf, IsListed, IsOutcome}
+use Rattle.octet_outcomes.specs.Runs.{AreAllOutcomes, AreFollowed, AreMomentsOf, IsListed}
 use Rattle.octet_outcomes.specs.Endings.{AreEnds, IsEnd, heap_at, heap_of}
 use Rattle.octet_outcomes.proofs.Closing.{below_suc, contains_more, all_outcomes}
 
@@ -65,14 +65,6 @@ are_ends script moments many heaps places final = record {
   ends = final.ends;
   listed = subst (λ (hs : List (List ℕ)). IsListed script moments many hs) final.same final.listed;
 }
-
--- one more ending at the end
-pub heaps_more : (moments : List Moment) (endings more : List Ending) (ending : Ending) (places further : List ℕ) (place : ℕ) → more ≡ endings ++ ending ∷ [] → further ≡ places ++ place ∷ []
-    → map heap_of endings ≡ map (heap_at moments) places → ending.heap ≡ heap_at moments place → map heap_of more ≡ map (heap_at moments) further
-heaps_more moments endings more ending places further place grown on same is =
-    ap (map heap_of) grown ∙ map-append heap_of endings (ending ∷ [])
-    ∙ ap (λ (hs : List (List ℕ)). hs ++ ending.heap ∷ []) same ∙ ap (λ (h : List ℕ). map (heap_at moments) places ++ h ∷ []) is
-    ∙ sym (map-append (heap_at moments) places (place ∷ [])) ∙ ap (map (heap_at moments)) (sym on)
 
 -- endings in any order have all outcomes, where they have the heap of each end
 pub all_ended : (script : Script) (s : MomentsState) (places : List ℕ) (endings ordered : List Ending) → AreMomentsOf script s → AreFollowed script (length s.moments) s.moments

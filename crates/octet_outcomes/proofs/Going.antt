@@ -1,11 +1,11 @@
 -- Where runs can come to an end, and where they cannot.
-use Rattle.std.proofs.Common.{◌≡◌, ℕ, Bool, true, false, zero, suc, ◌+◌, ◌<◌, ◌≤◌, List, [], ◌∷◌, ◌++◌, length, set, get_or, refl, sym, ap, subst, ◌∙◌, inr, arith, Option, Some, below_more}
+use Rattle.std.proofs.Common.{◌≡◌, ℕ, Bool, true, false, zero, suc, ◌+◌, ◌<◌, ◌≤◌, List, [], ◌∷◌, ◌++◌, length, set, get_or, refl, sym, ap, subst, ◌∙◌, inr, arith, Some, below_more}
 use Rattle.std.specs.List.{Contains}
 use Rattle.octet_model.specs.declared.script.Script.{Script}
 use Rattle.octet_outcomes.specs.declared.search.Searched.{Searched}
 use Rattle.octet_outcomes.specs.declared.stuck.Stuck.{Stuck}
 use Rattle.octet_outcomes.specs.Moments.{Moment, no_moment, next_moment, first_moment, AllDone}
-use Rattle.octet_outcomes.specs.Runs.{Follows, IsReached, AreFollowed}
+use Rattle.octet_outcomes.specs.Runs.{IsReached, AreFollowed}
 use Rattle.octet_outcomes.specs.Searches.{IsSearched}
 use Rattle.octet_outcomes.specs.Stuck.{LeadsToEnd, IsStuck, AreMarks, IsUnmarked, IsApart, IsCounted}
 use Rattle.octet_outcomes.proofs.Closing.{any_default, below_suc, fewer_followed, reached_all}

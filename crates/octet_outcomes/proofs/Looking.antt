@@ -1,12 +1,12 @@
 -- What a look for the next moment finds.
-use Rattle.std.proofs.Common.{◌≡◌, ℕ, suc, ◌+◌, ◌<◌, List, [], ◌∷◌, length, map, set, get_or, refl, sym, ap, ap₂, subst, ◌∙◌, inl, arith, Option, Some, None}
+use Rattle.std.proofs.Common.{◌≡◌, ℕ, suc, ◌<◌, List, [], length, map, set, get_or, refl, sym, ap, ap₂, subst, ◌∙◌, inl, arith, Option, Some, None}
 use Rattle.std.proofs.lemmas.List.{length-map, get_or-map}
 use Rattle.octet_interp.specs.declared.program.Stand.{Stand}
 use Rattle.octet_interp.specs.Standing.{access_at}
 use Rattle.octet_model.specs.declared.command.Command.{Command}
 use Rattle.octet_outcomes.specs.declared.moments.Next.{Next}
 use Rattle.octet_outcomes.specs.Ahead.{IsNext}
-use Rattle.octet_outcomes.specs.Moments.{Moment, MomentsState, no_stand, no_moment, stand_in, stand_after, heap_after, moved, next_by, moment_of, IsRowOf}
+use Rattle.octet_outcomes.specs.Moments.{Moment, no_stand, no_moment, stand_in, stand_after, heap_after, moved, next_by, moment_of, IsRowOf}
 use Rattle.octet_outcomes.proofs.Naming.{numbered_names}
 
 -- a row that names a moment is at the place of the moment

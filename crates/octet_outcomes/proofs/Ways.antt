@@ -1,6 +1,5 @@
 -- The steps of a search lead to its moments.
-use Rattle.std.proofs.Common.{◌≡◌, ℕ, zero, suc, ◌+◌, ◌<◌, ◌≤◌, List, [], ◌∷◌, ◌++◌, length, get_or, reverse, refl, sym, ap, ap₂, map, subst, ◌∙◌, inl, inr, arith, length-append, Option, Some, None, below_more}
-use Rattle.std.proofs.lemmas.List.{reverse-append}
+use Rattle.std.proofs.Common.{◌≡◌, ℕ, zero, suc, ◌+◌, ◌<◌, ◌≤◌, List, [], ◌∷◌, ◌++◌, length, get_or, refl, sym, ap, ap₂, map, subst, ◌∙◌, inl, inr, arith, length-append, Option, Some, None, below_more}
 use Rattle.octet_model.specs.declared.command.Command.{Command}
 use Rattle.octet_model.specs.declared.script.Script.{Script}
 use Rattle.octet_model.specs.Orders.{commands_of, starting_heap}
@@ -8,8 +7,8 @@ use Rattle.octet_interp.specs.declared.program.Stand.{Stand}
 use Rattle.octet_interp.specs.Standing.{ThreadProgram}
 use Rattle.octet_outcomes.specs.declared.tree.Step.{Step}
 use Rattle.octet_outcomes.specs.Rows.{Grows}
-use Rattle.octet_outcomes.specs.Moments.{Moment, MomentsState, no_moment, next_by, next_moment, first_moment, start_of, AddsMoment, Finds}
-use Rattle.octet_outcomes.specs.Runs.{AreProgramsOf, Follows}
+use Rattle.octet_outcomes.specs.Moments.{Moment, MomentsState, no_moment, next_by, next_moment, first_moment, start_of, Finds}
+use Rattle.octet_outcomes.specs.Runs.{AreProgramsOf}
 use Rattle.octet_outcomes.specs.Searches.{AreFound, IsStep, no_step}
 use Rattle.octet_outcomes.proofs.Closing.{starts_first}
 use Rattle.octet_outcomes.proofs.Naming.{grow_at}
@@ -97,17 +96,6 @@ found_first script moments steps one first len = record {
   first = first;
   made = λ k some below. absurd (omega (arith, one, some, below));
 }
-
--- one step further back
-pub follows_back : (script : Script) (moments : List Moment) (steps : List Step) (at place : ℕ) (picks more : List ℕ) (step : Step) → AreFound script moments steps → 0 < at → at < length moments
-    → step ≡ get_or steps at no_step → more ≡ picks ++ step.thread ∷ []
-    → Follows script (get_or moments at no_moment) (reverse picks) (get_or moments place no_moment)
-    → Follows script (get_or moments step.from no_moment) (reverse more) (get_or moments place no_moment)
-follows_back script moments steps at place picks more step of some below is grown follows =
-    let s : IsStep script moments at step = subst (λ (t : Step). IsStep script moments at t) (sym is) (of.made at some below) in
-    let turned : reverse more ≡ step.thread ∷ reverse picks = ap reverse grown ∙ reverse-append picks (step.thread ∷ []) in
-    subst (λ (ts : List ℕ). Follows script (get_or moments step.from no_moment) ts (get_or moments place no_moment)) (sym turned)
-    (s.thread, (get_or moments at no_moment, s.makes, follows))
 
 -- the first moment alone, as the programs start
 pub found_begun : (script : Script) (programs : List ThreadProgram) (heap : List ℕ) (s : MomentsState) (steps : List Step) → AreProgramsOf script programs → heap ≡ starting_heap script
