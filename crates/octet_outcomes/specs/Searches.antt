@@ -27,6 +27,6 @@ pub record AreFound (script : Script) (moments : List Moment) (steps : List Step
 pub record IsSearched (script : Script) (found : Searched) : Type 0 where
   pub programs : AreProgramsOf script found.programs.items
   pub moments : AreMomentsOf script found.moments
-  pub found : AreFound script found.moments.moments found.tree.steps.items
+  pub ways : AreFound script found.moments.moments found.tree.steps.items
   pub followed : AreFollowed script found.followed found.moments.moments
   pub within : found.followed ≤ length found.moments.moments

@@ -1,5 +1,5 @@
 //! The ways to the final heaps of a script's runs.
-ghost use Rattle.std.specs.Prelude.{◌≡◌, ◌<◌, ◌↔◌, true, length, get_or, map, IfOk};
+ghost use Rattle.std.specs.Prelude.{◌≡◌, ◌<◌, ◌≤◌, ◌↔◌, ◌++◌, ◌∷◌, [], true, length, get_or, map, IfOk, OnOk};
 ghost use Rattle.std.specs.List.{All};
 ghost use Rattle.std.specs.List.Sorted.{IsPermutation};
 ghost use Rattle.octet_outcomes.specs.Endings.{AreEnds, IsEnding, heap_at, heap_of, IsEnd};
@@ -37,7 +37,10 @@ pub(crate) fn are_done(script: &Script, found: &Searched, place: usize) -> bool
 }
 
 // Notes the place of a heap that is the newest of so many.
-fn note_first(places: &mut Vec<usize>, many: usize, place: usize) -> Result<(), OutOfMemory> {
+fn note_first(places: &mut Vec<usize>, many: usize, place: usize) -> Result<(), OutOfMemory>
+    ensures same { many ≤ length places.old.items → OnOk result (places.new.items ≡ places.old.items) }
+    ensures more { length places.old.items < many → OnOk result (places.new.items ≡ places.old.items ++ place ∷ []) }
+{
     if many > places.len() {
         places.push(place)?;
     }

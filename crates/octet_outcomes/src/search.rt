@@ -117,12 +117,12 @@ impl Searched {
     pub(crate) fn picks_to(
         &self,
         alloc: Global,
-        _script: &Script,
+        script: &Script,
         place: usize,
     ) -> Result<List<u8>, OutOfMemory>
-        requires searched { IsSearched _script.now self.now }
+        requires searched { IsSearched script.now self.now }
         requires there { place < length self.now.moments.moments }
-        ensures { IfOk result (λ picks. Follows _script.now (first_moment _script.now) picks (get_or self.now.moments.moments place no_moment)) }
+        ensures { IfOk result (λ picks. Follows script.now (first_moment script.now) picks (get_or self.now.moments.moments place no_moment)) }
     {
         let mut picks = Vec::new(alloc);
         let mut at = place;

@@ -1,6 +1,7 @@
 //! Moments from which no run comes to its end.
-ghost use Rattle.std.specs.Prelude.{◌≡◌, ◌<◌, suc, true, length, IfOk, OnOk};
-ghost use Rattle.octet_outcomes.specs.Stuck.{AreMarks, IsApart, IsCounted};
+ghost use Rattle.std.specs.Prelude.{◌≡◌, ◌<◌, ◌≤◌, suc, true, length, get_or, IfOk, OnOk};
+ghost use Rattle.octet_outcomes.specs.Moments.{no_moment};
+ghost use Rattle.octet_outcomes.specs.Stuck.{AreMarks, IsApart, IsCounted, LeadsToEnd};
 ghost use Rattle.octet_outcomes.specs.Searches.{IsSearched};
 
 use crate::endings::are_done;
@@ -38,11 +39,11 @@ fn look(
     let Next::At { place: after } = found.next(script, place, thread, scratch)? else {
         return Ok(Ahead::Nothing);
     };
-    if !marks[after] {
-        return Ok(Ahead::Unmarked { place: after });
+    if marks[after] {
+        marks[place] = true;
+        return Ok(Ahead::Marked);
     }
-    marks[place] = true;
-    Ok(Ahead::Marked)
+    Ok(Ahead::Unmarked { place: after })
 }
 
 // Looks ahead from a moment by each thread until it is marked, or else waits for what is ahead.
@@ -59,6 +60,9 @@ fn look_ahead(
     requires there { place < length found.now.moments.moments }
     ensures { OnOk result (AreMarks script.now found.now marks.new) }
 {
+    if marks[place] {
+        return waiting.call(place);
+    }
     for thread in 0..script.thread_count() {
         match look(script, found, place, thread, marks, scratch)? {
             Ahead::Marked => return waiting.call(place),
@@ -119,17 +123,26 @@ fn go_back(
     Ok(())
 }
 
-// Marks the moments in which all threads are done, and those from which nothing was followed.
-fn mark_ends(alloc: Global, script: &Script, found: &Searched) -> Result<Vec<bool>, OutOfMemory>
+// Whether a moment is marked at first: all threads are done, or what follows was not sought.
+fn is_marked_first(script: &Script, found: &Searched, place: usize) -> bool
+    requires searched { IsSearched script.now found.now }
+    requires there { place < length found.now.moments.moments }
+    ensures { result ≡ true → length found.now.moments.moments ≤ found.now.followed → LeadsToEnd script.now (get_or found.now.moments.moments place no_moment) }
+{
+    if place >= found.followed {
+        return true;
+    }
+    are_done(script, found, place)
+}
+
+// The first marks.
+fn first_marks(alloc: Global, script: &Script, found: &Searched) -> Result<Vec<bool>, OutOfMemory>
     requires { IsSearched script.now found.now }
     ensures { IfOk result (λ marks. AreMarks script.now found.now marks.items) }
 {
-    let many = found.moments.len();
-    let mut marks: Vec<bool> = vec![in alloc; false; many]?;
-    for place in 0..many {
-        if place >= found.followed || are_done(script, found, place) {
-            marks[place] = true;
-        }
+    let mut marks = Vec::new(alloc);
+    for place in 0..found.moments.len() {
+        marks.push(is_marked_first(script, found, place))?;
     }
     Ok(marks)
 }
@@ -140,17 +153,13 @@ fn mark(alloc: Global, script: &Script, found: &Searched) -> Result<Vec<bool>, O
     requires { IsSearched script.now found.now }
     ensures { IfOk result (λ marks. AreMarks script.now found.now marks.items) }
 {
-    let mut marks = mark_ends(alloc, script, found)?;
+    let mut marks = first_marks(alloc, script, found)?;
     let many = marks.len();
     let mut waiting = Waiting::new(alloc, many)?;
     let mut scratch = Scratch::new(alloc);
     for later in 0..many {
         let place = many - 1 - later;
-        if marks[place] {
-            waiting.call(place)?;
-        } else {
-            look_ahead(script, found, place, &mut marks, &mut waiting, &mut scratch)?;
-        }
+        look_ahead(script, found, place, &mut marks, &mut waiting, &mut scratch)?;
         go_back(script, found, &mut marks, &mut waiting, &mut scratch)?;
     }
     Ok(marks)
