@@ -7,5 +7,4 @@ pub mod Endings
 pub mod Stuck
 pub mod Stands
 pub mod Laws
-pub mod Verdicts
 pub mod Interleavings

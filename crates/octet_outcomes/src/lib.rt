@@ -14,4 +14,4 @@ mod tree;
 mod waiting;
 
 pub use endings::Ending;
-pub use outcomes::{Outcomes, Verdict, always, explore};
+pub use outcomes::{Outcomes, explore};
