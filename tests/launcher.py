@@ -102,7 +102,7 @@ LOST = [
 ]
 
 
-COMMANDS = re.compile(r"^\| `octet ([a-z]+)((?: [A-Z]+)+)` \|", re.MULTILINE)
+COMMANDS = re.compile(r"^- `octet ([a-z]+)((?: [A-Z]+)+)` ", re.MULTILINE)
 
 
 def lines(*told):
