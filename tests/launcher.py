@@ -103,7 +103,7 @@ LOST = [
 ]
 
 
-COMMANDS = re.compile(r"^\| `octet ([a-z]+)((?: [A-Z]+)+)` \|", re.MULTILINE)
+COMMANDS = re.compile(r"^- `octet ([a-z]+)((?: [A-Z]+)+)` ", re.MULTILINE)
 
 
 def lines(*told):
