@@ -1,5 +1,5 @@
 -- From what is served to the promises of searches through all interleavings.
-use Rattle.std.proofs.Common.{◌≡◌, ◌∙◌, ℕ, Bool, true, false, List, Option, Some, None, inl, inr, ap, sym, refl, subst, arith, get_or}
+use Rattle.std.proofs.Common.{◌≡◌, ◌∙◌, ℕ, Bool, true, false, List, Option, Some, None, Ok, inl, inr, ap, sym, refl, subst, arith, get_or}
 use Rattle.std.specs.FinMap.{get}
 use Rattle.std.specs.List.{All}
 use Rattle.octet_base.specs.Desk.{Files, Contents, DeskState}
