@@ -12,8 +12,6 @@ mod live_tests;
 #[cfg(test)]
 mod locked_tests;
 #[cfg(test)]
-mod long_race_tests;
-#[cfg(test)]
 mod loop_tests;
 #[cfg(test)]
 mod race_tests;
