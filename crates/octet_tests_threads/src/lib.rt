@@ -1,4 +1,4 @@
-//! Tests across crates that start threads: runs, logs that are written meanwhile, the heap, recordings, and whole commands.
+//! Tests across crates that start threads: runs, logs that are written meanwhile, the heap, and whole commands.
 #![tactic(auto)]
 
 #[cfg(test)]
@@ -13,10 +13,6 @@ mod live_tests;
 mod locked_tests;
 #[cfg(test)]
 mod loop_tests;
-#[cfg(test)]
-mod race_tests;
-#[cfg(test)]
-mod races;
 #[cfg(test)]
 mod safe_tests;
 #[cfg(test)]
