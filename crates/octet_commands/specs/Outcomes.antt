@@ -1,5 +1,5 @@
 -- What `outcomes` and `always` answer.
-use Rattle.std.specs.Prelude.{ℕ, ◌≡◌, ◌≢◌, ◌<◌, ◌⊎◌, ◌++◌, Bool, true, false, List, map, codes, get_or, Option, None, Some}
+use Rattle.std.specs.Prelude.{ℕ, ◌≡◌, ◌≢◌, ◌<◌, ◌++◌, Bool, true, false, List, map, codes, get_or, Option, None, Some}
 use Rattle.std.specs.Fmt.{decimal}
 use Rattle.std.specs.List.{All, flat_map, list_all}
 use Rattle.octet_model.specs.declared.log.ThreadLog.{ThreadLog}

@@ -22,11 +22,7 @@ fn by_picks(alloc: Global, picks: &[u8]) -> Result<Schedule, OutOfMemory> {
 
 /// The run of a script by these picks, up to where all its threads have ended. After the last pick
 /// the threads go on one after the other. It counts as the first try.
-pub fn record_by(
-    alloc: Global,
-    script: &Script,
-    picks: &[u8],
-) -> Result<Option<Find>, OutOfMemory>
+pub fn record_by(alloc: Global, script: &Script, picks: &[u8]) -> Result<Option<Find>, OutOfMemory>
     ensures faithful { IfOk result (λ found. IfSome found (λ find. IsFaithful script.now find.recorded.log.threads find.recorded.outcome)) }
     ensures first { IfOk result (λ found. IfSome found (λ find. find.attempt ≡ 1)) }
 {

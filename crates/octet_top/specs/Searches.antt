@@ -1,5 +1,5 @@
 -- What the top call promises of searches through all interleavings.
-use Rattle.std.specs.Prelude.{ℕ, ◌≡◌, ◌<◌, ◌⊎◌, ◌++◌, true, List, codes, length, map, get_or, Contains, Option, None, Some, Ok}
+use Rattle.std.specs.Prelude.{ℕ, ◌≡◌, ◌<◌, ◌⊎◌, ◌++◌, true, List, codes, map, get_or, Contains, Option, Some, Ok}
 use Rattle.std.specs.FinMap.{get}
 use Rattle.std.specs.List.{All, list_all}
 use Rattle.sha2.specs.Sha256.{sha256}

@@ -12,7 +12,7 @@ use Rattle.octet_commands.specs.declared.inputs.Source.{Source}
 use Rattle.octet_commands.specs.declared.outcomes.Told.{Told}
 use Rattle.octet_commands.specs.declared.reply.Status.TheVariants.{Done, NotAll, Otherwise}
 use Rattle.octet_commands.specs.declared.request.Request.TheVariants.{Outcomes, Always}
-use Rattle.octet_commands.specs.Answer.{Answer, code_of, reports, says}
+use Rattle.octet_commands.specs.Answer.{Answer, reports, says}
 use Rattle.octet_commands.specs.Commands.{Answers, RequestAnswers, AlwaysAnswers, second_bytes}
 use Rattle.octet_commands.specs.Inputs.{IsScriptChosen, IsScriptRead}
 use Rattle.octet_commands.specs.Outcomes.{none_other, otherwise_text, past_fuel, search_said, search_text, Holds, IsExplored, IsTold, OutcomesAnswers}
