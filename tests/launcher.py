@@ -44,7 +44,7 @@ WRONG_WORDS = [
     (["outcomes"], NO_COMMAND, "outcomes wants SCRIPT, and MOST or none"),
     (["outcomes", "S", "0"], NO_COMMAND, "MOST is 1 to 2147483648"),
     (["outcomes", "S", "2147483649"], NO_COMMAND, "MOST is 1 to 2147483648"),
-    (["always", "S"], NO_COMMAND, "always wants SCRIPT LOG, then NAME NUMBER or neither, then MOST or none"),
+    (["always", "S"], NO_COMMAND, "always wants SCRIPT LOG NAME NUMBER, or SCRIPT LOG, and MOST or none"),
     (["always", "S", "L", "balance"], NO_COMMAND, "MOST is 1 to 2147483648"),
     (["always", "S", "L", "balance", "x"], NO_COMMAND, f"NUMBER is {NUMBERS}"),
     (["always", "S", "L", "balance", "180", "00"], NO_COMMAND, "MOST is 1 to 2147483648"),
