@@ -174,10 +174,14 @@ impl Session for LongRerun {
         thread.region = true;
     }
 
-    // No thread waits for another one that rests: each is told by its marks.
-    fn safe_point(&self, _thread: &mut LongFollower) {}
+    // No thread waits for the answer of another one: each is told by its marks. What was made is shown.
+    fn safe_point(&self, thread: &mut LongFollower) {
+        self.course.show_made(&mut thread.follower);
+    }
 
-    fn block(&self, _thread: &mut LongFollower) {}
+    fn block(&self, thread: &mut LongFollower) {
+        self.course.show_made(&mut thread.follower);
+    }
 
     fn unblock(&self, _thread: &mut LongFollower) {}
 
