@@ -1,6 +1,7 @@
 //! What a thread asks of its follower. No call takes memory, and none waits.
 ghost use Rattle.std.specs.Prelude.{◌≡◌, ◌≢◌, ◌<◌, ◌≤◌, ◌^◌, ◌+◌, length, IfOk, IfErr, OnOk};
 ghost use Rattle.octet_follow.specs.Calls.{view_of, journal_in, IsFollowerOf, IsGivenSame, IsShown, IsUnshown, MakesMarks, Makes, IsComplete, IsDue, IsThrough, IsNextFor, CountsMark, HaltsMarks, Halts, IsNotEnded};
+ghost use Rattle.octet_follow.specs.Promise.{HoldsBack};
 ghost use Rattle.octet_follow.specs.Repeats.{IsRecordedSoFar};
 
 use crate::access::Access;
@@ -102,6 +103,7 @@ impl Course {
         ensures own { IsFollowerOf self.now follower.new }
         ensures given { IsGivenSame follower.old follower.new }
         ensures unshown { OnOk result (IsUnshown follower.new) }
+        ensures holds { OnOk result (HoldsBack (view_of follower.new)) }
         ensures shown { IfErr result (λ _. IsShown follower.new) }
         ensures made { IfOk result (λ value. Makes access (view_of follower.old) value (view_of follower.new)) }
         ensures marks { IfErr result (λ _. MakesMarks (view_of follower.old) (view_of follower.new)) }
@@ -127,6 +129,7 @@ impl Course {
         ensures own { IsFollowerOf self.now follower.new }
         ensures given { IsGivenSame follower.old follower.new }
         ensures unshown { OnOk result (IsUnshown follower.new) }
+        ensures holds { OnOk result (HoldsBack (view_of follower.new)) }
         ensures shown { IfErr result (λ _. IsShown follower.new) }
         ensures made { IfOk result (λ value. Makes access (view_of follower.old) value (view_of follower.new)) }
         ensures marks { IfErr result (λ _. MakesMarks (view_of follower.old) (view_of follower.new)) }
@@ -167,6 +170,7 @@ impl Course {
         ensures own { IsFollowerOf self.now follower.new }
         ensures given { IsGivenSame follower.old follower.new }
         ensures unshown { OnOk result (IsUnshown follower.new) }
+        ensures holds { OnOk result (HoldsBack (view_of follower.new)) }
         ensures shown { IfErr result (λ _. IsShown follower.new) }
         ensures made { IfOk result (λ value. Makes access (view_of follower.old) value (view_of follower.new)) }
         ensures marks { IfErr result (λ _. MakesMarks (view_of follower.old) (view_of follower.new)) }
