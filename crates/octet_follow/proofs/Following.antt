@@ -18,9 +18,9 @@ use Rattle.octet_follow.specs.Seats.{IsSeatOf, Goes}
 use Rattle.octet_follow.specs.declared.access.Access.TheVariants.{Read, Write, Update}
 use Rattle.octet_follow.specs.Accesses.{event_of, GoesBy}
 use Rattle.octet_follow.specs.Blocks.{lengthened, carried, after_taken, TakesBlock}
-use Rattle.octet_follow.specs.Calls.{view_of, journal_in, pending, with_first_gap, gap_to_next, after_last, given, given_after, IsShown, IsUnshown, IsUpTo, IsFollowerOf, IsGivenSame, IsThrough, IsOut, IsDue, CountsMark, MakesMarks, Makes}
+use Rattle.octet_follow.specs.Calls.{view_of, journal_in, pending, with_first_gap, gap_to_next, after_last, given, given_after, IsShown, IsUpTo, IsFollowerOf, IsGivenSame, IsThrough, IsOut, IsDue, CountsMark, MakesMarks, Makes}
 
-longer : (j : List Event) (e : Event) → length (j ++ e ∷ []) ≡ length j + 1
+pub longer : (j : List Event) (e : Event) → length (j ++ e ∷ []) ≡ length j + 1
 longer j e = length-append j (e ∷ [])
 
 -- an access, which is no mark
@@ -39,11 +39,15 @@ is_access (Update object change) found = record { one = refl; no_mark = refl; ga
 digest_more : (journal : List Event) (e : Event) → digest_of (journal ++ e ∷ []) ≡ digest_with e (digest_of journal)
 digest_more journal e = journals_join 0 journal (e ∷ [])
 
+-- what a follower shows it has made
+pub shows_made : (f : Follower) → IsUpTo f → (view_of f).follower.shown ≤ length (journal_in f)
+shows_made f up = let a = up.shown in let b = up.within in omega arith
+
 -- an access is made, and not shown
 pub accessed : (course : Course) (f g : Follower) (e : Event) → IsAccess e → IsFollowerOf course f → IsShown f → IsSeatOf course.words g.seat → Goes (view_of f) (e ∷ []) false (view_of g)
     → g.shown ≡ f.shown → bits_of g.digest ≡ digest_with e (bits_of f.digest)
     → g.number ≡ f.number → g.ending ≡ f.ending → g.after ≡ f.after → g.awaited ≡ f.awaited → g.marked ≡ f.marked → g.next ≡ f.next → g.marks ≡ f.marks → g.events ≡ f.events + 1 → suc g.left ≡ f.left
-    → IsFollowerOf course g × IsGivenSame f g × IsUnshown g
+    → IsFollowerOf course g × IsGivenSame f g
 accessed course f g e is own all seat goes shown digest number ending after awaited marked next marks events left = (
   record {
     own = seat;
@@ -65,7 +69,6 @@ accessed course f g e is own all seat goes shown digest number ending after awai
     after = λ i. after_last (same_pending i) (same_gap i) (after i);
     ending = ending;
   },
-  (let a = goes.shown in let b = own.up.shown in let c = own.up.within in let d = one_more in omega arith),
 )
   where
     items : g.marks.items ≡ f.marks.items

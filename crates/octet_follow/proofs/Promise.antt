@@ -1,5 +1,5 @@
 -- While a follower does not show its last access, no event that was made happens after it.
-use Rattle.std.proofs.Common.{◌≡◌, ℕ, zero, suc, ◌+◌, ◌<◌, ◌≤◌, true, List, [], ◌∷◌, ◌++◌, map, length, get_or, slice_get, Some, refl, sym, ap, ◌∙◌, arith, length-append}
+use Rattle.std.proofs.Common.{◌≡◌, ℕ, zero, suc, ◌+◌, ◌<◌, ◌≤◌, false, List, [], ◌∷◌, ◌++◌, map, length, get_or, slice_get, Some, refl, sym, ap, ◌∙◌, arith, length-append}
 use Rattle.std.proofs.lemmas.Option.{slice_get_within}
 use Rattle.octet_model.specs.declared.event.Event.{Event}
 use Rattle.octet_model.specs.declared.event.Event.TheVariants.{Marked}
@@ -15,6 +15,7 @@ use Rattle.octet_follow.specs.Accesses.{event_of, GoesBy}
 use Rattle.octet_follow.specs.State.{FollowerState, CourseState, follower_of, unbegun, journals_of}
 use Rattle.octet_follow.specs.Views.{FollowerView}
 use Rattle.octet_follow.specs.Rule.{IsSeenBy}
+use Rattle.octet_follow.specs.Seats.{Goes}
 use Rattle.octet_follow.specs.Promise.{NoneAfter, HoldsBack}
 use Rattle.octet_follow.proofs.steps.Keeping.{journal_at}
 
@@ -41,9 +42,19 @@ has_events [] u k x is = absurd cc
 has_events (p ∷ ps) zero k x is = omega arith
 has_events (p ∷ ps) (suc u) k x is = let a = has_events ps u k x is in omega arith
 
-pub holds_back : (access : Access) (found : ℕ) (v w : FollowerView) → w.follower.journal ≡ v.follower.journal ++ event_of access found ∷ [] → w.follower.shown < length w.follower.journal → HoldsBack w
-holds_back access found v w journal unshown s last seen long later happens = go lead.edge
+-- a follower that makes an event and shows nothing of it
+pub unshown : (v w : FollowerView) (e : Event) → v.follower.shown ≤ length v.follower.journal → Goes v (e ∷ []) false w → w.follower.shown < length w.follower.journal
+unshown v w e within goes = let a = goes.shown in let b = ap (λ (j : List Event). length j) goes.journal in let c = length-append v.follower.journal (e ∷ []) in omega arith
+
+pub holds_back : (access : Access) (value : ℕ) (v w : FollowerView) → v.follower.shown ≤ length v.follower.journal → GoesBy access v value w → HoldsBack w
+holds_back access value v w within by s last seen long later happens = go lead.edge
   where
+    found : ℕ
+    found = by.found
+
+    journal : w.follower.journal ≡ v.follower.journal ++ event_of access found ∷ []
+    journal = by.goes.journal
+
     js : Journals
     js = journals_of s
 
@@ -76,6 +87,7 @@ holds_back access found v w journal unshown s last seen long later happens = go 
         let inside = has_events s.followers lead.next.thread lead.next.event (Marked (Join w.number upto)) there in
         let a = (seen.sound.each lead.next.thread inside).joins lead.next.event w.number upto there in
         let b = ap (λ (p : FollowerState). p.shown) seen.stands in
+        let c = unshown v w (event_of access found) within by.goes in
         omega arith
     go (Drawn first then is then_is below) = not_drawn first is
     go (Fenced number upto is then_is below) = not_drawn number is
