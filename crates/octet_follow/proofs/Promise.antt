@@ -1,22 +1,20 @@
 -- While a follower does not show its last access, no event that was made happens after it.
-use Rattle.std.proofs.Common.{◌≡◌, ℕ, zero, suc, ◌+◌, ◌<◌, ◌≤◌, false, List, [], ◌∷◌, ◌++◌, map, length, get_or, slice_get, Some, refl, sym, ap, ◌∙◌, arith, length-append}
+use Rattle.std.proofs.Common.{◌≡◌, ℕ, zero, suc, ◌<◌, ◌≤◌, false, List, [], ◌∷◌, ◌++◌, length, get_or, slice_get, Some, sym, ap, ◌∙◌, arith, length-append}
 use Rattle.std.proofs.lemmas.Option.{slice_get_within}
 use Rattle.octet_model.specs.declared.event.Event.{Event}
 use Rattle.octet_model.specs.declared.event.Event.TheVariants.{Marked}
-use Rattle.octet_model.specs.declared.event.Mark.{Mark}
 use Rattle.octet_model.specs.declared.event.Mark.TheVariants.{Join, Draw}
 use Rattle.octet_model.specs.declared.event.Place.{Place}
 use Rattle.octet_model.specs.Machine.{Journals, journal_of}
-use Rattle.octet_model.specs.HappensBefore.{event_at, Edge, ProgramOrder, Joined, Drawn, Fenced, IsEvent, IsPath, HappensBefore}
+use Rattle.octet_model.specs.HappensBefore.{event_at, Edge, ProgramOrder, Joined, Drawn, Fenced, IsEvent, IsPath}
 use Rattle.octet_model.proofs.lemmas.Lists.{slice_get_last}
 use Rattle.octet_follow.specs.declared.access.Access.{Access}
 use Rattle.octet_follow.specs.declared.access.Access.TheVariants.{Read, Write, Update}
 use Rattle.octet_follow.specs.Accesses.{event_of, GoesBy}
-use Rattle.octet_follow.specs.State.{FollowerState, CourseState, follower_of, unbegun, journals_of}
+use Rattle.octet_follow.specs.State.{FollowerState, follower_of, unbegun, journals_of}
 use Rattle.octet_follow.specs.Views.{FollowerView}
-use Rattle.octet_follow.specs.Rule.{IsSeenBy}
 use Rattle.octet_follow.specs.Seats.{Goes}
-use Rattle.octet_follow.specs.Promise.{NoneAfter, HoldsBack}
+use Rattle.octet_follow.specs.Promise.{HoldsBack}
 use Rattle.octet_follow.proofs.steps.Keeping.{journal_at}
 
 -- the first edge of a path
