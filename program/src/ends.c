@@ -30,7 +30,6 @@ void go_away(struct thread *t)
     t->last = NO_OBJECT;
     me = NULL;
     octet_stop(&t->session);
-    give_turn(t);
     __atomic_store_n(&t->state, RESTING, __ATOMIC_SEQ_CST);
 }
 
@@ -80,7 +79,6 @@ _Noreturn void park(struct thread *t)
         tell_end(t, end_session(t, &made), made);
     else
         octet_stop(&t->session);
-    give_turn(t);
     __atomic_store_n(&t->state, PARKED, __ATOMIC_SEQ_CST);
     stand_still();
 }
@@ -211,8 +209,9 @@ void end_run(const char *cause, int number)
     if (me != NULL && me->watched.from != NULL)
         watch_tell(me);
     me = NULL;
-    if (number >= 0)
-        give_turn(&threads[number]);
+    /* In a second run others may wait for its last access, until it makes a call. */
+    if (number >= 0 && mode == AGAIN)
+        octet_safe_point(&threads[number].session);
     arena_number = ARENA_OF_RUNTIME;
     if (mode == RECORD)
         __atomic_store_n(&closing, 1, __ATOMIC_SEQ_CST);

@@ -33,54 +33,13 @@ static _Noreturn void left_recording(struct thread *t, int32_t status, void *fro
     leave_process(EXIT_DIVERGED);
 }
 
-/* The turn, in a second run: one thread at a time goes on from its call of the library to its next.
- *
- * The library shows an access to other threads within the call, and the program makes its real access after it. In a recording
- * this is no matter, since there the others ask and this thread answers at its next call. In a second run they would go on. So a
- * thread keeps its turn until it is in a call again, or rests. Who waits for marks gives it up: so the thread whose access is the
- * earliest that is not made gets it, and goes on. */
-static volatile int turn, waiting;
-enum { MOST_CALLS_IN_TURN = 256 };
-
-static void take_turn(struct thread *t)
-{
-    int free = 0;
-    if (t->has_turn)
-        return;
-    __atomic_fetch_add(&waiting, 1, __ATOMIC_SEQ_CST);
-    for (unsigned tries = 0; !__atomic_compare_exchange_n(&turn, &free, 1, false, __ATOMIC_ACQUIRE, __ATOMIC_RELAXED); tries++) {
-        pause_short(tries);
-        free = 0;
-    }
-    __atomic_fetch_sub(&waiting, 1, __ATOMIC_SEQ_CST);
-    t->has_turn = true;
-}
-
-void give_turn(struct thread *t)
-{
-    if (!t->has_turn)
-        return;
-    t->has_turn = false;
-    __atomic_store_n(&turn, 0, __ATOMIC_RELEASE);
-}
-
-static void keep_turn(struct thread *t)
-{
-    if (waiting > 0 && t->calls % MOST_CALLS_IN_TURN == 0)
-        give_turn(t);
-    take_turn(t);
-}
-
 static __attribute__((noinline)) void wait_for_right(struct thread *t, void *from)
 {
     uint64_t value = 0;
     int32_t status = OCTET_PENDING;
     for (unsigned tries = 0; status == OCTET_PENDING; tries++) {
-        give_turn(t);
         pause_short(tries);
         t->waits++;
-        if (mode == AGAIN)
-            take_turn(t);
         status = octet_poll(&t->session, &value);
     }
     if (unlikely(status != OCTET_READY))
@@ -93,8 +52,6 @@ void own(struct thread *t, int how, uint32_t object, uint64_t tag, void *from)
     uint64_t value = 0;
     if (unlikely(is_closing()) || unlikely(t->stops && t->calls == t->stop_after))
         park(t);
-    if (mode == AGAIN)
-        keep_turn(t);
     t->calls++;
     int32_t status = octet_access(&t->session, (uint8_t)how, (uint16_t)object, tag, &value);
     if (unlikely(status == OCTET_PENDING))

@@ -42,7 +42,6 @@ struct thread {
     uintptr_t stack_low, stack_size;
     int number;
     int state;
-    bool has_turn;
     int away;            /* how many calls that may wait it is in */
     octet_session session;
     uint64_t accesses;   /* of the program, with those that are skipped */
@@ -134,7 +133,6 @@ HIDDEN void own_lock(struct thread *t, uint32_t object);
 HIDDEN void access_memory(uintptr_t at, size_t size, int how, void *from);
 HIDDEN void access_range(const void *at, size_t length, int how, void *from);
 HIDDEN void watch_tell(struct thread *t);
-HIDDEN void give_turn(struct thread *t);
 
 /* ends.c: how threads stop, and how the run begins and ends. */
 HIDDEN void go_away(struct thread *t);

@@ -1,5 +1,5 @@
 -- What becomes of a follower that makes an event.
-use Rattle.std.proofs.Common.{◌≡◌, ◌≢◌, ◌∙◌, ℕ, zero, suc, ◌+◌, ◌-◌, ◌<◌, ◌≤◌, Bool, true, false, if◌then◌else◌, List, [], ◌∷◌, ◌++◌, map, take, drop, length, get_or, refl, sym, ap, subst, arith, append-nil, append_assoc, length-append}
+use Rattle.std.proofs.Common.{◌≡◌, ◌≢◌, ◌∙◌, ℕ, zero, suc, ◌+◌, ◌-◌, ◌<◌, ◌≤◌, true, false, List, [], ◌∷◌, ◌++◌, map, take, drop, length, get_or, refl, sym, ap, subst, arith, append-nil, append_assoc, length-append}
 use Rattle.std.proofs.lemmas.List.{map-append}
 use Rattle.std.specs.Vec.{vec_capacity}
 use Rattle.octet_model.specs.declared.event.Event.{Event}
@@ -18,9 +18,9 @@ use Rattle.octet_follow.specs.Seats.{IsSeatOf, Goes}
 use Rattle.octet_follow.specs.declared.access.Access.TheVariants.{Read, Write, Update}
 use Rattle.octet_follow.specs.Accesses.{event_of, GoesBy}
 use Rattle.octet_follow.specs.Blocks.{lengthened, carried, after_taken, TakesBlock}
-use Rattle.octet_follow.specs.Calls.{view_of, journal_in, pending, with_first_gap, gap_to_next, after_last, given, given_after, IsUpTo, IsFollowerOf, IsGivenSame, IsThrough, IsOut, IsDue, CountsMark, MakesMarks, Makes}
+use Rattle.octet_follow.specs.Calls.{view_of, journal_in, pending, with_first_gap, gap_to_next, after_last, given, given_after, IsShown, IsUpTo, IsFollowerOf, IsGivenSame, IsThrough, IsOut, IsDue, CountsMark, MakesMarks, Makes}
 
-longer : (j : List Event) (e : Event) → length (j ++ e ∷ []) ≡ length j + 1
+pub longer : (j : List Event) (e : Event) → length (j ++ e ∷ []) ≡ length j + 1
 longer j e = length-append j (e ∷ [])
 
 -- an access, which is no mark
@@ -39,22 +39,16 @@ is_access (Update object change) found = record { one = refl; no_mark = refl; ga
 digest_more : (journal : List Event) (e : Event) → digest_of (journal ++ e ∷ []) ≡ digest_with e (digest_of journal)
 digest_more journal e = journals_join 0 journal (e ∷ [])
 
--- what it shows, by whether it shows the event
-shown_is : (b : Bool) (events before : ℕ) (g : Follower) → g.events ≡ length (journal_in g) → g.shown ≡ (if b then g.events else before) → before ≡ events
-    → (view_of g).follower.shown ≡ (if b then length (journal_in g) else events) → g.shown ≡ (view_of g).follower.shown
-shown_is true events before g made shows same is = shows ∙ made ∙ sym is
-shown_is false events before g made shows same is = shows ∙ same ∙ sym is
+-- what a follower shows it has made
+pub shows_made : (f : Follower) → IsUpTo f → (view_of f).follower.shown ≤ length (journal_in f)
+shows_made f up = let a = up.shown in let b = up.within in omega arith
 
-shows_all : (b : Bool) (before : ℕ) (g : Follower) → g.events ≡ length (journal_in g) → g.shown ≡ (if b then g.events else before) → (b ≡ false → g.events < g.awaited)
-    → g.awaited ≤ length (journal_in g) → g.shown ≡ length (journal_in g)
-shows_all true before g made shows awaits h = shows ∙ made
-shows_all false before g made shows awaits h = absurd (let a = awaits refl in omega arith)
-
-pub accessed : (course : Course) (f g : Follower) (e : Event) (shows : Bool) → IsAccess e → IsFollowerOf course f → IsSeatOf course.words g.seat → Goes (view_of f) (e ∷ []) shows (view_of g)
-    → (shows ≡ false → g.events < g.awaited) → g.shown ≡ (if shows then g.events else f.shown) → bits_of g.digest ≡ digest_with e (bits_of f.digest)
+-- an access is made, and not shown
+pub accessed : (course : Course) (f g : Follower) (e : Event) → IsAccess e → IsFollowerOf course f → IsShown f → IsSeatOf course.words g.seat → Goes (view_of f) (e ∷ []) false (view_of g)
+    → g.shown ≡ f.shown → bits_of g.digest ≡ digest_with e (bits_of f.digest)
     → g.number ≡ f.number → g.ending ≡ f.ending → g.after ≡ f.after → g.awaited ≡ f.awaited → g.marked ≡ f.marked → g.next ≡ f.next → g.marks ≡ f.marks → g.events ≡ f.events + 1 → suc g.left ≡ f.left
     → IsFollowerOf course g × IsGivenSame f g
-accessed course f g e shows is own seat goes awaits shown digest number ending after awaited marked next marks events left = (
+accessed course f g e is own all seat goes shown digest number ending after awaited marked next marks events left = (
   record {
     own = seat;
     number = goes.number ∙ own.number ∙ sym number;
@@ -62,8 +56,9 @@ accessed course f g e shows is own seat goes awaits shown digest number ending a
     up = record {
       events = made;
       marked = marked ∙ own.up.marked ∙ (let a = marks_split (journal_in f) (e ∷ []) in let b = is.no_mark in let c : mark_count (journal_in f) ≡ mark_count (journal_in f ++ e ∷ []) = omega arith in c) ∙ ap mark_count (sym goes.journal);
-      shown = shown_is shows (view_of f).follower.shown f.shown g made shown own.up.shown goes.shown;
-      shows = shows_all shows f.shown g made shown awaits;
+      shown = shown ∙ own.up.shown ∙ sym goes.shown;
+      within = let a = own.up.within in let b = one_more in omega arith;
+      shows = λ h. let a = all (let b = one_more in omega arith) in let b = own.up.shown in let c = one_more in omega arith;
       next = let a = own.up.next in let b = ap (λ (l : List Gapped). length l) items in omega arith;
       digest = digest ∙ (ap (digest_with e) own.up.digest ∙ (sym (digest_more (journal_in f) e) ∙ ap digest_of (sym goes.journal)));
     };
@@ -78,6 +73,9 @@ accessed course f g e shows is own seat goes awaits shown digest number ending a
   where
     items : g.marks.items ≡ f.marks.items
     items = ap (λ v. v.items) marks
+
+    one_more : length (journal_in g) ≡ length (journal_in f) + 1
+    one_more = ap (λ (j : List Event). length j) goes.journal ∙ longer (journal_in f) e
 
     same_pending : pending g ≡ pending f
     same_pending = λ i. drop (next i) (items i)
@@ -108,7 +106,7 @@ drop_none (x ∷ xs) (suc k) is = let a = drop_none xs k is in omega arith
 -- the first mark of the buffer is made and counted: `h` is the follower with its seat after the mark
 pub marked_one : (course : Course) (f h g : Follower) (d : Gapped) → IsDue f → IsFollowerOf course f → IsSeatOf course.words h.seat → Goes (view_of f) (Marked (get_or f.marks.items f.next d).mark ∷ []) true (view_of h)
     → h.number ≡ f.number → h.ending ≡ f.ending → h.after ≡ f.after → h.digest ≡ f.digest → h.awaited ≡ f.awaited → h.marked ≡ f.marked → h.next ≡ f.next → h.marks ≡ f.marks → h.events ≡ f.events → h.left ≡ f.left → CountsMark h g
-    → IsFollowerOf course g × IsGivenSame f g
+    → IsFollowerOf course g × IsGivenSame f g × IsShown g
 marked_one course f h g d due own seat goes number ending after digest awaited marked next marks events left counts = (
   record {
     own = subst (IsSeatOf course.words) (sym counts.seat) seat;
@@ -117,7 +115,8 @@ marked_one course f h g d due own seat goes number ending after digest awaited m
     up = record {
       events = made;
       shown = shown_all ∙ made ∙ sym (ap (λ (v : FollowerView). v.follower.shown) same_view ∙ goes.shown ∙ ap (λ (v : FollowerView). length v.follower.journal) (sym same_view));
-      shows = λ h. shown_all ∙ made;
+      within = let a = shown_all in let b = made in omega arith;
+      shows = λ h. let a = shown_all in let b = made in omega arith;
       marked = counts.marked ∙ ap (λ (n : ℕ). n + 1) (marked ∙ own.up.marked) ∙ (let a = marks_split (journal_in f) (e ∷ []) in let c : mark_count (journal_in f) + 1 ≡ mark_count (journal_in f ++ e ∷ []) = omega arith in c) ∙ ap mark_count (sym journal);
       next = let a = due.1 in let b = ap (λ (l : List Gapped). length l) items in let c = counts.on in omega arith;
       digest = ap bits_of (counts.digest ∙ digest) ∙ (own.up.digest ∙ (sym (digest_more (journal_in f) e) ∙ ap digest_of (sym journal)));
@@ -134,6 +133,7 @@ marked_one course f h g d due own seat goes number ending after digest awaited m
     after = came_after (pending g) refl ∙ ap (λ (l : List Gapped). after_last l (gap_to_next f) f.after) (sym is_pending);
     ending = counts.ending ∙ ending;
   },
+  (λ h. ap (λ (v : FollowerView). v.follower.shown) same_view ∙ goes.shown ∙ ap (λ (v : FollowerView). length v.follower.journal) (sym same_view)),
 )
   where
     first : Gapped
@@ -208,8 +208,12 @@ marks_both v u w before after = record {
 pub given_both : (f g h : Follower) → IsGivenSame f g → IsGivenSame g h → IsGivenSame f h
 given_both f g h a b = record { same = record { number = b.same.number ∙ a.same.number; room = b.same.room ∙ a.same.room; awaited = b.same.awaited ∙ a.same.awaited }; marks = b.marks ∙ a.marks; after = b.after ∙ a.after; ending = b.ending ∙ a.ending }
 
-pub makes_access : (access : Access) (value : ℕ) (v w : FollowerView) (shows : Bool) → GoesBy access v value shows w → Makes access v value w
-makes_access access value v w shows by = record { marks = []; found = by.found; grown = by.goes.journal; told = by.told; state = by.goes.state; seen = by.goes.seen }
+-- nothing is made
+pub no_mark : (v w : FollowerView) → w.follower.journal ≡ v.follower.journal → MakesMarks v w
+no_mark v w same = record { marks = []; grown = same ∙ sym (append-nil v.follower.journal) }
+
+pub makes_access : (access : Access) (value : ℕ) (v w : FollowerView) → GoesBy access v value w → Makes access v value w
+makes_access access value v w by = record { marks = []; found = by.found; grown = by.goes.journal; told = by.told; state = by.goes.state; seen = by.goes.seen }
 
 -- marks, and then an access after more of them
 pub marks_first : (access : Access) (v u : FollowerView) (value : ℕ) (w : FollowerView) → MakesMarks v u → Makes access u value w → Makes access v value w
@@ -247,7 +251,8 @@ pub is_refilled : (f g : Follower) → IsUpTo f → IsOut f → g.seat ≡ f.sea
 is_refilled f g up out seat awaited shown marked events digest next some none = (
   record {
     shown = shown ∙ up.shown ∙ ap (λ s. s.inner.me.0.follower.shown) (sym seat);
-    shows = λ h. shown ∙ up.shows (let a = ap (λ (j : List Event). length j) journal in omega arith) ∙ ap (λ (j : List Event). length j) (sym journal);
+    within = let a = up.within in let b = same_length in omega arith;
+    shows = λ h. let b = same_length in let a = up.shows (omega arith) in omega arith;
     events = events ∙ up.events ∙ ap (λ (j : List Event). length j) (sym journal);
     marked = marked ∙ up.marked ∙ ap mark_count (sym journal);
     next = omega (arith, next);
@@ -259,6 +264,9 @@ is_refilled f g up out seat awaited shown marked events digest next some none = 
   where
     journal : journal_in g ≡ journal_in f
     journal = ap (λ s. s.inner.me.0.follower.journal) seat
+
+    same_length : length (journal_in g) ≡ length (journal_in f)
+    same_length = ap (λ (j : List Event). length j) journal
 
     none_left : pending f ≡ []
     none_left = out.1.1

@@ -8,3 +8,4 @@ mod Closing
 mod Faithful
 mod Demands
 mod Blocks
+mod Promise

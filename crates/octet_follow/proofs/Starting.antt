@@ -44,7 +44,8 @@ module _ (course : Course) (room : ℕ) where
           inside = let e = at.numbered in omega arith;
           up = record {
             shown = at.shown ∙ ap (λ (p : FollowerState). p.shown) (sym here.1);
-            shows = λ h. at.shown ∙ ap (λ (j : List Event). length j) (sym journal);
+            within = let a = at.shown in omega arith;
+            shows = λ h. let a = ap (λ (j : List Event). length j) journal in omega arith;
             events = at.events ∙ ap (λ (j : List Event). length j) (sym journal);
             marked = at.marked ∙ ap mark_count (sym journal);
             next = let e = at.next in omega arith;

@@ -1,5 +1,5 @@
 -- Accesses: the event of each, and what it makes of a follower.
-use Rattle.std.specs.Prelude.{◌≡◌, ℕ, Bool, [], ◌∷◌}
+use Rattle.std.specs.Prelude.{◌≡◌, ℕ, false, [], ◌∷◌}
 use Rattle.octet_model.specs.declared.event.Event.{Event}
 use Rattle.octet_model.specs.declared.event.Event.TheVariants as event
 use Rattle.octet_rule.specs.Changes.{changed_by}
@@ -27,8 +27,8 @@ found_in (event.Write object value) = value
 found_in (event.Update object before after) = before
 found_in (event.Marked mark) = 0
 
--- the follower has made this access, with the value that the thread is told, and shows all that it has made where it `shows`
-pub record GoesBy (access : Access) (v : FollowerView) (value : ℕ) (shows : Bool) (w : FollowerView) : Type 0 where
+-- the follower has made this access, with the value that the thread is told, and shows as much as before
+pub record GoesBy (access : Access) (v : FollowerView) (value : ℕ) (w : FollowerView) : Type 0 where
   pub found : ℕ
-  pub goes : Goes v (event_of access found ∷ []) shows w
+  pub goes : Goes v (event_of access found ∷ []) false w
   pub told : value ≡ found_in (event_of access found)

@@ -77,13 +77,22 @@ given_after follower = after_last (pending follower) (gap_to_next follower) foll
 abbrev pub accesses_given : Follower → ℕ
 accesses_given follower = sum_by (λ mark. mark.gap) (given follower) + given_after follower
 
--- the follower's counts are those of what it has made and was given.
--- Its progress word shows all of it, once it has made as many events as another one awaits
+-- the follower shows all that it has made, once it has made as many events as another one awaits
+abbrev pub IsShown : Follower → Type 0
+IsShown follower = follower.awaited ≤ length (journal_in follower) → (view_of follower).follower.shown ≡ length (journal_in follower)
+
+-- the follower does not show the last event that it has made
+abbrev pub IsUnshown : Follower → Type 0
+IsUnshown follower = (view_of follower).follower.shown < length (journal_in follower)
+
+-- the follower's counts are those of what it has made and was given. Its progress word shows all of it but perhaps the last
+-- event, once it has made more events than another one awaits
 pub record IsUpTo (follower : Follower) : Type 0 where
   pub events : follower.events ≡ length (journal_in follower)
   pub marked : follower.marked ≡ mark_count (journal_in follower)
   pub shown : follower.shown ≡ (view_of follower).follower.shown
-  pub shows : follower.awaited ≤ length (journal_in follower) → follower.shown ≡ length (journal_in follower)
+  pub within : follower.shown ≤ length (journal_in follower)
+  pub shows : follower.awaited < length (journal_in follower) → length (journal_in follower) ≤ suc follower.shown
   pub next : follower.next ≤ length follower.marks.items
   pub digest : bits_of follower.digest ≡ digest_of (journal_in follower)
 
@@ -160,7 +169,7 @@ pub record IsComplete (follower : Follower) : Type 0 where
   pub marks : given follower ≡ gapped_marks 0 (journal_in follower)
   pub after : given_after follower ≡ gap_after 0 (journal_in follower)
 
--- the follower of this number, which has made nothing and was given nothing, and shows each access.
+-- the follower of this number, which has made nothing and was given nothing. Others may wait for each access.
 -- It has room for so many marks
 pub record IsAtStart (course : Course) (room number : ℕ) (follower : Follower) : Type 0 where
   pub own : IsFollowerOf course follower

@@ -14,3 +14,4 @@ pub mod Faithful
 pub mod Histories
 pub mod Demands
 pub mod Blocks
+pub mod Promise

@@ -1,5 +1,5 @@
 -- The state of a course: the words that followers share, and how far each follower is.
-use Rattle.std.specs.Prelude.{ℕ, suc, ◌+◌, ◌*◌, List, [], ◌∷◌, ◌++◌, map, length, replicate, get_or}
+use Rattle.std.specs.Prelude.{ℕ, suc, ◌+◌, ◌*◌, List, [], ◌∷◌, ◌++◌, map, replicate, get_or}
 use Rattle.octet_model.specs.declared.event.Event.{Event}
 use Rattle.octet_model.specs.Machine.{Journals, PlainState}
 use Rattle.octet_seats.specs.Cells.{spread}
@@ -29,10 +29,6 @@ unbegun = record { journal = []; shown = 0; whom = 0; found = 0; seen = 0 }
 -- the follower of a number in this state
 abbrev pub follower_of : CourseState → ℕ → FollowerState
 follower_of s follower = get_or s.followers follower unbegun
-
--- the number of events that a follower has made
-abbrev pub made_by : CourseState → ℕ → ℕ
-made_by s follower = length (follower_of s follower).journal
 
 -- the progress word of a follower
 abbrev pub progress : FollowerState → ℕ

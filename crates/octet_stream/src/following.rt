@@ -1,9 +1,11 @@
 //! A long run that is made again is a session: its threads are followers, each fed by a ring.
 ghost use Rattle.std.specs.Prelude.{◌≡◌, None, Some, Err, false, length};
 ghost use Rattle.octet_follow.specs.declared.halt.Halt.TheVariants as stopped_by;
-ghost use Rattle.octet_follow.specs.Calls.{starts_in, view_of, journal_in, IsOut};
+ghost use Rattle.octet_follow.specs.Calls.{starts_in, view_of, journal_in, IsOut, IsShown};
+ghost use Rattle.octet_follow.specs.Promise.{HoldsBack};
 ghost use Rattle.octet_session.specs.declared.not_made.NotMade.TheVariants.{Left};
 ghost use Rattle.octet_session.specs.Asking.{begun_after};
+ghost use Rattle.octet_session.specs.Standing.{Keeps};
 ghost use Rattle.octet_stream.specs.declared.long_rerun.Halt.TheVariants.{Diverges};
 ghost use Rattle.octet_stream.specs.declared.long_rerun.Divergence.{Divergence};
 ghost use Rattle.octet_stream.specs.Followers.{followed, IsLongFollowerOf, follower_standing, StaysAs, HasFollowed, HaltsAsked, IsDivergence, Answers, AnswersWait, IsFollowerReason};
@@ -157,7 +159,7 @@ impl Session for LongRerun {
 
     ghost IsReason = { λ rerun wanted _ after. IsFollowerReason rerun wanted after };
 
-    ghost HasMade = { λ _ _ _ _. Unit {0} };
+    ghost HasMade = { λ _ _ _ after. HoldsBack (view_of after.follower) };
 
     #[inline(always)]
     fn ask(&self, thread: &mut LongFollower, wanted: Access) -> Result<u64, NotMade<Halt>> {
@@ -174,10 +176,30 @@ impl Session for LongRerun {
         thread.region = true;
     }
 
-    // No thread waits for another one that rests: each is told by its marks.
-    fn safe_point(&self, _thread: &mut LongFollower) {}
+    // No thread waits for the answer of another one: each is told by its marks. What it has made is shown.
+    fn safe_point(&self, thread: &mut LongFollower)
+        requires own { IsLongFollowerOf self.now thread.old }
+        requires runs { Unit {0} }
+        requires idle { thread.old.begun ≡ None }
+        ensures own { IsLongFollowerOf self.now thread.new }
+        ensures runs { Unit {0} }
+        ensures keeps { Keeps (follower_standing thread.old) (follower_standing thread.new) }
+        ensures shown { IsShown thread.new.follower }
+    {
+        self.course.show_made(&mut thread.follower);
+    }
 
-    fn block(&self, _thread: &mut LongFollower) {}
+    fn block(&self, thread: &mut LongFollower)
+        requires own { IsLongFollowerOf self.now thread.old }
+        requires runs { Unit {0} }
+        requires idle { thread.old.begun ≡ None }
+        ensures own { IsLongFollowerOf self.now thread.new }
+        ensures rests { Unit {0} }
+        ensures keeps { Keeps (follower_standing thread.old) (follower_standing thread.new) }
+        ensures shown { IsShown thread.new.follower }
+    {
+        self.course.show_made(&mut thread.follower);
+    }
 
     fn unblock(&self, _thread: &mut LongFollower) {}
 

@@ -1,15 +1,17 @@
 -- What a step changes keeps a state sound.
-use Rattle.std.proofs.Common.{◌≡◌, ◌≢◌, ℕ, zero, suc, ◌<◌, ◌≤◌, inl, inr, List, [], ◌∷◌, ◌++◌, map, length, get_or, set, IsTrue, Option, Some, None, refl, sym, ap, ◌∙◌, subst, arith, length-append, length-set}
+use Rattle.std.proofs.Common.{◌≡◌, ◌≢◌, ℕ, zero, suc, ◌<◌, ◌≤◌, ◌⊎◌, inl, inr, List, [], ◌∷◌, ◌++◌, map, length, get_or, set, slice_get, IsTrue, Option, Some, None, refl, sym, ap, ◌∙◌, subst, arith, length-set}
 use Rattle.std.proofs.lemmas.Bool.{cases_eq}
 use Rattle.std.proofs.lemmas.List.{length-map, get_or-set_same, get_or-set_other}
 use Rattle.octet_model.specs.declared.event.Event.{Event}
+use Rattle.octet_model.specs.declared.event.Event.TheVariants.{Marked}
+use Rattle.octet_model.specs.declared.event.Mark.TheVariants.{Join}
 use Rattle.octet_model.specs.Machine.{Journals, journal_of, PlainState, starting_state, Operation, Wants, is_enabled, event_made, heap_after, draws_after, appended, may_step, step, after, IsFront}
 use Rattle.octet_model.specs.Plays.{operation_of, next_in, by_journals, state_after_play}
 use Rattle.octet_model.proofs.lemmas.Steps.{at, stays_appended, as_many, new_event, makes_from, what_it_makes, draws_grow}
 use Rattle.octet_model.proofs.lemmas.Fronts.{front_on, after_on}
 use Rattle.octet_model.proofs.lemmas.LogsOfJournals.{same_start}
-use Rattle.octet_follow.specs.State.{FollowerState, CourseState, follower_of, unbegun, made_by, journals_of, plain}
-use Rattle.octet_follow.specs.Soundness.{IsSoundFollower, IsSoundCourse}
+use Rattle.octet_follow.specs.State.{FollowerState, CourseState, follower_of, unbegun, journals_of, plain}
+use Rattle.octet_follow.specs.Soundness.{JoinsShown, IsSoundFollower, IsSoundCourse}
 
 pub journal_at : (ps : List FollowerState) (u : ℕ) → journal_of (map (λ (p : FollowerState). p.journal) ps) u ≡ (get_or ps u unbegun).journal
 journal_at [] u = refl
@@ -80,6 +82,13 @@ play_grows starts js heap draws t e play is_play comes lt enabled is =
     let Q : PlainState → Type 0 = λ z. IsFront V z order × (after V z order ≡ s1) in
     subst Q (ap (λ (n : Journals). record s0 { journals = n }) (same_start js js' (sym (as_many js t e)))) (front, ends)
 
+-- an event of a longer journal is one of the shorter, or the last
+pub get_appended : (journal : List Event) (e : Event) (k : ℕ) (x : Event) → slice_get (journal ++ e ∷ []) k ≡ Some x → (slice_get journal k ≡ Some x) ⊎ (x ≡ e)
+get_appended [] e zero x is = inr cc
+get_appended [] e (suc k) x is = absurd cc
+get_appended (y ∷ journal) e zero x is = inl is
+get_appended (y ∷ journal) e (suc k) x is = get_appended journal e k x is
+
 module _ (s : CourseState) (sound : IsSoundCourse s) where
   pub many_journals : length (journals_of s) ≡ length s.followers
   many_journals = length-map s.followers (λ (p : FollowerState). p.journal)
@@ -99,20 +108,24 @@ module _ (s : CourseState) (sound : IsSoundCourse s) where
       pub as_many_followers : length next.followers ≡ length s.followers
       as_many_followers = length-set s.followers t q
 
-      module _ (grows : length (follower_of s t).journal ≤ length q.journal) (more : s.draws ≤ draws) where
-        pub made_more : (u : ℕ) → made_by s u ≤ made_by next u
-        made_more u =
+      module _ (shows : (follower_of s t).shown ≤ q.shown) (more : s.draws ≤ draws) where
+        pub shown_more : (u : ℕ) → (follower_of s u).shown ≤ (follower_of next u).shown
+        shown_more u =
             elim (cases_eq u t) [
-              | inl same ↦ omega (arith, grows, ap (λ (n : ℕ). made_by s n) same, ap (λ (n : ℕ). made_by next n) same, ap (λ (p : FollowerState). length p.journal) mine)
-              | inr ne ↦ omega (arith, ap (λ (p : FollowerState). length p.journal) (others u ne))
+              | inl same ↦ omega (arith, shows, ap (λ (n : ℕ). (follower_of s n).shown) same, ap (λ (n : ℕ). (follower_of next n).shown) same, ap (λ (p : FollowerState). p.shown) mine)
+              | inr ne ↦ omega (arith, ap (λ (p : FollowerState). p.shown) (others u ne))
             ]
+
+        pub joins_kept : (journal : List Event) → JoinsShown s journal → JoinsShown next journal
+        joins_kept journal joins k from upto is = let a = joins k from upto is in let b = shown_more from in omega arith
 
         -- a follower that is as it was
         pub kept : (p : FollowerState) → IsSoundFollower s p → IsSoundFollower next p
         kept p its = record {
           shown = its.shown;
-          look = let a = its.look in let b = made_more p.whom in omega arith;
+          look = let a = its.look in let b = shown_more p.whom in omega arith;
           seen = let a = its.seen in omega arith;
+          joins = joins_kept p.journal its.joins;
         }
 
         pub keeps_sound : length cells ≡ length s.starts → IsFront (by_journals (journals_of next)) (starting_state s.starts (journals_of next)) play
@@ -146,9 +159,6 @@ module _ (s : CourseState) (sound : IsSoundCourse s) where
           ap (λ (j : List Event). set (journals_of s) t (j ++ e ∷ [])) (journal_at s.followers t)
           ∙ ap (λ (j : List Event). set (journals_of s) t j) (sym is_journal) ∙ sym (journals_set s.followers t q)
 
-      longer : length (follower_of s t).journal ≤ length q.journal
-      longer = omega (arith, length-append (follower_of s t).journal (e ∷ []), ap (λ (j : List Event). length j) is_journal)
-
       abbrev State : Journals → Type 0
       State js = IsFront (by_journals js) (starting_state s.starts js) (s.play ++ t ∷ [])
           × (state_after_play s.starts js (s.play ++ t ∷ []) ≡ record { heap = heap_after (operation_of e) s.cells; journals = js; draws = draws_after (operation_of e) s.draws })
@@ -156,15 +166,22 @@ module _ (s : CourseState) (sound : IsSoundCourse s) where
       grown : State (map (λ (p : FollowerState). p.journal) (set s.followers t q))
       grown = subst State longer_journals (play_grows s.starts (journals_of s) s.cells s.draws t e s.play sound.is_play sound.comes (let m = many_journals in omega arith) enabled made)
 
-      pub event_keeps : q.shown ≤ length q.journal → q.whom ≡ (follower_of s t).whom → q.found ≡ (follower_of s t).found → q.seen ≡ (follower_of s t).seen
+      -- what it shows it has made, it shows no less than before, and what the event joins is shown
+      pub event_keeps : q.shown ≤ length q.journal → (follower_of s t).shown ≤ q.shown → ((from upto : ℕ) → Marked (Join from upto) ≡ e → upto ≤ (follower_of s from).shown)
+          → q.whom ≡ (follower_of s t).whom → q.found ≡ (follower_of s t).found → q.seen ≡ (follower_of s t).seen
           → IsSoundCourse (record { starts = s.starts; play = s.play ++ t ∷ []; followers = set s.followers t q; draws = draws_after (operation_of e) s.draws; cells = heap_after (operation_of e) s.cells })
-      event_keeps shown whom found seen =
+      event_keeps shown shows joins whom found seen =
           let its = sound.each t within in
           let more = draws_grow (operation_of e) s.draws in
-          let up = made_more q (s.play ++ t ∷ []) (draws_after (operation_of e) s.draws) (heap_after (operation_of e) s.cells) longer more q.whom in
-          keeps_sound q (s.play ++ t ∷ []) (draws_after (operation_of e) s.draws) (heap_after (operation_of e) s.cells) longer more (same_length (operation_of e) s.cells ∙ sound.wide) grown.0 grown.1
+          let up = shown_more q (s.play ++ t ∷ []) (draws_after (operation_of e) s.draws) (heap_after (operation_of e) s.cells) shows more in
+          keeps_sound q (s.play ++ t ∷ []) (draws_after (operation_of e) s.draws) (heap_after (operation_of e) s.cells) shows more (same_length (operation_of e) s.cells ∙ sound.wide) grown.0 grown.1
           (record {
             shown = shown;
-            look = let a = its.look in let b = ap (λ (n : ℕ). made_by s n) whom in omega arith;
+            look = let a = its.look in let b = ap (λ (n : ℕ). (follower_of s n).shown) whom in let c = up q.whom in omega arith;
             seen = let a = its.seen in omega arith;
+            joins = λ k from upto is.
+                elim (get_appended (follower_of s t).journal e k (Marked (Join from upto)) (ap (λ (j : List Event). slice_get j k) (sym is_journal) ∙ is)) [
+                  | inl old ↦ (let a = its.joins k from upto old in let b = up from in omega arith)
+                  | inr last ↦ (let a = joins from upto last in let b = up from in omega arith)
+                ];
           })

@@ -9,13 +9,13 @@ use Rattle.octet_model.specs.declared.event.Mark.TheVariants.{Join, Draw, Fence}
 use Rattle.octet_model.specs.Machine.{Journals, journal_of, no_events, MakeMark, is_enabled, draws_after}
 use Rattle.octet_model.specs.Plays.{state_after_play}
 use Rattle.octet_seats.specs.Cells.{spread}
-use Rattle.octet_follow.specs.State.{FollowerState, CourseState, follower_of, unbegun, made_by, progress, words, progress_place, draws_place, cell_place, journals_of, plain, opening}
+use Rattle.octet_follow.specs.State.{FollowerState, CourseState, follower_of, unbegun, progress, words, progress_place, draws_place, cell_place, journals_of, plain, opening}
 use Rattle.octet_follow.specs.Steps.{Kind, after, ToLook, ToLookAtDraws, ToRead, ToWrite, ToUpdate, ToDraw, ToMark, ToShow, IsOwn}
 use Rattle.octet_follow.specs.Seats.{HasFound}
-use Rattle.octet_follow.specs.Soundness.{IsSoundFollower, IsSoundCourse}
+use Rattle.octet_follow.specs.Soundness.{JoinsShown, IsSoundFollower, IsSoundCourse}
 use Rattle.octet_follow.specs.Laws.{IsLawfulStep}
 use Rattle.octet_follow.proofs.seats.Spread.{get_progress, set_progress, get_draws, set_draws, get_cell, set_cell, same_progress}
-use Rattle.octet_follow.proofs.steps.Keeping.{journal_at, mine, others, as_many_followers, made_more, keeps_sound, quiet_front, quiet_comes, event_keeps}
+use Rattle.octet_follow.proofs.steps.Keeping.{journal_at, mine, others, as_many_followers, shown_more, joins_kept, keeps_sound, quiet_front, quiet_comes, event_keeps}
 
 same_words : (ws : List ℕ) (place : ℕ) → set ws place (get_or ws place 0) ≡ ws
 same_words ws place = set-get_or ws place 0
@@ -24,6 +24,12 @@ same_words ws place = set-get_or ws place 0
 left : (ws : List ℕ) (place at found : ℕ) (operation : ℕ → ℕ) → place ≡ at → get_or ws at 0 ≡ found → operation found ≡ found → set ws place (operation found) ≡ ws
 left ws place at found operation is finds same = (λ i. set ws (is i) ((same ∙ sym finds) i)) ∙ same_words ws at
 
+-- what followers show they have made. Where there is none, nothing is shown
+shown_made : (ps : List FollowerState) → ((u : ℕ) → u < length ps → (get_or ps u unbegun).shown ≤ length (get_or ps u unbegun).journal) → (u : ℕ) → (get_or ps u unbegun).shown ≤ length (get_or ps u unbegun).journal
+shown_made [] each u = omega arith
+shown_made (p ∷ ps) each zero = each 0 (omega arith)
+shown_made (p ∷ ps) each (suc u) = shown_made ps (λ v inside. each (suc v) (omega arith)) u
+
 longer : (j : List Event) (e : Event) → length (j ++ e ∷ []) ≡ suc (length j)
 longer j e = let a = length-append j (e ∷ []) in omega arith
 
@@ -31,16 +37,19 @@ module _ (s : CourseState) (t : ℕ) (sound : IsSoundCourse s) (within : t < len
   abbrev p : FollowerState
   p = follower_of s t
 
-  -- a step by which no event is made, and after which the follower shows what it showed
-  module _ (k : Kind) (q : FollowerState) (no_event : q.journal ≡ p.journal) where
+  -- a step by which no event is made, and after which the follower shows what it showed, or more
+  module _ (k : Kind) (q : FollowerState) (no_event : q.journal ≡ p.journal) (shows : p.shown ≤ q.shown) where
     quiet_keeps : IsSoundFollower (record { starts = s.starts; play = s.play; followers = set s.followers t q; draws = s.draws; cells = s.cells }) q
         → IsSoundCourse (record { starts = s.starts; play = s.play; followers = set s.followers t q; draws = s.draws; cells = s.cells })
     quiet_keeps its =
-        keeps_sound s sound t within q s.play s.draws s.cells (let e = ap (λ (j : List Event). length j) no_event in omega arith) (omega arith) sound.wide
+        keeps_sound s sound t within q s.play s.draws s.cells shows (omega arith) sound.wide
         (quiet_front s sound t within q s.play s.draws s.cells no_event) (quiet_comes s sound t within q s.play s.draws s.cells no_event) its
 
-    up : (u : ℕ) → made_by s u ≤ made_by (record { starts = s.starts; play = s.play; followers = set s.followers t q; draws = s.draws; cells = s.cells }) u
-    up = made_more s sound t within q s.play s.draws s.cells (let e = ap (λ (j : List Event). length j) no_event in omega arith) (omega arith)
+    up : (u : ℕ) → (follower_of s u).shown ≤ (follower_of (record { starts = s.starts; play = s.play; followers = set s.followers t q; draws = s.draws; cells = s.cells }) u).shown
+    up = shown_more s sound t within q s.play s.draws s.cells shows (omega arith)
+
+    joined : JoinsShown (record { starts = s.starts; play = s.play; followers = set s.followers t q; draws = s.draws; cells = s.cells }) p.journal
+    joined = joins_kept s sound t within q s.play s.draws s.cells shows (omega arith) p.journal (sound.each t within).joins
 
   pub look_is_lawful : (place whom : ℕ) (operation : ℕ → ℕ) → whom < length s.followers → place ≡ progress_place whom → ((word : ℕ) → operation word ≡ word) → IsLawfulStep (ToLook whom) t place operation s
   look_is_lawful place whom operation inside at same =
@@ -48,10 +57,11 @@ module _ (s : CourseState) (t : ℕ) (sound : IsSoundCourse s) (within : t < len
       let its = sound.each t within in
       record {
         may = inside;
-        sound = quiet_keeps (ToLook whom) q refl (record {
+        sound = quiet_keeps (ToLook whom) q refl (omega arith) (record {
           shown = its.shown;
-          look = let a = (sound.each whom inside).shown in let b = up (ToLook whom) q refl whom in omega arith;
+          look = up (ToLook whom) q refl (omega arith) whom;
           seen = its.seen;
+          joins = joined (ToLook whom) q refl (omega arith);
         });
         does = record {
           finds = ap (λ (n : ℕ). get_or (words s) n 0) at ∙ get_progress s whom inside;
@@ -69,10 +79,11 @@ module _ (s : CourseState) (t : ℕ) (sound : IsSoundCourse s) (within : t < len
       let its = sound.each t within in
       record {
         may = tt;
-        sound = quiet_keeps ToLookAtDraws q refl (record {
+        sound = quiet_keeps ToLookAtDraws q refl (omega arith) (record {
           shown = its.shown;
-          look = let a = its.look in let b = up ToLookAtDraws q refl p.whom in omega arith;
+          look = let a = its.look in let b = up ToLookAtDraws q refl (omega arith) p.whom in omega arith;
           seen = omega arith;
+          joins = joined ToLookAtDraws q refl (omega arith);
         });
         does = record {
           finds = ap (λ (n : ℕ). get_or (words s) n 0) at ∙ get_draws s;
@@ -91,10 +102,11 @@ module _ (s : CourseState) (t : ℕ) (sound : IsSoundCourse s) (within : t < len
       let its = sound.each t within in
       record {
         may = tt;
-        sound = quiet_keeps ToShow q refl (record {
+        sound = quiet_keeps ToShow q refl its.shown (record {
           shown = omega arith;
-          look = let a = its.look in let b = up ToShow q refl p.whom in omega arith;
+          look = let a = its.look in let b = up ToShow q refl its.shown p.whom in omega arith;
           seen = its.seen;
+          joins = joined ToShow q refl its.shown;
         });
         does = record {
           finds = ap (λ (n : ℕ). get_or (words s) n 0) at ∙ get_progress s t within;
@@ -115,7 +127,7 @@ module _ (s : CourseState) (t : ℕ) (sound : IsSoundCourse s) (within : t < len
       let q : FollowerState = after (ToRead object) (get_or s.cells object 0) p in
       record {
         may = inside;
-        sound = event_keeps s sound t within e refl refl q refl (still_shown e) refl refl refl;
+        sound = event_keeps s sound t within e refl refl q refl (still_shown e) (omega arith) (λ from upto is. absurd cc) refl refl refl;
         does = record {
           finds = ap (λ (n : ℕ). get_or (words s) n 0) at ∙ get_cell s object;
           leaves = left (words s) place (cell_place (length s.followers) object) _ operation at (get_cell s object) (same _)
@@ -132,7 +144,7 @@ module _ (s : CourseState) (t : ℕ) (sound : IsSoundCourse s) (within : t < len
       let q : FollowerState = after (ToWrite object value) (get_or s.cells object 0) p in
       record {
         may = inside;
-        sound = event_keeps s sound t within e refl refl q refl (still_shown e) refl refl refl;
+        sound = event_keeps s sound t within e refl refl q refl (still_shown e) (omega arith) (λ from upto is. absurd cc) refl refl refl;
         does = record {
           finds = ap (λ (n : ℕ). get_or (words s) n 0) at ∙ get_cell s object;
           leaves = (λ i. set (words s) (at i) (stores (get_or s.cells object 0) i)) ∙ set_cell s object value
@@ -150,7 +162,7 @@ module _ (s : CourseState) (t : ℕ) (sound : IsSoundCourse s) (within : t < len
       let q : FollowerState = after (ToUpdate object change) found p in
       record {
         may = inside;
-        sound = event_keeps s sound t within e refl refl q refl (still_shown e) refl refl refl;
+        sound = event_keeps s sound t within e refl refl q refl (still_shown e) (omega arith) (λ from upto is. absurd cc) refl refl refl;
         does = record {
           finds = ap (λ (n : ℕ). get_or (words s) n 0) at ∙ get_cell s object;
           leaves = (λ i. set (words s) (at i) (changes found i)) ∙ set_cell s object (change found)
@@ -167,7 +179,7 @@ module _ (s : CourseState) (t : ℕ) (sound : IsSoundCourse s) (within : t < len
       let q : FollowerState = after (ToDraw number) s.draws p in
       record {
         may = next;
-        sound = event_keeps s sound t within e (eq-eqb number (suc s.draws) next) refl q refl (still_shown e) refl refl refl;
+        sound = event_keeps s sound t within e (eq-eqb number (suc s.draws) next) refl q refl (still_shown e) (omega arith) (λ from upto is. absurd cc) refl refl refl;
         does = record {
           finds = ap (λ (n : ℕ). get_or (words s) n 0) at ∙ get_draws s;
           leaves = (λ i. set (words s) (at i) (draws i)) ∙ set_draws s (suc s.draws)
@@ -193,9 +205,19 @@ module _ (s : CourseState) (t : ℕ) (sound : IsSoundCourse s) (within : t < len
   found_enough (Join from upto) found =
       let its = sound.each t within in
       le-leb upto (length (journal_of (journals_of s) from))
-      (let a = its.look in let b = found.1 in let c = ap (λ (n : ℕ). made_by s n) found.0 in let d = ap (λ (j : List Event). length j) (journal_at s.followers from) in omega arith)
+      (let a = its.look in let b = found.1 in let c = ap (λ (n : ℕ). (follower_of s n).shown) found.0 in let m = shown_made s.followers (λ u inside. (sound.each u inside).shown) from in let d = ap (λ (j : List Event). length j) (journal_at s.followers from) in omega arith)
   found_enough (Draw number) found = absurd found
   found_enough (Fence number) found = let its = sound.each t within in le-leb number s.draws (let a = its.seen in let b : number ≤ p.seen = found in omega arith)
+
+  -- what it joins is shown
+  joined_shown : (mark : Mark) → HasFound p mark → (from upto : ℕ) → Marked (Join from upto) ≡ Marked mark → upto ≤ (follower_of s from).shown
+  joined_shown (Join whom many) found from upto is =
+      let its = sound.each t within in
+      let a : from ≡ whom = cc in
+      let b : upto ≡ many = cc in
+      let c = its.look in let d = found.1 in let e = ap (λ (n : ℕ). (follower_of s n).shown) (found.0 ∙ sym a) in omega arith
+  joined_shown (Draw number) found from upto is = absurd found
+  joined_shown (Fence number) found from upto is = absurd cc
 
   pub mark_is_lawful : (place : ℕ) (mark : Mark) (operation : ℕ → ℕ) → HasFound p mark → place ≡ progress_place t → operation p.shown ≡ suc (length p.journal) → IsLawfulStep (ToMark mark) t place operation s
   mark_is_lawful place mark operation found at stores =
@@ -204,7 +226,7 @@ module _ (s : CourseState) (t : ℕ) (sound : IsSoundCourse s) (within : t < len
       let draws : ℕ = draws_after (MakeMark mark) s.draws in
       record {
         may = (is_own mark found, found_enough mark found);
-        sound = event_keeps s sound t within e (found_enough mark found) refl q refl (omega arith) refl refl refl;
+        sound = event_keeps s sound t within e (found_enough mark found) refl q refl (omega arith) (still_shown e) (λ from upto is. joined_shown mark found from upto is) refl refl refl;
         does = record {
           finds = ap (λ (n : ℕ). get_or (words s) n 0) at ∙ get_progress s t within;
           leaves = (λ i. set (words s) (at i) ((stores ∙ sym (longer p.journal e)) i)) ∙ set_progress s t q within
@@ -233,5 +255,5 @@ opening_is_sound starts many = record {
   wide = refl;
   is_play = tt;
   comes = none_before starts many;
-  each = λ t inside. subst (λ (p : FollowerState). IsSoundFollower (opening starts many) p) (sym (none_found many t)) (record { shown = omega arith; look = omega arith; seen = omega arith });
+  each = λ t inside. subst (λ (p : FollowerState). IsSoundFollower (opening starts many) p) (sym (none_found many t)) (record { shown = omega arith; look = omega arith; seen = omega arith; joins = λ k from upto is. absurd cc });
 }

@@ -1,6 +1,7 @@
 //! What a thread asks of its follower. No call takes memory, and none waits.
-ghost use Rattle.std.specs.Prelude.{◌≡◌, ◌≢◌, ◌<◌, ◌≤◌, ◌^◌, ◌+◌, length, false, if◌then◌else◌, IfOk, IfErr, OnOk};
-ghost use Rattle.octet_follow.specs.Calls.{view_of, IsFollowerOf, IsGivenSame, MakesMarks, Makes, IsComplete, IsDue, IsThrough, IsNextFor, CountsMark, HaltsMarks, Halts, IsNotEnded};
+ghost use Rattle.std.specs.Prelude.{◌≡◌, ◌≢◌, ◌<◌, ◌≤◌, ◌^◌, ◌+◌, length, IfOk, IfErr, OnOk};
+ghost use Rattle.octet_follow.specs.Calls.{view_of, journal_in, IsFollowerOf, IsGivenSame, IsShown, IsUnshown, MakesMarks, Makes, IsComplete, IsDue, IsThrough, IsNextFor, CountsMark, HaltsMarks, Halts, IsNotEnded};
+ghost use Rattle.octet_follow.specs.Promise.{HoldsBack};
 ghost use Rattle.octet_follow.specs.Repeats.{IsRecordedSoFar};
 
 use crate::access::Access;
@@ -27,29 +28,15 @@ fn count_mark(follower: &mut Follower)
     };
 }
 
-// Whether another thread may wait for a follower that has made so many events.
-#[inline(always)]
-fn is_awaited(events: u64, awaited: u64) -> bool
-    ensures { result ≡ false → events < awaited }
-{
-    events >= awaited
-}
-
-// How many events a follower shows that has made so many, by whether it shows them.
-#[inline(always)]
-fn shown_after(shows: bool, events: u64, before: u64) -> u64
-    ensures { result ≡ (if shows then events else before) }
-{
-    if shows { events } else { before }
-}
-
 impl Course {
     // Makes the mark that is due, or tells why not.
     fn take_mark(&self, follower: &mut Follower) -> Result<(), Halt>
         requires own { IsFollowerOf self.now follower.old }
         requires due { IsDue follower.old }
+        requires shown { IsShown follower.old }
         ensures own { IsFollowerOf self.now follower.new }
         ensures given { IsGivenSame follower.old follower.new }
+        ensures shown { IsShown follower.new }
         ensures marks { MakesMarks (view_of follower.old) (view_of follower.new) }
         ensures halts { IfErr result (λ halt. HaltsMarks halt follower.new) }
         ensures on { OnOk result ((follower.new.next ≡ follower.old.next + 1) × (length follower.new.marks.items ≡ length follower.old.marks.items)) }
@@ -88,8 +75,10 @@ impl Course {
     // Makes the marks that are due. Whether an access is next, or the end.
     fn make_marks(&self, follower: &mut Follower) -> Result<bool, Halt>
         requires own { IsFollowerOf self.now follower.old }
+        requires shown { IsShown follower.old }
         ensures own { IsFollowerOf self.now follower.new }
         ensures given { IsGivenSame follower.old follower.new }
+        ensures shown { IsShown follower.new }
         ensures marks { MakesMarks (view_of follower.old) (view_of follower.new) }
         ensures next { IfOk result (λ access. IsNextFor access follower.new) }
         ensures halts { IfErr result (λ halt. HaltsMarks halt follower.new) }
@@ -105,13 +94,17 @@ impl Course {
         Ok(true)
     }
 
-    // Makes an access, before which no mark stands.
+    // Makes an access, before which no mark stands. It is shown by the next call.
     #[inline(always)]
     fn make_access(&self, follower: &mut Follower, access: Access) -> Result<u64, Halt>
         requires own { IsFollowerOf self.now follower.old }
         requires access { follower.old.left ≢ 0 }
+        requires shown { IsShown follower.old }
         ensures own { IsFollowerOf self.now follower.new }
         ensures given { IsGivenSame follower.old follower.new }
+        ensures unshown { OnOk result (IsUnshown follower.new) }
+        ensures holds { OnOk result (HoldsBack (view_of follower.new)) }
+        ensures shown { IfErr result (λ _. IsShown follower.new) }
         ensures made { IfOk result (λ value. Makes access (view_of follower.old) value (view_of follower.new)) }
         ensures marks { IfErr result (λ _. MakesMarks (view_of follower.old) (view_of follower.new)) }
         ensures halts { IfErr result (λ halt. Halts self.now access halt follower.new) }
@@ -124,15 +117,7 @@ impl Course {
         }
         follower.events += 1;
         follower.left -= 1;
-        let shows = is_awaited(follower.events, follower.awaited);
-        follower.shown = shown_after(shows, follower.events, follower.shown);
-        let value = self.words.make(
-            &mut follower.seat,
-            follower.number,
-            follower.events,
-            shows,
-            access,
-        );
+        let value = self.words.make(&mut follower.seat, access);
         follower.digest = access.digested(follower.digest, value);
         Ok(value)
     }
@@ -140,8 +125,12 @@ impl Course {
     // Makes the marks that are due, and then the access.
     fn ask_after_marks(&self, follower: &mut Follower, access: Access) -> Result<u64, Halt>
         requires own { IsFollowerOf self.now follower.old }
+        requires shown { IsShown follower.old }
         ensures own { IsFollowerOf self.now follower.new }
         ensures given { IsGivenSame follower.old follower.new }
+        ensures unshown { OnOk result (IsUnshown follower.new) }
+        ensures holds { OnOk result (HoldsBack (view_of follower.new)) }
+        ensures shown { IfErr result (λ _. IsShown follower.new) }
         ensures made { IfOk result (λ value. Makes access (view_of follower.old) value (view_of follower.new)) }
         ensures marks { IfErr result (λ _. MakesMarks (view_of follower.old) (view_of follower.new)) }
         ensures halts { IfErr result (λ halt. Halts self.now access halt follower.new) }
@@ -153,19 +142,42 @@ impl Course {
         }
     }
 
-    /// Asks for an access: makes the marks that stand before it, and then the access, if nothing is
-    /// to be waited for. Answers the value that a read or an update found, or that a write wrote. Takes
-    /// no memory, and waits for nobody.
+    /// Shows all that the follower has made: whatever its thread did under its last access is over. A thread that
+    /// rests calls it. The other calls of a thread do so first.
+    #[inline(always)]
+    pub fn show_made(&self, follower: &mut Follower)
+        requires own { IsFollowerOf self.now follower.old }
+        ensures own { IsFollowerOf self.now follower.new }
+        ensures given { IsGivenSame follower.old follower.new }
+        ensures made { journal_in follower.new ≡ journal_in follower.old }
+        ensures shown { IsShown follower.new }
+    {
+        if follower.shown == follower.events || follower.events < follower.awaited {
+            return;
+        }
+        self.words
+            .show(&mut follower.seat, follower.number, follower.events);
+        follower.shown = follower.events;
+    }
+
+    /// Asks for an access: shows the one before it, makes the marks that stand before it, and then the access,
+    /// if nothing is to be waited for. Answers the value that a read or an update found, or that a write wrote.
+    /// The access is not shown before the follower's next call, so none that waits for it is made until then.
+    /// Takes no memory, and waits for nobody.
     #[inline(always)]
     pub fn ask(&self, follower: &mut Follower, access: Access) -> Result<u64, Halt>
         requires own { IsFollowerOf self.now follower.old }
         ensures own { IsFollowerOf self.now follower.new }
         ensures given { IsGivenSame follower.old follower.new }
+        ensures unshown { OnOk result (IsUnshown follower.new) }
+        ensures holds { OnOk result (HoldsBack (view_of follower.new)) }
+        ensures shown { IfErr result (λ _. IsShown follower.new) }
         ensures made { IfOk result (λ value. Makes access (view_of follower.old) value (view_of follower.new)) }
         ensures marks { IfErr result (λ _. MakesMarks (view_of follower.old) (view_of follower.new)) }
         ensures halts { IfErr result (λ halt. Halts self.now access halt follower.new) }
         ensures recorded { IfOk result (λ _. IsRecordedSoFar follower.new) }
     {
+        self.show_made(follower);
         if follower.left == 0 {
             return self.ask_after_marks(follower, access);
         }
@@ -177,10 +189,12 @@ impl Course {
         requires own { IsFollowerOf self.now follower.old }
         ensures own { IsFollowerOf self.now follower.new }
         ensures given { IsGivenSame follower.old follower.new }
+        ensures shown { IsShown follower.new }
         ensures marks { MakesMarks (view_of follower.old) (view_of follower.new) }
         ensures complete { OnOk result (IsComplete follower.new) }
         ensures halts { IfErr result (λ halt. IsNotEnded halt follower.new) }
     {
+        self.show_made(follower);
         match self.make_marks(follower) {
             Err(halt) => Err(halt),
             Ok(false) => Ok(()),

@@ -39,7 +39,8 @@ impl Course {
     }
 
     /// Tells the follower that no thread waits for its accesses before it has made so many events. Until
-    /// then it shows none of them, and from then on each: at first it shows each. Marks it always shows.
+    /// then it shows none of them, and from then on each, by its next call: so it shows each at first. Marks it
+    /// shows with all before them.
     pub fn await_events(&self, follower: &mut Follower, events: u64)
         requires own { IsFollowerOf self.now follower.old }
         ensures own { IsFollowerOf self.now follower.new }

@@ -8,5 +8,6 @@ pub loop-follower-preserved : goal.loop-follower-preserved
 loop-follower-preserved c = record {
   own = c.take_mark.ensures.own;
   given = given_both _ _ _ c.loop-follower.invariant.given c.take_mark.ensures.given;
+  shown = c.take_mark.ensures.shown;
   marks = marks_both _ _ _ c.loop-follower.invariant.marks c.take_mark.ensures.marks;
 }

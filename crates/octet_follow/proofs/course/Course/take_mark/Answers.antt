@@ -15,3 +15,7 @@ returns-clause-given c =
 
 pub returns-clause-marks : goal.returns-clause-marks
 returns-clause-marks c = mark_made c.args.follower.now _ _ c.index.result.now.mark (search rules) c.count_mark.ensures
+
+pub returns-clause-shown : goal.returns-clause-shown
+returns-clause-shown c =
+    (marked_one _ _ _ _ c.index.result.now c.requires.due c.requires.own c.make_mark-made.ensures.own (search rules) refl refl refl refl refl refl refl refl refl refl c.count_mark.ensures).2
