@@ -40,10 +40,10 @@
 
 #[allow(unsafe_code)]
 pub mod cell;
+mod bells;
 mod checks;
 mod error;
 mod explore;
-mod gate;
 mod given_up;
 mod heap;
 pub mod hint;
@@ -68,7 +68,8 @@ pub mod sync;
 #[allow(unsafe_code)]
 pub mod thread;
 pub mod time;
-mod turnstile;
+mod turns;
+mod waits;
 mod window;
 
 pub use error::{Absence, Error, Wait};

@@ -5,36 +5,32 @@
 //! tests that run beside each other share a static, the one that comes later is refused with its line. What outlives an explored
 //! run has afterwards what it had before, so no seed depends on another; a lock whose value nobody can set back is refused when a
 //! second seed asks for it. What the seeds are to gather stands in types of `std`.
-mod bells;
 mod clocks;
 mod crash;
-mod draws;
 pub(crate) mod ctx;
 mod found;
 mod notes;
 mod pointers;
 pub(crate) mod slot;
-mod turns;
 pub(crate) mod world;
 
 pub use clocks::{Race, Touch};
 pub(crate) use clocks::Kind;
 pub use found::Found;
-pub(crate) use turns::Wake;
 
 use crate::error::checked;
 use crate::explore::play;
 use crate::long::{Beside, Work};
 use crate::marks_file::{Feeding, Writing};
 use crate::raw::{self, Handle};
+use crate::turns::{SEATS, Turns};
 use crate::{Error, Failure, Recording, Schedule, thread, try_explore};
 use notes::{Notes, with_ending};
 use std::panic;
 use std::path::Path;
 use std::sync::{Arc, Mutex, MutexGuard, PoisonError};
 use std::time::{Duration, Instant};
-use turns::Turns;
-use world::{MOST_OBJECTS, SEATS, Setup, Sizes, Way, Whims, World};
+use world::{MOST_OBJECTS, Setup, Sizes, Way, Whims, World};
 
 type Body = Arc<dyn Fn() + Send + Sync>;
 
@@ -258,7 +254,7 @@ impl Program {
         let seed = schedule.seed();
         let whims = if (seed / 6) % 3 == 2 { Whims::Drawn { seed } } else { Whims::None };
         let (sizes, handles) = if keep { self.kept_heap(told)? } else { (self.sizes, Vec::new()) };
-        let turns = Turns::new(&schedule, self.steps, self.depth.is_some())?;
+        let turns = Turns::of_program(&schedule, self.steps, self.sizes.patience)?;
         let world = World::new(Setup {
             way: Way::Turns,
             sizes,

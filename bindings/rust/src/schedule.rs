@@ -193,6 +193,11 @@ impl Schedule {
         matches!(self.picks, Picks::Given { .. })
     }
 
+    /// Whether threads go on by priorities.
+    pub(crate) fn is_by_ranks(&self) -> bool {
+        matches!(self.picks, Picks::Drawn { way: Way::Priorities, .. })
+    }
+
     pub(crate) fn picker(&self) -> Result<Picker, Error> {
         let mut kept = self.kept_now();
         kept.is_taken = true;

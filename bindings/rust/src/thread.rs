@@ -5,12 +5,12 @@ mod start;
 pub use scoped::{Scope, ScopedJoinHandle, scope};
 pub(crate) use start::{know_parallelism, start};
 
-use crate::program::Wake;
 use crate::program::ctx::{Ctx, with};
 use crate::program::held;
 use crate::program::slot::{Caller, Object};
 use crate::program::world::{Done, Way};
 use crate::raw::Change;
+use crate::turns::Wake;
 use start::{Start, seat_by};
 use std::fmt;
 use std::io;
@@ -152,7 +152,7 @@ pub fn yield_now() {
             ctx.safe_point();
             return None;
         }
-        ctx.world.turns().yield_now(ctx, caller);
+        ctx.yield_in_turn(caller);
         Some(())
     });
     if is_in_turn.is_none() {
@@ -207,7 +207,7 @@ fn wait_over(ctx: &Ctx, done: &Arc<Done>, caller: Caller) {
         return;
     }
     while !done.is_over.load(Ordering::Acquire) {
-        ctx.world.turns().block(ctx, done.key(), Wake { what: "the end of a thread", place: caller, holder: None }, false);
+        ctx.block(done.key(), Wake { what: "the end of a thread", place: caller, holder: None }, false);
     }
     let clock = *held(&done.clock);
     ctx.memory().join(ctx.seat, &clock);

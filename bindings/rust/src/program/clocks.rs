@@ -4,9 +4,9 @@
 //! have added since (a release sequence of C++20). Values are sequentially consistent; only the clocks obey the orders. So a
 //! `Relaxed` publication is found, though the value itself is always the newest.
 use super::slot::Caller;
-use super::world::SEATS;
 use crate::Place;
 use crate::raw::{Access, Change};
+use crate::turns::SEATS;
 use std::fmt;
 use std::sync::atomic::Ordering;
 use std::time::Duration;
@@ -195,6 +195,11 @@ impl Memory {
 
     pub(crate) fn value(&self, number: u32) -> u64 {
         self.values[number as usize]
+    }
+
+    /// Where it was given its value.
+    pub(crate) fn stored_at(&self, number: u32) -> Option<Caller> {
+        self.carried.get(number as usize)?.last.map(|store| store.place)
     }
 
     /// Makes the access: the value found, or the one written.

@@ -1,12 +1,12 @@
 //! One thread of a run: how it makes its accesses, notes what it gets from elsewhere, and waits.
 use super::clocks::{Kind, Memory};
-use super::draws::mixed;
 use super::pointers::{coded, is_address, untagged};
 use super::slot::{Caller, Holds, Real, Slot};
-use super::turns::Wake;
 use super::world::{Deal, Done, Part, Way, Whims, World};
 use super::held;
 use crate::raw::{self, Access, Change};
+use crate::turns::draws::mixed;
+use crate::turns::{Stuck, Wake};
 use crate::{Error, Place, thread};
 use std::cell::{Cell, RefCell};
 use std::ptr::null;
@@ -104,7 +104,7 @@ pub(crate) fn enter(world: &Arc<World>, seat: usize, part: Part, done: &Arc<Done
         thread,
     });
     match ctx.way {
-        Way::Turns => world.turns().wait_first(&ctx),
+        Way::Turns => ctx.picked(world.turns().until_picked(seat)),
         Way::Free | Way::Again => {
             ctx.part.borrow_mut().handle.start();
         }
@@ -129,8 +129,15 @@ impl Ctx {
 
     /// Stays here for ever: the run is over, and nothing of the program may go on with values that it has not.
     pub(crate) fn stay(&self) -> ! {
-        self.world.give_back(self, false);
-        super::world::stay()
+        self.world.stay(self)
+    }
+
+    // It goes on where it was picked; else the run is over.
+    fn picked<T>(&self, picked: Result<T, Stuck>) -> T {
+        picked.unwrap_or_else(|stuck| {
+            self.world.halt_stuck(stuck);
+            self.stay()
+        })
     }
 
     pub(crate) fn fail(&self, why: Error) -> ! {
@@ -434,7 +441,22 @@ impl Ctx {
         if std::thread::panicking() {
             self.panic_begun();
         }
-        self.world.turns().pass(self);
+        self.picked(self.world.turns().pass(self.seat, self.place.get()));
+    }
+
+    /// By turns: lets the others go first, as the seed has it.
+    pub(crate) fn yield_in_turn(&self, caller: Caller) {
+        if self.picked(self.world.turns().yield_now(self.seat, caller)) {
+            self.place.set(Some(caller));
+            self.has_turn.set(true);
+        }
+    }
+
+    /// By turns: waits until the key is rung. Whether it was, and the time was not over before.
+    pub(crate) fn block(&self, key: usize, wake: Wake, is_timed: bool) -> bool {
+        let came = self.picked(self.world.turns().block(self.seat, key, wake, is_timed));
+        self.has_turn.set(came.was_picked);
+        came.is_rung
     }
 
     /// This thread panics: it began to after so many others.
@@ -476,7 +498,7 @@ impl Ctx {
         match self.way {
             Way::Again => true,
             Way::Turns => {
-                let is_rung = self.world.turns().block(self, key, wake, most.is_some());
+                let is_rung = self.block(key, wake, most.is_some());
                 if let (false, Some(most)) = (is_rung, most) {
                     self.memory().passed += most;
                 }

@@ -2,7 +2,8 @@
 //!
 //! It begins with `OCTN`, a byte of version and a byte that says whether exchanges fail for nothing. Then comes each thread: how
 //! many notes it has, and the notes, as little-endian numbers of four bytes.
-use super::world::{SEATS, Whims};
+use super::world::Whims;
+use crate::turns::SEATS;
 use crate::Error;
 use std::fs;
 use std::path::{Path, PathBuf};

@@ -6,13 +6,14 @@ use super::clocks::Kind;
 use super::ctx::{Ctx, with};
 use super::held;
 use super::pointers::Pointers;
+use super::world::Way;
 use crate::raw::{Access, Change};
 use std::collections::BTreeMap;
-use std::panic::Location;
 use std::sync::Mutex;
 use std::sync::atomic::{AtomicU64, Ordering};
 
-pub(crate) type Caller = &'static Location<'static>;
+pub(crate) use crate::turns::Caller;
+use crate::turns::Holder;
 
 /// What an object's values are.
 #[derive(Clone, Copy, PartialEq, Eq)]
@@ -190,6 +191,12 @@ pub(crate) struct Object<R> {
 impl<R> Object<R> {
     pub(crate) const fn new(real: R) -> Object<R> {
         Object { slot: Slot::new(), real }
+    }
+
+    /// By turns: who holds it, and where that was stored.
+    pub(crate) fn held_by(&self, ctx: &Ctx, seat: u64) -> Option<Holder> {
+        let number = self.slot.number_in(ctx.epoch).filter(|_| ctx.way == Way::Turns);
+        Some(Holder { seat: usize::try_from(seat).ok()?, at: number.and_then(|number| ctx.memory().stored_at(number)) })
     }
 
     /// By this key threads wait for it.

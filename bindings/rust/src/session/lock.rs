@@ -2,7 +2,6 @@
 use super::{Caller, Session};
 use crate::Error;
 use crate::raw::{Access, Change};
-use crate::shared::Order;
 use std::panic::Location;
 
 const READ: Access = Access::Read;
@@ -40,11 +39,10 @@ impl Session {
         if self.held.contains(&lock) {
             return Err(Error::Held { name: self.shared.locks[lock].name.clone() });
         }
-        self.wait_stopped(|shared, thread| match &shared.order {
-            Order::Free { gates, .. } if gates[lock].take(shared.patience) => Ok(()),
-            Order::Free { .. } => Err(Error::Patience { thread }),
-            Order::Turns(turnstile) => turnstile.take(thread, lock, Some(caller)).map_err(|stuck| shared.stuck(stuck)),
-            Order::Again => Ok(()),
+        self.take_turn_if_any(caller)?;
+        self.wait_stopped(|shared, thread| {
+            let taken = shared.waits().map_or(Ok(()), |waits| shared.locks[lock].take(waits, thread, caller));
+            taken.map_err(|missed| shared.missed(thread, missed))
         })?;
         self.held.push(lock);
         self.note_taken(lock, caller).inspect_err(|_| self.free(lock))
@@ -66,10 +64,8 @@ impl Session {
             return;
         };
         self.held.remove(at);
-        match &self.shared.order {
-            Order::Free { gates, .. } => gates[lock].free(),
-            Order::Turns(turnstile) => turnstile.free(lock),
-            Order::Again => {}
+        if let Some(waits) = self.shared.waits() {
+            self.shared.locks[lock].free(waits);
         }
     }
 
@@ -153,19 +149,16 @@ impl Session {
         // That it waits, and that it frees the lock, is one step of a schedule.
         self.take_turn_if_any(caller)?;
         self.make_noted(self.shared.conditions[at].object, update(Change::Add, 1, 0), caller)?;
-        let place = match &self.shared.order {
-            Order::Free { bells, .. } => bells[at].place(),
-            Order::Turns(_) | Order::Again => 0,
-        };
+        let place = self.shared.waits().map_or(0, |waits| self.shared.conditions[at].come(waits, self.number));
         self.note_freed(lock, caller)?;
-        let waited = self.wait_stopped(|shared, thread| match &shared.order {
-            Order::Free { gates, bells } => {
-                gates[lock].free();
-                let woken = bells[at].wait(place, shared.patience) && gates[lock].take(shared.patience);
-                if woken { Ok(()) } else { Err(Error::Patience { thread }) }
-            }
-            Order::Turns(turnstile) => turnstile.sleep(thread, at, lock, Some(caller)).map_err(|stuck| shared.stuck(stuck)),
-            Order::Again => Ok(()),
+        let waited = self.wait_stopped(|shared, thread| {
+            let Some(waits) = shared.waits() else {
+                return Ok(());
+            };
+            shared.locks[lock].free(waits);
+            let woken = shared.conditions[at].wait(waits, place, thread, caller);
+            let taken = woken.and_then(|()| shared.locks[lock].take(waits, thread, caller));
+            taken.map_err(|missed| shared.missed(thread, missed))
         });
         if let Err(error) = waited {
             // It holds the lock no more.
@@ -244,10 +237,8 @@ impl Session {
         let at = self.shared.condition(condition)?;
         self.take_turn_if_any(caller)?;
         let count = counted(self, self.shared.conditions[at].object, caller)?;
-        match &self.shared.order {
-            Order::Free { bells, .. } => bells[at].wake(count),
-            Order::Turns(turnstile) => turnstile.wake(at, count),
-            Order::Again => {}
+        if let Some(waits) = self.shared.waits() {
+            self.shared.conditions[at].wake(waits, count);
         }
         Ok(())
     }

@@ -2,7 +2,8 @@
 use super::{Mutex, MutexGuard, answered};
 use crate::program::ctx::{Ctx, is_in_run, with};
 use crate::program::slot::Caller;
-use crate::program::{Wake, world::Way};
+use crate::program::world::Way;
+use crate::turns::Wake;
 use std::fmt;
 use std::panic::Location;
 use std::sync::{self, LockResult, PoisonError};

@@ -2,7 +2,8 @@
 use super::answered;
 use crate::program::ctx::{Ctx, is_in_run, with};
 use crate::program::slot::{Caller, Object, Real, Refused};
-use crate::program::{Wake, world::Way};
+use crate::program::world::Way;
+use crate::turns::Wake;
 use std::cell::UnsafeCell;
 use std::fmt;
 use std::marker::PhantomData;
@@ -118,7 +119,7 @@ impl<T: ?Sized> Mutex<T> {
             match self.try_take(ctx, caller) {
                 Ok(()) => return,
                 Err(found) => {
-                    let holder = found.checked_sub(1).map(|seat| seat as usize);
+                    let holder = found.checked_sub(1).and_then(|seat| self.object.held_by(ctx, seat));
                     ctx.wait(key, ticket, Wake { what: "a Mutex", place: caller, holder }, None);
                 }
             }

@@ -2,7 +2,8 @@
 use super::answered;
 use crate::program::ctx::{Ctx, is_in_run, with};
 use crate::program::slot::{Caller, Object, Real, Refused};
-use crate::program::{Wake, world::Way};
+use crate::program::world::Way;
+use crate::turns::Wake;
 use crate::raw::Change;
 use std::cell::UnsafeCell;
 use std::fmt;
@@ -147,7 +148,7 @@ impl<T: ?Sized> RwLock<T> {
                 return;
             };
             let what = if writes { "a RwLock, to write" } else { "a RwLock, to read" };
-            let holder = found.checked_sub(WRITER).map(|seat| seat as usize);
+            let holder = found.checked_sub(WRITER).and_then(|seat| self.object.held_by(ctx, seat));
             ctx.wait(key, ticket, Wake { what, place: caller, holder }, None);
         }
     }

@@ -2,7 +2,7 @@
 //!
 //! The library's own draws begin at a number below that of all threads, and take the next one that is ready. Here seats are mostly
 //! empty, so that one thread would come nearly always; these draw among those that are ready.
-use super::world::SEATS;
+use super::SEATS;
 
 /// By odd seeds a thread goes on for up to so many picks more.
 const LONGEST_BURST: u64 = 8;
