@@ -73,7 +73,7 @@ mod waits;
 mod window;
 
 pub use error::{Absence, Error, Wait};
-pub use explore::{Cause, Failure, explore, try_explore};
+pub use explore::{Cause, Failure, Tried, explore, explore_all, try_explore, try_explore_all};
 pub use heap::{Builder, Heap, Threads};
 pub use long::{LongBuilder, LongHeap, LongRun};
 pub use place::Place;

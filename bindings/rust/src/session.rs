@@ -11,6 +11,7 @@ use crate::given_up::{Begun, GivenUp};
 use crate::heap::Rank;
 use crate::raw::{self, Handle};
 use crate::shared::{Order, Shared};
+use crate::turns::Does;
 use crate::{Error, Place, quiet};
 use noted::Places;
 pub(crate) use noted::{Keeps, Noted};
@@ -185,7 +186,7 @@ impl Session {
     /// `Running` where it is started; `Resting` where it has ended. By a schedule those of waiting: `Deadlock` and `NotBack`.
     pub fn start(&mut self) -> Result<(), Error> {
         if let Order::Turns(turns) = &self.shared.order {
-            turns.pass(self.number, None).map_err(|stuck| self.shared.stuck(self.number, stuck))?;
+            turns.pass(self.number, None, Does::Nothing).map_err(|stuck| self.shared.stuck(self.number, stuck))?;
         }
         checked(self.handle.start(), self.number)
     }
@@ -229,7 +230,7 @@ impl Session {
     }
 
     fn take_last_turn(&mut self) -> Result<(), Error> {
-        if self.at_once == self.heap { Ok(()) } else { self.take_turn(None) }
+        if self.at_once == self.heap { Ok(()) } else { self.take_turn(None, Does::Nothing) }
     }
 
     /// What was given up is the session's again.
@@ -347,11 +348,11 @@ impl Session {
         self.stopped(wait)?.inspect_err(|error| self.note_rank(error.rank()))
     }
 
-    // Waits until it is this thread's turn.
+    // Waits until it is this thread's turn to do this.
     #[cold]
-    fn take_turn(&mut self, at: Option<Caller>) -> Result<(), Error> {
+    fn take_turn(&mut self, at: Option<Caller>, does: Does) -> Result<(), Error> {
         self.wait_stopped(|shared, number| match &shared.order {
-            Order::Turns(turns) => turns.pass(number, at).map_err(|stuck| shared.stuck(number, stuck)),
+            Order::Turns(turns) => turns.pass(number, at, does).map_err(|stuck| shared.stuck(number, stuck)),
             Order::Free(_) | Order::Again => Ok(()),
         })
     }
@@ -381,7 +382,7 @@ impl Session {
             Order::Turns(turns) => {
                 let left = turns.leave(number, at);
                 let done = work();
-                left.and_then(|()| turns.pass(number, at)).map_err(|stuck| shared.stuck(number, stuck)).map(|()| done)
+                left.and_then(|()| turns.pass(number, at, Does::Nothing)).map_err(|stuck| shared.stuck(number, stuck)).map(|()| done)
             }
             Order::Free(_) | Order::Again => Ok(work()),
         })?;

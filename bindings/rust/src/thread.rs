@@ -10,7 +10,7 @@ use crate::program::held;
 use crate::program::slot::{Caller, Object};
 use crate::program::world::{Done, Way};
 use crate::raw::Change;
-use crate::turns::Wake;
+use crate::turns::{Does, Wake};
 use start::{Start, seat_by};
 use std::fmt;
 use std::io;
@@ -226,7 +226,8 @@ fn joined(done: Option<&Arc<Done>>, caller: Caller) {
 fn is_finished(done: Option<&Arc<Done>>, caller: Caller) -> Option<bool> {
     with(|ctx| {
         let (ctx, done) = (ctx?, done?);
-        ctx.pass(caller);
+        // Its end is one step with what it did last.
+        ctx.pass(caller, Does::Anything);
         Some(ctx.note(|| done.is_over.load(Ordering::Acquire).into()) != 0)
     })
 }

@@ -5,15 +5,17 @@
 //! thread that was picked 64 times in a row comes after the others. What a yield means is drawn by the seed, since both are needed:
 //! loops that wait must end, and what only a thread that spins long enough comes to must be found.
 pub(crate) mod draws;
+pub(crate) mod search;
 
 use crate::heap::MAX_THREADS;
 use crate::program::held;
 use crate::schedule::{Pick, Picker};
 use crate::{Absence, Error, Schedule};
 use draws::Draws;
+use search::Search;
 use std::panic::Location;
 use std::sync::atomic::{AtomicBool, Ordering};
-use std::sync::{Mutex, MutexGuard};
+use std::sync::{Arc, Mutex, MutexGuard};
 use std::thread::{self, Thread};
 use std::time::{Duration, Instant};
 
@@ -23,6 +25,35 @@ pub(crate) const SEATS: usize = MAX_THREADS;
 const MOST_IN_ROW: u32 = 64;
 /// After so many steps yields are skipped no more: threads that spin may keep another one from its work.
 const SKIPPED_STEPS: u64 = 2_000;
+
+/// What a thread does once it is picked, as far as others can tell: to what the keys stand for, or to anything.
+#[derive(Clone, Copy, Debug, PartialEq, Eq)]
+pub(crate) enum Does {
+    Nothing,
+    Reads(usize),
+    Writes(usize),
+    WritesBoth(usize, usize),
+    Anything,
+}
+
+impl Does {
+    fn keys(self) -> [Option<usize>; 2] {
+        match self {
+            Does::Nothing | Does::Anything => [None; 2],
+            Does::Reads(key) | Does::Writes(key) => [Some(key), None],
+            Does::WritesBoth(key, other) => [Some(key), Some(other)],
+        }
+    }
+
+    /// Whether it may bring something else where the other one comes first.
+    fn matters_to(self, other: Does) -> bool {
+        match (self, other) {
+            (Does::Anything, _) | (_, Does::Anything) => true,
+            (Does::Reads(_), Does::Reads(_)) => false,
+            _ => self.keys().iter().flatten().any(|key| other.keys().contains(&Some(*key))),
+        }
+    }
+}
 
 /// Who holds what others wait for, and where it was taken, if that is known.
 #[derive(Clone, Copy, Debug)]
@@ -83,7 +114,8 @@ enum At {
 
 struct Seat {
     at: At,
-    // Where the thread stood last.
+    // What the thread does once it is picked, and where it stood last.
+    does: Does,
     place: Option<Caller>,
     has_yielded: bool,
     is_rung: bool,
@@ -94,7 +126,7 @@ struct Seat {
 
 impl Seat {
     fn new(at: At) -> Seat {
-        Seat { at, place: None, has_yielded: false, is_rung: false, listed: None, wake: None }
+        Seat { at, does: Does::Nothing, place: None, has_yielded: false, is_rung: false, listed: None, wake: None }
     }
 
     fn may_move(&self) -> bool {
@@ -137,6 +169,7 @@ impl Yields {
             2 => Yields::Skipped,
             // What is given says it all.
             _ if schedule.is_given() => Yields::Nothing,
+            _ if schedule.search().is_some() => Yields::Once,
             _ if schedule.is_by_ranks() => Yields::All,
             0 => Yields::Once,
             _ => Yields::All,
@@ -147,6 +180,7 @@ impl Yields {
 /// What picks.
 enum Picks {
     Drawn(Draws),
+    Searched(Arc<Mutex<Search>>),
     /// As they are given, or by the library, which has its own limit of picks in a row.
     By(Picker),
 }
@@ -233,9 +267,14 @@ impl State {
         })
     }
 
+    // One that was picked so often in a row lets others go on.
+    fn tired(&self) -> Option<usize> {
+        self.last.filter(|_| self.in_row >= MOST_IN_ROW)
+    }
+
     // Those that may be picked: all that are ready, or those of them that are to come first.
     fn eligible(&self, ready: &[bool; SEATS]) -> [bool; SEATS] {
-        let tired = self.last.filter(|_| self.in_row >= MOST_IN_ROW && matches!(self.picks, Picks::Drawn(_)));
+        let tired = self.tired().filter(|_| matches!(self.picks, Picks::Drawn(_)));
         let mut fresh = *ready;
         for (at, seat) in self.seats.iter().enumerate() {
             fresh[at] &= !seat.has_yielded && tired != Some(at);
@@ -262,8 +301,16 @@ impl State {
             self.seats.iter_mut().for_each(|seat| seat.has_yielded = false);
         }
         let from = self.eligible(&ready);
-        let seats = self.seats.len();
+        let (seats, is_tired) = (self.seats.len(), self.tired().is_some());
         let picked = match &mut self.picks {
+            Picks::Searched(search) => {
+                let mut search = held(search);
+                if from != ready {
+                    search.leave_out();
+                }
+                let does = |at: usize| self.seats.get(at).map_or(Does::Nothing, |seat| seat.does);
+                Some((search.pick(&from, does, self.last, is_tired), false))
+            }
             Picks::Drawn(draws) => draws.pick(&from, self.last).map(|thread| (thread, false)),
             Picks::By(picker) => picker.pick(&from[..seats], self.last).map(|picked| (picked.thread, picked.is_forced)),
         };
@@ -286,6 +333,17 @@ impl State {
         self.seats[picked].at = At::Moves;
         self.last = Some(picked);
     }
+}
+
+fn picks_of(schedule: &Schedule) -> Result<Picks, Error> {
+    schedule.take();
+    Ok(match schedule.search() {
+        Some(search) => {
+            held(search).begin_heap();
+            Picks::Searched(Arc::clone(search))
+        }
+        None => Picks::By(schedule.picker()?),
+    })
 }
 
 impl Turns {
@@ -313,22 +371,29 @@ impl Turns {
 
     /// Those of a program, whose threads come and go, and which takes at most so many steps. Somebody has to `look`.
     pub(crate) fn of_program(schedule: &Schedule, most: u64, patience: Duration) -> Result<Turns, Error> {
-        let picker = schedule.picker()?;
-        let is_drawn = !schedule.is_given() && !schedule.is_by_ranks();
-        let picks = if is_drawn { Picks::Drawn(Draws::new(schedule.seed())) } else { Picks::By(picker) };
+        let is_drawn = !schedule.is_given() && !schedule.is_by_ranks() && schedule.search().is_none();
+        let picks = picks_of(schedule)?;
+        let picks = if is_drawn { Picks::Drawn(Draws::new(schedule.seed())) } else { picks };
         let seats = (0..SEATS).map(|_| Seat::new(At::Empty)).collect();
         Ok(Turns::new(schedule, picks, seats, most, patience))
     }
 
     /// Those of so many sessions. Their picks are the library's, which are the same for a C program.
     pub(crate) fn of_sessions(schedule: &Schedule, threads: usize, patience: Duration) -> Result<Turns, Error> {
-        let picks = Picks::By(schedule.picker()?);
+        let picks = picks_of(schedule)?;
         let seats = (0..threads).map(|_| Seat::new(At::Expected)).collect();
         Ok(Turns { is_unwatched: true, ..Turns::new(schedule, picks, seats, u64::MAX, patience) })
     }
 
     pub(crate) fn schedule(&self) -> &Schedule {
         &self.schedule
+    }
+
+    /// Of a search: what its runs do follows from more than their picks.
+    pub(crate) fn unsure(&self) {
+        if let Some(search) = self.schedule.search() {
+            held(search).unsure();
+        }
     }
 
     /// A thread sits down, and is to be picked; or, of the program's own thread, it is picked at once.
@@ -426,7 +491,7 @@ impl Turns {
         if self.next(state, seat)? { Ok(()) } else { self.until_picked(seat) }
     }
 
-    // The state, once it is noted where the thread stands, and what it does there.
+    // The state, once it is noted how the thread stands, and where.
     fn state_at(&self, seat: usize, place: Option<Caller>, at: At) -> MutexGuard<'_, State> {
         let mut state = held(&self.state);
         let its = &mut state.seats[seat];
@@ -435,9 +500,11 @@ impl Turns {
         state
     }
 
-    /// Waits until this thread is picked.
-    pub(crate) fn pass(&self, seat: usize, place: Option<Caller>) -> Result<(), Stuck> {
-        self.give_way(self.state_at(seat, place, At::Ready), seat)
+    /// Waits until this thread is picked, which then does this.
+    pub(crate) fn pass(&self, seat: usize, place: Option<Caller>, does: Does) -> Result<(), Stuck> {
+        let mut state = self.state_at(seat, place, At::Ready);
+        state.seats[seat].does = does;
+        self.give_way(state, seat)
     }
 
     /// Lets the others go first, as the seed has it. False where it is no point of preemption.
@@ -448,7 +515,7 @@ impl Turns {
         }
         state.seats[seat].has_yielded = state.yields != Yields::Nothing && !self.schedule.is_given();
         drop(state);
-        self.pass(seat, Some(place)).map(|()| true)
+        self.pass(seat, Some(place), Does::Nothing).map(|()| true)
     }
 
     /// Stands in the queue of this key from now on.
@@ -460,8 +527,9 @@ impl Turns {
         state.seats[seat].is_rung = false;
     }
 
-    /// Waits until the key is rung, or, where it is timed, until this thread is picked all the same.
-    pub(crate) fn block(&self, seat: usize, key: usize, wake: Wake, is_timed: bool) -> Result<Came, Stuck> {
+    /// Waits until the key is rung, or, where it is timed, until this thread is picked all the same. What it does then is one step
+    /// with that.
+    pub(crate) fn block(&self, seat: usize, key: usize, wake: Wake, is_timed: bool, then: Does) -> Result<Came, Stuck> {
         let mut state = held(&self.state);
         let its = &mut state.seats[seat];
         if its.is_rung {
@@ -470,6 +538,7 @@ impl Turns {
             return Ok(Came { is_rung: true, was_picked: false });
         }
         its.at = if is_timed { At::Timed { key } } else { At::Waits { key } };
+        its.does = if is_timed { Does::Writes(key) } else { then };
         its.place = Some(wake.place);
         its.wake = Some(wake);
         self.give_way(state, seat)?;
@@ -494,6 +563,7 @@ impl Turns {
 
     /// The thread does what the schedule knows nothing of. It comes back by `pass`.
     pub(crate) fn leave(&self, seat: usize, place: Option<Caller>) -> Result<(), Stuck> {
+        self.unsure();
         self.next(self.state_at(seat, place, At::Elsewhere), seat).map(|_| ())
     }
 

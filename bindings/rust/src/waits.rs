@@ -2,7 +2,7 @@
 //! none of them: its accesses wait.
 use crate::bells::Bells;
 use crate::program::held;
-use crate::turns::{Caller, Holder, Stuck, Turns, Wake};
+use crate::turns::{Caller, Does, Holder, Stuck, Turns, Wake};
 use std::sync::Mutex;
 use std::sync::atomic::{AtomicU64, Ordering};
 use std::time::{Duration, Instant};
@@ -66,7 +66,8 @@ impl Lock {
             }
             Waits::Turns(turns) => {
                 while let Err(holder) = self.try_take(thread, at) {
-                    turns.block(thread, key, Wake { what: "", place: at, holder: Some(holder) }, false)?;
+                    let wake = Wake { what: "", place: at, holder: Some(holder) };
+                    turns.block(thread, key, wake, false, Does::Writes(key))?;
                 }
                 Ok(())
             }
@@ -108,8 +109,8 @@ impl Condition {
         }
     }
 
-    /// Waits until this place is woken.
-    pub(crate) fn wait(&self, waits: Waits<'_>, place: u64, thread: usize, at: Caller) -> Result<(), Missed> {
+    /// Waits until this place is woken, to take the lock then.
+    pub(crate) fn wait(&self, waits: Waits<'_>, place: u64, lock: &Lock, thread: usize, at: Caller) -> Result<(), Missed> {
         let key = key_of(self.object);
         match waits {
             Waits::Free(bells, patience) => {
@@ -117,7 +118,8 @@ impl Condition {
                 if is_woken { Ok(()) } else { Err(Missed::Late) }
             }
             Waits::Turns(turns) => {
-                turns.block(thread, key, Wake { what: "", place: at, holder: None }, false)?;
+                let wake = Wake { what: "", place: at, holder: None };
+                turns.block(thread, key, wake, false, Does::Writes(key_of(lock.object)))?;
                 Ok(())
             }
         }

@@ -6,7 +6,7 @@ use super::world::{Deal, Done, Part, Way, Whims, World};
 use super::held;
 use crate::raw::{self, Access, Change};
 use crate::turns::draws::mixed;
-use crate::turns::{Stuck, Wake};
+use crate::turns::{Does, Stuck, Wake};
 use crate::{Error, Place, thread};
 use std::cell::{Cell, RefCell};
 use std::ptr::null;
@@ -29,6 +29,8 @@ pub(crate) struct Ctx {
     has_heap: bool,
     /// By turns: it was picked, and has not yet made an access since.
     pub(crate) has_turn: Cell<bool>,
+    // By turns: where it starts, or goes on after a wait or a yield, its next access is another step.
+    is_fine: bool,
     part: RefCell<Part>,
     // The numbers of objects that it has dropped.
     free: RefCell<Vec<u32>>,
@@ -86,6 +88,7 @@ pub(crate) fn is_in_run() -> bool {
 /// Makes this operating-system thread the one of the part.
 pub(crate) fn enter(world: &Arc<World>, seat: usize, part: Part, done: &Arc<Done>, thread: thread::Thread) {
     LEAVING.with(|_| ());
+    let is_fine = world.way == Way::Turns && world.turns().schedule().is_fine();
     let ctx = Box::new(Ctx {
         world: Arc::clone(world),
         epoch: world.epoch,
@@ -93,7 +96,8 @@ pub(crate) fn enter(world: &Arc<World>, seat: usize, part: Part, done: &Arc<Done
         seat,
         way: world.way,
         has_heap: world.has_heap,
-        has_turn: Cell::new(true),
+        has_turn: Cell::new(!is_fine),
+        is_fine,
         part: RefCell::new(part),
         free: RefCell::default(),
         exchanges: Cell::new(0),
@@ -421,7 +425,8 @@ impl Ctx {
     }
 
     fn access_in_turn<R: Real>(&self, slot: &Slot, real: &R, access: Access, kind: Kind, caller: Caller) -> u64 {
-        self.pass(caller);
+        let key = std::ptr::from_ref(slot) as usize;
+        self.pass(caller, if matches!(access, Access::Read) { Does::Reads(key) } else { Does::Writes(key) });
         let number = self.number(slot, real, caller);
         let found = if self.has_heap { self.make_of::<R>(number as u16, access, caller) } else { self.memory().make(number, access) };
         let is_changed = match access {
@@ -432,8 +437,8 @@ impl Ctx {
         found
     }
 
-    /// By turns: waits until this thread is picked.
-    pub(crate) fn pass(&self, caller: Caller) {
+    /// By turns: waits until this thread is picked, which then does this.
+    pub(crate) fn pass(&self, caller: Caller, does: Does) {
         if self.way != Way::Turns || self.has_turn.replace(false) {
             return;
         }
@@ -441,21 +446,21 @@ impl Ctx {
         if std::thread::panicking() {
             self.panic_begun();
         }
-        self.picked(self.world.turns().pass(self.seat, self.place.get()));
+        self.picked(self.world.turns().pass(self.seat, self.place.get(), does));
     }
 
     /// By turns: lets the others go first, as the seed has it.
     pub(crate) fn yield_in_turn(&self, caller: Caller) {
         if self.picked(self.world.turns().yield_now(self.seat, caller)) {
             self.place.set(Some(caller));
-            self.has_turn.set(true);
+            self.has_turn.set(!self.is_fine);
         }
     }
 
     /// By turns: waits until the key is rung. Whether it was, and the time was not over before.
     pub(crate) fn block(&self, key: usize, wake: Wake, is_timed: bool) -> bool {
-        let came = self.picked(self.world.turns().block(self.seat, key, wake, is_timed));
-        self.has_turn.set(came.was_picked);
+        let came = self.picked(self.world.turns().block(self.seat, key, wake, is_timed, Does::Nothing));
+        self.has_turn.set(came.was_picked && !self.is_fine);
         came.is_rung
     }
 
@@ -466,9 +471,9 @@ impl Ctx {
         begun
     }
 
-    /// By turns: waits until this thread is picked, and what follows is one step with it.
-    pub(crate) fn pass_and_keep(&self, caller: Caller) {
-        self.pass(caller);
+    /// By turns: waits until this thread is picked, and what follows is one step with it, which does this.
+    pub(crate) fn pass_and_keep(&self, caller: Caller, does: Does) {
+        self.pass(caller, does);
         self.has_turn.set(true);
     }
 

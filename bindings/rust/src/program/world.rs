@@ -274,11 +274,23 @@ impl World {
         (self.numbers.load(Ordering::Relaxed), self.seats_used.load(Ordering::Relaxed))
     }
 
+    // The first one that is free. Of a search one that was never taken, since else who starts first would matter.
+    fn free_seat(&self, seats: &[Seat]) -> Option<usize> {
+        if let Some(turns) = self.turns.as_ref().filter(|turns| turns.schedule().is_fine()) {
+            let used = self.seats_used.load(Ordering::Relaxed);
+            if used < seats.len() {
+                return Some(used);
+            }
+            turns.unsure();
+        }
+        seats.iter().position(|seat| !seat.is_taken)
+    }
+
     /// A seat for a new thread: a free one, or, again, the one of the note.
     pub(crate) fn take_seat(&self, noted: Option<u32>) -> Option<usize> {
         let mut seats = held(&self.seats);
         let at = match noted {
-            None => seats.iter().position(|seat| !seat.is_taken)?,
+            None => self.free_seat(&seats)?,
             Some(at) => {
                 let since = Instant::now();
                 while seats.get(at as usize)?.is_taken {

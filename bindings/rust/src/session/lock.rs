@@ -2,6 +2,8 @@
 use super::{Caller, Session};
 use crate::Error;
 use crate::raw::{Access, Change};
+use crate::turns::Does;
+use crate::waits::key_of;
 use std::panic::Location;
 
 const READ: Access = Access::Read;
@@ -39,7 +41,7 @@ impl Session {
         if self.held.contains(&lock) {
             return Err(Error::Held { name: self.shared.locks[lock].name.clone() });
         }
-        self.take_turn_if_any(caller)?;
+        self.take_turn_if_any(caller, Does::Writes(self.key_of_lock(lock)))?;
         self.wait_stopped(|shared, thread| {
             let taken = shared.waits().map_or(Ok(()), |waits| shared.locks[lock].take(waits, thread, caller));
             taken.map_err(|missed| shared.missed(thread, missed))
@@ -49,8 +51,12 @@ impl Session {
     }
 
     // Waits for a turn, where threads take turns.
-    fn take_turn_if_any(&mut self, caller: Caller) -> Result<(), Error> {
-        if self.at_once == self.heap { Ok(()) } else { self.take_turn(Some(caller)) }
+    fn take_turn_if_any(&mut self, caller: Caller, does: Does) -> Result<(), Error> {
+        if self.at_once == self.heap { Ok(()) } else { self.take_turn(Some(caller), does) }
+    }
+
+    fn key_of_lock(&self, lock: usize) -> usize {
+        key_of(self.shared.locks[lock].object)
     }
 
     // Tells that the thread frees the lock, which it has still.
@@ -106,7 +112,8 @@ impl Session {
         let done = work(holding.0);
         // A wait that failed has freed it.
         if holding.0.held.contains(&lock) {
-            let noted = holding.0.take_turn_if_any(caller).and_then(|()| holding.0.note_freed(lock, caller));
+            let frees = Does::Writes(holding.0.key_of_lock(lock));
+            let noted = holding.0.take_turn_if_any(caller, frees).and_then(|()| holding.0.note_freed(lock, caller));
             return done.and_then(|done| noted.map(|()| done).map_err(E::from));
         }
         done
@@ -147,8 +154,9 @@ impl Session {
             return Err(Error::NotHeld { name: condition.to_string() });
         };
         // That it waits, and that it frees the lock, is one step of a schedule.
-        self.take_turn_if_any(caller)?;
-        self.make_noted(self.shared.conditions[at].object, update(Change::Add, 1, 0), caller)?;
+        let condition = self.shared.conditions[at].object;
+        self.take_turn_if_any(caller, Does::WritesBoth(key_of(condition), self.key_of_lock(lock)))?;
+        self.make_noted(condition, update(Change::Add, 1, 0), caller)?;
         let place = self.shared.waits().map_or(0, |waits| self.shared.conditions[at].come(waits, self.number));
         self.note_freed(lock, caller)?;
         let waited = self.wait_stopped(|shared, thread| {
@@ -156,7 +164,7 @@ impl Session {
                 return Ok(());
             };
             shared.locks[lock].free(waits);
-            let woken = shared.conditions[at].wait(waits, place, thread, caller);
+            let woken = shared.conditions[at].wait(waits, place, &shared.locks[lock], thread, caller);
             let taken = woken.and_then(|()| shared.locks[lock].take(waits, thread, caller));
             taken.map_err(|missed| shared.missed(thread, missed))
         });
@@ -235,8 +243,9 @@ impl Session {
     ) -> Result<(), Error> {
         let caller = self.caller.unwrap_or(caller);
         let at = self.shared.condition(condition)?;
-        self.take_turn_if_any(caller)?;
-        let count = counted(self, self.shared.conditions[at].object, caller)?;
+        let object = self.shared.conditions[at].object;
+        self.take_turn_if_any(caller, Does::Writes(key_of(object)))?;
+        let count = counted(self, object, caller)?;
         if let Some(waits) = self.shared.waits() {
             self.shared.conditions[at].wake(waits, count);
         }

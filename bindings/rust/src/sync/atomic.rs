@@ -12,6 +12,7 @@ use crate::program::ctx::{Ctx, with};
 use crate::program::slot::{Caller, Holds, Object, Real, Refused};
 use crate::program::{Kind, world::Way};
 use crate::raw::{Access, Change};
+use crate::turns::Does;
 use std::fmt;
 use std::panic::Location;
 use std::sync::atomic as real;
@@ -69,6 +70,7 @@ fn judge_store(order: Ordering) {
 // A read and an exchange, again until nothing comes between. By turns nothing does.
 fn by_exchange<R: Real>(object: &Object<R>, ctx: &Ctx, order: Ordering, caller: Caller, new: impl Fn(u64) -> u64) -> u64 {
     loop {
+        ctx.pass_and_keep(caller, Does::Writes(object.key()));
         let found = object.access(ctx, Access::Read, Kind::Load(Ordering::Relaxed), caller);
         ctx.has_turn.set(true);
         let exchange = Access::Update { change: Change::CompareExchange, operand: new(found), expected: found };

@@ -111,9 +111,14 @@ impl<T: ?Sized> Mutex<T> {
         Ok(())
     }
 
+    /// By this key threads wait for it.
+    pub(super) fn key(&self) -> usize {
+        self.object.key()
+    }
+
     /// By a thread of a run: waits until it is taken.
     pub(super) fn take(&self, ctx: &Ctx, caller: Caller) {
-        let key = self.object.key();
+        let key = self.key();
         loop {
             let ticket = ctx.ticket(key);
             match self.try_take(ctx, caller) {
@@ -129,7 +134,7 @@ impl<T: ?Sized> Mutex<T> {
     /// By a thread of a run that holds it.
     pub(super) fn free(&self, ctx: &Ctx, caller: Caller) {
         self.object.store(ctx, 0, caller);
-        ctx.wake(self.object.key(), true);
+        ctx.wake(self.key(), true);
     }
 
     fn guard<'a>(&'a self, outside: Option<sync::MutexGuard<'a, ()>>) -> MutexGuard<'a, T> {
