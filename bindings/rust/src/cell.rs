@@ -1,4 +1,5 @@
 //! As `std::cell`, with an `UnsafeCell` whose accesses may be told.
+#![allow(clippy::cast_possible_truncation, reason = "a word has two numbers of 32 bits")]
 use crate::Error;
 use crate::program::ctx::{Ctx, with};
 use crate::program::slot::Caller;

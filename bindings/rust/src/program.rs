@@ -239,8 +239,13 @@ impl Program {
     fn kept_heap(&self, told: &Mutex<Told>) -> Result<(Sizes, Vec<Handle>), Error> {
         let (objects, threads) = held(told).sizes;
         let sizes = Sizes { objects: objects.max(1), threads: threads.max(1), ..self.sizes };
-        let objects: String = (0..sizes.objects).map(|number| format!("object o{number} 0\n")).collect();
-        let text = format!("fuel {}\n{objects}{}", 262_144 / sizes.threads, "thread\n".repeat(sizes.threads));
+        let mut text = format!("fuel {}\n", 262_144 / sizes.threads);
+        for number in 0..sizes.objects {
+            text += "object o";
+            text += &number.to_string();
+            text += " 0\n";
+        }
+        text += &"thread\n".repeat(sizes.threads);
         let (handles, status) = raw::open(text.as_bytes(), sizes.threads);
         checked(status, 0)?;
         Ok((sizes, handles))

@@ -351,7 +351,7 @@ impl Builder {
         };
         let start = Start::new(&world, seat, self.name.is_some());
         let (done, park, has_name) = start.told();
-        let builder = self.std(|| start.name());
+        let builder = self.std(|| Some(start.name()));
         held(&world.scopes).entry(scope.key()).or_default().push(Arc::clone(&done));
         let spawned = builder.spawn_scoped(scope.std(), move || start.run(work));
         let std = spawned.inspect_err(|_| {

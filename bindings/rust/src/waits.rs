@@ -47,13 +47,11 @@ impl Lock {
     // Takes it, or answers who holds it.
     fn try_take(&self, thread: usize, at: Caller) -> Result<(), Holder> {
         let mut holder = held(&self.holder);
-        match *holder {
-            Some(other) => Err(other),
-            None => {
-                *holder = Some(Holder { seat: thread, at: Some(at) });
-                Ok(())
-            }
+        if let Some(other) = *holder {
+            return Err(other);
         }
+        *holder = Some(Holder { seat: thread, at: Some(at) });
+        Ok(())
     }
 
     /// Waits until it is this thread's.

@@ -32,11 +32,10 @@ impl Kind {
     // The order of its load and that of its store, where it has one.
     fn orders(self, is_changed: bool) -> (Option<Ordering>, Option<Ordering>) {
         match self {
-            Kind::Load(order) => (Some(order), None),
             Kind::Store(order) => (None, Some(order)),
             Kind::Update(order) => (Some(order), Some(order)),
             Kind::Exchange(order, _) if is_changed => (Some(order), Some(order)),
-            Kind::Exchange(_, order) => (Some(order), None),
+            Kind::Load(order) | Kind::Exchange(_, order) => (Some(order), None),
         }
     }
 }
@@ -280,8 +279,9 @@ impl Memory {
     }
 
     pub(crate) fn new_cell(&mut self) -> u32 {
+        let number = u32::try_from(self.touches.len()).expect("memory has no room for so many cells");
         self.touches.push(Touches::default());
-        self.touches.len() as u32 - 1
+        number
     }
 
     /// A plain read or write of a cell: the race with an earlier one that it conflicts with, if nothing orders them.

@@ -1,4 +1,5 @@
 //! One thread of a run: how it makes its accesses, notes what it gets from elsewhere, and waits.
+#![allow(clippy::cast_possible_truncation, reason = "the number of an object has 16 bits, and a note is one half of 64")]
 use super::clocks::{Kind, Memory};
 use super::pointers::{coded, is_address, untagged};
 use super::slot::{Caller, Holds, Real, Slot};

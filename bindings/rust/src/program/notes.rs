@@ -27,7 +27,7 @@ fn bytes_of(notes: &Notes) -> Vec<u8> {
     let mut bytes = BEGIN.to_vec();
     bytes.push(u8::from(notes.whims != Whims::None));
     for thread in &notes.threads {
-        bytes.extend_from_slice(&(thread.len() as u32).to_le_bytes());
+        bytes.extend_from_slice(&u32::try_from(thread.len()).unwrap_or(u32::MAX).to_le_bytes());
         bytes.extend(thread.iter().flat_map(|note| note.to_le_bytes()));
     }
     bytes

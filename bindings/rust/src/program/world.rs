@@ -100,6 +100,7 @@ struct Ending {
     is_left: bool,
 }
 
+#[allow(clippy::struct_excessive_bools, reason = "each says one thing of how the run is made")]
 pub(crate) struct World {
     pub(crate) epoch: u32,
     pub(crate) way: Way,

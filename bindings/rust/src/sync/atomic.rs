@@ -8,6 +8,7 @@
 //! static COUNT: AtomicUsize = AtomicUsize::new(0);
 //! assert_eq!(COUNT.fetch_add(1, Ordering::Relaxed), 0);
 //! ```
+#![allow(clippy::cast_lossless, clippy::cast_possible_truncation, clippy::cast_possible_wrap, clippy::cast_sign_loss, reason = "each type is kept in 64 bits, and comes back as it was")]
 use crate::program::ctx::{Ctx, with};
 use crate::program::slot::{Caller, Holds, Object, Real, Refused};
 use crate::program::{Kind, world::Way};

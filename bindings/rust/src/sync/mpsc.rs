@@ -27,6 +27,11 @@ struct Channel<T> {
     room: Option<usize>,
 }
 
+#[track_caller]
+fn waited<'a, T>(condition: &Condvar, state: MutexGuard<'a, State<T>>) -> MutexGuard<'a, State<T>> {
+    condition.wait(state).unwrap_or_else(PoisonError::into_inner)
+}
+
 impl<T> Channel<T> {
     fn new(room: Option<usize>) -> Arc<Channel<T>> {
         let state =
@@ -37,11 +42,6 @@ impl<T> Channel<T> {
     #[track_caller]
     fn state(&self) -> MutexGuard<'_, State<T>> {
         self.state.lock().unwrap_or_else(PoisonError::into_inner)
-    }
-
-    #[track_caller]
-    fn waited<'a>(&self, condition: &Condvar, state: MutexGuard<'a, State<T>>) -> MutexGuard<'a, State<T>> {
-        condition.wait(state).unwrap_or_else(PoisonError::into_inner)
     }
 
     // Whether a value is let in now. One of no room takes it where the receiver waits, or the sender will.
@@ -60,7 +60,7 @@ impl<T> Channel<T> {
             if !waits {
                 return Err(TrySendError::Full(value));
             }
-            state = self.waited(&self.emptied, state);
+            state = waited(&self.emptied, state);
         }
         if !state.has_receiver {
             return Err(TrySendError::Disconnected(value));
@@ -74,7 +74,7 @@ impl<T> Channel<T> {
         }
         // Of no room: it is sent once it was taken.
         while state.taken <= mine && state.has_receiver {
-            state = self.waited(&self.emptied, state);
+            state = waited(&self.emptied, state);
         }
         let own = state.queue.iter().position(|(number, _)| *number == mine);
         match own.and_then(|at| state.queue.remove(at)) {

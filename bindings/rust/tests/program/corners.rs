@@ -186,7 +186,7 @@ fn numbers_that_look_like_addresses_are_numbers() {
     let sums = || {
         let (wide, sum) = (AtomicU64::new(1 << 41), AtomicUsize::new((1 << 46) + 8));
         wide.fetch_add(8, SeqCst);
-        sum.fetch_add(wide.load(SeqCst) as usize, SeqCst);
+        sum.fetch_add(usize::try_from(wide.load(SeqCst)).unwrap(), SeqCst);
         sum.fetch_max(1 << 44, SeqCst);
         (wide.load(SeqCst), sum.load(SeqCst))
     };

@@ -46,9 +46,9 @@ fn a_cell_behind_locks_joins_and_starts() {
         let threads = [1, 2].map(|more| {
             let shared = Arc::clone(&shared);
             thread::spawn(move || {
-                let _lock = shared.0.lock().unwrap();
+                let lock = shared.0.lock().unwrap();
                 shared.2.add(more);
-                drop(_lock);
+                drop(lock);
                 let _read = shared.1.read().unwrap();
                 shared.3.get()
             })
