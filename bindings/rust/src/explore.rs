@@ -211,7 +211,15 @@ impl<E> Failure<E> {
     }
 
     fn unscheduled(seed: u64) -> Failure<E> {
-        Failure { seed, cause: Cause::Unscheduled, thread: None, place: None, picks: Vec::new(), is_fine: false, recording: None }
+        Failure {
+            seed,
+            cause: Cause::Unscheduled,
+            thread: None,
+            place: None,
+            picks: Vec::new(),
+            is_fine: false,
+            recording: None,
+        }
     }
 
     pub(crate) fn picks(&self) -> &[Pick] {

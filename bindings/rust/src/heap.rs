@@ -1,6 +1,6 @@
 //! A heap, and how its threads are run.
-use crate::error::checked;
 use crate::bells::Bells;
+use crate::error::checked;
 use crate::given_up::AllGivenUp;
 use crate::long::{LongBuilder, Way};
 use crate::run::Run;

@@ -35,12 +35,13 @@
 //! A run is repeated as far as its accesses decide what its threads do. Clocks, files and other locks are not recorded.
 //!
 //! All accesses of a [`Session`] are sequentially consistent. So a mistake that only a weaker order of memory shows, as a missing
-//! `Acquire` or `Release`, is not found there: `loom` and `ThreadSanitizer` look for those.
+//! `Acquire` or `Release`, is not found there. `loom` and `ThreadSanitizer` look for those, and [`program`] finds the data races that
+//! they leave.
 #![deny(missing_docs, unsafe_code)]
 
+mod bells;
 #[allow(unsafe_code)]
 pub mod cell;
-mod bells;
 mod checks;
 mod error;
 mod explore;

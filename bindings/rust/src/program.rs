@@ -14,8 +14,8 @@ mod pointers;
 pub(crate) mod slot;
 pub(crate) mod world;
 
-pub use clocks::{Race, Touch};
 pub(crate) use clocks::Kind;
+pub use clocks::{Race, Touch};
 pub use found::Found;
 
 use crate::error::checked;

@@ -34,7 +34,7 @@ pub(crate) struct Kept {
 
 /// By it the threads of a heap take turns: before each access, each call that takes or frees a lock, waits, notifies, or ends the
 /// thread, a thread waits until it is picked. The same seed gives the same run again, as far as the threads wait for each other by
-/// the heap alone. It prints as a text that `parse` reads.
+/// the heap alone. It prints as a text that `parse` reads, but for one of `explore_all`, which is no schedule without those before.
 ///
 /// ```
 /// use octet::{Error, Heap, Run, Schedule};

@@ -382,7 +382,9 @@ impl Session {
             Order::Turns(turns) => {
                 let left = turns.leave(number, at);
                 let done = work();
-                left.and_then(|()| turns.pass(number, at, Does::Nothing)).map_err(|stuck| shared.stuck(number, stuck)).map(|()| done)
+                left.and_then(|()| turns.pass(number, at, Does::Nothing))
+                    .map_err(|stuck| shared.stuck(number, stuck))
+                    .map(|()| done)
             }
             Order::Free(_) | Order::Again => Ok(work()),
         })?;

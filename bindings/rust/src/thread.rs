@@ -339,7 +339,11 @@ impl Builder {
     ///
     /// # Errors
     /// As `spawn`.
-    pub fn spawn_scoped<'scope, F, T>(self, scope: &'scope Scope<'scope, '_>, work: F) -> io::Result<ScopedJoinHandle<'scope, T>>
+    pub fn spawn_scoped<'scope, F, T>(
+        self,
+        scope: &'scope Scope<'scope, '_>,
+        work: F,
+    ) -> io::Result<ScopedJoinHandle<'scope, T>>
     where
         F: FnOnce() -> T + Send + 'scope,
         T: Send + 'scope,

@@ -84,9 +84,17 @@ pub(crate) struct Waiter {
 pub(crate) enum Stuck {
     Deadlock(Vec<Waiter>),
     /// The run has taken so many steps, and this thread moves.
-    TooLong { most: u64, thread: usize, at: Option<Caller> },
+    TooLong {
+        most: u64,
+        thread: usize,
+        at: Option<Caller>,
+    },
     /// This thread is waited for, and does not come.
-    Absent { thread: usize, at: Option<Caller>, why: Absence },
+    Absent {
+        thread: usize,
+        at: Option<Caller>,
+        why: Absence,
+    },
     /// The run was ended for another reason.
     Stopped,
 }
@@ -450,7 +458,8 @@ impl Turns {
             return Ok(());
         }
         *held(&go.thread) = Some(thread::current());
-        let mut watching = self.is_unwatched.then(Watching::new);
+        let since = || Watching { steps: held(&self.state).steps, since: Instant::now() };
+        let mut watching = self.is_unwatched.then(since);
         while !go.is_picked.swap(false, Ordering::AcqRel) {
             if self.is_stopped.load(Ordering::SeqCst) {
                 return Err(self.why());

@@ -139,6 +139,9 @@ impl Condition {
 impl Bells {
     // Whether it was done in time: at once, or once the key was rung.
     fn until(&self, key: usize, patience: Duration, mut is_done: impl FnMut() -> bool) -> bool {
+        if is_done() {
+            return true;
+        }
         let since = Instant::now();
         loop {
             let ticket = self.ticket(key);

@@ -387,9 +387,12 @@ mod tests {
 
     #[test]
     fn fences_release_and_acquire_by_relaxed_accesses() {
-        for (before, after, is_ordered) in
-            [(Some(Release), Some(Acquire), true), (Some(SeqCst), Some(SeqCst), true), (None, Some(Acquire), false), (Some(Release), None, false)]
-        {
+        for (before, after, is_ordered) in [
+            (Some(Release), Some(Acquire), true),
+            (Some(SeqCst), Some(SeqCst), true),
+            (None, Some(Acquire), false),
+            (Some(Release), None, false),
+        ] {
             let mut memory = Memory::default();
             (1..3).for_each(|seat| memory.start(0, seat));
             memory.begin(0, 0);

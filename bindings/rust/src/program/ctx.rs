@@ -1,10 +1,10 @@
 //! One thread of a run: how it makes its accesses, notes what it gets from elsewhere, and waits.
 #![allow(clippy::cast_possible_truncation, reason = "the number of an object has 16 bits, and a note is one half of 64")]
 use super::clocks::{Kind, Memory};
+use super::held;
 use super::pointers::{coded, is_address, untagged};
 use super::slot::{Caller, Holds, Real, Slot};
 use super::world::{Deal, Done, Part, Way, Whims, World};
-use super::held;
 use crate::raw::{self, Access, Change};
 use crate::turns::draws::mixed;
 use crate::turns::{Does, Stuck, Wake};
@@ -281,7 +281,10 @@ impl Ctx {
     }
 
     fn settle<R: Real>(&self, slot: &Slot, real: &R, caller: Caller) {
-        let refused = slot.settle(real, Some(self.epoch)).err().map(|why| format!("{why}, and this is another one: one object is in one run at a time"));
+        let refused = slot
+            .settle(real, Some(self.epoch))
+            .err()
+            .map(|why| format!("{why}, and this is another one: one object is in one run at a time"));
         let refused = refused.or_else(|| real.spoilt().map(str::to_string));
         if let Some(why) = refused {
             self.refuse_use(caller, &why);
@@ -372,7 +375,11 @@ impl Ctx {
     fn polled(&self, part: &mut Part, mut status: i32, out: &mut u64) -> i32 {
         let (mut round, mut since) = (0_u32, None);
         while status == raw::PENDING {
-            if round < 100 { hint::spin_loop() } else { std::thread::yield_now() }
+            if round < 100 {
+                hint::spin_loop();
+            } else {
+                std::thread::yield_now();
+            }
             round = round.wrapping_add(1);
             if round % 256 == 0 {
                 let has_waited = since.get_or_insert_with(Instant::now).elapsed();
@@ -411,7 +418,11 @@ impl Ctx {
 
     #[inline(always)]
     fn make_of<R: Real>(&self, number: u16, access: Access, caller: Caller) -> u64 {
-        if self.holds_addresses::<R>() { self.make_of_pointers(number, access, caller) } else { self.make(number, access, caller) }
+        if self.holds_addresses::<R>() {
+            self.make_of_pointers(number, access, caller)
+        } else {
+            self.make(number, access, caller)
+        }
     }
 
     fn make_of_pointers(&self, number: u16, access: Access, caller: Caller) -> u64 {
@@ -429,7 +440,8 @@ impl Ctx {
         let key = std::ptr::from_ref(slot) as usize;
         self.pass(caller, if matches!(access, Access::Read) { Does::Reads(key) } else { Does::Writes(key) });
         let number = self.number(slot, real, caller);
-        let found = if self.has_heap { self.make_of::<R>(number as u16, access, caller) } else { self.memory().make(number, access) };
+        let found =
+            if self.has_heap { self.make_of::<R>(number as u16, access, caller) } else { self.memory().make(number, access) };
         let is_changed = match access {
             Access::Update { change: Change::CompareExchange, expected, .. } => found == expected,
             _ => true,
@@ -557,7 +569,8 @@ impl Ctx {
             return self.settle(slot, real, caller);
         }
         let number = self.number(slot, real, caller);
-        let value = if self.has_heap { self.make_of::<R>(number as u16, Access::Read, caller) } else { self.memory().value(number) };
+        let value =
+            if self.has_heap { self.make_of::<R>(number as u16, Access::Read, caller) } else { self.memory().value(number) };
         real.end(value);
         slot.leave();
     }

@@ -3,8 +3,8 @@
 //! It begins with `OCTN`, a byte of version and a byte that says whether exchanges fail for nothing. Then comes each thread: how
 //! many notes it has, and the notes, as little-endian numbers of four bytes.
 use super::world::Whims;
-use crate::turns::SEATS;
 use crate::Error;
+use crate::turns::SEATS;
 use std::fs;
 use std::path::{Path, PathBuf};
 
@@ -45,7 +45,8 @@ fn parsed(bytes: &[u8]) -> Result<Notes, usize> {
     while !rest.is_empty() {
         let place = bytes.len() - rest.len();
         let (count, notes) = rest.split_first_chunk::<4>().ok_or(place)?;
-        let length = (u32::from_le_bytes(*count) as usize).checked_mul(4).filter(|length| *length <= notes.len()).ok_or(place)?;
+        let length =
+            (u32::from_le_bytes(*count) as usize).checked_mul(4).filter(|length| *length <= notes.len()).ok_or(place)?;
         if threads.len() == SEATS {
             return Err(place);
         }

@@ -14,8 +14,8 @@ use super::held;
 use super::pointers::Pointers;
 use super::slot::{self, Caller};
 use crate::bells::Bells;
-use crate::raw::Handle;
 use crate::error::Wait;
+use crate::raw::Handle;
 use crate::turns::{SEATS, Stuck, Turns, Waiter, Watching};
 use crate::{Absence, Error, Place};
 use std::collections::HashMap;
@@ -41,7 +41,9 @@ pub(crate) enum Way {
 pub(crate) enum Whims {
     None,
     /// As this seed draws.
-    Drawn { seed: u64 },
+    Drawn {
+        seed: u64,
+    },
     /// As the notes say.
     Noted,
 }
@@ -194,7 +196,8 @@ fn error_of(stuck: Stuck) -> Option<Error> {
         Stuck::Deadlock(waiters) => Error::Deadlock { waits: waiters.into_iter().map(wait_of).collect() },
         Stuck::TooLong { most, thread, at } => {
             let at = at.map_or(String::new(), |at| format!(", at {}", Place::from(at)));
-            let what = format!("the run has not ended after {most} steps; thread {thread} moves{at}: Program::steps allows more");
+            let what =
+                format!("the run has not ended after {most} steps; thread {thread} moves{at}: Program::steps allows more");
             Error::Refused { what }
         }
         // Of a program all threads are there, and none says that it waits elsewhere.
@@ -437,7 +440,10 @@ impl World {
             why: ending.why.take(),
             panic: if main_panicked { ending.first_panic.take().map(|(_, message)| message) } else { unjoined },
             notes: parts.iter_mut().map(|part| std::mem::take(&mut part.notes)).collect(),
-            places: parts.iter_mut().map(|part| std::mem::take(&mut part.places).into_iter().map(Place::from).collect()).collect(),
+            places: parts
+                .iter_mut()
+                .map(|part| std::mem::take(&mut part.places).into_iter().map(Place::from).collect())
+                .collect(),
             handles: is_whole.then(|| parts.into_iter().map(|part| part.handle).collect()),
         }
     }

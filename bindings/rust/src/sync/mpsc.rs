@@ -34,8 +34,7 @@ fn waited<'a, T>(condition: &Condvar, state: MutexGuard<'a, State<T>>) -> MutexG
 
 impl<T> Channel<T> {
     fn new(room: Option<usize>) -> Arc<Channel<T>> {
-        let state =
-            State { queue: VecDeque::new(), sent: 0, taken: 0, senders: 1, has_receiver: true, is_awaited: false };
+        let state = State { queue: VecDeque::new(), sent: 0, taken: 0, senders: 1, has_receiver: true, is_awaited: false };
         Arc::new(Channel { state: Mutex::new(state), filled: Condvar::new(), emptied: Condvar::new(), room })
     }
 

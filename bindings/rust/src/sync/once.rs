@@ -1,7 +1,7 @@
 //! What is done once.
-use crate::turns::Wake;
 use crate::program::ctx::{is_in_run, with};
 use crate::program::slot::{Caller, Object, Real, Refused};
+use crate::turns::Wake;
 use std::fmt;
 use std::panic::{Location, RefUnwindSafe, UnwindSafe};
 use std::sync;

@@ -1,7 +1,7 @@
 //! All schedules of small programs over look-alikes, whose number was worked out by hand.
 use octet::cell::UnsafeCell;
-use octet::sync::atomic::{AtomicBool, AtomicU32, Ordering};
 use octet::sync::atomic::Ordering::{Acquire, Relaxed, Release, SeqCst};
+use octet::sync::atomic::{AtomicBool, AtomicU32, Ordering};
 use octet::sync::{Arc, Mutex};
 use octet::{Cause, Error, Tried, program, thread};
 
