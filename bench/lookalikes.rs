@@ -7,9 +7,11 @@ use std::hint::black_box;
 use std::sync::atomic::Ordering::{Relaxed, SeqCst};
 use std::time::{Duration, Instant};
 
-const ROUNDS: usize = 41;
-const ACCESSES: u32 = 200_000;
-const SCHEDULES: u64 = 200;
+const ROUNDS: usize = 401;
+/// Of runs, whose beginning and end take long.
+const LONG_ROUNDS: usize = 21;
+const ACCESSES: u32 = 20_000;
+const SCHEDULES: u64 = 100;
 
 fn timed(work: impl FnOnce()) -> Duration {
     let since = Instant::now();
@@ -26,9 +28,9 @@ fn repeated<T>(work: impl Fn() -> T) -> Duration {
 }
 
 // The best round of each, where they take turns.
-fn best<const COUNT: usize>(works: [&dyn Fn() -> Duration; COUNT]) -> [Duration; COUNT] {
+fn best<const COUNT: usize>(rounds: usize, works: [&dyn Fn() -> Duration; COUNT]) -> [Duration; COUNT] {
     let mut all = [Duration::MAX; COUNT];
-    for _ in 0..ROUNDS {
+    for _ in 0..rounds {
         all.iter_mut().zip(works).for_each(|(least, work)| *least = work().min(*least));
     }
     all
@@ -47,14 +49,14 @@ fn outside() {
     let (mine, other) = (octet::sync::atomic::AtomicU64::new(0), std::sync::atomic::AtomicU64::new(0));
     let loads = || repeated(|| mine.load(Relaxed));
     let others = || repeated(|| other.load(Relaxed));
-    told("outside of a run, a load", best([&loads, &others]));
+    told("outside of a run, a load", best(ROUNDS, [&loads, &others]));
     let adds = || repeated(|| mine.fetch_add(1, SeqCst));
     let others = || repeated(|| other.fetch_add(1, SeqCst));
-    told("outside of a run, a fetch_add", best([&adds, &others]));
+    told("outside of a run, a fetch_add", best(ROUNDS, [&adds, &others]));
     let (mine, other) = (octet::sync::Mutex::new(0), std::sync::Mutex::new(0));
     let locks = || repeated(|| *black_box(&mine).lock().unwrap() += 1);
     let others = || repeated(|| *black_box(&other).lock().unwrap() += 1);
-    told("outside of a run, a Mutex locked and unlocked", best([&locks, &others]));
+    told("outside of a run, a Mutex locked and unlocked", best(ROUNDS, [&locks, &others]));
 }
 
 fn recorded() {
@@ -79,7 +81,7 @@ fn recorded() {
         });
         run.expect("it is recorded").values()[0].expect("it was recorded whole")
     };
-    told("recorded, a fetch_add beside a Session's", best([&mine, &sessions]));
+    told("recorded, a fetch_add beside a Session's", best(LONG_ROUNDS, [&mine, &sessions]));
     for name in ["", ".notes", ".checks"] {
         let _ = std::fs::remove_file(format!("{}{name}", file.display()));
     }
@@ -100,7 +102,7 @@ fn fifteen() {
 
 fn explored() {
     let explores = |program: fn()| timed(|| assert!(Program::new().explore(0..SCHEDULES, program).is_ok()));
-    let [full, empty] = best([&|| explores(fifteen), &|| explores(|| ())]);
+    let [full, empty] = best(LONG_ROUNDS, [&|| explores(fifteen), &|| explores(|| ())]);
     for (what, time) in [("three threads of fifteen accesses", full), ("an empty program", empty)] {
         println!("explored, {what}: {:.0} schedules a second", SCHEDULES as f64 / time.as_secs_f64());
     }
