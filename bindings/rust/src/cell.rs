@@ -1,8 +1,10 @@
 //! As `std::cell`, with an `UnsafeCell` whose accesses may be told.
+#![allow(clippy::cast_possible_truncation, reason = "a word has two numbers of 32 bits")]
 use crate::Error;
 use crate::program::ctx::{Ctx, with};
 use crate::program::slot::Caller;
 use crate::program::world::Way;
+use crate::turns::Does;
 pub use std::cell::{BorrowError, BorrowMutError, Cell, LazyCell, OnceCell, Ref, RefCell, RefMut};
 use std::fmt;
 use std::panic::Location;
@@ -99,7 +101,7 @@ impl<T: ?Sized> UnsafeCell<T> {
         with(|ctx| {
             let ctx = ctx.filter(|ctx| ctx.way == Way::Turns)?;
             // What comes next is not one step with it.
-            ctx.pass(caller);
+            ctx.pass(caller, Does::Writes(std::ptr::from_ref(&self.word) as usize));
             if ctx.world.is_strict {
                 self.touch(ctx, true, caller);
             }

@@ -118,6 +118,8 @@ pub enum Absence {
     NotStarted,
     /// It does what `Session::blocked` was given.
     Blocked,
+    /// It is one of a program over look-alikes, was picked, and comes to none of their calls.
+    Elsewhere,
 }
 
 /// A thread that waits, in a deadlock.
@@ -225,6 +227,11 @@ impl fmt::Display for Error {
                     Absence::Picked => write!(
                         out,
                         "thread {thread} was picked{place} and has not come back; does it wait elsewhere? use blocked"
+                    ),
+                    Absence::Elsewhere => write!(
+                        out,
+                        "thread {thread} was picked{place} and has not come back; does it wait for what no schedule knows, as a lock \
+                         of std? use the one of octet::sync; or Program::patience gives it longer"
                     ),
                     Absence::NotStarted => {
                         write!(out, "thread {thread} is not started, and by a schedule the others wait for it")

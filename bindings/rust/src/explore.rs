@@ -1,7 +1,9 @@
 //! Many schedules, until one fails.
+use crate::program::held;
 use crate::quiet::{self, Watch};
 use crate::schedule::{Panicked, Pick};
 use crate::shrink::with_fewer_preemptions;
+use crate::turns::search::{Ended, Search};
 use crate::{Error, Place, Recording, Schedule};
 use std::any::Any;
 use std::iter::successors;
@@ -55,6 +57,8 @@ pub struct Failure<E = Error> {
     thread: Option<usize>,
     place: Option<Place>,
     picks: Vec<Pick>,
+    // Whether its schedule has the finer steps of a search.
+    is_fine: bool,
     recording: Option<Recording>,
 }
 
@@ -126,7 +130,12 @@ impl<E> Failure<E> {
     /// ```
     #[must_use]
     pub fn schedule(&self) -> Schedule {
-        Schedule::given(self.seed, self.picks.iter().map(|pick| pick.thread).collect(), Vec::new())
+        self.by_picks(self.picks.iter().map(|pick| pick.thread).collect(), Vec::new())
+    }
+
+    /// A schedule of its steps that picks these threads; where a thread was picked as often as its length says, it may wait in a loop.
+    pub(crate) fn by_picks(&self, threads: Vec<usize>, lengths: Vec<usize>) -> Schedule {
+        Schedule::given(self.seed, threads, lengths).with_steps_of(self.is_fine)
     }
 
     /// Why it failed.
@@ -202,7 +211,15 @@ impl<E> Failure<E> {
     }
 
     fn unscheduled(seed: u64) -> Failure<E> {
-        Failure { seed, cause: Cause::Unscheduled, thread: None, place: None, picks: Vec::new(), recording: None }
+        Failure {
+            seed,
+            cause: Cause::Unscheduled,
+            thread: None,
+            place: None,
+            picks: Vec::new(),
+            is_fine: false,
+            recording: None,
+        }
     }
 
     pub(crate) fn picks(&self) -> &[Pick] {
@@ -306,7 +323,8 @@ pub(crate) fn play<E>(program: &mut dyn FnMut(Schedule) -> Result<(), E>, schedu
     let switches = kept.picks.windows(2).filter(|pair| pair[0].thread != pair[1].thread).count();
     let here = quiet::last_panic();
     let (thread, place) = kept.panicked.map_or((None, here), |Panicked { thread, at }| (Some(thread), at));
-    let of = |cause| Failure { seed: schedule.seed(), cause, thread, place, picks: kept.picks, recording: kept.recording };
+    let (seed, is_fine) = (schedule.seed(), schedule.is_fine());
+    let of = |cause| Failure { seed, cause, thread, place, picks: kept.picks, is_fine, recording: kept.recording };
     Played { failure: cause.map(of).map(Box::new), picks, switches, is_taken }
 }
 
@@ -320,8 +338,9 @@ pub(crate) fn play<E>(program: &mut dyn FnMut(Schedule) -> Result<(), E>, schedu
 /// Those of the runs that shrink are not printed. Where the program keeps its runs by `Builder::record`, its file is of the
 /// failure that is told.
 ///
-/// All accesses are sequentially consistent. So a mistake that only a weaker order of memory shows, as a missing `Acquire` or
-/// `Release`, is never found.
+/// All accesses of sessions are sequentially consistent. So a mistake that only a weaker order of memory shows, as a missing
+/// `Acquire` or `Release`, is not found here. [`program::explore`](crate::program::explore) runs programs over look-alikes of `std`,
+/// whose accesses name their orders: there a data race that such an order leaves is found, as [`cell`](crate::cell) shows.
 ///
 /// ```
 /// use octet::{Builder, Error, Heap, Run, explore};
@@ -426,4 +445,113 @@ pub fn try_explore<E: error::Error + 'static>(
         passed += 1;
     }
     Ok(passed)
+}
+
+/// How much of a program was tried by `explore_all`, and by how many runs, none of which is another one in an order that nothing
+/// in it tells apart.
+///
+/// ```
+/// use octet::{Heap, Tried, explore_all};
+///
+/// let tried = explore_all(1_000, |schedule| {
+///     Heap::builder().object("x", 0).schedule(schedule).run(|threads| {
+///         for number in 1..=2 {
+///             threads.spawn(move |session| session.store(session.object("x")?, number));
+///         }
+///     })?;
+///     Ok(())
+/// });
+/// assert_eq!(tried.expect("nothing fails"), Tried::All { runs: 2 });
+/// ```
+#[derive(Clone, Copy, Debug, PartialEq, Eq, Hash)]
+#[non_exhaustive]
+pub enum Tried {
+    /// All schedules.
+    All {
+        /// How many runs there are.
+        runs: u64,
+    },
+    /// All of those by which a thread that yields lets another one go first. A thread that spins without that makes a run of any
+    /// length, so there is no end of schedules.
+    ButYields {
+        /// How many runs there are.
+        runs: u64,
+    },
+    /// Not all: there are more than the most that were to be made, or a run has not followed from its picks alone.
+    NotAll {
+        /// How many runs were made.
+        runs: u64,
+    },
+}
+
+/// Runs a program by all its schedules, depth first, and says whether all were tried: it makes at most so many runs, and ends at the
+/// first failure. Of runs that differ only in the order of what does not matter to each other one is enough, as of two accesses to
+/// different objects, or of two that read (sleep sets: Godefroid, 1996). Some runs are begun before that is known, and they count for
+/// the most, too.
+///
+/// This is a test, and proves nothing: what threads do has to follow from the accesses that they make. Where it does not, as where a
+/// thread reads a clock or is blocked, the answer is `NotAll` as far as that is seen. A lock that is asked for while it is held is a
+/// run of its own. A failure has the seed 0, and its schedule prints.
+///
+/// ```
+/// use octet::{Error, Heap, Tried, explore_all};
+///
+/// let adds = |most| explore_all(most, |schedule| {
+///     let run = Heap::builder().object("x", 0).schedule(schedule).run(|threads| {
+///         for _ in 0..2 {
+///             threads.spawn(|session| session.fetch_add(session.object("x")?, 1));
+///         }
+///     })?;
+///     assert_eq!(run.value("x"), Some(2));
+///     Ok(())
+/// });
+/// assert_eq!(adds(1_000).expect("nothing fails"), Tried::All { runs: 2 });
+/// assert_eq!(adds(1).expect("nothing fails"), Tried::NotAll { runs: 1 });
+/// ```
+///
+/// # Errors
+/// As `explore`.
+pub fn explore_all(most: u64, program: impl FnMut(Schedule) -> Result<(), Error>) -> Result<Tried, Box<Failure>> {
+    try_explore_all(most, program)
+}
+
+/// The same, of a program that may fail with errors of its own, as `try_explore`.
+///
+/// ```
+/// use octet::{Error, Tried, try_explore_all};
+///
+/// let tried = try_explore_all(10, |schedule| {
+///     octet::Heap::builder().schedule(schedule).run(|threads| threads.spawn(|_| Ok(())))?;
+///     Ok::<(), Error>(())
+/// });
+/// assert_eq!(tried.expect("nothing fails"), Tried::All { runs: 1 });
+/// ```
+///
+/// # Errors
+/// As `explore`.
+pub fn try_explore_all<E: error::Error + 'static>(
+    most: u64,
+    mut program: impl FnMut(Schedule) -> Result<(), E>,
+) -> Result<Tried, Box<Failure<E>>> {
+    let search = Search::shared();
+    let _watch = Watch::new();
+    let mut runs = 0;
+    for _ in 0..most {
+        let played = play(&mut program, &Schedule::searched(&search));
+        if let Some(failure) = played.failure {
+            return Err(with_fewer_preemptions(failure, &mut program));
+        }
+        if !played.is_taken {
+            return Err(Box::new(Failure::unscheduled(0)));
+        }
+        let mut search = held(&search);
+        runs += u64::from(search.is_new());
+        match search.next_run() {
+            Ok(()) => {}
+            Err(Ended::Whole) => return Ok(Tried::All { runs }),
+            Err(Ended::ButYields) => return Ok(Tried::ButYields { runs }),
+            Err(Ended::Unsure) => return Ok(Tried::NotAll { runs }),
+        }
+    }
+    Ok(Tried::NotAll { runs })
 }

@@ -1,12 +1,13 @@
 //! A heap, and how its threads are run.
+use crate::bells::Bells;
 use crate::error::checked;
-use crate::gate::{Bell, Gate};
 use crate::given_up::AllGivenUp;
 use crate::long::{LongBuilder, Way};
 use crate::run::Run;
 use crate::session::{Keeps, Noted};
-use crate::shared::{Named, Order, Shared};
-use crate::turnstile::Turnstile;
+use crate::shared::{Order, Shared};
+use crate::turns::Turns;
+use crate::waits::{Condition, Lock};
 use crate::{Error, Object, Recording, Rerun, Schedule, Session, quiet, raw};
 use std::collections::HashSet;
 use std::path::PathBuf;
@@ -49,8 +50,8 @@ fn is_name(name: &str) -> bool {
 #[must_use]
 pub struct Builder {
     pub(crate) objects: Vec<(String, u64)>,
-    locks: Vec<Named>,
-    conditions: Vec<Named>,
+    locks: Vec<(String, u16)>,
+    conditions: Vec<(String, u16)>,
     barriers: Vec<(String, u64)>,
     channels: Vec<(String, u64)>,
     pub(crate) threads: usize,
@@ -96,8 +97,8 @@ impl Builder {
     }
 
     // What is to have the next object. Where there are too many objects, `judged` says so.
-    fn next_object(&self, name: &str) -> Named {
-        Named { name: name.to_string(), object: u16::try_from(self.objects.len()).unwrap_or(u16::MAX) }
+    fn next_object(&self, name: &str) -> (String, u16) {
+        (name.to_string(), u16::try_from(self.objects.len()).unwrap_or(u16::MAX))
     }
 
     /// A condition for `Session::wait`. It is an object of this name too: how many threads wait for it.
@@ -340,11 +341,8 @@ impl Builder {
     pub(crate) fn order(&self, again: bool) -> Result<Order, Error> {
         Ok(match &self.schedule {
             _ if again => Order::Again,
-            Some(schedule) => Order::Turns(Box::new(Turnstile::new(schedule, self.threads, self.locks.len(), self.patience)?)),
-            None => Order::Free {
-                gates: self.locks.iter().map(|_| Gate::default()).collect(),
-                bells: self.conditions.iter().map(|_| Bell::default()).collect(),
-            },
+            Some(schedule) => Order::Turns(Box::new(Turns::of_sessions(schedule, self.threads, self.patience)?)),
+            None => Order::Free(Bells::new()),
         })
     }
 
@@ -388,8 +386,8 @@ impl Builder {
         let shared = Arc::new(Shared {
             heap: NEXT.fetch_add(1, Ordering::Relaxed),
             objects: names.map(|((name, _), place)| (name, place)).collect(),
-            locks: self.locks,
-            conditions: self.conditions,
+            locks: self.locks.into_iter().map(|(name, object)| Lock::new(name, object)).collect(),
+            conditions: self.conditions.into_iter().map(|(name, object)| Condition::new(name, object)).collect(),
             barriers: self.barriers,
             channels: self.channels,
             order,
@@ -708,8 +706,8 @@ impl Heap {
         let shared = Arc::clone(&self.shared);
         let (record, noted) = self.closed(sessions)?;
         let recording = Recording::of(record, noted.into_iter().map(|noted| noted.places).collect())?;
-        if let Order::Turns(turnstile) = &shared.order {
-            turnstile.keep(&recording);
+        if let Order::Turns(turns) = &shared.order {
+            turns.schedule().keep(&recording);
         }
         Ok(recording)
     }

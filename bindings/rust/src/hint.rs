@@ -14,7 +14,7 @@ use std::panic::Location;
 pub fn spin_loop() {
     let caller = Location::caller();
     with(|ctx| match ctx {
-        Some(ctx) if ctx.way == Way::Turns => ctx.world.turns().yield_now(ctx, caller),
+        Some(ctx) if ctx.way == Way::Turns => ctx.yield_in_turn(caller),
         Some(ctx) => ctx.safe_point(),
         None => {}
     });

@@ -35,15 +35,16 @@
 //! A run is repeated as far as its accesses decide what its threads do. Clocks, files and other locks are not recorded.
 //!
 //! All accesses of a [`Session`] are sequentially consistent. So a mistake that only a weaker order of memory shows, as a missing
-//! `Acquire` or `Release`, is not found there: `loom` and `ThreadSanitizer` look for those.
+//! `Acquire` or `Release`, is not found there. `loom` and `ThreadSanitizer` look for those, and [`program`] finds the data races that
+//! they leave.
 #![deny(missing_docs, unsafe_code)]
 
+mod bells;
 #[allow(unsafe_code)]
 pub mod cell;
 mod checks;
 mod error;
 mod explore;
-mod gate;
 mod given_up;
 mod heap;
 pub mod hint;
@@ -68,11 +69,12 @@ pub mod sync;
 #[allow(unsafe_code)]
 pub mod thread;
 pub mod time;
-mod turnstile;
+mod turns;
+mod waits;
 mod window;
 
 pub use error::{Absence, Error, Wait};
-pub use explore::{Cause, Failure, explore, try_explore};
+pub use explore::{Cause, Failure, Tried, explore, explore_all, try_explore, try_explore_all};
 pub use heap::{Builder, Heap, Threads};
 pub use long::{LongBuilder, LongHeap, LongRun};
 pub use place::Place;

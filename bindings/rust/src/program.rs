@@ -5,36 +5,32 @@
 //! tests that run beside each other share a static, the one that comes later is refused with its line. What outlives an explored
 //! run has afterwards what it had before, so no seed depends on another; a lock whose value nobody can set back is refused when a
 //! second seed asks for it. What the seeds are to gather stands in types of `std`.
-mod bells;
 mod clocks;
 mod crash;
-mod draws;
 pub(crate) mod ctx;
 mod found;
 mod notes;
 mod pointers;
 pub(crate) mod slot;
-mod turns;
 pub(crate) mod world;
 
-pub use clocks::{Race, Touch};
 pub(crate) use clocks::Kind;
+pub use clocks::{Race, Touch};
 pub use found::Found;
-pub(crate) use turns::Wake;
 
 use crate::error::checked;
 use crate::explore::play;
 use crate::long::{Beside, Work};
 use crate::marks_file::{Feeding, Writing};
 use crate::raw::{self, Handle};
-use crate::{Error, Failure, Recording, Schedule, thread, try_explore};
+use crate::turns::{SEATS, Turns};
+use crate::{Error, Failure, Recording, Schedule, Tried, thread, try_explore, try_explore_all};
 use notes::{Notes, with_ending};
 use std::panic;
 use std::path::Path;
 use std::sync::{Arc, Mutex, MutexGuard, PoisonError};
 use std::time::{Duration, Instant};
-use turns::Turns;
-use world::{MOST_OBJECTS, SEATS, Setup, Sizes, Way, Whims, World};
+use world::{MOST_OBJECTS, Setup, Sizes, Way, Whims, World};
 
 type Body = Arc<dyn Fn() + Send + Sync>;
 
@@ -165,7 +161,8 @@ impl Program {
         self
     }
 
-    /// How long a thread waits in a recorded run for an access, a lock or a wake-up.
+    /// How long a thread waits in a recorded run for an access, a lock or a wake-up. By a schedule, how long a thread that was picked
+    /// may take until its next call: one that waits for what no schedule knows, as a lock of `std`, is told after that.
     ///
     /// ```
     /// # let file = std::env::temp_dir().join(format!("octet-patience-{}", std::process::id()));
@@ -242,8 +239,13 @@ impl Program {
     fn kept_heap(&self, told: &Mutex<Told>) -> Result<(Sizes, Vec<Handle>), Error> {
         let (objects, threads) = held(told).sizes;
         let sizes = Sizes { objects: objects.max(1), threads: threads.max(1), ..self.sizes };
-        let objects: String = (0..sizes.objects).map(|number| format!("object o{number} 0\n")).collect();
-        let text = format!("fuel {}\n{objects}{}", 262_144 / sizes.threads, "thread\n".repeat(sizes.threads));
+        let mut text = format!("fuel {}\n", 262_144 / sizes.threads);
+        for number in 0..sizes.objects {
+            text += "object o";
+            text += &number.to_string();
+            text += " 0\n";
+        }
+        text += &"thread\n".repeat(sizes.threads);
         let (handles, status) = raw::open(text.as_bytes(), sizes.threads);
         checked(status, 0)?;
         Ok((sizes, handles))
@@ -258,7 +260,7 @@ impl Program {
         let seed = schedule.seed();
         let whims = if (seed / 6) % 3 == 2 { Whims::Drawn { seed } } else { Whims::None };
         let (sizes, handles) = if keep { self.kept_heap(told)? } else { (self.sizes, Vec::new()) };
-        let turns = Turns::new(&schedule, self.steps, self.depth.is_some())?;
+        let turns = Turns::of_program(&schedule, self.steps, self.sizes.patience)?;
         let world = World::new(Setup {
             way: Way::Turns,
             sizes,
@@ -266,7 +268,7 @@ impl Program {
             notes: Vec::new(),
             turns: Some(turns),
             whims,
-            seed: Some(seed),
+            seed: Some(seed).filter(|_| schedule.search().is_none()),
             is_quiet: schedule.is_given(),
         });
         let body = Arc::clone(body);
@@ -319,12 +321,52 @@ impl Program {
         seeds: impl IntoIterator<Item = u64>,
         program: impl Fn() + Send + Sync + 'static,
     ) -> Result<u64, Found> {
+        self.explored(program, |by_turns| try_explore(seeds, by_turns))
+    }
+
+    /// Runs the program by all its schedules, as [`octet::explore_all`](crate::explore_all) does, and says whether all were tried. No
+    /// exchange fails for nothing here; which thread drops an `Arc` last, and what clocks say, is not tried out.
+    ///
+    /// # Errors
+    /// The first schedule that failed, with its run.
+    ///
+    /// ```
+    /// use octet::sync::atomic::{AtomicU32, Ordering::SeqCst};
+    /// use octet::{Program, Tried, thread};
+    ///
+    /// // Store and load, crosswise: by none of the three orders both threads find 0.
+    /// let tried = Program::new().explore_all(1_000, || {
+    ///     let objects = [AtomicU32::new(0), AtomicU32::new(0)];
+    ///     let [x, y] = &objects;
+    ///     let found = thread::scope(|scope| {
+    ///         let threads = [(x, y), (y, x)].map(|(mine, its)| {
+    ///             scope.spawn(move || {
+    ///                 mine.store(1, SeqCst);
+    ///                 its.load(SeqCst)
+    ///             })
+    ///         });
+    ///         threads.map(|thread| thread.join().unwrap())
+    ///     });
+    ///     assert_ne!(found, [0, 0]);
+    /// });
+    /// assert_eq!(tried.expect("nothing fails"), Tried::All { runs: 3 });
+    /// ```
+    pub fn explore_all(&self, most: u64, program: impl Fn() + Send + Sync + 'static) -> Result<Tried, Found> {
+        self.explored(program, |by_turns| try_explore_all(most, by_turns))
+    }
+
+    // Explores it so, and keeps the run that has failed.
+    fn explored<T>(
+        &self,
+        program: impl Fn() + Send + Sync + 'static,
+        explore: impl FnOnce(&mut dyn FnMut(Schedule) -> Result<(), Error>) -> Result<T, Box<Failure>>,
+    ) -> Result<T, Found> {
         crash::watch();
         thread::know_parallelism();
         let before = world::staying();
         let body: Body = Arc::new(program);
         let told = Mutex::new(Told::default());
-        let explored = try_explore(seeds, |schedule| {
+        let explored = explore(&mut |schedule| {
             if schedule.is_given() && world::staying() - before > MOST_LEFT_BEHIND {
                 // It is shrunk no more.
                 return Err(Error::Patience { thread: 0 });
@@ -332,10 +374,11 @@ impl Program {
             self.by_turns(schedule, &body, false, &told)
         });
         let failure = match explored {
-            Ok(passed) => return Ok(passed),
+            Ok(explored) => return Ok(explored),
             Err(failure) => failure,
         };
-        let kept = self.kept(&failure, &body, &told);
+        // One that waits for what no schedule knows would wait as long again, and may have left behind what it waits for.
+        let kept = if failure.is_impatient() { None } else { self.kept(&failure, &body, &told) };
         let notes = held(&told).kept.take();
         Err(Found::new(kept.unwrap_or(failure), notes, world::staying() - before))
     }
@@ -346,7 +389,7 @@ impl Program {
         let threads: Vec<usize> = failure.picks().iter().map(|pick| pick.thread).collect();
         let mut lengths = vec![0; SEATS];
         threads.iter().for_each(|&thread| lengths[thread] += 1);
-        let given = || Schedule::given(failure.seed(), threads.clone(), lengths.clone());
+        let given = || failure.by_picks(threads.clone(), lengths.clone());
         let _ = play(&mut |schedule| self.by_turns(schedule, body, false, told), &given());
         let kept = play(&mut |schedule| self.by_turns(schedule, body, true, told), &given());
         kept.failure.filter(|kept| kept.is_like(failure))
@@ -544,6 +587,18 @@ fn values_of(handles: Vec<Handle>) -> Result<Vec<u64>, Error> {
 /// ```
 pub fn explore(seeds: impl IntoIterator<Item = u64>, program: impl Fn() + Send + Sync + 'static) -> Result<u64, Found> {
     Program::new().explore(seeds, program)
+}
+
+/// As [`Program::explore_all`], of a new one.
+///
+/// # Errors
+/// The first schedule that failed, with its run.
+///
+/// ```
+/// assert_eq!(octet::program::explore_all(10, || ()).expect("nothing fails"), octet::Tried::All { runs: 1 });
+/// ```
+pub fn explore_all(most: u64, program: impl Fn() + Send + Sync + 'static) -> Result<Tried, Found> {
+    Program::new().explore_all(most, program)
 }
 
 /// As [`Program::record`], of a new one.

@@ -2,6 +2,7 @@
 use crate::error::checked;
 use crate::heap::MAX_THREADS;
 use crate::raw::{self, Way};
+use crate::turns::search::Search;
 use crate::{Error, Place, Recording};
 use std::iter::repeat_n;
 use std::str::FromStr;
@@ -33,7 +34,7 @@ pub(crate) struct Kept {
 
 /// By it the threads of a heap take turns: before each access, each call that takes or frees a lock, waits, notifies, or ends the
 /// thread, a thread waits until it is picked. The same seed gives the same run again, as far as the threads wait for each other by
-/// the heap alone. It prints as a text that `parse` reads.
+/// the heap alone. It prints as a text that `parse` reads, but for one of `explore_all`, which is no schedule without those before.
 ///
 /// ```
 /// use octet::{Error, Heap, Run, Schedule};
@@ -52,6 +53,8 @@ pub(crate) struct Kept {
 pub struct Schedule {
     seed: u64,
     picks: Picks,
+    // Of a program over look-alikes: that a thread starts, or goes on after a wait, is a step by itself.
+    is_fine: bool,
     kept: Arc<Mutex<Kept>>,
 }
 
@@ -61,6 +64,8 @@ enum Picks {
     Drawn { way: Way, most: u32 },
     /// As they are given, and how often each thread was picked in the run that is shrunk.
     Given { threads: Arc<[usize]>, lengths: Arc<[usize]> },
+    /// All of them in turn, depth first.
+    Searched(Arc<Mutex<Search>>),
 }
 
 /// By odd seeds a thread makes up to so many accesses in a row.
@@ -73,7 +78,7 @@ const MOST_PICKS: usize = 1 << 20;
 impl Schedule {
     /// Any thread comes before each access.
     pub(crate) fn uniform(seed: u64) -> Schedule {
-        Schedule { seed, picks: Picks::Drawn { way: Way::Uniform, most: 0 }, kept: Arc::default() }
+        Schedule { seed, picks: Picks::Drawn { way: Way::Uniform, most: 0 }, is_fine: false, kept: Arc::default() }
     }
 
     /// Even seeds pick any thread before each access. Odd ones let a thread make up to 8 accesses in a row, so that threads
@@ -122,8 +127,8 @@ impl Schedule {
     /// ```
     #[must_use]
     pub fn pct(mut self, depth: u32) -> Schedule {
-        // One by which a failure is shrunk stays what it is.
-        if !self.is_given() {
+        // One by which a failure is shrunk stays what it is, and so does one of a search.
+        if matches!(self.picks, Picks::Drawn { .. }) {
             self.picks = Picks::Drawn { way: Way::Priorities, most: depth.saturating_sub(1) };
         }
         self
@@ -188,17 +193,48 @@ impl Schedule {
         Schedule { picks, ..Schedule::uniform(seed) }
     }
 
+    /// The next one of a search.
+    pub(crate) fn searched(search: &Arc<Mutex<Search>>) -> Schedule {
+        Schedule { picks: Picks::Searched(Arc::clone(search)), is_fine: true, ..Schedule::uniform(0) }
+    }
+
+    pub(crate) fn search(&self) -> Option<&Arc<Mutex<Search>>> {
+        match &self.picks {
+            Picks::Searched(search) => Some(search),
+            Picks::Drawn { .. } | Picks::Given { .. } => None,
+        }
+    }
+
+    /// The same, with these steps.
+    pub(crate) fn with_steps_of(self, is_fine: bool) -> Schedule {
+        Schedule { is_fine, ..self }
+    }
+
+    pub(crate) fn is_fine(&self) -> bool {
+        self.is_fine
+    }
+
     /// Whether a failure is shrunk by it.
     pub(crate) fn is_given(&self) -> bool {
         matches!(self.picks, Picks::Given { .. })
     }
 
-    pub(crate) fn picker(&self) -> Result<Picker, Error> {
+    /// Whether threads go on by priorities.
+    pub(crate) fn is_by_ranks(&self) -> bool {
+        matches!(self.picks, Picks::Drawn { way: Way::Priorities, .. })
+    }
+
+    /// A heap or a program runs by it from here on.
+    pub(crate) fn take(&self) {
         let mut kept = self.kept_now();
         kept.is_taken = true;
         kept.picks.clear();
-        drop(kept);
+    }
+
+    pub(crate) fn picker(&self) -> Result<Picker, Error> {
         match &self.picks {
+            // Its search picks.
+            Picks::Searched(_) => Ok(Picker::Given(Given::default())),
             Picks::Drawn { way, most } => {
                 let (turns, status) = raw::schedule(*way, self.seed, *most);
                 checked(status, 0).map(|()| Picker::Drawn(turns))
@@ -241,6 +277,7 @@ impl fmt::Display for Schedule {
             Picks::Drawn { way: Way::Uniform, .. } => write!(out, "uniform {}", self.seed),
             Picks::Drawn { way: Way::Bursts, most } => write!(out, "bursts {} {most}", self.seed),
             Picks::Drawn { way: Way::Priorities, most } => write!(out, "priorities {} {most}", self.seed),
+            Picks::Searched(_) => write!(out, "all {}", self.seed),
             Picks::Given { threads, .. } => {
                 write!(out, "picks {}", self.seed)?;
                 threads.chunk_by(|one, other| one == other).try_for_each(|burst| match burst.len() {
@@ -289,6 +326,7 @@ pub(crate) enum Picker {
 }
 
 /// Threads that are picked as they are given, and then go on as long as they can.
+#[derive(Default)]
 pub(crate) struct Given {
     threads: Arc<[usize]>,
     // Which of them comes next.

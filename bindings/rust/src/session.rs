@@ -11,6 +11,7 @@ use crate::given_up::{Begun, GivenUp};
 use crate::heap::Rank;
 use crate::raw::{self, Handle};
 use crate::shared::{Order, Shared};
+use crate::turns::Does;
 use crate::{Error, Place, quiet};
 use noted::Places;
 pub(crate) use noted::{Keeps, Noted};
@@ -93,9 +94,7 @@ impl fmt::Debug for Session {
 
 impl Drop for Session {
     fn drop(&mut self) {
-        if let Order::Turns(turnstile) = &self.shared.order {
-            turnstile.end(self.number);
-        }
+        self.end_turns();
     }
 }
 
@@ -186,8 +185,8 @@ impl Session {
     /// # Errors
     /// `Running` where it is started; `Resting` where it has ended. By a schedule those of waiting: `Deadlock` and `NotBack`.
     pub fn start(&mut self) -> Result<(), Error> {
-        if let Order::Turns(turnstile) = &self.shared.order {
-            turnstile.pass(self.number, None).map_err(|stuck| self.shared.stuck(stuck))?;
+        if let Order::Turns(turns) = &self.shared.order {
+            turns.pass(self.number, None, Does::Nothing).map_err(|stuck| self.shared.stuck(self.number, stuck))?;
         }
         checked(self.handle.start(), self.number)
     }
@@ -217,15 +216,21 @@ impl Session {
             // It has left its recording, or is stopped already.
             self.handle.stop();
         }
-        if let Order::Turns(turnstile) = &self.shared.order {
-            turnstile.end(self.number);
-        }
+        self.end_turns();
         self.answered(status?, out, None)?;
         turned
     }
 
+    // The others take their turns without it.
+    fn end_turns(&self) {
+        if let Order::Turns(turns) = &self.shared.order {
+            // Who is left, if anybody is, is told by its own call why it does not go on.
+            let _ = turns.end(self.number);
+        }
+    }
+
     fn take_last_turn(&mut self) -> Result<(), Error> {
-        if self.at_once == self.heap { Ok(()) } else { self.take_turn(None) }
+        if self.at_once == self.heap { Ok(()) } else { self.take_turn(None, Does::Nothing) }
     }
 
     /// What was given up is the session's again.
@@ -238,7 +243,7 @@ impl Session {
 
     // Leaves an access that has waited for too long to those that wait for it.
     fn give_up(&mut self, begun: Begun) {
-        if matches!(self.shared.order, Order::Free { .. }) {
+        if matches!(self.shared.order, Order::Free(_)) {
             let handle = mem::replace(&mut self.handle, Handle::empty());
             self.shared.given_up.add(self.number, handle, begun);
         }
@@ -265,8 +270,8 @@ impl Session {
         struct Stop<'a>(&'a mut Session);
         impl Drop for Stop<'_> {
             fn drop(&mut self) {
-                if let (true, Order::Turns(turnstile)) = (thread::panicking(), &self.0.shared.order) {
-                    turnstile.note_panic(self.0.number, quiet::last_panic());
+                if let (true, Order::Turns(turns)) = (thread::panicking(), &self.0.shared.order) {
+                    turns.schedule().note_panic(self.0.number, quiet::last_panic());
                 }
                 // Where it was stopped, or failed in another way, this one fails too.
                 let _ = self.0.stop();
@@ -343,12 +348,12 @@ impl Session {
         self.stopped(wait)?.inspect_err(|error| self.note_rank(error.rank()))
     }
 
-    // Waits until it is this thread's turn.
+    // Waits until it is this thread's turn to do this.
     #[cold]
-    fn take_turn(&mut self, at: Option<Caller>) -> Result<(), Error> {
+    fn take_turn(&mut self, at: Option<Caller>, does: Does) -> Result<(), Error> {
         self.wait_stopped(|shared, number| match &shared.order {
-            Order::Turns(turnstile) => turnstile.pass(number, at).map_err(|stuck| shared.stuck(stuck)),
-            Order::Free { .. } | Order::Again => Ok(()),
+            Order::Turns(turns) => turns.pass(number, at, does).map_err(|stuck| shared.stuck(number, stuck)),
+            Order::Free(_) | Order::Again => Ok(()),
         })
     }
 
@@ -374,12 +379,14 @@ impl Session {
     pub fn blocked<T>(&mut self, work: impl FnOnce() -> T) -> Result<T, Error> {
         let at = Some(self.caller.unwrap_or(Location::caller()));
         let done = self.stopped(|shared, number| match &shared.order {
-            Order::Turns(turnstile) => {
-                turnstile.block(number, at);
+            Order::Turns(turns) => {
+                let left = turns.leave(number, at);
                 let done = work();
-                turnstile.pass(number, at).map_err(|stuck| shared.stuck(stuck)).map(|()| done)
+                left.and_then(|()| turns.pass(number, at, Does::Nothing))
+                    .map_err(|stuck| shared.stuck(number, stuck))
+                    .map(|()| done)
             }
-            Order::Free { .. } | Order::Again => Ok(work()),
+            Order::Free(_) | Order::Again => Ok(work()),
         })?;
         done.inspect_err(|error| self.note_rank(error.rank()))
     }

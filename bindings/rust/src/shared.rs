@@ -1,8 +1,9 @@
 //! What the sessions of a heap share, beside the heap itself.
+use crate::bells::Bells;
 use crate::error::Wait;
-use crate::gate::{Bell, Gate};
 use crate::given_up::AllGivenUp;
-use crate::turnstile::{Awaited, Stuck, Turnstile, Waiter};
+use crate::turns::{Stuck, Turns, Waiter};
+use crate::waits::{Condition, Lock, Missed, Waits, key_of};
 use crate::{Error, Object, Place};
 use std::collections::HashMap;
 use std::time::Duration;
@@ -10,26 +11,18 @@ use std::time::Duration;
 /// How the threads come to their accesses.
 pub(crate) enum Order {
     /// As they run.
-    Free { gates: Vec<Gate>, bells: Vec<Bell> },
+    Free(Bells),
     /// One at a time.
-    Turns(Box<Turnstile>),
+    Turns(Box<Turns>),
     /// As they were recorded: no thread waits for a lock, since its access waits.
     Again,
-}
-
-/// A lock, or a condition: its name and its object. Of a lock that is the number of the thread that holds it, counted from 1, or 0
-/// where it is free; of a condition how many threads wait for it.
-#[derive(Clone, Debug)]
-pub(crate) struct Named {
-    pub(crate) name: String,
-    pub(crate) object: u16,
 }
 
 pub(crate) struct Shared {
     pub(crate) heap: u64,
     pub(crate) objects: HashMap<String, u16>,
-    pub(crate) locks: Vec<Named>,
-    pub(crate) conditions: Vec<Named>,
+    pub(crate) locks: Vec<Lock>,
+    pub(crate) conditions: Vec<Condition>,
     pub(crate) barriers: Vec<(String, u64)>,
     pub(crate) channels: Vec<(String, u64)>,
     pub(crate) order: Order,
@@ -65,27 +58,44 @@ impl Shared {
         found(self.channels.iter().find(|channel| channel.0 == name).map(|channel| channel.1), name)
     }
 
-    /// Why the thread has not come through the turnstile.
-    pub(crate) fn stuck(&self, stuck: Stuck) -> Error {
+    /// By what its threads wait for each other, if they do.
+    pub(crate) fn waits(&self) -> Option<Waits<'_>> {
+        match &self.order {
+            Order::Free(bells) => Some(Waits::Free(bells, self.patience)),
+            Order::Turns(turns) => Some(Waits::Turns(turns)),
+            Order::Again => None,
+        }
+    }
+
+    /// Why the thread has not got what it has waited for.
+    pub(crate) fn missed(&self, thread: usize, missed: Missed) -> Error {
+        match missed {
+            Missed::Late => Error::Patience { thread },
+            Missed::Stuck(stuck) => self.stuck(thread, stuck),
+        }
+    }
+
+    /// Why the thread was not picked.
+    pub(crate) fn stuck(&self, thread: usize, stuck: Stuck) -> Error {
         match stuck {
             Stuck::Absent { thread, at, why } => Error::NotBack { thread, place: at.map(Place::from), why },
             Stuck::Deadlock(waiters) => {
                 Error::Deadlock { waits: waiters.into_iter().map(|waiter| self.wait_of(waiter)).collect() }
             }
+            // Those of sessions have no end but these.
+            Stuck::TooLong { .. } | Stuck::Stopped => Error::Patience { thread },
         }
     }
 
-    fn wait_of(&self, Waiter { thread, at, awaited }: Waiter) -> Wait {
-        let (named, holder) = match awaited {
-            Awaited::Lock { lock, holder } => (&self.locks[lock], holder),
-            Awaited::Condition { condition } => (&self.conditions[condition], None),
-        };
+    fn wait_of(&self, Waiter { thread, key, wake }: Waiter) -> Wait {
+        let locks = self.locks.iter().map(|lock| (lock.object, &lock.name));
+        let mut named = locks.chain(self.conditions.iter().map(|condition| (condition.object, &condition.name)));
         Wait {
             thread,
-            name: named.name.clone(),
-            holder: holder.map(|holder| holder.thread),
-            place: at.map(Place::from),
-            held_at: holder.and_then(|holder| holder.at).map(Place::from),
+            name: named.find(|(object, _)| key_of(*object) == key).map(|(_, name)| name.clone()).unwrap_or_default(),
+            holder: wake.holder.map(|holder| holder.seat),
+            place: Some(wake.place.into()),
+            held_at: wake.holder.and_then(|holder| holder.at).map(Place::from),
         }
     }
 }

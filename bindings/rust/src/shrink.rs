@@ -109,7 +109,7 @@ impl<E: Error + 'static> Search<'_, E> {
         if self.is_over() || !self.played.insert(hash) {
             return None;
         }
-        let played = play(self.program, &Schedule::given(self.best.seed(), picks, self.lengths.clone()));
+        let played = play(self.program, &self.best.by_picks(picks, self.lengths.clone()));
         self.cost += self.cost_of(played.picks, played.switches);
         if Instant::now() >= self.until {
             self.is_ended = !machine_is_busy();
@@ -240,7 +240,7 @@ pub(crate) fn with_fewer_preemptions<E: Error + 'static>(
     if search.best.recording().is_none() {
         // A file that the program has written is of the last run, which is to be this one.
         let picks = threads(search.best.picks());
-        play(search.program, &Schedule::given(search.best.seed(), picks, search.lengths));
+        play(search.program, &search.best.by_picks(picks, search.lengths));
     }
     search.best
 }

@@ -5,12 +5,12 @@ mod start;
 pub use scoped::{Scope, ScopedJoinHandle, scope};
 pub(crate) use start::{know_parallelism, start};
 
-use crate::program::Wake;
 use crate::program::ctx::{Ctx, with};
 use crate::program::held;
 use crate::program::slot::{Caller, Object};
 use crate::program::world::{Done, Way};
 use crate::raw::Change;
+use crate::turns::{Does, Wake};
 use start::{Start, seat_by};
 use std::fmt;
 use std::io;
@@ -152,7 +152,7 @@ pub fn yield_now() {
             ctx.safe_point();
             return None;
         }
-        ctx.world.turns().yield_now(ctx, caller);
+        ctx.yield_in_turn(caller);
         Some(())
     });
     if is_in_turn.is_none() {
@@ -207,7 +207,7 @@ fn wait_over(ctx: &Ctx, done: &Arc<Done>, caller: Caller) {
         return;
     }
     while !done.is_over.load(Ordering::Acquire) {
-        ctx.world.turns().block(ctx, done.key(), Wake { what: "the end of a thread", place: caller, holder: None }, false);
+        ctx.block(done.key(), Wake { what: "the end of a thread", place: caller, holder: None }, false);
     }
     let clock = *held(&done.clock);
     ctx.memory().join(ctx.seat, &clock);
@@ -226,7 +226,8 @@ fn joined(done: Option<&Arc<Done>>, caller: Caller) {
 fn is_finished(done: Option<&Arc<Done>>, caller: Caller) -> Option<bool> {
     with(|ctx| {
         let (ctx, done) = (ctx?, done?);
-        ctx.pass(caller);
+        // Its end is one step with what it did last.
+        ctx.pass(caller, Does::Anything);
         Some(ctx.note(|| done.is_over.load(Ordering::Acquire).into()) != 0)
     })
 }
@@ -338,7 +339,11 @@ impl Builder {
     ///
     /// # Errors
     /// As `spawn`.
-    pub fn spawn_scoped<'scope, F, T>(self, scope: &'scope Scope<'scope, '_>, work: F) -> io::Result<ScopedJoinHandle<'scope, T>>
+    pub fn spawn_scoped<'scope, F, T>(
+        self,
+        scope: &'scope Scope<'scope, '_>,
+        work: F,
+    ) -> io::Result<ScopedJoinHandle<'scope, T>>
     where
         F: FnOnce() -> T + Send + 'scope,
         T: Send + 'scope,
@@ -350,7 +355,7 @@ impl Builder {
         };
         let start = Start::new(&world, seat, self.name.is_some());
         let (done, park, has_name) = start.told();
-        let builder = self.std(|| start.name());
+        let builder = self.std(|| Some(start.name()));
         held(&world.scopes).entry(scope.key()).or_default().push(Arc::clone(&done));
         let spawned = builder.spawn_scoped(scope.std(), move || start.run(work));
         let std = spawned.inspect_err(|_| {

@@ -100,7 +100,7 @@ impl Sub<Duration> for Instant {
     type Output = Instant;
 
     fn sub(self, less: Duration) -> Instant {
-        Instant(self.0 - less)
+        Instant(self.0.checked_sub(less).expect("overflow when subtracting duration from instant"))
     }
 }
 

@@ -4,9 +4,9 @@
 //! have added since (a release sequence of C++20). Values are sequentially consistent; only the clocks obey the orders. So a
 //! `Relaxed` publication is found, though the value itself is always the newest.
 use super::slot::Caller;
-use super::world::SEATS;
 use crate::Place;
 use crate::raw::{Access, Change};
+use crate::turns::SEATS;
 use std::fmt;
 use std::sync::atomic::Ordering;
 use std::time::Duration;
@@ -32,11 +32,10 @@ impl Kind {
     // The order of its load and that of its store, where it has one.
     fn orders(self, is_changed: bool) -> (Option<Ordering>, Option<Ordering>) {
         match self {
-            Kind::Load(order) => (Some(order), None),
             Kind::Store(order) => (None, Some(order)),
             Kind::Update(order) => (Some(order), Some(order)),
             Kind::Exchange(order, _) if is_changed => (Some(order), Some(order)),
-            Kind::Exchange(_, order) => (Some(order), None),
+            Kind::Load(order) | Kind::Exchange(_, order) => (Some(order), None),
         }
     }
 }
@@ -197,6 +196,11 @@ impl Memory {
         self.values[number as usize]
     }
 
+    /// Where it was given its value.
+    pub(crate) fn stored_at(&self, number: u32) -> Option<Caller> {
+        self.carried.get(number as usize)?.last.map(|store| store.place)
+    }
+
     /// Makes the access: the value found, or the one written.
     pub(crate) fn make(&mut self, number: u32, access: Access) -> u64 {
         let value = &mut self.values[number as usize];
@@ -275,8 +279,9 @@ impl Memory {
     }
 
     pub(crate) fn new_cell(&mut self) -> u32 {
+        let number = u32::try_from(self.touches.len()).expect("memory has no room for so many cells");
         self.touches.push(Touches::default());
-        self.touches.len() as u32 - 1
+        number
     }
 
     /// A plain read or write of a cell: the race with an earlier one that it conflicts with, if nothing orders them.
@@ -382,9 +387,12 @@ mod tests {
 
     #[test]
     fn fences_release_and_acquire_by_relaxed_accesses() {
-        for (before, after, is_ordered) in
-            [(Some(Release), Some(Acquire), true), (Some(SeqCst), Some(SeqCst), true), (None, Some(Acquire), false), (Some(Release), None, false)]
-        {
+        for (before, after, is_ordered) in [
+            (Some(Release), Some(Acquire), true),
+            (Some(SeqCst), Some(SeqCst), true),
+            (None, Some(Acquire), false),
+            (Some(Release), None, false),
+        ] {
             let mut memory = Memory::default();
             (1..3).for_each(|seat| memory.start(0, seat));
             memory.begin(0, 0);

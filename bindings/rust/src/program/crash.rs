@@ -93,7 +93,7 @@ mod system {
         BEFORE[at].store(before, Ordering::Release);
         let action = Action { handler: on_signal as extern "C" fn(c_int) as usize, flags: ON_STACK, ..empty() };
         // SAFETY: the handler takes a signal's number, allocates nothing, and calls what may be called in one.
-        unsafe { sigaction(signal, &action, null_mut()) };
+        unsafe { sigaction(signal, &raw const action, null_mut()) };
     }
 
     pub(super) fn watch() {

@@ -1,12 +1,13 @@
 //! One thread of a run: how it makes its accesses, notes what it gets from elsewhere, and waits.
+#![allow(clippy::cast_possible_truncation, reason = "the number of an object has 16 bits, and a note is one half of 64")]
 use super::clocks::{Kind, Memory};
-use super::draws::mixed;
+use super::held;
 use super::pointers::{coded, is_address, untagged};
 use super::slot::{Caller, Holds, Real, Slot};
-use super::turns::Wake;
 use super::world::{Deal, Done, Part, Way, Whims, World};
-use super::held;
 use crate::raw::{self, Access, Change};
+use crate::turns::draws::mixed;
+use crate::turns::{Does, Stuck, Wake};
 use crate::{Error, Place, thread};
 use std::cell::{Cell, RefCell};
 use std::ptr::null;
@@ -29,6 +30,8 @@ pub(crate) struct Ctx {
     has_heap: bool,
     /// By turns: it was picked, and has not yet made an access since.
     pub(crate) has_turn: Cell<bool>,
+    // By turns: where it starts, or goes on after a wait or a yield, its next access is another step.
+    is_fine: bool,
     part: RefCell<Part>,
     // The numbers of objects that it has dropped.
     free: RefCell<Vec<u32>>,
@@ -86,6 +89,7 @@ pub(crate) fn is_in_run() -> bool {
 /// Makes this operating-system thread the one of the part.
 pub(crate) fn enter(world: &Arc<World>, seat: usize, part: Part, done: &Arc<Done>, thread: thread::Thread) {
     LEAVING.with(|_| ());
+    let is_fine = world.way == Way::Turns && world.turns().schedule().is_fine();
     let ctx = Box::new(Ctx {
         world: Arc::clone(world),
         epoch: world.epoch,
@@ -93,7 +97,8 @@ pub(crate) fn enter(world: &Arc<World>, seat: usize, part: Part, done: &Arc<Done
         seat,
         way: world.way,
         has_heap: world.has_heap,
-        has_turn: Cell::new(true),
+        has_turn: Cell::new(!is_fine),
+        is_fine,
         part: RefCell::new(part),
         free: RefCell::default(),
         exchanges: Cell::new(0),
@@ -104,7 +109,7 @@ pub(crate) fn enter(world: &Arc<World>, seat: usize, part: Part, done: &Arc<Done
         thread,
     });
     match ctx.way {
-        Way::Turns => world.turns().wait_first(&ctx),
+        Way::Turns => ctx.picked(world.turns().until_picked(seat)),
         Way::Free | Way::Again => {
             ctx.part.borrow_mut().handle.start();
         }
@@ -129,8 +134,15 @@ impl Ctx {
 
     /// Stays here for ever: the run is over, and nothing of the program may go on with values that it has not.
     pub(crate) fn stay(&self) -> ! {
-        self.world.give_back(self, false);
-        super::world::stay()
+        self.world.stay(self)
+    }
+
+    // It goes on where it was picked; else the run is over.
+    fn picked<T>(&self, picked: Result<T, Stuck>) -> T {
+        picked.unwrap_or_else(|stuck| {
+            self.world.halt_stuck(stuck);
+            self.stay()
+        })
     }
 
     pub(crate) fn fail(&self, why: Error) -> ! {
@@ -269,7 +281,10 @@ impl Ctx {
     }
 
     fn settle<R: Real>(&self, slot: &Slot, real: &R, caller: Caller) {
-        let refused = slot.settle(real, Some(self.epoch)).err().map(|why| format!("{why}, and this is another one: one object is in one run at a time"));
+        let refused = slot
+            .settle(real, Some(self.epoch))
+            .err()
+            .map(|why| format!("{why}, and this is another one: one object is in one run at a time"));
         let refused = refused.or_else(|| real.spoilt().map(str::to_string));
         if let Some(why) = refused {
             self.refuse_use(caller, &why);
@@ -360,7 +375,11 @@ impl Ctx {
     fn polled(&self, part: &mut Part, mut status: i32, out: &mut u64) -> i32 {
         let (mut round, mut since) = (0_u32, None);
         while status == raw::PENDING {
-            if round < 100 { hint::spin_loop() } else { std::thread::yield_now() }
+            if round < 100 {
+                hint::spin_loop();
+            } else {
+                std::thread::yield_now();
+            }
             round = round.wrapping_add(1);
             if round % 256 == 0 {
                 let has_waited = since.get_or_insert_with(Instant::now).elapsed();
@@ -399,7 +418,11 @@ impl Ctx {
 
     #[inline(always)]
     fn make_of<R: Real>(&self, number: u16, access: Access, caller: Caller) -> u64 {
-        if self.holds_addresses::<R>() { self.make_of_pointers(number, access, caller) } else { self.make(number, access, caller) }
+        if self.holds_addresses::<R>() {
+            self.make_of_pointers(number, access, caller)
+        } else {
+            self.make(number, access, caller)
+        }
     }
 
     fn make_of_pointers(&self, number: u16, access: Access, caller: Caller) -> u64 {
@@ -414,9 +437,11 @@ impl Ctx {
     }
 
     fn access_in_turn<R: Real>(&self, slot: &Slot, real: &R, access: Access, kind: Kind, caller: Caller) -> u64 {
-        self.pass(caller);
+        let key = std::ptr::from_ref(slot) as usize;
+        self.pass(caller, if matches!(access, Access::Read) { Does::Reads(key) } else { Does::Writes(key) });
         let number = self.number(slot, real, caller);
-        let found = if self.has_heap { self.make_of::<R>(number as u16, access, caller) } else { self.memory().make(number, access) };
+        let found =
+            if self.has_heap { self.make_of::<R>(number as u16, access, caller) } else { self.memory().make(number, access) };
         let is_changed = match access {
             Access::Update { change: Change::CompareExchange, expected, .. } => found == expected,
             _ => true,
@@ -425,8 +450,8 @@ impl Ctx {
         found
     }
 
-    /// By turns: waits until this thread is picked.
-    pub(crate) fn pass(&self, caller: Caller) {
+    /// By turns: waits until this thread is picked, which then does this.
+    pub(crate) fn pass(&self, caller: Caller, does: Does) {
         if self.way != Way::Turns || self.has_turn.replace(false) {
             return;
         }
@@ -434,7 +459,22 @@ impl Ctx {
         if std::thread::panicking() {
             self.panic_begun();
         }
-        self.world.turns().pass(self);
+        self.picked(self.world.turns().pass(self.seat, self.place.get(), does));
+    }
+
+    /// By turns: lets the others go first, as the seed has it.
+    pub(crate) fn yield_in_turn(&self, caller: Caller) {
+        if self.picked(self.world.turns().yield_now(self.seat, caller)) {
+            self.place.set(Some(caller));
+            self.has_turn.set(!self.is_fine);
+        }
+    }
+
+    /// By turns: waits until the key is rung. Whether it was, and the time was not over before.
+    pub(crate) fn block(&self, key: usize, wake: Wake, is_timed: bool) -> bool {
+        let came = self.picked(self.world.turns().block(self.seat, key, wake, is_timed, Does::Nothing));
+        self.has_turn.set(came.was_picked && !self.is_fine);
+        came.is_rung
     }
 
     /// This thread panics: it began to after so many others.
@@ -444,9 +484,9 @@ impl Ctx {
         begun
     }
 
-    /// By turns: waits until this thread is picked, and what follows is one step with it.
-    pub(crate) fn pass_and_keep(&self, caller: Caller) {
-        self.pass(caller);
+    /// By turns: waits until this thread is picked, and what follows is one step with it, which does this.
+    pub(crate) fn pass_and_keep(&self, caller: Caller, does: Does) {
+        self.pass(caller, does);
         self.has_turn.set(true);
     }
 
@@ -476,7 +516,7 @@ impl Ctx {
         match self.way {
             Way::Again => true,
             Way::Turns => {
-                let is_rung = self.world.turns().block(self, key, wake, most.is_some());
+                let is_rung = self.block(key, wake, most.is_some());
                 if let (false, Some(most)) = (is_rung, most) {
                     self.memory().passed += most;
                 }
@@ -529,7 +569,8 @@ impl Ctx {
             return self.settle(slot, real, caller);
         }
         let number = self.number(slot, real, caller);
-        let value = if self.has_heap { self.make_of::<R>(number as u16, Access::Read, caller) } else { self.memory().value(number) };
+        let value =
+            if self.has_heap { self.make_of::<R>(number as u16, Access::Read, caller) } else { self.memory().value(number) };
         real.end(value);
         slot.leave();
     }

@@ -2,8 +2,9 @@
 //!
 //! It begins with `OCTN`, a byte of version and a byte that says whether exchanges fail for nothing. Then comes each thread: how
 //! many notes it has, and the notes, as little-endian numbers of four bytes.
-use super::world::{SEATS, Whims};
+use super::world::Whims;
 use crate::Error;
+use crate::turns::SEATS;
 use std::fs;
 use std::path::{Path, PathBuf};
 
@@ -26,7 +27,7 @@ fn bytes_of(notes: &Notes) -> Vec<u8> {
     let mut bytes = BEGIN.to_vec();
     bytes.push(u8::from(notes.whims != Whims::None));
     for thread in &notes.threads {
-        bytes.extend_from_slice(&(thread.len() as u32).to_le_bytes());
+        bytes.extend_from_slice(&u32::try_from(thread.len()).unwrap_or(u32::MAX).to_le_bytes());
         bytes.extend(thread.iter().flat_map(|note| note.to_le_bytes()));
     }
     bytes
@@ -44,7 +45,8 @@ fn parsed(bytes: &[u8]) -> Result<Notes, usize> {
     while !rest.is_empty() {
         let place = bytes.len() - rest.len();
         let (count, notes) = rest.split_first_chunk::<4>().ok_or(place)?;
-        let length = (u32::from_le_bytes(*count) as usize).checked_mul(4).filter(|length| *length <= notes.len()).ok_or(place)?;
+        let length =
+            (u32::from_le_bytes(*count) as usize).checked_mul(4).filter(|length| *length <= notes.len()).ok_or(place)?;
         if threads.len() == SEATS {
             return Err(place);
         }

@@ -37,8 +37,8 @@ impl Pointers {
             return number;
         }
         let mut pointers = self.pointers.write().unwrap_or_else(PoisonError::into_inner);
+        let number = u32::try_from(pointers.len()).unwrap_or(u32::MAX);
         pointers.push(pointer);
-        let number = pointers.len() as u32 - 1;
         numbers.insert(pointer, number);
         number
     }

@@ -2,17 +2,19 @@
 //!
 //! A run that is explored leaves the values outside as they were, so each seed begins with the same ones. A run that is recorded
 //! hands on what it leaves: an object takes that over when it is next used.
+#![allow(clippy::cast_possible_truncation, reason = "a word has several numbers, each in so many of its bits")]
 use super::clocks::Kind;
 use super::ctx::{Ctx, with};
 use super::held;
 use super::pointers::Pointers;
+use super::world::Way;
 use crate::raw::{Access, Change};
 use std::collections::BTreeMap;
-use std::panic::Location;
 use std::sync::Mutex;
 use std::sync::atomic::{AtomicU64, Ordering};
 
-pub(crate) type Caller = &'static Location<'static>;
+pub(crate) use crate::turns::Caller;
+use crate::turns::Holder;
 
 /// What an object's values are.
 #[derive(Clone, Copy, PartialEq, Eq)]
@@ -92,14 +94,14 @@ impl Slot {
     #[inline(always)]
     pub(crate) fn number_in(&self, epoch: u32) -> Option<u32> {
         let word = self.word.load(Ordering::Acquire);
-        (epoch_of(word) == epoch).then_some(word as u16 as u32)
+        (epoch_of(word) == epoch).then_some(u32::from(word as u16))
     }
 
     /// Its number, where the thread of this bit has met it.
     #[inline(always)]
     pub(crate) fn met_by(&self, epoch: u32, bit: u64) -> Option<u32> {
         let word = self.word.load(Ordering::Relaxed);
-        (epoch_of(word) == epoch && word & bit != 0).then_some(word as u16 as u32)
+        (epoch_of(word) == epoch && word & bit != 0).then_some(u32::from(word as u16))
     }
 
     /// The thread of this bit has met it, under this number.
@@ -131,7 +133,7 @@ impl Slot {
             None => self.word.store(0, Ordering::Release),
             Some(Run::GoesOn) => return Err("is in a run that goes on"),
             Some(Run::Over(over)) => {
-                if let Some(&value) = over.values.get(word as u16 as usize) {
+                if let Some(&value) = over.values.get(usize::from(word as u16)) {
                     let pointers = over.pointers.as_ref().filter(|_| R::HOLDS != Holds::Numbers);
                     real.end(pointers.map_or(value, |pointers| pointers.pointer(value)));
                 }
@@ -151,7 +153,7 @@ impl Slot {
         let epoch = epoch_of(word);
         let is_here = with(|ctx| match ctx {
             Some(ctx) if ctx.epoch == epoch => {
-                ctx.give_back(word as u16 as u32);
+                ctx.give_back(u32::from(word as u16));
                 true
             }
             _ => false,
@@ -190,6 +192,12 @@ pub(crate) struct Object<R> {
 impl<R> Object<R> {
     pub(crate) const fn new(real: R) -> Object<R> {
         Object { slot: Slot::new(), real }
+    }
+
+    /// By turns: who holds it, and where that was stored.
+    pub(crate) fn held_by(&self, ctx: &Ctx, seat: u64) -> Option<Holder> {
+        let number = self.slot.number_in(ctx.epoch).filter(|_| ctx.way == Way::Turns);
+        Some(Holder { seat: usize::try_from(seat).ok()?, at: number.and_then(|number| ctx.memory().stored_at(number)) })
     }
 
     /// By this key threads wait for it.

@@ -8,21 +8,21 @@
 //! What a thread gets from elsewhere than from an access is a *note*: the number of an object that it meets first, the number of
 //! a pointer that it stores, the seat of a thread that it starts, whether a wait timed out, what the clock said. Notes of a
 //! thread are kept in its order, and taken again by a second run.
-use super::bells::Bells;
 use super::clocks::{Clock, Memory};
 use super::ctx::Ctx;
 use super::held;
 use super::pointers::Pointers;
 use super::slot::{self, Caller};
-use super::turns::Turns;
+use crate::bells::Bells;
+use crate::error::Wait;
 use crate::raw::Handle;
-use crate::{Error, Place};
+use crate::turns::{SEATS, Stuck, Turns, Waiter, Watching};
+use crate::{Absence, Error, Place};
 use std::collections::HashMap;
 use std::sync::atomic::{AtomicBool, AtomicI64, AtomicU32, AtomicU64, AtomicUsize, Ordering};
 use std::sync::{Arc, Condvar, Mutex, PoisonError};
 use std::time::{Duration, Instant};
 
-pub(crate) const SEATS: usize = 16;
 /// The most objects that a number has bits for.
 pub(crate) const MOST_OBJECTS: u32 = 65_535;
 /// How often one that waits looks again, and how long threads of a run that was halted are waited for.
@@ -41,7 +41,9 @@ pub(crate) enum Way {
 pub(crate) enum Whims {
     None,
     /// As this seed draws.
-    Drawn { seed: u64 },
+    Drawn {
+        seed: u64,
+    },
     /// As the notes say.
     Noted,
 }
@@ -96,8 +98,11 @@ struct Ending {
     panics: Vec<Arc<Done>>,
     // When it began, and what it says.
     first_panic: Option<(u64, String)>,
+    // The threads that are alive are waited for no more.
+    is_left: bool,
 }
 
+#[allow(clippy::struct_excessive_bools, reason = "each says one thing of how the run is made")]
 pub(crate) struct World {
     pub(crate) epoch: u32,
     pub(crate) way: Way,
@@ -175,12 +180,30 @@ pub(crate) fn staying() -> usize {
     STAYING.load(Ordering::Relaxed)
 }
 
-/// This thread stays here for ever.
-pub(crate) fn stay() -> ! {
-    STAYING.fetch_add(1, Ordering::Relaxed);
-    loop {
-        std::thread::park();
+fn wait_of(Waiter { thread, wake, .. }: Waiter) -> Wait {
+    Wait {
+        thread,
+        name: wake.what.to_string(),
+        holder: wake.holder.map(|holder| holder.seat),
+        place: Some(wake.place.into()),
+        held_at: wake.holder.and_then(|holder| holder.at).map(Place::from),
     }
+}
+
+// Why a run by turns is over, where its turns say it.
+fn error_of(stuck: Stuck) -> Option<Error> {
+    Some(match stuck {
+        Stuck::Deadlock(waiters) => Error::Deadlock { waits: waiters.into_iter().map(wait_of).collect() },
+        Stuck::TooLong { most, thread, at } => {
+            let at = at.map_or(String::new(), |at| format!(", at {}", Place::from(at)));
+            let what =
+                format!("the run has not ended after {most} steps; thread {thread} moves{at}: Program::steps allows more");
+            Error::Refused { what }
+        }
+        // Of a program all threads are there, and none says that it waits elsewhere.
+        Stuck::Absent { thread, at, .. } => Error::NotBack { thread, place: at.map(Place::from), why: Absence::Elsewhere },
+        Stuck::Stopped => return None,
+    })
 }
 
 fn seats_of(handles: Vec<Handle>, notes: Vec<Vec<u32>>, count: usize) -> Vec<Seat> {
@@ -255,11 +278,23 @@ impl World {
         (self.numbers.load(Ordering::Relaxed), self.seats_used.load(Ordering::Relaxed))
     }
 
+    // The first one that is free. Of a search one that was never taken, since else who starts first would matter.
+    fn free_seat(&self, seats: &[Seat]) -> Option<usize> {
+        if let Some(turns) = self.turns.as_ref().filter(|turns| turns.schedule().is_fine()) {
+            let used = self.seats_used.load(Ordering::Relaxed);
+            if used < seats.len() {
+                return Some(used);
+            }
+            turns.unsure();
+        }
+        seats.iter().position(|seat| !seat.is_taken)
+    }
+
     /// A seat for a new thread: a free one, or, again, the one of the note.
     pub(crate) fn take_seat(&self, noted: Option<u32>) -> Option<usize> {
         let mut seats = held(&self.seats);
         let at = match noted {
-            None => seats.iter().position(|seat| !seat.is_taken)?,
+            None => self.free_seat(&seats)?,
             Some(at) => {
                 let since = Instant::now();
                 while seats.get(at as usize)?.is_taken {
@@ -312,9 +347,35 @@ impl World {
         held(&self.ending).why.get_or_insert(why);
         self.is_halted.store(true, Ordering::SeqCst);
         if let Some(turns) = &self.turns {
-            turns.wake_all();
+            turns.stop();
         }
         self.ended.notify_all();
+    }
+
+    /// The run ends here, since its threads are stuck.
+    pub(crate) fn halt_stuck(&self, stuck: Stuck) {
+        if let Some(error) = error_of(stuck) {
+            self.halt(error);
+        }
+    }
+
+    // By turns: those who wait for the thread's end go on.
+    fn end_in_turn(&self, ctx: &Ctx) {
+        *held(&ctx.done.clock) = ctx.memory().clock(ctx.seat);
+        ctx.done.is_over.store(true, Ordering::Release);
+        self.turns().wake(ctx.done.key(), true);
+        if let Err(stuck) = self.turns().end(ctx.seat) {
+            self.halt_stuck(stuck);
+        }
+    }
+
+    /// This thread leaves its seat, and stays here for ever.
+    pub(crate) fn stay(&self, ctx: &Ctx) -> ! {
+        self.give_back(ctx, false);
+        STAYING.fetch_add(1, Ordering::Relaxed);
+        loop {
+            std::thread::park();
+        }
     }
 
     /// The thread leaves its seat: it is over, or stays where it is for ever.
@@ -334,21 +395,33 @@ impl World {
         if is_over {
             held(&self.deal).free.append(&mut ctx.freed());
             if self.way == Way::Turns {
-                self.turns().end(ctx);
+                self.end_in_turn(ctx);
             }
         }
-        held(&self.ending).alive -= 1;
+        let mut ending = held(&self.ending);
+        ending.alive -= 1;
+        // Whoever was left behind is counted already.
+        STAYING.fetch_sub(usize::from(ending.is_left), Ordering::Relaxed);
+        drop(ending);
         self.ended.notify_all();
     }
 
     /// Waits until no thread moves any more.
     pub(crate) fn wait_ended(&self) {
         let mut ending = held(&self.ending);
-        let mut halted_since = None;
+        let (mut halted_since, mut watching) = (None, Watching::new());
         while ending.alive > 0 {
             ending = self.ended.wait_timeout(ending, LOOK).unwrap_or_else(PoisonError::into_inner).0;
-            // Of a run that was halted, threads that make no access never stop.
-            if ending.why.is_some() && halted_since.get_or_insert_with(Instant::now).elapsed() > HALTING {
+            if ending.why.is_none() {
+                drop(ending);
+                // One that was picked may wait for what no schedule knows.
+                let absent = self.turns.as_ref().and_then(|turns| turns.look(&mut watching));
+                absent.into_iter().for_each(|absent| self.halt_stuck(absent));
+                ending = held(&self.ending);
+            } else if halted_since.get_or_insert_with(Instant::now).elapsed() > HALTING {
+                // Of a run that was halted, threads that make no access never stop.
+                ending.is_left = true;
+                STAYING.fetch_add(ending.alive, Ordering::Relaxed);
                 return;
             }
         }
@@ -367,7 +440,10 @@ impl World {
             why: ending.why.take(),
             panic: if main_panicked { ending.first_panic.take().map(|(_, message)| message) } else { unjoined },
             notes: parts.iter_mut().map(|part| std::mem::take(&mut part.notes)).collect(),
-            places: parts.iter_mut().map(|part| std::mem::take(&mut part.places).into_iter().map(Place::from).collect()).collect(),
+            places: parts
+                .iter_mut()
+                .map(|part| std::mem::take(&mut part.places).into_iter().map(Place::from).collect())
+                .collect(),
             handles: is_whole.then(|| parts.into_iter().map(|part| part.handle).collect()),
         }
     }

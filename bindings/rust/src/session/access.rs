@@ -3,6 +3,8 @@ use super::{Caller, Object, Session};
 use crate::Error;
 use crate::given_up::Begun;
 use crate::raw::{self, Access, Change, Handle};
+use crate::turns::Does;
+use crate::waits::key_of;
 use std::panic::Location;
 
 /// # Accesses
@@ -53,7 +55,8 @@ impl Session {
         if object.heap != self.heap {
             return Err(Error::OtherHeap);
         }
-        self.take_turn(Some(caller))?;
+        let key = key_of(object.place);
+        self.take_turn(Some(caller), if matches!(access, Access::Read) { Does::Reads(key) } else { Does::Writes(key) })?;
         self.make_noted(object.place, access, caller)
     }
 

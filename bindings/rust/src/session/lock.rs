@@ -2,7 +2,8 @@
 use super::{Caller, Session};
 use crate::Error;
 use crate::raw::{Access, Change};
-use crate::shared::Order;
+use crate::turns::Does;
+use crate::waits::key_of;
 use std::panic::Location;
 
 const READ: Access = Access::Read;
@@ -40,19 +41,22 @@ impl Session {
         if self.held.contains(&lock) {
             return Err(Error::Held { name: self.shared.locks[lock].name.clone() });
         }
-        self.wait_stopped(|shared, thread| match &shared.order {
-            Order::Free { gates, .. } if gates[lock].take(shared.patience) => Ok(()),
-            Order::Free { .. } => Err(Error::Patience { thread }),
-            Order::Turns(turnstile) => turnstile.take(thread, lock, Some(caller)).map_err(|stuck| shared.stuck(stuck)),
-            Order::Again => Ok(()),
+        self.take_turn_if_any(caller, Does::Writes(self.key_of_lock(lock)))?;
+        self.wait_stopped(|shared, thread| {
+            let taken = shared.waits().map_or(Ok(()), |waits| shared.locks[lock].take(waits, thread, caller));
+            taken.map_err(|missed| shared.missed(thread, missed))
         })?;
         self.held.push(lock);
         self.note_taken(lock, caller).inspect_err(|_| self.free(lock))
     }
 
     // Waits for a turn, where threads take turns.
-    fn take_turn_if_any(&mut self, caller: Caller) -> Result<(), Error> {
-        if self.at_once == self.heap { Ok(()) } else { self.take_turn(Some(caller)) }
+    fn take_turn_if_any(&mut self, caller: Caller, does: Does) -> Result<(), Error> {
+        if self.at_once == self.heap { Ok(()) } else { self.take_turn(Some(caller), does) }
+    }
+
+    fn key_of_lock(&self, lock: usize) -> usize {
+        key_of(self.shared.locks[lock].object)
     }
 
     // Tells that the thread frees the lock, which it has still.
@@ -66,10 +70,8 @@ impl Session {
             return;
         };
         self.held.remove(at);
-        match &self.shared.order {
-            Order::Free { gates, .. } => gates[lock].free(),
-            Order::Turns(turnstile) => turnstile.free(lock),
-            Order::Again => {}
+        if let Some(waits) = self.shared.waits() {
+            self.shared.locks[lock].free(waits);
         }
     }
 
@@ -110,7 +112,8 @@ impl Session {
         let done = work(holding.0);
         // A wait that failed has freed it.
         if holding.0.held.contains(&lock) {
-            let noted = holding.0.take_turn_if_any(caller).and_then(|()| holding.0.note_freed(lock, caller));
+            let frees = Does::Writes(holding.0.key_of_lock(lock));
+            let noted = holding.0.take_turn_if_any(caller, frees).and_then(|()| holding.0.note_freed(lock, caller));
             return done.and_then(|done| noted.map(|()| done).map_err(E::from));
         }
         done
@@ -151,21 +154,19 @@ impl Session {
             return Err(Error::NotHeld { name: condition.to_string() });
         };
         // That it waits, and that it frees the lock, is one step of a schedule.
-        self.take_turn_if_any(caller)?;
-        self.make_noted(self.shared.conditions[at].object, update(Change::Add, 1, 0), caller)?;
-        let place = match &self.shared.order {
-            Order::Free { bells, .. } => bells[at].place(),
-            Order::Turns(_) | Order::Again => 0,
-        };
+        let condition = self.shared.conditions[at].object;
+        self.take_turn_if_any(caller, Does::WritesBoth(key_of(condition), self.key_of_lock(lock)))?;
+        self.make_noted(condition, update(Change::Add, 1, 0), caller)?;
+        let place = self.shared.waits().map_or(0, |waits| self.shared.conditions[at].come(waits, self.number));
         self.note_freed(lock, caller)?;
-        let waited = self.wait_stopped(|shared, thread| match &shared.order {
-            Order::Free { gates, bells } => {
-                gates[lock].free();
-                let woken = bells[at].wait(place, shared.patience) && gates[lock].take(shared.patience);
-                if woken { Ok(()) } else { Err(Error::Patience { thread }) }
-            }
-            Order::Turns(turnstile) => turnstile.sleep(thread, at, lock, Some(caller)).map_err(|stuck| shared.stuck(stuck)),
-            Order::Again => Ok(()),
+        let waited = self.wait_stopped(|shared, thread| {
+            let Some(waits) = shared.waits() else {
+                return Ok(());
+            };
+            shared.locks[lock].free(waits);
+            let woken = shared.conditions[at].wait(waits, place, &shared.locks[lock], thread, caller);
+            let taken = woken.and_then(|()| shared.locks[lock].take(waits, thread, caller));
+            taken.map_err(|missed| shared.missed(thread, missed))
         });
         if let Err(error) = waited {
             // It holds the lock no more.
@@ -242,12 +243,11 @@ impl Session {
     ) -> Result<(), Error> {
         let caller = self.caller.unwrap_or(caller);
         let at = self.shared.condition(condition)?;
-        self.take_turn_if_any(caller)?;
-        let count = counted(self, self.shared.conditions[at].object, caller)?;
-        match &self.shared.order {
-            Order::Free { bells, .. } => bells[at].wake(count),
-            Order::Turns(turnstile) => turnstile.wake(at, count),
-            Order::Again => {}
+        let object = self.shared.conditions[at].object;
+        self.take_turn_if_any(caller, Does::Writes(key_of(object)))?;
+        let count = counted(self, object, caller)?;
+        if let Some(waits) = self.shared.waits() {
+            self.shared.conditions[at].wake(waits, count);
         }
         Ok(())
     }

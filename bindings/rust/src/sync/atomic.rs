@@ -8,10 +8,18 @@
 //! static COUNT: AtomicUsize = AtomicUsize::new(0);
 //! assert_eq!(COUNT.fetch_add(1, Ordering::Relaxed), 0);
 //! ```
+#![allow(
+    clippy::cast_lossless,
+    clippy::cast_possible_truncation,
+    clippy::cast_possible_wrap,
+    clippy::cast_sign_loss,
+    reason = "each type is kept in 64 bits, and comes back as it was"
+)]
 use crate::program::ctx::{Ctx, with};
 use crate::program::slot::{Caller, Holds, Object, Real, Refused};
 use crate::program::{Kind, world::Way};
 use crate::raw::{Access, Change};
+use crate::turns::Does;
 use std::fmt;
 use std::panic::Location;
 use std::sync::atomic as real;
@@ -57,18 +65,25 @@ const fn update(change: Change, operand: u64) -> Access {
 #[inline(always)]
 #[track_caller]
 fn judge_load(order: Ordering) {
-    assert!(!matches!(order, Ordering::Release | Ordering::AcqRel), "there is no such thing as a release or acquire-release load");
+    assert!(
+        !matches!(order, Ordering::Release | Ordering::AcqRel),
+        "there is no such thing as a release or acquire-release load"
+    );
 }
 
 #[inline(always)]
 #[track_caller]
 fn judge_store(order: Ordering) {
-    assert!(!matches!(order, Ordering::Acquire | Ordering::AcqRel), "there is no such thing as an acquire or acquire-release store");
+    assert!(
+        !matches!(order, Ordering::Acquire | Ordering::AcqRel),
+        "there is no such thing as an acquire or acquire-release store"
+    );
 }
 
 // A read and an exchange, again until nothing comes between. By turns nothing does.
 fn by_exchange<R: Real>(object: &Object<R>, ctx: &Ctx, order: Ordering, caller: Caller, new: impl Fn(u64) -> u64) -> u64 {
     loop {
+        ctx.pass_and_keep(caller, Does::Writes(object.key()));
         let found = object.access(ctx, Access::Read, Kind::Load(Ordering::Relaxed), caller);
         ctx.has_turn.set(true);
         let exchange = Access::Update { change: Change::CompareExchange, operand: new(found), expected: found };

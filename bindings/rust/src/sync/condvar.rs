@@ -2,7 +2,8 @@
 use super::{Mutex, MutexGuard, answered};
 use crate::program::ctx::{Ctx, is_in_run, with};
 use crate::program::slot::Caller;
-use crate::program::{Wake, world::Way};
+use crate::program::world::Way;
+use crate::turns::{Does, Wake};
 use std::fmt;
 use std::panic::Location;
 use std::sync::{self, LockResult, PoisonError};
@@ -78,7 +79,7 @@ impl Condvar {
         let ticket = ctx.ticket(key);
         if ctx.way == Way::Turns {
             // What is freed and who waits is one step, as `std` has it.
-            ctx.pass_and_keep(caller);
+            ctx.pass_and_keep(caller, Does::WritesBoth(key, lock.key()));
             ctx.world.turns().list(ctx.seat, key);
         }
         lock.free(ctx, caller);
@@ -180,7 +181,7 @@ impl Condvar {
         }
         with(|ctx| {
             ctx.map(|ctx| {
-                ctx.pass(caller);
+                ctx.pass(caller, Does::Writes(self.key()));
                 ctx.wake(self.key(), all);
             })
         });

@@ -46,7 +46,7 @@ impl<T> OnceLock<T> {
         // SAFETY: `once` is done, so the value is written, and nobody writes it again while this run goes on. A later run may write
         // another one there, and leaves this one's memory as it is.
         let value = unsafe { &*self.value.get() };
-        let value: *const T = &***value.as_ref().expect("it is made");
+        let value = &raw const ***value.as_ref().expect("it is made");
         // SAFETY: the box is dropped by `take` and with the whole alone, which have it to themselves.
         unsafe { &*value }
     }
@@ -227,7 +227,7 @@ impl<T, F: FnOnce() -> T> LazyLock<T, F> {
         let make = self.make.take()?;
         if id_of::<F>() == id_of::<fn() -> T>() {
             // SAFETY: it is a pointer to a function, which may be copied.
-            self.make.set(Some(unsafe { ptr::read(&make) }));
+            self.make.set(Some(unsafe { ptr::read(&raw const make) }));
         }
         Some(make)
     }

@@ -27,21 +27,20 @@ struct Channel<T> {
     room: Option<usize>,
 }
 
+#[track_caller]
+fn waited<'a, T>(condition: &Condvar, state: MutexGuard<'a, State<T>>) -> MutexGuard<'a, State<T>> {
+    condition.wait(state).unwrap_or_else(PoisonError::into_inner)
+}
+
 impl<T> Channel<T> {
     fn new(room: Option<usize>) -> Arc<Channel<T>> {
-        let state =
-            State { queue: VecDeque::new(), sent: 0, taken: 0, senders: 1, has_receiver: true, is_awaited: false };
+        let state = State { queue: VecDeque::new(), sent: 0, taken: 0, senders: 1, has_receiver: true, is_awaited: false };
         Arc::new(Channel { state: Mutex::new(state), filled: Condvar::new(), emptied: Condvar::new(), room })
     }
 
     #[track_caller]
     fn state(&self) -> MutexGuard<'_, State<T>> {
         self.state.lock().unwrap_or_else(PoisonError::into_inner)
-    }
-
-    #[track_caller]
-    fn waited<'a>(&self, condition: &Condvar, state: MutexGuard<'a, State<T>>) -> MutexGuard<'a, State<T>> {
-        condition.wait(state).unwrap_or_else(PoisonError::into_inner)
     }
 
     // Whether a value is let in now. One of no room takes it where the receiver waits, or the sender will.
@@ -60,7 +59,7 @@ impl<T> Channel<T> {
             if !waits {
                 return Err(TrySendError::Full(value));
             }
-            state = self.waited(&self.emptied, state);
+            state = waited(&self.emptied, state);
         }
         if !state.has_receiver {
             return Err(TrySendError::Disconnected(value));
@@ -74,7 +73,7 @@ impl<T> Channel<T> {
         }
         // Of no room: it is sent once it was taken.
         while state.taken <= mine && state.has_receiver {
-            state = self.waited(&self.emptied, state);
+            state = waited(&self.emptied, state);
         }
         let own = state.queue.iter().position(|(number, _)| *number == mine);
         match own.and_then(|at| state.queue.remove(at)) {

@@ -2,7 +2,8 @@
 use super::answered;
 use crate::program::ctx::{Ctx, is_in_run, with};
 use crate::program::slot::{Caller, Object, Real, Refused};
-use crate::program::{Wake, world::Way};
+use crate::program::world::Way;
+use crate::turns::Wake;
 use std::cell::UnsafeCell;
 use std::fmt;
 use std::marker::PhantomData;
@@ -110,15 +111,20 @@ impl<T: ?Sized> Mutex<T> {
         Ok(())
     }
 
+    /// By this key threads wait for it.
+    pub(super) fn key(&self) -> usize {
+        self.object.key()
+    }
+
     /// By a thread of a run: waits until it is taken.
     pub(super) fn take(&self, ctx: &Ctx, caller: Caller) {
-        let key = self.object.key();
+        let key = self.key();
         loop {
             let ticket = ctx.ticket(key);
             match self.try_take(ctx, caller) {
                 Ok(()) => return,
                 Err(found) => {
-                    let holder = found.checked_sub(1).map(|seat| seat as usize);
+                    let holder = found.checked_sub(1).and_then(|seat| self.object.held_by(ctx, seat));
                     ctx.wait(key, ticket, Wake { what: "a Mutex", place: caller, holder }, None);
                 }
             }
@@ -128,7 +134,7 @@ impl<T: ?Sized> Mutex<T> {
     /// By a thread of a run that holds it.
     pub(super) fn free(&self, ctx: &Ctx, caller: Caller) {
         self.object.store(ctx, 0, caller);
-        ctx.wake(self.object.key(), true);
+        ctx.wake(self.key(), true);
     }
 
     fn guard<'a>(&'a self, outside: Option<sync::MutexGuard<'a, ()>>) -> MutexGuard<'a, T> {

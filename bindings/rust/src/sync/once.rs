@@ -1,7 +1,7 @@
 //! What is done once.
-use crate::program::Wake;
 use crate::program::ctx::{is_in_run, with};
 use crate::program::slot::{Caller, Object, Real, Refused};
+use crate::turns::Wake;
 use std::fmt;
 use std::panic::{Location, RefUnwindSafe, UnwindSafe};
 use std::sync;
@@ -157,7 +157,7 @@ impl Once {
                 // Whoever does it may have done it since.
                 let now = self.object.load(ctx, caller);
                 if now >= RUNS {
-                    let holder = Some((now - RUNS) as usize);
+                    let holder = self.object.held_by(ctx, now - RUNS);
                     ctx.wait(key, ticket, Wake { what: "a Once", place: caller, holder }, None);
                 }
                 Some(self.object.load(ctx, caller))
@@ -224,7 +224,7 @@ impl Once {
                 let ticket = ctx.ticket(key);
                 let found = self.object.load(ctx, caller);
                 if found == FRESH || found >= RUNS {
-                    let holder = found.checked_sub(RUNS).map(|seat| seat as usize);
+                    let holder = found.checked_sub(RUNS).and_then(|seat| self.object.held_by(ctx, seat));
                     ctx.wait(key, ticket, Wake { what: "a Once", place: caller, holder }, None);
                 }
                 Some(found)

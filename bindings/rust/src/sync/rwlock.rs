@@ -2,8 +2,9 @@
 use super::answered;
 use crate::program::ctx::{Ctx, is_in_run, with};
 use crate::program::slot::{Caller, Object, Real, Refused};
-use crate::program::{Wake, world::Way};
+use crate::program::world::Way;
 use crate::raw::Change;
+use crate::turns::Wake;
 use std::cell::UnsafeCell;
 use std::fmt;
 use std::marker::PhantomData;
@@ -147,7 +148,7 @@ impl<T: ?Sized> RwLock<T> {
                 return;
             };
             let what = if writes { "a RwLock, to write" } else { "a RwLock, to read" };
-            let holder = found.checked_sub(WRITER).map(|seat| seat as usize);
+            let holder = found.checked_sub(WRITER).and_then(|seat| self.object.held_by(ctx, seat));
             ctx.wait(key, ticket, Wake { what, place: caller, holder }, None);
         }
     }
@@ -206,7 +207,12 @@ impl<T: ?Sized> RwLock<T> {
     }
 
     // Tries it by a thread of a run, or outside.
-    fn try_now<G>(&self, writes: bool, caller: Caller, outside: impl FnOnce() -> TryLockResult<G>) -> Result<Option<G>, TryLockError<()>> {
+    fn try_now<G>(
+        &self,
+        writes: bool,
+        caller: Caller,
+        outside: impl FnOnce() -> TryLockResult<G>,
+    ) -> Result<Option<G>, TryLockError<()>> {
         match with(|ctx| ctx.map(|ctx| self.try_take(ctx, writes, caller))) {
             Some(Ok(())) => Ok(None),
             Some(Err(_)) => Err(TryLockError::WouldBlock),

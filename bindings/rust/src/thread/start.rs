@@ -27,7 +27,7 @@ pub(super) fn seat_by() -> io::Result<Option<(Arc<World>, usize)>> {
             if noted == NO_SEAT { None } else { ctx.stopped(|| world.take_seat(Some(noted))) }
         } else {
             let taken = world.take_seat(None);
-            ctx.note(|| taken.map_or(NO_SEAT, |seat| seat as u32));
+            ctx.note(|| taken.and_then(|seat| u32::try_from(seat).ok()).unwrap_or(NO_SEAT));
             taken
         };
         let all_taken = || io::Error::other("all threads of the run are alive: Program::threads allows up to 16");
@@ -66,8 +66,8 @@ impl Start {
     }
 
     /// The system names it so, where the program does not.
-    pub(super) fn name(&self) -> Option<String> {
-        Some(format!("octet-{}", self.seat))
+    pub(super) fn name(&self) -> String {
+        format!("octet-{}", self.seat)
     }
 
     pub(super) fn run<T>(self, work: impl FnOnce() -> T) -> T {
@@ -96,7 +96,7 @@ where
 {
     let start = Start::new(world, seat, builder.name.is_some());
     let (done, park, has_name) = start.told();
-    let builder = builder.std(|| start.name());
+    let builder = builder.std(|| Some(start.name()));
     let std = builder.spawn(move || start.run(work)).inspect_err(|_| world.unseat(seat))?;
     let thread = Thread { std: std.thread().clone(), park: Some(park), has_name };
     Ok(JoinHandle { std, done: Some(done), thread })

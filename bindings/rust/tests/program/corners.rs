@@ -75,7 +75,12 @@ fn what_is_done_once_is_poisoned_by_a_panic() {
         assert_eq!((cell.set(4), cell.set(5), cell.get()), (Ok(()), Err(5), Some(&4)));
         let lazy: LazyLock<u32> = LazyLock::new(|| resume_unwind(Box::new("on purpose")));
         assert!(catch_unwind(AssertUnwindSafe(|| *lazy)).is_err());
-        assert_eq!(message(|| { let _ = *lazy; }), "LazyLock instance has previously been poisoned");
+        assert_eq!(
+            message(|| {
+                let _ = *lazy;
+            }),
+            "LazyLock instance has previously been poisoned"
+        );
     });
 }
 
@@ -173,9 +178,19 @@ fn an_exchange_may_fail_for_nothing() {
 fn orders_that_there_are_not() {
     everywhere("orders", || {
         let x = AtomicU64::new(0);
-        assert_eq!(message(|| { let _ = x.load(Release); }), "there is no such thing as a release or acquire-release load");
+        assert_eq!(
+            message(|| {
+                let _ = x.load(Release);
+            }),
+            "there is no such thing as a release or acquire-release load"
+        );
         assert_eq!(message(|| x.store(0, Acquire)), "there is no such thing as an acquire or acquire-release store");
-        assert!(message(|| { let _ = x.compare_exchange(0, 1, SeqCst, AcqRel); }).contains("no such thing"));
+        assert!(
+            message(|| {
+                let _ = x.compare_exchange(0, 1, SeqCst, AcqRel);
+            })
+            .contains("no such thing")
+        );
         assert!(message(|| octet::sync::atomic::fence(Relaxed)).contains("relaxed fence"));
     });
 }
@@ -186,7 +201,7 @@ fn numbers_that_look_like_addresses_are_numbers() {
     let sums = || {
         let (wide, sum) = (AtomicU64::new(1 << 41), AtomicUsize::new((1 << 46) + 8));
         wide.fetch_add(8, SeqCst);
-        sum.fetch_add(wide.load(SeqCst) as usize, SeqCst);
+        sum.fetch_add(usize::try_from(wide.load(SeqCst)).unwrap(), SeqCst);
         sum.fetch_max(1 << 44, SeqCst);
         (wide.load(SeqCst), sum.load(SeqCst))
     };

@@ -27,7 +27,9 @@ fn it_is_shrunk_saved_and_replayed() {
         assert!(payload.downcast_ref::<String>().is_some_and(|message| message.contains("an addition is lost")));
     }
     // Another program leaves the recording, and does not wait for what never comes.
-    let other = || { let _ = AtomicU64::new(0).load(SeqCst); };
+    let other = || {
+        let _ = AtomicU64::new(0).load(SeqCst);
+    };
     assert!(matches!(program::replay(&stem, other), Err(Error::Diverged { .. } | Error::NotWhole)));
 }
 
@@ -52,6 +54,9 @@ fn a_deadlock_names_each_line_and_who_holds_what() {
         assert_eq!((wait.thread, wait.holder), (thread, Some(1 - thread)));
         let place = wait.place.as_ref().map(ToString::to_string).unwrap_or_default();
         assert!(place.ends_with(&format!("found.rs:{}", lines[1 - thread])), "{wait}");
+        // The other one has taken it on the line before that on which it waits.
+        let held_at = wait.held_at.as_ref().map(ToString::to_string).unwrap_or_default();
+        assert!(held_at.ends_with(&format!("found.rs:{}", lines[thread] - 1)), "{wait}");
     }
     assert_eq!(waits.len(), 2);
     assert!(found.left_behind() >= 2, "{}", found.left_behind());
@@ -150,7 +155,10 @@ fn a_recorded_run_hands_on_what_it_leaves() {
     crate::small().record(&file, move || other.fetch_add(4, SeqCst)).unwrap();
     assert_eq!(x.load(SeqCst), 5);
     let other = Arc::clone(&x);
-    program::explore(0..2, move || { let _ = other.fetch_add(1, SeqCst); }).unwrap();
+    program::explore(0..2, move || {
+        let _ = other.fetch_add(1, SeqCst);
+    })
+    .unwrap();
     assert_eq!(x.load(SeqCst), 5);
     // A second run begins with what the first one had.
     let other = Arc::clone(&x);

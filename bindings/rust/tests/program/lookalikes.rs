@@ -138,7 +138,9 @@ fn what_is_done_once() {
         thread::scope(|scope| {
             for _ in 0..3 {
                 scope.spawn(|| {
-                    once.call_once(|| { let _ = count.fetch_add(1, SeqCst); });
+                    once.call_once(|| {
+                        let _ = count.fetch_add(1, SeqCst);
+                    });
                     cell.get_or_init(|| count.fetch_add(10, SeqCst));
                 });
             }
@@ -181,7 +183,14 @@ fn shared_pointers() {
         let counts = (Arc::strong_count(&shared), Arc::weak_count(&shared));
         *Arc::make_mut(&mut shared) += 1;
         let value = thread::spawn(move || Arc::try_unwrap(other).unwrap()).join().unwrap();
-        (counts.0, counts.1, is_shared, value + *shared, weak.upgrade().map(|value| *value), Weak::<u32>::new().upgrade().is_none())
+        (
+            counts.0,
+            counts.1,
+            is_shared,
+            value + *shared,
+            weak.upgrade().map(|value| *value),
+            Weak::<u32>::new().upgrade().is_none(),
+        )
     }
     everywhere("arc", arc, (2, 1, true, 3, None, true));
     fn unsized_values() -> (u32, usize, String, bool) {

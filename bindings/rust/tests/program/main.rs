@@ -1,6 +1,8 @@
 //! Programs over the look-alikes of `std`: explored, recorded, run again, and run plainly.
+mod all;
 mod corners;
 mod crashes;
+mod elsewhere;
 mod found;
 mod lookalikes;
 mod planted;

@@ -208,7 +208,9 @@ fn first_sender_comes_first() {
     let (sender, receiver) = mpsc::channel();
     for number in 0..2 {
         let sender = sender.clone();
-        thread::spawn(move || { let _ = sender.send(number); });
+        thread::spawn(move || {
+            let _ = sender.send(number);
+        });
     }
     assert_eq!(receiver.recv(), Ok(0), "the other sender came first");
 }

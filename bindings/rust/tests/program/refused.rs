@@ -24,8 +24,10 @@ fn one_object_in_two_runs_at_once() {
         })
     });
     begun.recv().unwrap();
-    let line = line!() + 1;
-    let told = refusal(program::explore([0], || { let _ = X.fetch_add(1, SeqCst); }));
+    let line = line!() + 2;
+    let told = refusal(program::explore([0], || {
+        let _ = X.fetch_add(1, SeqCst);
+    }));
     assert!(told.contains(&format!("refused.rs:{line} is in a run that goes on, and this is another one")), "{told}");
     // Nor may a thread of no run use it.
     let outside = std::panic::catch_unwind(|| X.load(SeqCst)).expect_err("it is in a run");

@@ -46,9 +46,9 @@ fn a_cell_behind_locks_joins_and_starts() {
         let threads = [1, 2].map(|more| {
             let shared = Arc::clone(&shared);
             thread::spawn(move || {
-                let _lock = shared.0.lock().unwrap();
+                let lock = shared.0.lock().unwrap();
                 shared.2.add(more);
-                drop(_lock);
+                drop(lock);
                 let _read = shared.1.read().unwrap();
                 shared.3.get()
             })
@@ -94,7 +94,9 @@ fn conditions_barriers_channels_and_what_is_done_once() {
                 *is_open.lock().unwrap() = true;
                 opened.notify_one();
                 barrier.wait();
-                once.call_once(|| { let _ = cell.add(1); });
+                once.call_once(|| {
+                    let _ = cell.add(1);
+                });
                 barrier.wait();
                 assert_eq!(cell.get(), 2);
             },
@@ -102,7 +104,9 @@ fn conditions_barriers_channels_and_what_is_done_once() {
                 drop(opened.wait_while(is_open.lock().unwrap(), |is_open| !*is_open).unwrap());
                 assert_eq!(cell.get(), 1);
                 barrier.wait();
-                once.call_once(|| { let _ = cell.add(1); });
+                once.call_once(|| {
+                    let _ = cell.add(1);
+                });
                 barrier.wait();
             },
         );
@@ -136,7 +140,9 @@ fn the_last_of_several_pointers_drops_what_all_have_written() {
         let shared = Arc::new(Mutex::new(Ends(Arc::clone(&sum), Shared::default())));
         let threads = [(); 2].map(|()| {
             let shared = Arc::clone(&shared);
-            thread::spawn(move || { let _ = shared.lock().unwrap().1.add(1); })
+            thread::spawn(move || {
+                let _ = shared.lock().unwrap().1.add(1);
+            })
         });
         drop(shared);
         threads.into_iter().for_each(|thread| thread.join().unwrap());

@@ -1,5 +1,5 @@
 //! What threads that move freely wait by: a bell for each key, of which some share one.
-use super::held;
+use crate::program::held;
 use std::sync::atomic::{AtomicU32, AtomicU64, Ordering};
 use std::sync::{Condvar, Mutex, PoisonError};
 use std::time::{Duration, Instant};

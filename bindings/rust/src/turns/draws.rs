@@ -2,12 +2,12 @@
 //!
 //! The library's own draws begin at a number below that of all threads, and take the next one that is ready. Here seats are mostly
 //! empty, so that one thread would come nearly always; these draw among those that are ready.
-use super::world::SEATS;
+use super::SEATS;
 
 /// By odd seeds a thread goes on for up to so many picks more.
 const LONGEST_BURST: u64 = 8;
 
-/// A number whose bits hang together with all of this one (SplitMix64: Steele, Lea and Flood, OOPSLA 2014).
+/// A number whose bits hang together with all of this one (`SplitMix64`: Steele, Lea and Flood, OOPSLA 2014).
 pub(crate) fn mixed(number: u64) -> u64 {
     let number = number.wrapping_add(0x9e37_79b9_7f4a_7c15);
     let number = (number ^ number >> 30).wrapping_mul(0xbf58_476d_1ce4_e5b9);
@@ -48,7 +48,7 @@ impl Draws {
         let others = || (0..SEATS).filter(|&seat| ready[seat] && Some(seat) != passed_over);
         match others().count() {
             0 => last,
-            count => others().nth(self.below(count as u64) as usize),
+            count => others().nth(usize::try_from(self.below(count as u64)).unwrap_or(0)),
         }
     }
 }
