@@ -91,6 +91,9 @@ static __attribute__((noinline)) void wait_for_right(struct thread *t, void *fro
 void own(struct thread *t, int how, uint32_t object, uint64_t tag, void *from)
 {
     uint64_t value = 0;
+    t->inside = true;
+    /* The thread that ends the run sees that this one is inside, or this one sees that the run ends (`stand` in ends.c). */
+    __atomic_signal_fence(__ATOMIC_SEQ_CST);
     if (unlikely(is_closing()) || unlikely(t->stops && t->calls == t->stop_after))
         park(t);
     if (mode == AGAIN)
@@ -104,6 +107,9 @@ void own(struct thread *t, int how, uint32_t object, uint64_t tag, void *from)
     t->last = object;
     t->last_mode = (uint32_t)how;
     t->hits = 0;
+    t->made = t->calls;
+    __atomic_signal_fence(__ATOMIC_SEQ_CST);
+    t->inside = false;
 }
 
 /* The data of a lock, or of a thing of the runtime's that is shared as one. */

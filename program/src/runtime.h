@@ -31,9 +31,9 @@ enum { EXIT_UNSET = 97, EXIT_DIVERGED = 99, EXIT_CUT = 98 };
 /* STARTING: before the runtime knows. ALONE: the program runs as if the runtime were not there. */
 enum mode { STARTING, ALONE, RECORD, AGAIN };
 
-/* Where a thread is. RUNNING: its session is started. RESTING: stopped, in a call that may wait. PARKED: it makes no access
- * any more, since the run ends. */
-enum state { UNUSED, RUNNING, RESTING, PARKED };
+/* Where a thread is. RUNNING: its session is started. RESTING: stopped, in a call that may wait. PARKING, PARKED: it makes no
+ * access any more, since the run ends; its session is being ended, or is. */
+enum state { UNUSED, RUNNING, RESTING, PARKING, PARKED };
 
 struct thread {
     /* The object that it accessed last, or NO_OBJECT. It has the right to it until its next call of the library. */
@@ -43,10 +43,12 @@ struct thread {
     int number;
     int state;
     bool has_turn;
+    volatile bool inside; /* in a call of the library, or about to make one */
     int away;            /* how many calls that may wait it is in */
     octet_session session;
     uint64_t accesses;   /* of the program, with those that are skipped */
     uint64_t calls;      /* of the library */
+    uint64_t made;       /* of these, those that are done */
     uint64_t waits;
     uint64_t foreign;    /* accesses of another thread's stack, which that one skips */
     uint64_t crossing;   /* accesses that lie in two objects */
@@ -140,6 +142,7 @@ HIDDEN void give_turn(struct thread *t);
 HIDDEN void go_away(struct thread *t);
 HIDDEN void come_back(struct thread *t);
 HIDDEN _Noreturn void park(struct thread *t);
+/* No thread makes a call of the library any more: each stands still before its next. */
 extern HIDDEN volatile int closing;
 static inline bool is_closing(void)
 {
