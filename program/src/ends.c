@@ -18,8 +18,9 @@ static uint64_t recorded_calls[THREADS];
 /* The thread was stopped where it was, since it made no call. */
 static bool recorded_cut[THREADS], cut[THREADS];
 
-/* How long a thread is waited for that makes no call, and when the user is told of a wait that has no limit. */
-enum { SECONDS_FOR_OTHERS = 3, SECONDS_UNTIL_TOLD = 10 };
+/* How long a thread is waited for that makes no call; when the user is told of a wait that has no limit; and how long no thread goes
+ * on until it is taken that none can. */
+enum { SECONDS_FOR_OTHERS = 3, SECONDS_UNTIL_TOLD = 10, SECONDS_STUCK = 30 };
 
 static _Noreturn void stand_still(void)
 {
@@ -98,6 +99,7 @@ static void tell_end(const struct thread *t, int32_t status, uint64_t made)
     if (status == OCTET_READY || (status == OCTET_OVER && !recording_is_whole))
         return;
     say("octet: thread %d leaves its recording before its end: it was by it for %lu of %lu calls\n", t->number, made, t->calls);
+    tell_left(t, made, 0, 0, NULL);
     leave_process(EXIT_DIVERGED);
 }
 
@@ -233,16 +235,31 @@ static void write_end(const char *cause, int number)
         say("octet: %lu accesses lay in two objects at once: a race on one may come out differently in a second run\n", crossing);
 }
 
+/* Whether the line goes on with this word, which is taken. */
+static bool take_name(const char **line, const char *name)
+{
+    const char *at = *line;
+    while (*at == ' ')
+        at++;
+    for (; *name != 0; name++, at++)
+        if (*at != *name)
+            return false;
+    *line = at;
+    return true;
+}
+
 static void read_line(const char *line)
 {
-    uint64_t calls;
-    int number, was_cut, taken = 0;
-    if (sscanf(line, "thread %d calls %lu cut %d", &number, &calls, &was_cut) == 3 && number >= 0 && number < THREADS) {
-        recorded_calls[number] = calls;
-        recorded_cut[number] = was_cut;
-    } else if (sscanf(line, "end %d %n", &number, &taken) == 1 && taken > 0) {
-        snprintf(recorded_cause, sizeof recorded_cause, "%s", line + taken);
-        recorded_number = number;
+    if (take_name(&line, "thread")) {
+        uint64_t number = take_digits(&line, 10);
+        if (number >= THREADS || !take_name(&line, "calls"))
+            return;
+        recorded_calls[number] = take_digits(&line, 10);
+        recorded_cut[number] = take_name(&line, "cut") && take_digits(&line, 10) != 0;
+    } else if (take_name(&line, "end")) {
+        bool from_outside = take_name(&line, "-1");
+        recorded_number = from_outside ? -1 : (int)take_digits(&line, 10);
+        snprintf(recorded_cause, sizeof recorded_cause, "%s", *line == ' ' ? line + 1 : line);
         recording_is_whole = true;
     }
 }
@@ -303,31 +320,57 @@ void end_run(const char *cause, int number)
         wait_for_recorded(number);
     close_run();
     end_others(number);
+    places_end();
     if (mode == RECORD)
         write_end(cause, number);
+    window_write();
     marks_end();
     arena_number = number < 0 ? 0 : number;
 }
 
-/* Whether no thread can go on where a recording was cut: each stands still or rests, or waits for marks and has made no call since
- * the last look. */
+/* Whether no thread goes on: each stands still or rests, or waits for marks and has made no call since the last look. */
 static bool all_stand(void)
 {
     static uint64_t calls_before, waits_before[THREADS];
     uint64_t calls = 0;
-    bool works = false, parked = false;
+    bool works = false;
     for (int i = 0; i < THREADS; i++) {
         struct thread *t = &threads[i];
-        int state = state_of(t);
         uint64_t waits = *(volatile uint64_t *)&t->waits;
         calls += *(volatile uint64_t *)&t->calls;
-        parked = parked || state == PARKED;
-        works = works || (state == RUNNING && waits == waits_before[i]);
+        works = works || (state_of(t) == RUNNING && waits == waits_before[i]);
         waits_before[i] = waits;
     }
     works = works || calls != calls_before;
     calls_before = calls;
-    return parked && !works;
+    return !works;
+}
+
+static bool any_is(int state)
+{
+    for (int i = 0; i < THREADS; i++)
+        if (state_of(&threads[i]) == state)
+            return true;
+    return false;
+}
+
+/* In a second run of a whole recording a thread can always go on, unless one has left its recording and it was not seen yet. */
+static void tell_stuck(void)
+{
+    static double since;
+    if (!all_stand() || !any_is(RUNNING)) {
+        since = 0;
+        return;
+    }
+    if (since == 0)
+        since = seconds();
+    if (seconds() - since < SECONDS_STUCK)
+        return;
+    say("octet: no thread can go on, since one has left its recording\n");
+    for (int i = 0; i < THREADS; i++)
+        if (state_of(&threads[i]) == RESTING && made_by(&threads[i]) < recorded_calls[i])
+            tell_left(&threads[i], 0, 0, 0, NULL);
+    leave_process(EXIT_DIVERGED);
 }
 
 static bool all_have_come(void)
@@ -340,8 +383,8 @@ static bool all_have_come(void)
 
 static _Noreturn void end_as_recorded(void)
 {
-    int number = 0;
-    sscanf(recorded_cause, "signal %d", &number);
+    const char *cause = recorded_cause;
+    int number = take_name(&cause, "signal") ? (int)take_digits(&cause, 10) : 0;
     say("octet: signal %d ended the process here, from outside\n", number);
     end_run(recorded_cause, -1);
     die_by_signal(number);
@@ -357,11 +400,14 @@ void end_from_outside(void)
         return;
     if (recording_is_whole && recorded_number < 0 && recorded_cause[0] == 's' && all_have_come())
         end_as_recorded();
-    if (recording_is_whole)
+    if (recording_is_whole) {
+        tell_stuck();
         return;
-    looks = all_stand() ? looks + 1 : 0;
+    }
+    looks = all_stand() && any_is(PARKED) ? looks + 1 : 0;
     if (looks < LOOKS)
         return;
+    window_write();
     say("octet: the recording ends here: the process that was recorded was ended from outside\n");
     leave_process(EXIT_CUT);
 }

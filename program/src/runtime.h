@@ -66,7 +66,10 @@ struct thread {
     int inputs_file;
     void *room;
     size_t room_size;
-    struct watched { uintptr_t at; void *from; uint64_t access; int mode; } watched;
+    /* The access whose value is told, or noted, at the thread's next. */
+    struct watched { uintptr_t at; void *from; uint64_t access; int mode; uint32_t size; } watched;
+    void *call;          /* where the program calls a lock */
+    struct places { struct place *at; size_t count, length; int file; } places;
 } __attribute__((aligned(256)));
 
 extern HIDDEN struct thread threads[THREADS];
@@ -76,7 +79,6 @@ extern HIDDEN enum mode mode;
 extern HIDDEN bool all_stacks;
 extern HIDDEN int watch_file;
 extern HIDDEN uintptr_t watch_at, watch_size;
-extern HIDDEN int window_accesses;
 extern HIDDEN const char *run_folder;
 /* The recording came to the end of its process, and the file of its end is there. */
 extern HIDDEN bool recording_is_whole;
@@ -88,6 +90,7 @@ HIDDEN int raw_print(char *to, size_t room, const char *format, ...) __attribute
 #define snprintf raw_print
 HIDDEN void say(const char *format, ...) __attribute__((format(printf, 1, 2)));
 HIDDEN void say_to(int file, const char *format, ...) __attribute__((format(printf, 2, 3)));
+HIDDEN uint64_t take_digits(const char **at, unsigned base);
 HIDDEN _Noreturn void leave_process(int status);
 HIDDEN void pause_short(unsigned tries);
 HIDDEN void raw_copy(void *to, const void *from, size_t length);
@@ -132,11 +135,27 @@ HIDDEN void arena_give(int number, void *block);
 
 /* own.c: the right to an object, by the library. */
 HIDDEN void own(struct thread *t, int how, uint32_t object, uint64_t tag, void *from);
-HIDDEN void own_lock(struct thread *t, uint32_t object);
+HIDDEN void own_lock_from(struct thread *t, uint32_t object, uintptr_t at, void *from);
+#define own_lock(t, object) own_lock_from(t, object, object, CALLER)
 HIDDEN void access_memory(uintptr_t at, size_t size, int how, void *from);
 HIDDEN void access_range(const void *at, size_t length, int how, void *from);
 HIDDEN void watch_tell(struct thread *t);
 HIDDEN void give_turn(struct thread *t);
+
+/* places.c: where the calls of the library are in the program, and the last accesses of a second run. */
+struct place {
+    uint64_t at_and_how, from;
+};
+extern HIDDEN uint64_t places_mask;
+extern HIDDEN uint32_t window_most;
+extern HIDDEN int report_file;
+HIDDEN void places_begin(void);
+HIDDEN void places_end(void);
+HIDDEN void place_of_call(struct thread *t, int how, uint64_t at, void *from);
+HIDDEN void tell_left(const struct thread *t, uint64_t made, int how, uint64_t at, void *from);
+HIDDEN void window_note(struct thread *t, const struct watched *access);
+HIDDEN void window_settle(struct thread *t, const struct watched *access);
+HIDDEN void window_write(void);
 
 /* ends.c: how threads stop, and how the run begins and ends. */
 HIDDEN void go_away(struct thread *t);

@@ -17,10 +17,22 @@ static void give_number(int number)
     unused[unused_count++] = number;
 }
 
+/* A thread that has left its recording may end with fewer calls, and others would wait for the rest for good. */
+static void compare_calls(struct thread *t)
+{
+    uint64_t recorded = (uint64_t)input(t, (int64_t)t->calls);
+    if (recorded == t->calls)
+        return;
+    say("octet: thread %d ends after %lu calls, and was recorded to end after %lu\n", t->number, t->calls, recorded);
+    tell_left(t, 0, 0, 0, NULL);
+    leave_process(EXIT_DIVERGED);
+}
+
 /* The thread makes no further access. */
 static void end_thread(struct thread *t)
 {
     own_lock(t, OBJECT_THREADS);
+    compare_calls(t);
     t->over = true;
     if (t->detached)
         give_number(t->number);
