@@ -149,12 +149,14 @@ def variables_of(program):
     return sorted((int(part[0], 16), int(part[1], 16), part[3]) for part in found if len(part) == 4 and part[2] in "bBdDrRgGsSvVuC")
 
 
+# Less than this is no address, but the number of an object of the runtime's own.
+OBJECT_NUMBERS = 65536
 OTHERS_THAN_MEMORY = "a thing of the runtime's (threads, streams, files or random numbers)"
 
 
 def variable_at(variables, address):
     """What lies at an address: a variable, or a part of one, or the address."""
-    if address < 65536:
+    if address < OBJECT_NUMBERS:
         return OTHERS_THAN_MEMORY
     before = bisect.bisect_right(variables, address, key=lambda each: each[0])
     if before:
