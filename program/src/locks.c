@@ -338,6 +338,9 @@ LOCK_READERS(pthread_rwlock_tryrdlock, (pthread_rwlock_t * at), (at), false, tru
 LOCK_READERS(pthread_rwlock_trywrlock, (pthread_rwlock_t * at), (at), true, true, NULL, 0)
 LOCK_READERS(pthread_rwlock_timedrdlock, TIMED, (at, until), false, false, until, CLOCK_REALTIME)
 LOCK_READERS(pthread_rwlock_timedwrlock, TIMED, (at, until), true, false, until, CLOCK_REALTIME)
+#define CLOCKED (pthread_rwlock_t * at, clockid_t clock, const struct timespec *until)
+LOCK_READERS(pthread_rwlock_clockrdlock, CLOCKED, (at, clock, until), false, false, until, clock)
+LOCK_READERS(pthread_rwlock_clockwrlock, CLOCKED, (at, clock, until), true, false, until, clock)
 
 int pthread_rwlock_unlock(pthread_rwlock_t *at)
 {

@@ -237,6 +237,8 @@ HIDDEN void signals_of_thread(int number);
     ROW(int, pthread_rwlock_trywrlock, (pthread_rwlock_t *))                                                             \
     ROW(int, pthread_rwlock_timedrdlock, (pthread_rwlock_t *, const struct timespec *))                                  \
     ROW(int, pthread_rwlock_timedwrlock, (pthread_rwlock_t *, const struct timespec *))                                  \
+    ROW(int, pthread_rwlock_clockrdlock, (pthread_rwlock_t *, clockid_t, const struct timespec *))                       \
+    ROW(int, pthread_rwlock_clockwrlock, (pthread_rwlock_t *, clockid_t, const struct timespec *))                       \
     ROW(int, pthread_rwlock_unlock, (pthread_rwlock_t *))                                                                \
     ROW(int, pthread_barrier_init, (pthread_barrier_t *, const pthread_barrierattr_t *, unsigned))                       \
     ROW(int, pthread_barrier_destroy, (pthread_barrier_t *))                                                             \
