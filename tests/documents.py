@@ -1,12 +1,15 @@
 """What the documents and the crates' pages say of the repository: their length, and the files, words and code that they name."""
 
 import re
+import subprocess
 
 import definitions
 from files import TOP, differs, first
 
-MOST_WORDS = 24_000
-MOST_LINES, MOST_COLUMNS = 90, 128
+# README and docs together, README, what one reader begins with, and the crates' pages together.
+MOST_WORDS, MOST_IN_README, MOST_IN_A_WAY, MOST_IN_PAGES = 17_000, 1_600, 900, 16_000
+WAYS = ["RUST.md", "C.md", "PROGRAMS.md"]
+MOST_LINES, MOST_COLUMNS = 40, 128
 CRATES = TOP / "crates"
 FENCED = re.compile(r"^```.*?^```$", re.MULTILINE | re.DOTALL)
 RUST = re.compile(r"^```rust\n(.*?)^```$", re.MULTILINE | re.DOTALL)
@@ -15,11 +18,17 @@ QUOTED = re.compile(r"`([^`\n]+)`")
 IN_FOLDER = re.compile(r"(?:docs|crates|tests|tools|examples|bin|bindings|include|bench)/[\w./*-]+")
 IN_CRATE = re.compile(r"octet\w*/(?:src|specs|proofs|must-fail)/[\w./*-]*")
 OF_CRATE = re.compile(r"(?:src|specs|proofs|must-fail)/[\w./*-]*")
+# A function and the file in which it stands.
+CALLER = re.compile(r"`(\w+)` in\s`((?:crates|bindings)/[\w/.]+)`")
+# An entry of the glossary: the names of its words, and the files of these.
+ENTRY = re.compile(r"- [^(]*\((?:([^)]*) in )?([^)]*)\): ")
+# A crate's box in the picture.
+NAMED = re.compile(r'text-anchor="middle">(\w+)<')
 PAGE = re.compile(r"[A-Z]+\.md")
 # The end of a path, as in a list of files of one folder.
 END = re.compile(r"[\w./-]+\.(?:rt|antt|py)")
 # What a call of the program makes, so that a fresh copy does not have it.
-MADE = re.compile(r"crates/octet/(?:out/|build\.log)")
+MADE = re.compile(r"crates/octet(?:_c)?/(?:out/?|build\.log)")
 
 
 def documents():
@@ -37,19 +46,28 @@ def pages():
     return [path for path in (CRATES / name / "README.md" for name in crates()) if path.exists()]
 
 
+def words(*paths):
+    return sum(len(path.read_text().split()) for path in paths)
+
+
 def lengths():
-    """The documents together are read in two hours, and a crate's page without scrolling far."""
-    words = sum(len(path.read_text().split()) for path in documents())
-    if words > MOST_WORDS:
-        return f"README.md and docs/*.md have {words} words, more than {MOST_WORDS}"
-    for path in pages():
-        lines = path.read_text().rstrip("\n").split("\n")
-        if len(lines) > MOST_LINES:
-            return f"{path.relative_to(TOP)} has {len(lines)} lines, more than {MOST_LINES}"
-        for number, line in enumerate(lines, 1):
-            if len(line) > MOST_COLUMNS:
-                return f"{path.relative_to(TOP)}: line {number} has {len(line)} columns, more than {MOST_COLUMNS}"
-    return None
+    """The documents together are read in an hour and a half, and a crate's page without scrolling."""
+    limits = [("README.md and docs/*.md", documents(), MOST_WORDS), ("README.md", [TOP / "README.md"], MOST_IN_README)]
+    limits += [(f"docs/{name}", [TOP / "docs" / name], MOST_IN_A_WAY) for name in WAYS]
+    limits += [("the crates' pages", pages(), MOST_IN_PAGES)]
+    for name, paths, most in limits:
+        if words(*paths) > most:
+            return f"{name}: {words(*paths)} words, more than {most}"
+    return first(*map(problem_of_lines, pages()))
+
+
+def problem_of_lines(path):
+    """What of a crate's page is too long, or None."""
+    name, lines = path.relative_to(TOP), path.read_text().rstrip("\n").split("\n")
+    if len(lines) > MOST_LINES:
+        return f"{name} has {len(lines)} lines, more than {MOST_LINES}"
+    wide = [number for number, line in enumerate(lines, 1) if len(line) > MOST_COLUMNS]
+    return f"{name}: line {wide[0]} has more than {MOST_COLUMNS} columns" if wide else None
 
 
 def pages_of_all_crates():
@@ -138,32 +156,31 @@ def defined_in(path):
     return set(re.findall(rf"^(?:  )?{definitions.HEAD}", definitions.without_comments(path.read_text()), re.MULTILINE))
 
 
-def undefined(cells, section):
-    """What a row of the glossary says that is not so: words that its file does not define, or a file that is not there."""
-    words = re.findall(r"`([A-Za-z_]\w*)`", cells[0])
-    named = re.findall(r"`([\w/]+)`", cells[1])
+def undefined(names, places, section):
+    """What an entry of the glossary says that is not so: names that its files do not define, or a file that is not there."""
+    named = re.findall(r"`([\w/]+)`", places)
     owners = [name for name in named if name.startswith("octet_")] or section
     files = [name for name in named if not name.startswith("octet_")]
-    paths = {path for owner in owners for name in files or ["**/*"] for path in CRATES.glob(f"{owner}/specs/{name}.antt")}
-    if len(paths) < len(files):
+    paths = {path for owner in owners for name in files for path in CRATES.glob(f"{owner}/specs/{name}.antt")}
+    if not files or len(paths) < len(files):
         return f"{files} are not all in {owners}"
     found = set().union(*map(defined_in, paths))
-    return next((f"{word} is not defined in {files or owners}" for word in words if word not in found), None)
+    return next((f"{word} is not defined in {files}" for word in re.findall(r"`(\w+)`", names) if word not in found), None)
 
 
 def glossary():
-    """Each row names words that are defined in the file that it names."""
-    section, rows = [], 0
-    for line in (TOP / "docs" / "DEFINITIONS.md").read_text().split("\n"):
+    """Each entry names words that are defined in the file that it names: `- word (NAMES in FILES): ..`, or with the files alone."""
+    section, entries = [], 0
+    for line in (TOP / "docs" / "DEFINITIONS.md").read_text().replace("\n  ", " ").split("\n"):
         if line.startswith("## "):
             section = re.findall(r"`(octet_\w+)`", line)
-        elif line.startswith("| ") and not line.startswith("| Word"):
-            cells = [cell.strip() for cell in line.strip("|").split("|")]
-            rows += 1
-            problem = undefined(cells, section)
+        elif line.startswith("- "):
+            entry = ENTRY.match(line)
+            entries += 1
+            problem = undefined(entry[1] or "", entry[2], section) if entry else "it names no file"
             if problem:
-                return f"DEFINITIONS.md: {cells[0]}: {problem}"
-    return differs("how many rows", rows >= 60, True)
+                return f"DEFINITIONS.md: {line:.60}: {problem}"
+    return differs("how many entries", entries >= 40, True)
 
 
 def code_of_the_pages():
@@ -175,16 +192,55 @@ def code_of_the_pages():
             printed += 1
             if not any(block in source for source in sources):
                 return f"{path.relative_to(TOP)}: {block!r:.200} stands in no crate"
-    return differs("how many pieces of code", printed >= 20, True)
+    return differs("how many pieces of code", printed >= 15, True)
+
+
+def callers():
+    """A function that a crate's page names as a caller stands in the file that it names."""
+    named = 0
+    for path in pages():
+        for name, file in CALLER.findall(path.read_text()):
+            named += 1
+            source = TOP / file
+            if not source.exists() or not re.search(rf"\b{name}(?:<.*>)?\(", source.read_text()):
+                return f"{path.relative_to(TOP)}: there is no {name} in {file}"
+    return differs("how many callers", named >= 35, True)
+
+
+def map_of_the_crates():
+    """The picture of the crates is what `tools/map` makes today, and ARCHITECTURE shows it."""
+    found = subprocess.run([TOP / "tools" / "map"], capture_output=True, check=False)
+    return first(
+        differs("tools/map", (found.returncode, found.stderr), (0, b"")),
+        differs("docs/map.svg", found.stdout, (TOP / "docs" / "map.svg").read_bytes()),
+        differs("ARCHITECTURE", "(map.svg)" in (TOP / "docs" / "ARCHITECTURE.md").read_text(), True),
+        differs("the crates", sorted(NAMED.findall(found.stdout.decode())), sorted(name.removeprefix("octet_") for name in crates())),
+    )
+
+
+def scripts_of_the_pages():
+    """A script that a page prints is one of examples/, to the letter."""
+    known = [path.read_text() for path in TOP.glob("examples/*.octet")]
+    printed = 0
+    for path in documents():
+        for block in re.findall(r"(?:^    (?!\$).*\n)+", path.read_text(), re.MULTILINE):
+            text = re.sub(r"^    ", "", block, flags=re.MULTILINE)
+            if text.startswith("# ") and "\nthread\n" in text:
+                printed += 1
+                if text not in known:
+                    return f"{path.relative_to(TOP)}: {text!r:.100} is no script of examples/"
+    return differs("how many scripts", printed >= 4, True)
 
 
 def problem_of_pages():
-    return first(pages_of_all_crates(), code_of_the_pages())
+    return first(pages_of_all_crates(), code_of_the_pages(), callers())
 
 
 TESTS = {
     "documents: how long they are": lengths,
     "documents: links and paths": links_and_paths,
     "documents: the glossary": glossary,
-    "pages: of each crate, with code that is proved": problem_of_pages,
+    "documents: the map of the crates": map_of_the_crates,
+    "documents: scripts": scripts_of_the_pages,
+    "pages: of each crate, with code that is proved, and a caller": problem_of_pages,
 }

@@ -72,11 +72,11 @@ def in_between():
 
 
 def all_on_the_page():
-    """The page shows the five scripts."""
+    """The page names the five scripts, and what they are run by."""
     page = (TOP / "docs" / "LANGUAGE.md").read_text()
     return first(
         *(
-            differs(name, f"$ cat examples/{name}\n" in page and pathlib.Path(EXAMPLES, name).is_file(), True)
+            differs(name, f"$ bin/octet turns examples/{name} " in page and pathlib.Path(EXAMPLES, name).is_file(), True)
             for name in ["countdown.octet", "flag.octet", "lock.octet", "ring.octet", "torn.octet"]
         )
     )

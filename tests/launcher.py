@@ -41,6 +41,14 @@ WRONG_WORDS = [
     (["hunt", "S", "L", "balance", "-1", "9"], NO_COMMAND, f"NUMBER is {NUMBERS}"),
     (["hunt", "S", "L", "balance", "180", "00"], NO_COMMAND, "TRIES are 1 to 1000000"),
     (["hunt", "S", "L", "nothing", "180", "0001000000"], NO_OBJECT, "S has no object nothing"),
+    (["outcomes"], NO_COMMAND, "outcomes wants SCRIPT, and MOST or none"),
+    (["outcomes", "S", "0"], NO_COMMAND, "MOST is 1 to 2147483648"),
+    (["outcomes", "S", "2147483649"], NO_COMMAND, "MOST is 1 to 2147483648"),
+    (["always", "S"], NO_COMMAND, "always wants SCRIPT LOG NAME NUMBER, or SCRIPT LOG, and MOST or none"),
+    (["always", "S", "L", "balance"], NO_COMMAND, "MOST is 1 to 2147483648"),
+    (["always", "S", "L", "balance", "x"], NO_COMMAND, f"NUMBER is {NUMBERS}"),
+    (["always", "S", "L", "balance", "180", "00"], NO_COMMAND, "MOST is 1 to 2147483648"),
+    (["always", "S", "L", "nothing", "180", "02147483648"], NO_OBJECT, "S has no object nothing"),
     (["stop", "S", "L", "balance"], NO_COMMAND, "stop wants SCRIPT LOG NAME NUMBER"),
     (["stop", "S", "L", "balance", "18446744073709551616"], NO_COMMAND, f"NUMBER is {NUMBERS}"),
     (["stop", "S", "L", "balance", "000000000000000000001"], NO_COMMAND, f"NUMBER is {NUMBERS}"),
@@ -95,7 +103,7 @@ LOST = [
 ]
 
 
-COMMANDS = re.compile(r"^\| `octet ([a-z]+)((?: [A-Z]+)+)` \|", re.MULTILINE)
+COMMANDS = re.compile(r"^- `octet ([a-z]+)((?: [A-Z]+)+)` ", re.MULTILINE)
 
 
 def lines(*told):

@@ -3,3 +3,4 @@ pub mod Matches
 pub mod TraceSteps
 pub mod Told
 pub mod Hunted
+pub mod Endings

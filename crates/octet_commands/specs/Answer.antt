@@ -21,7 +21,7 @@ use Rattle.octet_regions.specs.declared.serial.Serial.TheVariants as serial
 use Rattle.octet_clock.specs.declared.verdict.Verdict.{Verdict}
 use Rattle.octet_clock.specs.declared.verdict.Verdict.TheVariants as verdict
 use Rattle.octet_commands.specs.declared.reply.Status.{Status}
-use Rattle.octet_commands.specs.declared.reply.Status.TheVariants.{Done, Words, Script, Log, Misfit, Read, Write, Memory, TooLong, Unordered, Cycle, NoEvent, NotFound}
+use Rattle.octet_commands.specs.declared.reply.Status.TheVariants.{Done, Words, Script, Log, Misfit, Read, Write, Memory, TooLong, Unordered, Cycle, NoEvent, NotFound, NotAll, Otherwise}
 use Rattle.octet_commands.specs.declared.reply.Output.{Output}
 use Rattle.octet_commands.specs.declared.reply.Reply.{Reply}
 use Rattle.octet_commands.specs.declared.refusal.Refused.{Refused}
@@ -42,6 +42,8 @@ code_of Unordered = 9
 code_of Cycle = 10
 code_of NoEvent = 11
 code_of NotFound = 12
+code_of NotAll = 13
+code_of Otherwise = 14
 
 -- the answer of a command: its status, its text, and its files as pairs of a name and bytes, in the order written
 pub record Answer : Type 0 where
@@ -77,9 +79,13 @@ given_reply (Err OutOfMemory) = None
 abbrev pub says : Status → List ℕ → Answer
 says status text = record { status = status; files = []; text = text }
 
+-- the answer that writes a file and then says a text, with this status
+abbrev pub reports : Status → List ℕ → List ℕ → List ℕ → Answer
+reports status name bytes text = record { status = status; files = (name, bytes) ∷ []; text = text }
+
 -- the answer that writes a file and then says a text
 abbrev pub writes_file : List ℕ → List ℕ → List ℕ → Answer
-writes_file name bytes text = record { status = Done; files = (name, bytes) ∷ []; text = text }
+writes_file name bytes text = reports Done name bytes text
 
 -- the answer that writes two files, one after the other, and then says a text
 abbrev pub writes_both : List ℕ × List ℕ → List ℕ × List ℕ → List ℕ → Answer

@@ -1,5 +1,5 @@
 -- The commands' answers, each by what was read.
-use Rattle.std.specs.Prelude.{ℕ, ◌≡◌, ◌≢◌, ◌≤◌, ◌<◌, ◌⊎◌, ◌++◌, List, [], length, map, codes, Option, None, Some, Result, Ok, Err}
+use Rattle.std.specs.Prelude.{ℕ, true, false, ◌≡◌, ◌≢◌, ◌≤◌, ◌<◌, ◌⊎◌, ◌++◌, List, [], length, map, codes, Option, None, Some, Result, Ok, Err}
 use Rattle.std.specs.Char.{digit_value}
 use Rattle.sha2.specs.Sha256.{sha256}
 use Rattle.octet_base.specs.Desk.{Contents}
@@ -35,20 +35,21 @@ use Rattle.octet_hunt.specs.declared.aim.Aim.{Aim}
 use Rattle.octet_hunt.specs.declared.aim.Aim.TheVariants as aim
 use Rattle.octet_hunt.specs.Hunts.{Meets}
 use Rattle.octet_gen.specs.Generated.{IsGenerated}
-use Rattle.octet_commands.specs.declared.reply.Status.TheVariants.{Done, Misfit}
+use Rattle.octet_commands.specs.declared.reply.Status.TheVariants.{Done, Misfit, Otherwise}
 use Rattle.octet_commands.specs.declared.inputs.Source.{Source}
 use Rattle.octet_commands.specs.declared.inputs.Pair.{Pair}
 use Rattle.octet_commands.specs.declared.request.PairTask.{PairTask}
 use Rattle.octet_commands.specs.declared.request.PairTask.TheVariants.{Replay, Verify, Regions, Slice, Stop, Trace, Profile}
-use Rattle.octet_commands.specs.Answer.{Answer, says, writes_file, writes_both, not_a_command, wrong_script, does_not_fit, verdict_said, serial_said, cycle_text, try_text, no_other_end, no_cycle, summary}
+use Rattle.octet_commands.specs.Answer.{Answer, reports, says, writes_file, writes_both, not_a_command, wrong_script, does_not_fit, verdict_said, serial_said, cycle_text, try_text, no_other_end, no_cycle, summary}
 use Rattle.octet_machine.specs.Turns.{IsPlayed}
-use Rattle.octet_commands.specs.Request.{Way, digest_kept, Quarry, named_by, Request, request_in}
-use Rattle.octet_commands.specs.declared.request.Request.TheVariants.{Tidy, Show, Marks, OfPair, Parallel, Convert, Run, Gen, Hunt}
+use Rattle.octet_commands.specs.Request.{Way, digest_kept, Claim, claimed_of, Quarry, named_by, Request, request_in}
+use Rattle.octet_commands.specs.declared.request.Request.TheVariants.{Tidy, Show, Marks, OfPair, Parallel, Convert, Run, Gen, Hunt, Outcomes, Always}
 use Rattle.octet_commands.specs.declared.request.Way.TheVariants.{AsTheyCome, BehindLock, ByPicks}
 use Rattle.octet_commands.specs.declared.request.Quarry.TheVariants.{OtherEnd, AnyCycle}
 use Rattle.octet_commands.specs.Marks.{FileAnswers}
 use Rattle.octet_commands.specs.TraceTexts.{trace_text}
 use Rattle.octet_commands.specs.Profile.{profile_text}
+use Rattle.octet_commands.specs.Outcomes.{none_other, otherwise_text, past_fuel, Fails, Holds, OutcomesAnswers, Refutes}
 use Rattle.octet_commands.specs.Slices.{SliceSays, StopSays}
 use Rattle.octet_commands.specs.Inputs.{IsScriptRead, IsLogRead, IsScriptChosen, IsPairRead}
 
@@ -207,6 +208,22 @@ pub record IsFind (quarry : Quarry) (log_name : List ℕ) (tries : ℕ) (source 
 abbrev pub HuntAnswers : Quarry → List ℕ → ℕ → Source × Option ℕ → Answer → Type 0
 HuntAnswers quarry log_name tries (source, wanted) answer = IsFind quarry log_name tries source wanted answer ⊎ (answer ≡ none_found quarry tries)
 
+-- the answer where a run was found of which a claim does not hold: its log is written in version 2, with the script's digest.
+-- Its preemptions and its outcome are said
+pub record IsWitness (claim : Claim) (log_name : List ℕ) (source : Source) (wanted : Option ℕ) (answer : Answer) : Type 0 where
+  pub preemptions : ℕ
+  pub recorded : Recorded
+  pub refutes : Refutes source.script claim wanted recorded
+  pub file : IsLogFile (second_bytes source.text recorded.log.threads) (Some (sha256 source.text)) recorded.log.threads
+  pub is : answer ≡ reports Otherwise log_name (second_bytes source.text recorded.log.threads) (otherwise_text source.script preemptions recorded.outcome)
+
+-- the answer of `always`: the claim holds of every run, or not all was seen, or there is a run of which it does not hold
+abbrev pub AlwaysAnswers : Claim → List ℕ → Source × Option ℕ → Answer → Type 0
+AlwaysAnswers claim log_name (source, wanted) answer =
+    (Holds source.script claim wanted × (answer ≡ none_other true))
+    ⊎ ((answer ≡ none_other false)
+    ⊎ (Fails source.script claim wanted × (IsWitness claim log_name source wanted answer ⊎ (answer ≡ past_fuel))))
+
 -- the answer that refuses what was read, or the command's answer by what was read
 abbrev pub Answering : {T : Type 0} → (Result T Answer → Type 0) → (T → Answer → Type 0) → Answer → Type 0
 Answering Reading Answers answer = Reading (Err answer) ⊎ ((input : _) × Reading (Ok input) × Answers input answer)
@@ -222,6 +239,8 @@ RequestAnswers (Convert script log out) contents answer = Answering (IsPairRead 
 RequestAnswers (Run way script log) contents answer = Answering (IsScriptRead script contents) (RunAnswers way log) answer
 RequestAnswers (Gen number script log) contents answer = IsGeneration number script log answer
 RequestAnswers (Hunt quarry script log tries) contents answer = Answering (IsScriptChosen script (named_by quarry) contents) (HuntAnswers quarry log tries) answer
+RequestAnswers (Outcomes script most) contents answer = Answering (IsScriptRead script contents) (λ source. OutcomesAnswers source.script) answer
+RequestAnswers (Always claim script log most) contents answer = Answering (IsScriptChosen script (claimed_of claim) contents) (AlwaysAnswers claim log) answer
 
 -- the answers to a request, or the one to words that are no command
 abbrev pub Answers : Option Request → Option Contents → Answer → Type 0

@@ -7,6 +7,8 @@ pub mod Picks
 pub mod Request
 pub mod Profile
 pub mod Inputs
+pub mod Outcomes
+pub mod Judging
 pub mod Commands
 pub mod Checked
 pub mod Replies

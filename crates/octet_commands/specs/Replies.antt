@@ -6,7 +6,7 @@ use Rattle.octet_commands.specs.declared.reply.Reply.{Reply}
 use Rattle.octet_commands.specs.declared.reply.Status.TheVariants.{Done}
 use Rattle.octet_commands.specs.Answer.{Answer, answer_of, read_failed}
 use Rattle.octet_commands.specs.Request.{Request}
-use Rattle.octet_commands.specs.declared.request.Request.TheVariants.{Tidy, Show, Marks, OfPair, Parallel, Convert, Run, Gen, Hunt}
+use Rattle.octet_commands.specs.declared.request.Request.TheVariants.{Tidy, Show, Marks, OfPair, Parallel, Convert, Run, Gen, Hunt, Outcomes, Always}
 use Rattle.octet_commands.specs.Inputs.{TakesOne, TakesBoth}
 use Rattle.octet_commands.specs.Commands.{Answers}
 
@@ -34,6 +34,8 @@ TakesFiles (Some (Convert script log out)) Short before after = TakesBoth script
 TakesFiles (Some (Run task script log)) Short before after = TakesOne script MAX_SCRIPT_FILE Short before after
 TakesFiles (Some (Gen number script log)) Short before after = after ≡ before
 TakesFiles (Some (Hunt quarry script log tries)) Short before after = TakesOne script MAX_SCRIPT_FILE Short before after
+TakesFiles (Some (Outcomes script most)) Short before after = TakesOne script MAX_SCRIPT_FILE Short before after
+TakesFiles (Some (Always claim script log most)) Short before after = TakesOne script MAX_SCRIPT_FILE Short before after
 
 -- a reply is found for a request, unless memory is refused, with the calls that take its files
 pub record Replies (request : Option Request) (before : DeskState) (reply : Option Reply) (after : DeskState) : Type 0 where

@@ -33,6 +33,10 @@ pub enum Status {
     NoEvent,
     /// A hunt has found no run that is looked for.
     NotFound,
+    /// A search through all interleavings was cut off.
+    NotAll,
+    /// A run ends otherwise than was said.
+    Otherwise,
 }
 
 impl Status {
@@ -56,6 +60,8 @@ impl Status {
             Status::Cycle => 10,
             Status::NoEvent => 11,
             Status::NotFound => 12,
+            Status::NotAll => 13,
+            Status::Otherwise => 14,
         }
     }
 }
@@ -76,7 +82,7 @@ pub struct Reply {
 }
 
 impl Reply {
-    ghost use Rattle.octet_commands.specs.Answer.{answer_of, file_of, says, writes_file, writes_both};
+    ghost use Rattle.octet_commands.specs.Answer.{answer_of, file_of, reports, says, writes_file, writes_both};
 
     /// A text is said, and no file is written.
     pub fn saying(alloc: Global, status: Status, text: Vec<u8>) -> Reply
@@ -98,13 +104,26 @@ impl Reply {
     ) -> Result<Reply, OutOfMemory>
         ensures { IfOk result (λ reply. answer_of reply ≡ writes_file name.now bytes.items text.items) }
     {
+        Reply::reporting(alloc, Status::Done, name, bytes, text)
+    }
+
+    /// A file is written, and then a text is said, with this status.
+    pub(crate) fn reporting(
+        alloc: Global,
+        status: Status,
+        name: &str,
+        bytes: Vec<u8>,
+        text: Vec<u8>,
+    ) -> Result<Reply, OutOfMemory>
+        ensures { IfOk result (λ reply. answer_of reply ≡ reports status name.now bytes.items text.items) }
+    {
         let mut outputs = List::new(alloc);
         outputs.push(Output {
             name: String::from_str(alloc, name)?,
             bytes: List::from_vec(bytes),
         })?;
         Ok(Reply {
-            status: Status::Done,
+            status,
             outputs,
             text: List::from_vec(text),
         })

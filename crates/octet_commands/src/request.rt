@@ -1,11 +1,17 @@
 //! What words ask for: which task, and of which files.
 ghost use Rattle.std.specs.Prelude.{◌≡◌};
 ghost use Rattle.std.specs.Option.{option_map};
-ghost use Rattle.octet_commands.specs.Request.{texts, shown, request_in, asked_by_two, asked_by_three, asked_by_four, asked_by_five, asked_by_six, tries_of, shown_quarry, named_by, name_in};
+ghost use Rattle.octet_commands.specs.Request.{texts, shown, request_in, asked_by_two, asked_by_three, asked_by_four, asked_by_five, asked_by_six, most_of, tries_of, shown_claim, shown_quarry, claimed_of, named_by, name_in};
 
 use crate::picks::are_picks;
 use octet_hunt::MAX_TRIES;
 use octet_script::number_of;
+
+/// Moments of a search, where no words say how many.
+pub const DEFAULT_MOMENTS: u64 = 10_000_000;
+
+/// Moments of a search; there is at least 1.
+pub const MOST_MOMENTS: u64 = 2_147_483_648;
 
 /// Tasks on a script and a log.
 #[derive(Clone, Copy)]
@@ -51,6 +57,27 @@ impl<'a> Quarry<&'a str> {
         match self {
             Quarry::OtherEnd { name, .. } => Some(name),
             Quarry::AnyCycle => None,
+        }
+    }
+}
+
+/// What is claimed of every run.
+#[derive(Clone, Copy)]
+pub enum Claim<Text> {
+    /// Where all its threads are done, it leaves this number in the object of this name.
+    Leaves { name: Text, number: u64 },
+    /// It can go on until all its threads are done.
+    CanEnd,
+}
+
+impl<'a> Claim<&'a str> {
+    /// The object that is named.
+    pub(crate) fn name(self) -> Option<&'a str>
+        ensures { name_in result ≡ claimed_of (shown_claim self.entry) }
+    {
+        match self {
+            Claim::Leaves { name, .. } => Some(name),
+            Claim::CanEnd => None,
         }
     }
 }
@@ -108,6 +135,19 @@ pub enum Request<Text> {
         log: Text,
         tries: u32,
     },
+    /// All final heaps of the script's interleavings, by so many moments.
+    Outcomes {
+        script: Text,
+        most: u64,
+    },
+    /// Whether the claim holds of every interleaving, by so many moments. The log of a run of which it
+    /// does not hold is written.
+    Always {
+        claim: Claim<Text>,
+        script: Text,
+        log: Text,
+        most: u64,
+    },
 }
 
 /// What words ask for, if they ask for anything.
@@ -131,6 +171,10 @@ fn of_two<'a>(word: &str, file: &'a str) -> Option<Request<&'a str>>
         "tidy" => Some(Request::Tidy { script: file }),
         "show" => Some(Request::Show { log: file }),
         "marks" => Some(Request::Marks { file }),
+        "outcomes" => Some(Request::Outcomes {
+            script: file,
+            most: DEFAULT_MOMENTS,
+        }),
         _ => None,
     }
 }
@@ -159,6 +203,20 @@ fn of_three<'a>(word: &str, script: &'a str, log: &'a str) -> Option<Request<&'a
         "regions" => PairTask::Regions,
         "trace" => PairTask::Trace,
         "profile" => PairTask::Profile,
+        "outcomes" => {
+            return Some(Request::Outcomes {
+                script,
+                most: most_of(log)?,
+            });
+        }
+        "always" => {
+            return Some(Request::Always {
+                claim: Claim::CanEnd,
+                script,
+                log,
+                most: DEFAULT_MOMENTS,
+            });
+        }
         _ => return None,
     };
     Some(Request::OfPair {
@@ -205,6 +263,12 @@ fn of_four<'a>(
             log: second,
             tries: tries_of(third)?,
         }),
+        "always" => Some(Request::Always {
+            claim: Claim::CanEnd,
+            script: first,
+            log: second,
+            most: most_of(third)?,
+        }),
         _ => None,
     }
 }
@@ -236,6 +300,15 @@ fn of_five<'a>(
             log,
             object: Some(third),
         }),
+        "always" => Some(Request::Always {
+            claim: Claim::Leaves {
+                name: third,
+                number: number_of(last.as_bytes())?,
+            },
+            script,
+            log,
+            most: DEFAULT_MOMENTS,
+        }),
         _ => None,
     }
 }
@@ -260,8 +333,28 @@ fn of_six<'a>(
             log,
             tries: tries_of(last)?,
         }),
+        "always" => Some(Request::Always {
+            claim: Claim::Leaves {
+                name,
+                number: number_of(number.as_bytes())?,
+            },
+            script,
+            log,
+            most: most_of(last)?,
+        }),
         _ => None,
     }
+}
+
+// A number of moments.
+fn most_of(word: &str) -> Option<u64>
+    ensures { result ≡ most_of word.now }
+{
+    let number = number_of(word.as_bytes())?;
+    if number < 1 || number > MOST_MOMENTS {
+        return None;
+    }
+    Some(number)
 }
 
 // A number of tries.

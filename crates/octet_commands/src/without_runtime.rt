@@ -1,23 +1,25 @@
 //! Requests that need no runtime: from the files to a reply, before any of it is written or said.
 ghost use Rattle.std.specs.Prelude.{◌≡◌, None, Some};
 ghost use Rattle.std.specs.Option.{option_map};
-ghost use Rattle.octet_commands.specs.Request.{texts, shown, if_alone, shown_quarry, alone_in, name_in, reading_in};
-ghost use Rattle.octet_commands.specs.declared.request.Request.TheVariants.{Tidy, Show, OfPair, Convert, Hunt};
+ghost use Rattle.octet_commands.specs.Request.{texts, shown, if_alone, shown_claim, shown_quarry, alone_in, name_in, reading_in};
+ghost use Rattle.octet_commands.specs.declared.request.Request.TheVariants.{Tidy, Show, OfPair, Convert, Hunt, Outcomes, Always};
 ghost use Rattle.octet_commands.specs.Commands.{PairReplays};
 ghost use Rattle.octet_commands.specs.Replies.{Replies};
 ghost use Rattle.octet_commands.specs.Answer.{IsAnswered, given_reply};
 ghost use Rattle.octet_commands.specs.Serving.{IsReplied};
 
+use crate::always::always;
 use crate::commands::{replay, show, tidy, verify};
 use crate::convert::convert;
 use crate::giving::deliver;
 use crate::hunt::hunt;
 use crate::inputs::{Pair, read_chosen, read_fitting, read_log, read_script};
+use crate::outcomes::outcomes;
 use crate::profile::profile;
 use crate::refusal::{Refused, not_a_command};
 use crate::regions::regions;
 use crate::reply::Reply;
-use crate::request::{PairTask, Quarry, Request, request_of};
+use crate::request::{Claim, PairTask, Quarry, Request, request_of};
 use crate::slice::slice;
 use crate::stop::stop;
 use crate::trace::trace;
@@ -96,6 +98,34 @@ fn of_hunt<D: Desk>(
     Ok(hunt(alloc, &source, wanted, quarry, tries, log)?)
 }
 
+#[tactic(auto, using(crate::proofs::lemmas::Found::outcomes_stop))]
+fn of_outcomes<D: Desk>(
+    alloc: Global,
+    desk: &mut D,
+    script: &str,
+    most: u64,
+) -> Result<Reply, Refused>
+    ensures { Replies (Some (Outcomes script.now most)) (D.state desk.old) (given_reply result) (D.state desk.new) }
+{
+    let source = read_script(alloc, desk, script)?;
+    Ok(outcomes(alloc, &source.script, most)?)
+}
+
+#[tactic(auto, using(crate::proofs::lemmas::Found::always_stops))]
+fn of_always<D: Desk>(
+    alloc: Global,
+    desk: &mut D,
+    claim: Claim<&str>,
+    script: &str,
+    log: &str,
+    most: u64,
+) -> Result<Reply, Refused>
+    ensures { Replies (Some (Always (shown_claim claim.entry) script.now log.now most)) (D.state desk.old) (given_reply result) (D.state desk.new) }
+{
+    let (source, wanted) = read_chosen(alloc, desk, script, claim.name())?;
+    Ok(always(alloc, &source, wanted, claim, most, log)?)
+}
+
 /// The reply to a request that needs no runtime; to another, that it is no command.
 fn reply_to<D: Desk>(alloc: Global, desk: &mut D, request: Request<&str>) -> Result<Reply, Refused>
     ensures { Replies (if_alone (shown request.entry)) (D.state desk.old) (given_reply result) (D.state desk.new) }
@@ -116,6 +146,13 @@ fn reply_to<D: Desk>(alloc: Global, desk: &mut D, request: Request<&str>) -> Res
             log,
             tries,
         } => of_hunt(alloc, desk, quarry, script, log, tries),
+        Request::Outcomes { script, most } => of_outcomes(alloc, desk, script, most),
+        Request::Always {
+            claim,
+            script,
+            log,
+            most,
+        } => of_always(alloc, desk, claim, script, log, most),
         _ => Err(Refused::Because(not_a_command(alloc)?)),
     }
 }

@@ -1,11 +1,9 @@
 -- What a hunt looks for.
-use Rattle.std.specs.Prelude.{ℕ, ◌≡◌, ◌≢◌, ◌<◌, Bool, true, false, List, get_or}
+use Rattle.std.specs.Prelude.{ℕ, ◌≡◌, ◌≢◌, ◌<◌, true, List, get_or}
 use Rattle.std.specs.List.{list_all}
-use Rattle.octet_model.specs.declared.outcome.End.{End}
-use Rattle.octet_model.specs.declared.outcome.End.TheVariants.{Done, Spent}
 use Rattle.octet_model.specs.declared.outcome.Recorded.{Recorded}
 use Rattle.octet_model.specs.declared.script.Script.{Script}
-use Rattle.octet_model.specs.Orders.{IsFaithful}
+use Rattle.octet_model.specs.Orders.{is_done, IsFaithful}
 use Rattle.octet_regions.specs.declared.region.Hop.{Hop}
 use Rattle.octet_regions.specs.declared.serial.Serial.TheVariants as serial
 use Rattle.octet_regions.specs.Accesses.{accesses_of}
@@ -13,11 +11,6 @@ use Rattle.octet_regions.specs.Choice.{IsSerial}
 use Rattle.octet_regions.specs.Runs.{Shows}
 use Rattle.octet_hunt.specs.declared.aim.Aim.{Aim}
 use Rattle.octet_hunt.specs.declared.aim.Aim.TheVariants.{OtherValue, Cycle}
-
--- the test whether a thread came to its end with fuel to go on
-abbrev pub is_done : End → Bool
-is_done Done = true
-is_done Spent = false
 
 -- a faithful recording of a run whose threads are all done, and which leaves another value than this one in the object
 pub record EndsOtherwise (script : Script) (object number : ℕ) (recorded : Recorded) : Type 0 where

@@ -1,9 +1,9 @@
 //! What a hunt looks for.
 ghost use Rattle.std.specs.Prelude.{◌≡◌, ◌≢◌, true, length, get_or, IfOk, IfSome};
 ghost use Rattle.std.specs.List.{list_all};
-ghost use Rattle.octet_model.specs.Orders.{IsFaithful};
+ghost use Rattle.octet_model.specs.Orders.{is_done, IsFaithful};
 ghost use Rattle.octet_machine.specs.Machine.{have_ended};
-ghost use Rattle.octet_hunt.specs.Hunts.{is_done, HasCycle, IsAimAt, Meets};
+ghost use Rattle.octet_hunt.specs.Hunts.{HasCycle, IsAimAt, Meets};
 
 use octet_machine::{Machine, Rooms};
 use octet_model::{End, List, OutOfMemory, Recorded, Script};
@@ -26,7 +26,8 @@ pub(crate) struct Met {
     pub(crate) hops: List<Hop>,
 }
 
-fn are_done(ends: &[End]) -> bool
+/// Whether all threads came to their ends.
+pub fn are_done(ends: &[End]) -> bool
     ensures { result ≡ list_all is_done ends.now }
 {
     for end in ends {

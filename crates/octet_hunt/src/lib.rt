@@ -5,10 +5,12 @@
 
 mod aim;
 mod fewer;
+mod given;
 mod limits;
 mod runs;
 mod tries;
 
-pub use aim::Aim;
+pub use aim::{Aim, are_done};
+pub use given::{find_by, record_by};
 pub use limits::MAX_TRIES;
 pub use tries::{Find, hunt};

@@ -10,14 +10,15 @@ use octet_schedule::Schedule;
 use std::alloc::Global;
 
 /// A thread that makes no access in so many turns lets the others go on.
-const MOST_TURNS: u32 = 64;
+pub(crate) const MOST_TURNS: u32 = 64;
 
 /// What is kept from run to run: the room of journals, and the picks of the last run, a thread for
-/// each access.
+/// each access. A thread that makes no access in so many turns lets the others go on.
 #[derive(Drop)]
 pub(crate) struct Course {
     rooms: Rooms,
     picks: Vec<u8>,
+    turns: u32,
 }
 
 /// In which order the threads of a run made their accesses: the thread that was picked for each, and
@@ -56,16 +57,17 @@ fn preempts(ready: &[bool], at_work: Option<u8>, thread: u8) -> bool {
 }
 
 impl Course {
-    pub(crate) fn new(alloc: Global) -> Course {
+    pub(crate) fn new(alloc: Global, turns: u32) -> Course {
         Course {
             rooms: Rooms::new(alloc),
             picks: Vec::new(alloc),
+            turns,
         }
     }
 
-    // Runs the machine by the schedule until all threads have ended, or have been picked as often as
-    // their fuel allows. Counts how often a thread was stopped that could have gone on.
-    fn play(
+    /// Runs the machine by the schedule until all threads have ended, or have been picked as often as
+    /// their fuel allows. Counts how often a thread was stopped that could have gone on.
+    pub(crate) fn play(
         &mut self,
         machine: &mut Machine,
         schedule: &mut Schedule,
@@ -85,7 +87,7 @@ impl Course {
             if preempts(&ready, at_work, thread) {
                 preemptions = preemptions.saturating_add(1);
             }
-            go(machine, thread, MOST_TURNS);
+            go(machine, thread, self.turns);
             self.picks.push(thread)?;
             ready[thread as usize] = !machine.has_ended(thread);
             at_work = Some(thread);

@@ -4,7 +4,7 @@ ghost use Rattle.octet_hunt.specs.Hunts.{IsAimAt, Meets};
 
 use crate::aim::Aim;
 use crate::fewer::with_fewer_preemptions;
-use crate::runs::Course;
+use crate::runs::{Course, Interleaving, MOST_TURNS};
 use octet_model::{List, OutOfMemory, Recorded, Script};
 use octet_regions::Hop;
 use octet_schedule::{Changes, Draws, Schedule};
@@ -42,6 +42,33 @@ fn schedule_of(attempt: u32) -> Schedule {
     }
 }
 
+/// What is kept of a run that is looked for: one with fewer preemptions in its place, if one is found.
+pub(crate) fn keep(
+    alloc: Global,
+    script: &Script,
+    aim: Aim,
+    attempt: u32,
+    found: Interleaving,
+    course: &mut Course,
+) -> Result<Option<Find>, OutOfMemory>
+    requires object { IsAimAt (length script.now.objects) aim }
+    ensures meets { IfOk result (λ found. IfSome found (λ find. Meets script.now aim find.recorded find.hops)) }
+    ensures attempt { IfOk result (λ found. IfSome found (λ find. find.attempt ≡ attempt)) }
+{
+    let kept = with_fewer_preemptions(alloc, script, aim, found, course)?;
+    // The same picks give the same run again. No contract says so: what is told is judged anew.
+    let mut schedule = Schedule::written(kept.picks);
+    let Some(hit) = course.run(alloc, script, aim, &mut schedule)? else {
+        return Ok(None);
+    };
+    Ok(Some(Find {
+        attempt,
+        preemptions: hit.interleaving.preemptions,
+        recorded: hit.met.recorded,
+        hops: hit.met.hops,
+    }))
+}
+
 /// Runs the script up to so many times, each time by another schedule, and answers the first run that
 /// is looked for: in its place one with fewer preemptions, if one is found. The same script, aim and
 /// number of tries have the same answer. Holds the memory of one run of the machine at a time. That
@@ -57,22 +84,14 @@ pub fn hunt(
     ensures first { IfOk result (λ found. IfSome found (λ find. 0 < find.attempt)) }
     ensures last { IfOk result (λ found. IfSome found (λ find. find.attempt ≤ tries)) }
 {
-    let mut course = Course::new(alloc);
+    let mut course = Course::new(alloc, MOST_TURNS);
     for before in 0..tries {
         let mut schedule = schedule_of(before);
         let Some(found) = course.interleaving(alloc, script, aim, &mut schedule)? else {
             continue;
         };
-        let kept = with_fewer_preemptions(alloc, script, aim, found, &mut course)?;
-        // The same picks give the same run again. No contract says so: what is told is judged anew.
-        let mut schedule = Schedule::written(kept.picks);
-        if let Some(hit) = course.run(alloc, script, aim, &mut schedule)? {
-            return Ok(Some(Find {
-                attempt: before + 1,
-                preemptions: hit.interleaving.preemptions,
-                recorded: hit.met.recorded,
-                hops: hit.met.hops,
-            }));
+        if let Some(find) = keep(alloc, script, aim, before + 1, found, &mut course)? {
+            return Ok(Some(find));
         }
     }
     Ok(None)

@@ -2,6 +2,8 @@
 use Rattle.std.specs.Prelude.{ℕ, zero, suc, ◌+◌, ◌<◌, Bool, true, false, List, [], ◌∷◌, length, map, Option, Some, None, IsTrue, IsFalse, sum_by}
 use Rattle.octet_model.specs.declared.command.Command.{Command}
 use Rattle.octet_model.specs.declared.event.Event.{Event}
+use Rattle.octet_model.specs.declared.outcome.End.{End}
+use Rattle.octet_model.specs.declared.outcome.End.TheVariants.{Done, Spent}
 use Rattle.octet_model.specs.declared.outcome.Outcome.{Outcome}
 use Rattle.octet_model.specs.declared.script.Script.{Script}
 use Rattle.octet_model.specs.declared.log.ThreadLog.{ThreadLog}
@@ -49,6 +51,11 @@ journals_after script log order = plans.journals_after (plan_of script) log orde
 -- the ends, the values read and the heap of a state in which every thread is through
 abbrev pub outcome_of : Script → PlainState → Outcome
 outcome_of script s = plans.outcome_of (plan_of script) s
+
+-- the test whether a thread came to its end with fuel to go on
+abbrev pub is_done : End → Bool
+is_done Done = true
+is_done Spent = false
 
 -- the execution of a lawful order is its outcome
 abbrev pub execution : Script → List ThreadLog → List ℕ → Outcome

@@ -32,4 +32,4 @@ pub use number::push_number;
 pub use object::Object;
 pub use outcome::{End, Outcome, Recorded};
 pub use script::Script;
-pub use text::outcome_text;
+pub use text::{outcome_text, push_object_lines};

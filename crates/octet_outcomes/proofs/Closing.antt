@@ -3,13 +3,13 @@ use Rattle.std.proofs.Common.{◌≡◌, ℕ, zero, suc, ◌<◌, ◌≤◌, Lis
 use Rattle.std.specs.List.{Contains}
 use Rattle.std.proofs.lemmas.List.Elements.{All-append, Contains-append_left}
 use Rattle.octet_model.specs.declared.script.Script.{Script}
-use Rattle.octet_outcomes.specs.Rows.{Grows, Keeps, RowsState}
+use Rattle.octet_outcomes.specs.Rows.{Grows}
 use Rattle.octet_model.specs.declared.command.Command.{Command}
 use Rattle.octet_model.specs.Orders.{commands_of, starting_heap}
 use Rattle.octet_outcomes.specs.Moments.{Moment, MomentsState, no_moment, next_by, next_moment, first_moment, start_of, AddsMoment, AllDone, Finds}
-use Rattle.octet_outcomes.specs.Runs.{Follows, IsReached, IsFollowed, AreFollowed, AreMomentsOf, AreProgramsOf, AreAllOutcomes, IsListed, IsOutcome, no_program}
+use Rattle.octet_outcomes.specs.Runs.{Follows, IsReached, IsFollowed, AreFollowed, AreMomentsOf, AreProgramsOf, AreAllOutcomes, no_program}
 use Rattle.octet_outcomes.proofs.Naming.{grow_len, grow_at}
-use Rattle.std.proofs.lemmas.List.{length-map, get_or_default}
+use Rattle.std.proofs.lemmas.List.{length-map}
 use Rattle.octet_model.specs.declared.object.Object.{Object}
 use Rattle.octet_model.specs.Thread.{settled, starting_configuration}
 use Rattle.octet_interp.specs.declared.program.Stand.{Stand}
@@ -49,7 +49,7 @@ followed_more script xs ys m place threads within grows followed thread lt after
 pub all_followed_more : (script : Script) (xs ys : List Moment) (m : Moment) (places : ℕ) → places ≤ length xs → Grows xs m ys → AreFollowed script places xs → AreFollowed script places ys
 all_followed_more script xs ys m places within grows followed place lt = followed_more script xs ys m place (length script.threads) (omega arith) grows (followed place lt)
 
-below_suc : (P : ℕ → Type 0) (n : ℕ) → ((k : ℕ) → k < n → P k) → P n → (k : ℕ) → k < suc n → P k
+pub below_suc : (P : ℕ → Type 0) (n : ℕ) → ((k : ℕ) → k < n → P k) → P n → (k : ℕ) → k < suc n → P k
 below_suc P n below here k lt = below_more P n below here k (omega arith)
 
 reached_more : (script : Script) (xs ys : List Moment) (m : Moment) → Grows xs m ys → IsReached script m → All (IsReached script) xs → All (IsReached script) ys
@@ -148,35 +148,3 @@ all_outcomes script s heaps of followed listed heap outcome =
     let at : get_or s.moments there.0 no_moment ≡ outcome.last = any_default s.moments there.0 no_moment outcome.last there.1 ∙ there.2 in
     subst (λ (h : List ℕ). Contains heaps h) (ap (λ (m : Moment). m.heap) at ∙ outcome.leaves)
     (listed there.0 there.1 (subst (λ (m : Moment). AllDone script m) (sym at) outcome.done))
-
--- the heap of a moment in which all threads are done is an outcome
-pub is_outcome : (script : Script) (s : MomentsState) (place : ℕ) (heap : List ℕ) → AreMomentsOf script s → place < length s.moments → AllDone script (get_or s.moments place no_moment) → heap ≡ (get_or s.moments place no_moment).heap → IsOutcome script heap
-is_outcome script s place heap of lt done is = record { last = get_or s.moments place no_moment; reached = of.reached place no_moment lt; done = done; leaves = sym is }
-
--- what holds of the final heaps of the first so many moments
-pub record AreFinal (script : Script) (s : MomentsState) (places : ℕ) (rows : RowsState) : Type 0 where
-  pub width : rows.width ≡ s.objects
-  pub outcomes : All (IsOutcome script) rows.rows
-  pub listed : IsListed script s.moments places rows.rows
-
-pub final_done : (script : Script) (s : MomentsState) (before after : RowsState) (place found : ℕ) (heap : List ℕ) → AreMomentsOf script s → place < length s.moments → AllDone script (get_or s.moments place no_moment)
-    → heap ≡ (get_or s.moments place no_moment).heap → Keeps before heap found after → AreFinal script s place before → AreFinal script s (suc place) after
-final_done script s before after place found heap of lt done is keeps final = record {
-  width = keeps.same_width ∙ final.width;
-  outcomes = outcomes_more keeps.grows;
-  listed = below_suc (λ p. AllDone script (get_or s.moments p no_moment) → Contains after.rows (get_or s.moments p no_moment).heap) place
-      (λ p below all_done. contains_more before.rows after.rows heap (get_or s.moments p no_moment).heap keeps.grows (final.listed p below all_done))
-      (λ all_done. subst (λ (h : List ℕ). Contains after.rows h) is (found, keeps.there, get_or_default after.rows found heap [] keeps.there ∙ keeps.is));
-}
-  where
-    outcomes_more : Grows before.rows heap after.rows → All (IsOutcome script) after.rows
-    outcomes_more (inl e) = subst (λ (rs : List (List ℕ)). All (IsOutcome script) rs) (sym e) final.outcomes
-    outcomes_more (inr e) = subst (λ (rs : List (List ℕ)). All (IsOutcome script) rs) (sym e)
-        (All-append (IsOutcome script) before.rows (heap ∷ []) final.outcomes (λ k d l. let z : k ≡ 0 = omega arith in subst (λ (n : ℕ). IsOutcome script (get_or (heap ∷ []) n d)) (sym z) (is_outcome script s place heap of lt done is)))
-
-pub final_not : (script : Script) (s : MomentsState) (rows : RowsState) (place : ℕ) → (AllDone script (get_or s.moments place no_moment) → ⊥) → AreFinal script s place rows → AreFinal script s (suc place) rows
-final_not script s rows place not_done final = record {
-  width = final.width;
-  outcomes = final.outcomes;
-  listed = below_suc (λ p. AllDone script (get_or s.moments p no_moment) → Contains rows.rows (get_or s.moments p no_moment).heap) place final.listed (λ all_done. absurd (not_done all_done));
-}

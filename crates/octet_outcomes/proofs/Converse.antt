@@ -16,7 +16,7 @@ use Rattle.octet_interp.specs.Standing.{access_at, access_demand, stand_of}
 use Rattle.octet_outcomes.specs.Moments as moments
 use Rattle.octet_outcomes.specs.Moments.{Moment, no_stand, stand_in, stand_after, moved, value_given, heap_past}
 use Rattle.octet_model.specs.Machine.{Next, is_enabled}
-use Rattle.octet_model.specs.Orders.{commands_of}
+use Rattle.octet_model.specs.Orders.{commands_of, is_done}
 use Rattle.octet_interp.specs.Standing.{stand_past}
 use Rattle.octet_outcomes.proofs.Fuel.{IsStuck, less_fuel}
 use Rattle.octet_outcomes.specs.Interleavings.{next_demanded, by_program, plan_with}
@@ -29,7 +29,6 @@ use Rattle.octet_model.specs.declared.outcome.End.TheVariants.{Done}
 use Rattle.octet_model.proofs.lemmas.Fronts.{no_journal}
 use Rattle.std.proofs.lemmas.Bool.{and_from}
 use Rattle.std.proofs.lemmas.Option.{slice_get_past}
-use Rattle.octet_outcomes.specs.Laws.{is_done}
 use Rattle.octet_outcomes.specs.Interleavings.{OutcomesAreFinal}
 use Rattle.octet_outcomes.specs.Moments.{first_moment, AllDone}
 use Rattle.octet_model.proofs.lemmas.Steps.{Makes, makes_from, same_journal, other_journal, as_many}

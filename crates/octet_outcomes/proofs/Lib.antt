@@ -1,6 +1,10 @@
 pub mod RowsIn
 pub mod Naming
+pub mod Looking
 pub mod Closing
+pub mod Ways
+pub mod Ends
+pub mod Going
 pub mod Fuel
 pub mod Mirroring
 pub mod Converse

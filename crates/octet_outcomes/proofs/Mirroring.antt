@@ -16,7 +16,7 @@ use Rattle.octet_model.specs.declared.log.ThreadLog.{ThreadLog}
 use Rattle.octet_model.specs.declared.script.Script.{Script}
 use Rattle.octet_model.specs.Thread.{Configuration, AccessOrEnd, ToRead, ToWrite, ToBump, ToEnd, added, settled, demand_at, demanded, past_access, configuration_after, starting_configuration}
 use Rattle.octet_model.specs.Machine.{Journals, journal_of, PlainState, no_events, Operation, MakeMark, MakeRead, MakeWrite, MakeUpdate, event_made, heap_after, appended, performed}
-use Rattle.octet_model.specs.Orders.{thread_log_of, commands_of, by_log, opening_state, end_of, ends_of, state_after, IsLawfulOrder}
+use Rattle.octet_model.specs.Orders.{is_done, thread_log_of, commands_of, by_log, opening_state, end_of, ends_of, state_after, IsLawfulOrder}
 use Rattle.octet_model.proofs.lemmas.Steps.{by_front, same_journal, other_journal, as_many}
 use Rattle.octet_model.proofs.lemmas.Splits.{configuration_split}
 use Rattle.octet_model.proofs.lemmas.Fronts.{no_journal}
@@ -28,7 +28,7 @@ use Rattle.octet_interp.specs.Standing.{access_at, access_demand, stand_of, stan
 use Rattle.octet_outcomes.specs.Interleavings.{next_demanded, by_program, plan_with, FinalsAreOutcomes}
 use Rattle.std.proofs.Common.{Bool}
 use Rattle.octet_model.specs.Machine.{Wants, IsFront, after}
-use Rattle.octet_outcomes.specs.Laws.{is_done, LawfulEndsAreOutcomes, FaithfulEndsAreOutcomes}
+use Rattle.octet_outcomes.specs.Laws.{LawfulEndsAreOutcomes, FaithfulEndsAreOutcomes}
 use Rattle.octet_outcomes.specs.Moments as moments
 use Rattle.octet_outcomes.specs.Moments.{Moment, no_stand, stand_in, stand_after, moved, value_given, heap_past, first_moment, AllDone}
 use Rattle.octet_outcomes.specs.Runs.{IsReached, IsOutcome}

@@ -1,7 +1,7 @@
 -- Moments that rows name.
 use Rattle.std.proofs.Common.{◌≡◌, ℕ, suc, ◌<◌, ◌≤◌, List, [], ◌∷◌, ◌++◌, length, map, set, get_or, All, refl, sym, ap, ap₂, subst, ◌∙◌, inl, inr, arith, length-append, Option, Some, None}
 use Rattle.std.proofs.lemmas.List.{length-map, get_or_append_left, map-append, map-set, get_or-map}
-use Rattle.std.proofs.lemmas.List.Elements.{All-append, All-set}
+use Rattle.std.proofs.lemmas.List.Elements.{All-append}
 use Rattle.octet_interp.specs.declared.program.Stand.{Stand}
 use Rattle.octet_outcomes.specs.Rows.{Grows}
 use Rattle.octet_model.specs.declared.command.Command.{Command}
@@ -20,10 +20,6 @@ pub map_same : {A B : Type 0} (f g : A → B) (xs : List A) → ((k : ℕ) (d : 
 map_same f g [] h = refl
 map_same f g (x ∷ xs) h = ap₂ (λ y ys. y ∷ ys) (h 0 x (omega arith)) (map_same f g xs (λ k d lt. h (suc k) d (omega arith)))
 
-pub row_more : (s h t i : ℕ) (row : List ℕ) → s ≤ t → h ≤ i → IsRowOf s h row → IsRowOf t i row
-row_more s h t i [] st hi of = of
-row_more s h t i (heap ∷ numbers) st hi of = (omega (arith, of.0), λ k d lt. omega (arith, of.1 k d lt))
-
 module _ (stands after : List Stand) (heaps heaps_after : List (List ℕ)) (stand : Stand) (heap : List ℕ) (gs : Grows stands stand after) (gh : Grows heaps heap heaps_after) where
   -- a row names what it named
   pub named_same : (row : List ℕ) → IsRowOf (length stands) (length heaps) row → moment_of after heaps_after row ≡ moment_of stands heaps row
@@ -33,21 +29,10 @@ module _ (stands after : List Stand) (heaps heaps_after : List (List ℕ)) (stan
       (map_same (λ n. get_or after n no_stand) (λ n. get_or stands n no_stand) numbers (λ k d lt. grow_at stands after stand (get_or numbers k d) no_stand (of.1 k d lt) gs))
       (grow_at heaps heaps_after heap number [] of.0 gh)
 
-  pub all_more : (rows : List (List ℕ)) → All (IsRowOf (length stands) (length heaps)) rows → All (IsRowOf (length after) (length heaps_after)) rows
-  all_more rows all k d lt = row_more (length stands) (length heaps) (length after) (length heaps_after) (get_or rows k d) (grow_len stands after stand gs) (grow_len heaps heaps_after heap gh) (all k d lt)
-
   pub all_same : (rows : List (List ℕ)) → All (IsRowOf (length stands) (length heaps)) rows → map (moment_of after heaps_after) rows ≡ map (moment_of stands heaps) rows
   all_same rows all = map_same (moment_of after heaps_after) (moment_of stands heaps) rows (λ k d lt. named_same (get_or rows k d) (all k d lt))
 
   module _ (rows rows_after : List (List ℕ)) (row : List ℕ) (all : All (IsRowOf (length stands) (length heaps)) rows) (gr : Grows rows row rows_after) where
-    pub all_named : IsRowOf (length after) (length heaps_after) row → All (IsRowOf (length after) (length heaps_after)) rows_after
-    all_named of = go gr
-      where
-        go : Grows rows row rows_after → All (IsRowOf (length after) (length heaps_after)) rows_after
-        go (inl e) = subst (λ (rs : List (List ℕ)). All (IsRowOf (length after) (length heaps_after)) rs) (sym e) (all_more rows all)
-        go (inr e) = subst (λ (rs : List (List ℕ)). All (IsRowOf (length after) (length heaps_after)) rs) (sym e)
-            (All-append (IsRowOf (length after) (length heaps_after)) rows (row ∷ []) (all_more rows all) (λ k d lt. let z : k ≡ 0 = omega arith in subst (λ (n : ℕ). IsRowOf (length after) (length heaps_after) (get_or (row ∷ []) n d)) (sym z) of))
-
     pub moments_grow : Grows (map (moment_of stands heaps) rows) (moment_of after heaps_after row) (map (moment_of after heaps_after) rows_after)
     moments_grow = go gr
       where
@@ -58,13 +43,6 @@ module _ (stands after : List Stand) (heaps heaps_after : List (List ℕ)) (stan
   -- the row with the numbers of a stand and a heap names the moment with them
   abbrev numbered : List ℕ → ℕ → ℕ → ℕ → List ℕ
   numbered row heap_number at stand_number = set (set row 0 heap_number) at stand_number
-
-  pub numbered_of : (row : List ℕ) (thread at heap_number stand_number : ℕ) → at ≡ suc thread → IsRowOf (length stands) (length heaps) row → heap_number < length heaps_after → stand_number < length after
-      → IsRowOf (length after) (length heaps_after) (numbered row heap_number at stand_number)
-  numbered_of [] thread at heap_number stand_number is of hl sl = absurd of
-  numbered_of (number ∷ numbers) thread at heap_number stand_number is of hl sl =
-      subst (λ (n : ℕ). IsRowOf (length after) (length heaps_after) (set (heap_number ∷ numbers) n stand_number)) (sym is)
-      (hl, All-set (λ n. n < length after) numbers thread stand_number sl (λ k d lt. omega (arith, of.1 k d lt, grow_len stands after stand gs)))
 
   pub numbered_names : (row : List ℕ) (thread at heap_number stand_number : ℕ) → at ≡ suc thread → IsRowOf (length stands) (length heaps) row
       → get_or heaps_after heap_number [] ≡ heap → get_or after stand_number no_stand ≡ stand

@@ -5,8 +5,7 @@ use Rattle.octet_model.specs.declared.script.Script.{Script}
 use Rattle.octet_model.specs.Thread.{AccessOrEnd, ToRead, ToWrite, ToBump, ToEnd, added, demanded, configuration_after, starting_configuration}
 use Rattle.octet_model.specs.Machine.{PlainState, Next, Wants, Finished, MakeRead, MakeWrite, MakeUpdate, Behavior, after, IsOrder}
 use Rattle.octet_model.specs.Plans.{Plan, commands_of, opening_state, ends_of}
-use Rattle.octet_model.specs.Orders.{starting_heap}
-use Rattle.octet_outcomes.specs.Laws.{is_done}
+use Rattle.octet_model.specs.Orders.{is_done, starting_heap}
 use Rattle.octet_outcomes.specs.Runs.{IsOutcome}
 
 -- what comes of a demand: its access, or nothing more

@@ -1,7 +1,10 @@
 pub mod Rows
 pub mod Moments
+pub mod Ahead
 pub mod Runs
+pub mod Searches
+pub mod Endings
+pub mod Stuck
 pub mod Stands
 pub mod Laws
-pub mod Verdicts
 pub mod Interleavings

@@ -3,6 +3,7 @@ ghost use Rattle.octet_interp.specs.Demands.{IsPossible};
 ghost use Rattle.std.specs.Prelude.{◌≡◌, ℕ, List, true, suc, All, ◌+◌, ◌<◌, ◌≤◌, length, get_or, map, [], ◌∷◌, ◌++◌, Some, None, IfOk, OnOk, slice_index, slice_set};
 ghost use Rattle.octet_model.specs.declared.limits.TheConstants.{MAX_FUEL};
 ghost use Rattle.octet_interp.specs.Standing.{access_at};
+ghost use Rattle.octet_outcomes.specs.Ahead.{IsNext};
 ghost use Rattle.octet_outcomes.specs.Moments.{heap_after, heap_past, moment_of, next_by, no_moment, stand_after, stand_in, start_of, value_given, Finds, IsRowOf, Names};
 
 use crate::rows::Rows;
@@ -83,8 +84,28 @@ fn copy_into(copy: &mut Vec<u64>, words: &[u64]) -> Result<(), OutOfMemory>
 /// Room for a row and a heap, which is used again.
 #[derive(Drop)]
 pub(crate) struct Scratch {
-    pub(crate) row: Vec<u64>,
-    pub(crate) heap: Vec<u64>,
+    row: Vec<u64>,
+    heap: Vec<u64>,
+}
+
+impl Scratch {
+    pub(crate) fn new(alloc: Global) -> Scratch {
+        Scratch {
+            row: Vec::new(alloc),
+            heap: Vec::new(alloc),
+        }
+    }
+}
+
+/// What comes of the next access of a thread from a moment.
+#[derive(Clone, Copy)]
+pub(crate) enum Next {
+    /// There is no access.
+    Nothing,
+    /// The moment at a place.
+    At { place: usize },
+    /// A moment that is not found.
+    Unseen,
 }
 
 // Names the moment in which a thread of a row stands elsewhere, on this heap. Writes over the row.
@@ -113,6 +134,32 @@ fn name_moment(
     row[thread + 1] = stand_number as u64;
     let place = rows.add(row)?;
     Ok(place)
+}
+
+// Where the moment is in which a thread of a row stands elsewhere, on this heap. Writes over the row.
+fn find_moment(
+    stands: &Stands,
+    heaps: &Rows,
+    rows: &Rows,
+    row: &mut [u64],
+    thread: usize,
+    stand: &Stand,
+    heap: &[u64],
+) -> Next
+    requires row { IsRowOf (length stands.now) (length heaps.now.rows) row.old }
+    requires thread { suc thread < length row.old }
+    ensures { IsNext (map (moment_of stands.now heaps.now.rows) rows.now.rows) (Some (record { stands = slice_set (moment_of stands.now heaps.now.rows row.old).stands thread stand.now; heap = heap.now })) result }
+{
+    let (Some(stand_number), Some(heap_number)) = (stands.place_of(stand), heaps.place_of(heap))
+    else {
+        return Next::Unseen;
+    };
+    row[0] = heap_number as u64;
+    row[thread + 1] = stand_number as u64;
+    match rows.place_of(row) {
+        Some(place) => Next::At { place },
+        None => Next::Unseen,
+    }
 }
 
 // The row of the moment before the first access.
@@ -214,6 +261,42 @@ impl Moments {
             &scratch.heap,
         )?;
         Ok(Some(found))
+    }
+
+    /// What comes of the next access of a thread from the moment at a place.
+    pub(crate) fn next(
+        &self,
+        program: &Program,
+        fuel: u32,
+        place: usize,
+        thread: usize,
+        scratch: &mut Scratch,
+    ) -> Result<Next, OutOfMemory>
+        requires there { place < length self.now.moments }
+        requires thread { thread < self.now.threads }
+        requires objects { program.now.objects ≡ self.now.objects }
+        requires some { 0 < fuel }
+        requires few { fuel ≤ MAX_FUEL }
+        ensures { IfOk result (IsNext self.now.moments (next_by program.now.commands fuel (get_or self.now.moments place no_moment) thread)) }
+    {
+        copy_into(&mut scratch.row, self.rows.row(place))?;
+        let stand = self.stands.stand(number_at(&scratch.row, thread + 1));
+        copy_into(
+            &mut scratch.heap,
+            self.heaps.row(number_at(&scratch.row, 0)),
+        )?;
+        let Some(after) = access(program, &stand, &mut scratch.heap, fuel) else {
+            return Ok(Next::Nothing);
+        };
+        Ok(find_moment(
+            &self.stands,
+            &self.heaps,
+            &self.rows,
+            &mut scratch.row,
+            thread,
+            &after,
+            &scratch.heap,
+        ))
     }
 
     /// How many objects there are.

@@ -1,5 +1,5 @@
 //! Rows of words, each of which is kept once, and named by its place.
-ghost use Rattle.std.specs.Prelude.{◌≡◌, ◌+◌, ◌*◌, ◌<◌, ◌≤◌, true, length, get_or, slice_range, [], IfOk, OnErr};
+ghost use Rattle.std.specs.Prelude.{◌≡◌, ◌+◌, ◌*◌, ◌<◌, ◌≤◌, true, length, get_or, slice_range, [], IfOk, IfSome, OnErr};
 ghost use Rattle.octet_outcomes.specs.Rows.{IsFoundAt, Keeps};
 ghost use Rattle.octet_outcomes.specs.declared.rows.Found.TheVariants.{At};
 
@@ -144,6 +144,16 @@ impl Rows {
             slot = (slot + 1) & mask;
         }
         Found::Nowhere
+    }
+
+    /// The place of a row, if it is found.
+    pub(crate) fn place_of(&self, row: &[u64]) -> Option<usize>
+        ensures { IfSome result (λ place. (place < length self.now.rows) × (get_or self.now.rows place [] ≡ row.now)) }
+    {
+        match self.find(row) {
+            Found::At { place } => Some(place),
+            _ => None,
+        }
     }
 
     /// Adds a row that is not found, and answers its place.

@@ -1,5 +1,5 @@
 //! Where threads stand, each kept once, and named by its place.
-ghost use Rattle.std.specs.Prelude.{◌≡◌, ◌<◌, true, length, get_or, [], IfOk, OnErr};
+ghost use Rattle.std.specs.Prelude.{◌≡◌, ◌<◌, true, length, get_or, [], IfOk, IfSome, OnErr};
 ghost use Rattle.octet_outcomes.specs.Moments.{no_stand};
 ghost use Rattle.octet_outcomes.specs.Stands.{IsStandFoundAt, KeepsStand};
 
@@ -121,6 +121,16 @@ impl Stands {
             slot = (slot + 1) & mask;
         }
         Found::Nowhere
+    }
+
+    /// The place of a stand, if it is found.
+    pub(crate) fn place_of(&self, stand: &Stand) -> Option<usize>
+        ensures { IfSome result (λ place. (place < length self.now) × (get_or self.now place no_stand ≡ stand.now)) }
+    {
+        match self.find(stand) {
+            Found::At { place } => Some(place),
+            _ => None,
+        }
     }
 
     /// Adds a stand that is not found, and answers its place.

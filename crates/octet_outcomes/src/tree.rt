@@ -1,56 +1,44 @@
-//! From which moment, and by which thread, each moment was found first.
+//! The access by which each moment was found first.
+ghost use Rattle.std.specs.Prelude.{◌≡◌, ◌++◌, ◌∷◌, ◌≤◌, ◌<◌, [], length, IfOk, OnOk};
+
 use octet_model::OutOfMemory;
 use std::alloc::Global;
 
-/// The way to each moment. Nothing is promised of it: a run by these picks is judged anew.
+/// The access of a thread, from the moment at a place.
+#[derive(Clone, Copy)]
+pub(crate) struct Step {
+    pub(crate) from: u32,
+    pub(crate) thread: u8,
+}
+
+/// For each moment the access by which it was found. The first one, which has none, has any.
 #[derive(Drop)]
 pub(crate) struct Tree {
-    parents: Vec<u32>,
-    threads: Vec<u8>,
+    pub(crate) steps: Vec<Step>,
 }
 
 impl Tree {
-    /// The first moment alone, which has no parent.
-    pub(crate) fn new(alloc: Global) -> Result<Tree, OutOfMemory> {
-        Ok(Tree {
-            parents: vec![in alloc; 0; 1]?,
-            threads: vec![in alloc; 0; 1]?,
-        })
+    /// The first moment alone.
+    pub(crate) fn new(alloc: Global) -> Result<Tree, OutOfMemory>
+        ensures { IfOk result (λ tree. length tree.steps.items ≡ 1) }
+    {
+        let mut steps = Vec::new(alloc);
+        steps.push(Step { from: 0, thread: 0 })?;
+        Ok(Tree { steps })
     }
 
-    /// Notes how a moment was found, if it is a new one.
-    pub(crate) fn note(
-        &mut self,
-        parent: usize,
-        thread: usize,
-        found: Option<usize>,
-    ) -> Result<(), OutOfMemory> {
-        if found != Some(self.parents.len()) {
+    /// Notes the access that made a new moment, if there are this many moments, and more than before.
+    pub(crate) fn note(&mut self, from: usize, thread: u8, many: usize) -> Result<(), OutOfMemory>
+        ensures same { many ≤ length self.old.steps.items → OnOk result (self.new.steps.items ≡ self.old.steps.items) }
+        ensures more { length self.old.steps.items < many → OnOk result (self.new.steps.items ≡ self.old.steps.items ++ (record { from = from; thread = thread }) ∷ []) }
+    {
+        if many <= self.steps.len() {
             return Ok(());
         }
-        let (Ok(parent), Ok(thread)) = (u32::try_from(parent), u8::try_from(thread)) else {
+        let Ok(from) = u32::try_from(from) else {
             return Err(OutOfMemory);
         };
-        self.parents.push(parent)?;
-        self.threads.push(thread)?;
+        self.steps.push(Step { from, thread })?;
         Ok(())
-    }
-
-    /// The threads whose accesses lead to a moment, in order.
-    pub(crate) fn picks_to(&self, alloc: Global, place: usize) -> Result<Vec<u8>, OutOfMemory> {
-        let mut picks = Vec::new(alloc);
-        let mut at = place;
-        for _taken in 0..self.parents.len() {
-            let (Some(parent), Some(thread)) = (self.parents.get(at), self.threads.get(at)) else {
-                break;
-            };
-            if at == 0 {
-                break;
-            }
-            picks.push(*thread)?;
-            at = *parent as usize;
-        }
-        picks.reverse();
-        Ok(picks)
     }
 }

@@ -1,4 +1,4 @@
-//! The checker of `docs/REPLAY.md`, to the letter.
+//! A whole tool on replays, which the page of `crates/octet_replay` names.
 use octet_log::decode;
 use octet_model::{Event, Log, MAX_THREADS, OutOfMemory, Place, Script};
 use octet_replay::{ReplayFault, Tracer};

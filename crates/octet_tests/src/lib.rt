@@ -1,12 +1,10 @@
-//! Tests across crates that start no thread: desks, logs and their replays, the heap step by step, and what a run becomes.
+//! Tests across crates that start no thread: desks, marks files, replays of logs, and the heap step by step.
 #![tactic(auto)]
 
 #[cfg(test)]
 mod atomicity_tests;
 #[cfg(test)]
 mod base_tests;
-#[cfg(test)]
-mod clock_tests;
 #[cfg(test)]
 mod field_tests;
 #[cfg(test)]
@@ -25,7 +23,3 @@ mod ring_tests;
 mod samples;
 #[cfg(test)]
 mod state_tests;
-#[cfg(test)]
-mod window_tests;
-#[cfg(test)]
-mod worked_tests;

@@ -1,7 +1,7 @@
 //! Replays of a log step by step, and what a thread waits for.
 use crate::samples::{DRAW, FENCE, JOIN, LogThread, log, script};
-use octet_model::{End, Event, List, Mark, Place};
-use octet_replay::{Need, Replayer, Stepped, Tracer, Waits, replay};
+use octet_model::{End, Event, List, Mark};
+use octet_replay::{Need, Replayer, Stepped, Waits};
 use std::fmt::Debug;
 use std::process::Abort;
 use std::test::*;
@@ -39,35 +39,24 @@ fn events_are_told_one_by_one(rt: HostRuntime) -> Result<(), Fail> {
     let alloc = rt.alloc();
     let (script, log) = (script(alloc, READERS)?, log(alloc, SHARED)?);
     let mut replayer = Replayer::new(alloc, &script, &log)?;
-    let mut tracer = Tracer::new(alloc, &script, &log)?;
     let marked = |mark: Mark| Event::Marked { mark };
-    for (thread, number, event) in [
-        (1, 0, joined(0, 0)),
-        (1, 1, READ_9),
-        (2, 0, joined(1, 1)),
-        (2, 1, marked(Mark::Draw { number: 1 })),
-        (1, 2, marked(Mark::Fence { number: 1 })),
-        (1, 3, READ_9),
-        (2, 2, READ_9),
+    for (thread, event) in [
+        (1, joined(0, 0)),
+        (1, READ_9),
+        (2, joined(1, 1)),
+        (2, marked(Mark::Draw { number: 1 })),
+        (1, marked(Mark::Fence { number: 1 })),
+        (1, READ_9),
+        (2, READ_9),
     ] {
         assert_eq!(rt; replayer.step(), Stepped::Made { thread, event });
-        let place = Place {
-            thread,
-            event: number,
-        };
-        assert_eq!(rt; tracer.next(), Some((place, event)));
     }
-    for _ in 0..2 {
-        assert_eq!(rt; replayer.step(), Stepped::Halted);
-        assert_eq!(rt; tracer.next(), None);
-    }
+    assert_eq!(rt; replayer.step(), Stepped::Halted);
     replayer.run();
-    let plain = replay(alloc, &script, &log)?;
-    for outcome in [replayer.end(alloc)?, tracer.end(alloc)?, plain] {
-        assert_eq!(rt; outcome.ends.as_slice(), [End::Done; 3].as_slice());
-        assert_lists(&rt, &outcome.reads, &[&[], &[9, 9], &[9]]);
-        assert_eq!(rt; outcome.heap.as_slice(), [9].as_slice());
-    }
+    let outcome = replayer.end(alloc)?;
+    assert_eq!(rt; outcome.ends.as_slice(), [End::Done; 3].as_slice());
+    assert_lists(&rt, &outcome.reads, &[&[], &[9, 9], &[9]]);
+    assert_eq!(rt; outcome.heap.as_slice(), [9].as_slice());
     Ok(())
 }
 

@@ -1,4 +1,4 @@
-//! Tests across crates that start threads: runs, logs that are written meanwhile, the heap, recordings, and whole commands.
+//! Tests across crates that start threads: runs, logs that are written meanwhile, the heap, and whole commands.
 #![tactic(auto)]
 
 #[cfg(test)]
@@ -12,13 +12,7 @@ mod live_tests;
 #[cfg(test)]
 mod locked_tests;
 #[cfg(test)]
-mod long_race_tests;
-#[cfg(test)]
 mod loop_tests;
-#[cfg(test)]
-mod race_tests;
-#[cfg(test)]
-mod races;
 #[cfg(test)]
 mod safe_tests;
 #[cfg(test)]

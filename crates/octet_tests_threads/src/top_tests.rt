@@ -66,26 +66,16 @@ const SHOWN: &[u8] =
 
 const SERIAL: &[u8] = b"serial\nregion 1:0\nthread 0 done\nthread 1 done 3\nobject y 3\n";
 
-const NO_COMMAND: &[u8] = b"words: not a command\n";
-
 const READ_FAILED: &[u8] = b"read: failed\n";
 
 /// Each with its status, what is said and what is written.
 const COMMANDS: &[(&str, Status, &[u8], Option<&[u8]>)] = &[
     ("run S L", Status::Done, SAID, Some(SECOND)),
-    ("run S S", Status::Done, SAID, None),
     ("locked S L", Status::Done, SAID, Some(LOG)),
-    ("locked S", Status::Words, NO_COMMAND, None),
     ("tidy S", Status::Done, CANONICAL, None),
     ("tidy T", Status::Read, READ_FAILED, None),
     ("turns S L 0", Status::Done, SAID, Some(LOG)),
-    ("turns S L 0g", Status::Words, NO_COMMAND, None),
-    ("turns S L", Status::Words, NO_COMMAND, None),
-    ("run S", Status::Words, NO_COMMAND, None),
-    ("tidy S L", Status::Words, NO_COMMAND, None),
-    ("", Status::Words, NO_COMMAND, None),
     ("show K", Status::Done, SHOWN, None),
-    ("marks K", Status::Log, b"marks: 1 no magic at 0\n", None),
     ("replay S K", Status::Done, SAID, None),
     ("parallel S K", Status::Done, SAID, None),
     ("verify S K", Status::Done, b"ordered\n", None),

@@ -13,19 +13,19 @@ use Rattle.octet_replay.specs.Fit.{IsOfScript}
 use Rattle.octet_commands.specs.declared.inputs.Source.{Source}
 use Rattle.octet_commands.specs.declared.inputs.Pair.{Pair}
 use Rattle.octet_commands.specs.declared.reply.Status.{Status}
-use Rattle.octet_commands.specs.declared.reply.Status.TheVariants.{Done, Read, Write, Memory, Cycle, NoEvent, NotFound}
+use Rattle.octet_commands.specs.declared.reply.Status.TheVariants.{Done, Read, Write, Memory, Cycle, NoEvent, NotFound, NotAll, Otherwise}
 use Rattle.octet_commands.specs.declared.request.PairTask.{PairTask}
 use Rattle.octet_commands.specs.declared.request.PairTask.TheVariants.{Regions, Slice}
 use Rattle.octet_commands.specs.Answer.{Answer, code_of, read_failed}
-use Rattle.octet_commands.specs.Request.{Request, named_by, request_in, outputs_in}
-use Rattle.octet_commands.specs.declared.request.Request.TheVariants.{Tidy, Show, Marks, OfPair, Parallel, Convert, Run, Gen, Hunt}
+use Rattle.octet_commands.specs.Request.{Request, claimed_of, named_by, request_in, outputs_in}
+use Rattle.octet_commands.specs.declared.request.Request.TheVariants.{Tidy, Show, Marks, OfPair, Parallel, Convert, Run, Gen, Hunt, Outcomes, Always}
 use Rattle.octet_commands.specs.declared.request.Way.TheVariants.{AsTheyCome}
 use Rattle.octet_commands.specs.Inputs.{IsScriptRead, IsLogRead, IsScriptChosen, IsPairRead}
 use Rattle.octet_commands.specs.Commands.{IsAnswer}
 use Rattle.octet_commands.specs.Marks.{IsMarksRead, FileFails}
 use Rattle.octet_commands.specs.Outputs.{IsWhole, IsCutShort, IsPartlyWritten}
 
--- the number is one of the thirteen statuses
+-- the number is one of the fifteen statuses
 abbrev pub IsStatus : ℕ → Type 0
 IsStatus code = (status : Status) × (code ≡ code_of status)
 
@@ -123,10 +123,10 @@ abbrev pub KeepsOthers : List (List ℕ) → DeskState → DeskState → Type 0
 KeepsOthers words before after =
     (contents contents' : Contents) (name : List ℕ) → before.contents ≡ Some contents → after.contents ≡ Some contents' → ¬ IsOneOf name (outputs_in (request_in words)) → get contents'.files name ≡ get contents.files name
 
--- all files are as before, unless all was done, a call failed or memory was refused
+-- all files are as before, unless all was done, a run was found that ends otherwise, a call failed or memory was refused
 abbrev pub KeepsFiles : DeskState → DeskState → ℕ → Type 0
 KeepsFiles before after code =
-    (contents contents' : Contents) → before.contents ≡ Some contents → after.contents ≡ Some contents' → code ≢ code_of Done → code ≢ code_of Write → code ≢ code_of Memory → contents'.files ≡ contents.files
+    (contents contents' : Contents) → before.contents ≡ Some contents → after.contents ≡ Some contents' → code ≢ code_of Done → code ≢ code_of Otherwise → code ≢ code_of Write → code ≢ code_of Memory → contents'.files ≡ contents.files
 
 -- the files of a script that has the named object, and of a log of this script from a faithful recording
 abbrev pub HasPair : List ℕ → List ℕ → Option (List ℕ) → Contents → Type 0
@@ -144,6 +144,8 @@ HasFiles (Convert script log out) contents = HasPair script log None contents
 HasFiles (Run task script log) contents = (source : Source) × IsScriptRead script (Some contents) (Ok source)
 HasFiles (Gen number script log) contents = Unit {0}
 HasFiles (Hunt quarry script log tries) contents = (chosen : Source × Option ℕ) × IsScriptChosen script (named_by quarry) (Some contents) (Ok chosen)
+HasFiles (Outcomes script most) contents = (source : Source) × IsScriptRead script (Some contents) (Ok source)
+HasFiles (Always claim script log most) contents = (chosen : Source × Option ℕ) × IsScriptChosen script (claimed_of claim) (Some contents) (Ok chosen)
 
 -- a task may end with this status although it has all that it takes:
 -- regions may be in a cycle, and a log may lack the event asked for
@@ -152,10 +154,13 @@ MayLack Regions Cycle = Unit {0}
 MayLack (Slice thread event) NoEvent = Unit {0}
 MayLack _ _ = ⊥
 
--- a request may end with this status although all that it takes is as it should be. A hunt may find nothing
+-- a request may end with this status although all that it takes is as it should be. A hunt may find nothing,
+-- a search may be cut off, and a claim may not hold
 abbrev pub MayEndWith : Request → Status → Type 0
 MayEndWith (OfPair task script log object) status = MayLack task status
 MayEndWith (Hunt quarry script log tries) status = status ≡ NotFound
+MayEndWith (Outcomes script most) status = status ≡ NotAll
+MayEndWith (Always claim script log most) status = (status ≡ NotAll) ⊎ (status ≡ Otherwise)
 MayEndWith _ _ = ⊥
 
 -- all is done, memory was refused, or the words ask for something that may end with this status

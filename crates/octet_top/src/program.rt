@@ -5,10 +5,11 @@ ghost use Rattle.octet_commands.specs.declared.reply.Status.{Status};
 ghost use Rattle.octet_commands.specs.declared.reply.Status.TheVariants.{Memory};
 ghost use Rattle.octet_commands.specs.Answer.{code_of};
 ghost use Rattle.octet_commands.specs.Request.{texts, request_in};
-ghost use Rattle.octet_top.specs.Causes.{IsCause, IsDue, FindsOrNot, NoneFailed};
+ghost use Rattle.octet_top.specs.Causes.{IsCause, IsDue, MayDiffer, NoneFailed};
 ghost use Rattle.octet_top.specs.Effects.{IsStatus, Leaves, CutsRun, KeepsOthers, KeepsFiles, CountsFailures, IsCompleted, IsWellMet};
 ghost use Rattle.octet_top.specs.Serving.{IsServed};
 ghost use Rattle.octet_top.specs.Headline.{RunsFaithfully};
+ghost use Rattle.octet_top.specs.Searches.{FindsOutcomes, RefutesAlways, ShowsAlways};
 ghost use Rattle.octet_top.specs.Promises.{RunsAsPicked, RunsWithExactTotals, VerifiesOrdered, ReplaysOnThreads, FindsRegions, RepeatsRecordings, SlicesPasts, StopsAtFirst, TracesOrders, TracesMisfits, ConvertsLogs, GeneratesFaithfully, HuntsFaithfully};
 
 use crate::with_runtime::serve_request;
@@ -72,6 +73,16 @@ pub fn serve<R: Threads + Wait + Sync, D: Desk, G: HeapGate>(
     // are done and the object has another value, or its regions have a cycle.
     ensures hunted { HuntsFaithfully (texts words.now) (D.state desk.old) (D.state desk.new) result }
 
+    // Status 0 of `outcomes` comes with all final heaps of all interleavings, among which is that of
+    // each recorded run whose threads are all done. Where no moment is stuck, each leads to an end.
+    ensures outcomes { FindsOutcomes (texts words.now) (D.state desk.old) (D.state desk.new) result }
+
+    // Status 0 of `always` comes only where the claim holds of every run. Status 14 comes with a
+    // faithful recording of one of which it does not hold, or with none, where the script's fuel is not
+    // enough for it.
+    ensures always { ShowsAlways (texts words.now) (D.state desk.old) (D.state desk.new) result }
+    ensures otherwise { RefutesAlways (texts words.now) (D.state desk.old) (D.state desk.new) result }
+
     // Where `regions` finds an order, the regions run one after another in it give the outcome that
     // is said. Where it finds a cycle, the first region of each hop is before the second, and stands in
     // its thread at or after the second region of the next hop, the last hop's next being the first.
@@ -81,13 +92,15 @@ pub fn serve<R: Threads + Wait + Sync, D: Desk, G: HeapGate>(
     ensures cause { (status : Status) → result ≡ code_of status → IsCause (texts words.now) (D.state desk.old) (D.state desk.new) status }
 
     // Where the desk tells its contents and no call fails, the status comes whose cause is the
-    // first that is met, unless memory was refused. A hunt may find a run or not.
+    // first that is met, unless memory was refused. A hunt may find a run or not, and a search of all
+    // interleavings may be cut off.
     ensures due { (contents : Contents) → (D.state desk.old).contents ≡ Some contents → (status : Status) → IsDue (texts words.now) (D.state desk.old).contents status → NoneFailed (D.state desk.old) (D.state desk.new)
-        → (result ≡ code_of status) ⊎ ((result ≡ code_of Memory) ⊎ ((other : Status) × FindsOrNot (texts words.now) status other × (result ≡ code_of other))) }
-    ensures one_due { (contents : Contents) (status other : Status) → IsDue (texts words.now) (Some contents) status → IsDue (texts words.now) (Some contents) other → (status ≡ other) ⊎ FindsOrNot (texts words.now) status other }
+        → (result ≡ code_of status) ⊎ ((result ≡ code_of Memory) ⊎ ((other : Status) × MayDiffer (texts words.now) status other × (result ≡ code_of other))) }
+    ensures one_due { (contents : Contents) (status other : Status) → IsDue (texts words.now) (Some contents) status → IsDue (texts words.now) (Some contents) other → (status ≡ other) ⊎ MayDiffer (texts words.now) status other }
 
     // And where all that the words take is as it should be, all is done; but regions may be in a
-    // cycle, a slice may be asked for of an event that is not there, and a hunt may find nothing.
+    // cycle, a slice may be asked for of an event that is not there, a hunt may find nothing, a search
+    // may be cut off, and a claim may not hold.
     ensures complete { (contents : Contents) → (D.state desk.old).contents ≡ Some contents → IsWellMet (texts words.now) contents → NoneFailed (D.state desk.old) (D.state desk.new)
         → IsCompleted (texts words.now) result }
 

@@ -11,6 +11,9 @@ use Rattle.octet_regions.specs.declared.region.Hop.{Hop}
 use Rattle.octet_hunt.specs.declared.aim.Aim.{Aim}
 use Rattle.octet_hunt.specs.declared.aim.Aim.TheVariants.{OtherValue, Cycle}
 use Rattle.octet_hunt.specs.Hunts.{Meets}
+use Rattle.octet_commands.specs.declared.request.Claim.TheVariants.{Leaves, CanEnd}
+use Rattle.octet_commands.specs.Outcomes.{Refutes}
+use Rattle.octet_commands.specs.Request.{Claim}
 use Rattle.octet_commands.specs.Profile.{object_named}
 use Rattle.octet_commands.specs.Inputs.{IsChosen}
 
@@ -30,3 +33,9 @@ wanted_is_there script (Some name) place is = by (object_named script name) refl
 pub met_faithfully : (script : Script) (aim : Aim) (recorded : Recorded) (hops : List Hop) → Meets script aim recorded hops → IsFaithful script recorded.log.threads recorded.outcome
 met_faithfully script (OtherValue object number) recorded hops meets = meets.faithful
 met_faithfully script Cycle recorded hops meets = meets.faithful
+
+-- so is a run of which a claim does not hold
+pub refuted_faithfully : (script : Script) (claim : Claim) (wanted : Option ℕ) (recorded : Recorded) → Refutes script claim wanted recorded → IsFaithful script recorded.log.threads recorded.outcome
+refuted_faithfully script (Leaves name number) (Some object) recorded refutes = refutes.faithful
+refuted_faithfully script (Leaves name number) None recorded never = absurd never
+refuted_faithfully script CanEnd wanted recorded refutes = refutes.faithful

@@ -13,11 +13,12 @@ use Rattle.octet_replay.specs.declared.fitting.FitFault.{FitFault}
 use Rattle.octet_replay.specs.Fit.{IsOfScript, IsOfAnother}
 use Rattle.octet_model.specs.declared.limits.TheConstants.{MAX_LOG_FILE, MAX_SCRIPT_FILE}
 use Rattle.octet_commands.specs.declared.inputs.Source.{Source}
-use Rattle.octet_commands.specs.Request.{Way, Request, Quarry, named_by}
-use Rattle.octet_commands.specs.declared.request.Request.TheVariants.{Tidy, Show, OfPair, Parallel, Convert, Run, Gen, Hunt}
+use Rattle.octet_commands.specs.Request.{Way, Request, Claim, claimed_of, Quarry, named_by}
+use Rattle.octet_commands.specs.declared.request.Request.TheVariants.{Tidy, Show, OfPair, Parallel, Convert, Run, Gen, Hunt, Outcomes, Always}
 use Rattle.octet_commands.specs.Inputs.{IsScriptRead, IsLogRead, IsScriptChosen, IsPairRead, Ends, WasRefused, TakesOne, TakesBoth}
 use Rattle.octet_commands.specs.Checked.{IsPairTaken, IsFittingTaken}
-use Rattle.octet_commands.specs.Commands.{Answering, Answers, TidyAnswers, ShowAnswers, RunAnswers, RequestAnswers, Matching, PairReplays, ParallelReplays, Converts, IsGeneration, HuntAnswers}
+use Rattle.octet_commands.specs.Commands.{Answering, Answers, TidyAnswers, ShowAnswers, RunAnswers, RequestAnswers, Matching, PairReplays, ParallelReplays, Converts, IsGeneration, HuntAnswers, AlwaysAnswers}
+use Rattle.octet_commands.specs.Outcomes.{OutcomesAnswers}
 use Rattle.octet_commands.specs.Replies.{Finds, Replies, IsNoSuccess, TakesFiles}
 use Rattle.octet_commands.proofs.lemmas.Steps.{as_short, both_as_short, one_keeps, both_keep}
 use Rattle.octet_commands.proofs.lemmas.Rows.{Refuses, not_done, script_refused, chosen_refused, log_refused, pair_refused}
@@ -104,6 +105,28 @@ module _ (quarry : Quarry) (script log : List ℕ) (tries : ℕ) where
   hunt_stops =
       one_stops (Hunt quarry script log tries) script MAX_SCRIPT_FILE (Source × Option ℕ) (IsScriptChosen script (named_by quarry)) (HuntAnswers quarry log tries) (λ short before after calls. calls) (λ contents answer answers. answers)
       (chosen_refused script (named_by quarry))
+
+-- all final heaps of a script, and a claim of them
+module _ (script : List ℕ) (most : ℕ) where
+  pub outcomes_read : (before after : DeskState) (input : Source) (result : Result Reply Refused) → Ends (IsScriptRead script before.contents) before.take_faults (Ok input) after.take_faults → TakesOne script MAX_SCRIPT_FILE (WasRefused {T = Source} {E = Refused} (Ok input)) before after
+      → IsAnswered (OutcomesAnswers input.script) result → Replies (Some (Outcomes script most)) before (given_reply result) after
+  outcomes_read = one_read (Outcomes script most) script MAX_SCRIPT_FILE Source (IsScriptRead script) (λ source. OutcomesAnswers source.script) (λ short before after calls. calls) (λ contents answer answers. answers) (script_refused script)
+
+  pub outcomes_stop : (before after : DeskState) (stop : Refused) → Ends (IsScriptRead script before.contents) before.take_faults (Err stop) after.take_faults → TakesOne script MAX_SCRIPT_FILE (WasRefused {T = Source} (Err stop)) before after → Replies (Some (Outcomes script most)) before (given_reply (Err stop)) after
+  outcomes_stop = one_stops (Outcomes script most) script MAX_SCRIPT_FILE Source (IsScriptRead script) (λ source. OutcomesAnswers source.script) (λ short before after calls. calls) (λ contents answer answers. answers) (script_refused script)
+
+module _ (claim : Claim) (script log : List ℕ) (most : ℕ) where
+  pub always_read : (before after : DeskState) (input : Source × Option ℕ) (result : Result Reply Refused) → Ends (IsScriptChosen script (claimed_of claim) before.contents) before.take_faults (Ok input) after.take_faults
+      → TakesOne script MAX_SCRIPT_FILE (WasRefused {T = Source × Option ℕ} {E = Refused} (Ok input)) before after → IsAnswered (AlwaysAnswers claim log input) result → Replies (Some (Always claim script log most)) before (given_reply result) after
+  always_read =
+      one_read (Always claim script log most) script MAX_SCRIPT_FILE (Source × Option ℕ) (IsScriptChosen script (claimed_of claim)) (AlwaysAnswers claim log) (λ short before after calls. calls) (λ contents answer answers. answers)
+      (chosen_refused script (claimed_of claim))
+
+  pub always_stops : (before after : DeskState) (stop : Refused) → Ends (IsScriptChosen script (claimed_of claim) before.contents) before.take_faults (Err stop) after.take_faults
+      → TakesOne script MAX_SCRIPT_FILE (WasRefused {T = Source × Option ℕ} (Err stop)) before after → Replies (Some (Always claim script log most)) before (given_reply (Err stop)) after
+  always_stops =
+      one_stops (Always claim script log most) script MAX_SCRIPT_FILE (Source × Option ℕ) (IsScriptChosen script (claimed_of claim)) (AlwaysAnswers claim log) (λ short before after calls. calls) (λ contents answer answers. answers)
+      (chosen_refused script (claimed_of claim))
 
 -- the log is of another script, which is said
 another_script : (Next : Answer → Type 0) (pair : Pair) (fault : FitFault) (stop : Refused) → IsOfAnother pair.source.text pair.loaded.digest fault → RefusesBy (λ answer. answer ≡ wrong_script fault) stop → IsAnswered (Matching Next pair) (Err stop)

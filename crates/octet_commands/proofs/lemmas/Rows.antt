@@ -24,12 +24,14 @@ use Rattle.octet_commands.specs.declared.reply.Status.{Status}
 use Rattle.octet_commands.specs.declared.reply.Status.TheVariants as exit
 use Rattle.octet_log.specs.declared.loader.Loaded.{Loaded}
 use Rattle.octet_commands.specs.Answer.{Answer, verdict_said}
-use Rattle.octet_commands.specs.Request.{Way, Request, Quarry, named_by, outputs_of, outputs_in}
-use Rattle.octet_commands.specs.declared.request.Request.TheVariants.{Tidy, Show, Marks, OfPair, Parallel, Convert, Run, Gen, Hunt}
+use Rattle.octet_commands.specs.Request.{Way, Request, Claim, claimed_of, Quarry, named_by, outputs_of, outputs_in}
+use Rattle.octet_commands.specs.declared.request.Request.TheVariants.{Tidy, Show, Marks, OfPair, Parallel, Convert, Run, Gen, Hunt, Outcomes, Always}
 use Rattle.octet_commands.specs.declared.request.Quarry.TheVariants.{OtherEnd, AnyCycle}
 use Rattle.octet_commands.specs.Inputs.{IsTaken, IsScriptRead, IsLogRead, IsScriptChosen, IsPairRead}
 use Rattle.octet_commands.specs.Marks.{FileAnswers}
-use Rattle.octet_commands.specs.Commands.{Answers, RequestAnswers, TidyAnswers, ShowAnswers, OutcomeSays, WhereOrdered, PairSays, RunAnswers, none_found}
+use Rattle.octet_commands.specs.Commands.{Answers, RequestAnswers, TidyAnswers, ShowAnswers, OutcomeSays, WhereOrdered, PairSays, RunAnswers, AlwaysAnswers, none_found}
+use Rattle.octet_commands.specs.Outcomes.{none_other, past_fuel, search_said, search_text, OutcomesAnswers}
+use Rattle.octet_model.specs.declared.script.Script.{Script}
 
 -- a status that comes with a refusal
 abbrev pub is_refusal : Status → Bool
@@ -86,7 +88,7 @@ log_unread : (name : List ℕ) (contents : Option Contents) (answer : Answer) �
 log_unread name contents answer (inl taken) = taken_unread name MAX_LOG_FILE contents answer taken
 log_unread name contents answer (inr (bytes, taken, (cause, refused, is))) = unread answer _ is refl refl
 
-chosen_unread : (name : List ℕ) (object : Option (List ℕ)) (contents : Option Contents) (answer : Answer) → IsScriptChosen name object contents (Err answer) → IsUnread answer
+pub chosen_unread : (name : List ℕ) (object : Option (List ℕ)) (contents : Option Contents) (answer : Answer) → IsScriptChosen name object contents (Err answer) → IsUnread answer
 chosen_unread name object contents answer (inl read) = script_unread name contents answer read
 chosen_unread name object contents answer (inr (source, read, inl (unknown, is))) = unread answer _ is refl refl
 chosen_unread name object contents answer (inr (source, read, inr (wanted, known, never))) = absurd cc
@@ -115,6 +117,8 @@ refusal_of_reading exit.Unordered early = refl
 refusal_of_reading exit.Cycle early = refl
 refusal_of_reading exit.NoEvent early = refl
 refusal_of_reading exit.NotFound early = refl
+refusal_of_reading exit.NotAll early = refl
+refusal_of_reading exit.Otherwise early = refl
 
 unread_refuses : (answer : Answer) → IsUnread answer → Refuses answer
 unread_refuses answer early = record { status = refusal_of_reading answer.status early.status; files = early.files }
@@ -249,32 +253,74 @@ none_files : (quarry : Quarry) (tries : ℕ) → (none_found quarry tries).files
 none_files (OtherEnd name number) tries = refl
 none_files AnyCycle tries = refl
 
--- what a request is answered with: all is done, and its files are written, or it is refused
-pub request_row : (request : Request) (contents : Option Contents) (answer : Answer) → RequestAnswers request contents answer → IsDone (outputs_of request) answer ⊎ Refuses answer
-request_row (Tidy script) contents answer (inl read) = inr (script_refused script contents answer read)
-request_row (Tidy script) contents answer (inr (source, read, is)) = inl (tidy_row source answer is)
-request_row (Show log) contents answer (inl read) = inr (log_refused log contents answer read)
-request_row (Show log) contents answer (inr (read, is-read, is)) = inl (show_row read answer is)
-request_row (Marks file) contents answer answers = file_row file contents answer answers
-request_row (OfPair task script log object) contents answer (inl read) = inr (pair_refused script log object contents answer read)
-request_row (OfPair task script log object) contents answer (inr (pair, read, inl (fault, other, is))) = inr (refuses answer _ is refl refl)
-request_row (OfPair task script log object) contents answer (inr (pair, read, inr (own, inl (fault, memory, cause, is)))) = inr (refuses answer _ is refl refl)
-request_row (OfPair task script log object) contents answer (inr (pair, read, inr (own, inr (lawful, says)))) = row_done task pair answer (pair_row task pair answer says)
-request_row (Parallel script log) contents answer (inl read) = inr (pair_refused script log None contents answer read)
-request_row (Parallel script log) contents answer (inr (pair, read, inl (fault, other, is))) = inr (refuses answer _ is refl refl)
-request_row (Parallel script log) contents answer (inr (pair, read, inr (own, inl (fault, memory, cause, is)))) = inr (refuses answer _ is refl refl)
-request_row (Parallel script log) contents answer (inr (pair, read, inr (own, inr (lawful, says)))) = parallel_done pair answer (parallel_row pair answer says)
-request_row (Convert script log out) contents answer (inl read) = inr (pair_refused script log None contents answer read)
-request_row (Convert script log out) contents answer (inr (pair, read, inl (fault, other, is))) = inr (refuses answer _ is refl refl)
-request_row (Convert script log out) contents answer (inr (pair, read, inr (own, inl (of_script, of_log, differ, is)))) = inr (refuses answer _ is refl refl)
-request_row (Convert script log out) contents answer (inr (pair, read, inr (own, inr (threads, file, is)))) = inl (done (out ∷ []) answer _ is refl refl)
-request_row (Run task script log) contents answer (inl read) = inr (script_refused script contents answer read)
-request_row (Run task script log) contents answer (inr (source, read, is)) = inl (run_row task log source answer is)
-request_row (Gen number script log) contents answer (made, recorded, outcome, generated, faithful, is) = inl (done (script ∷ log ∷ []) answer _ is refl refl)
-request_row (Hunt quarry script log tries) contents answer (inl read) = inr (chosen_refused script (named_by quarry) contents answer read)
-request_row (Hunt quarry script log tries) contents answer (inr (chosen, read, inl find)) = inl (done (log ∷ []) answer _ find.is refl refl)
-request_row (Hunt quarry script log tries) contents answer (inr (chosen, read, inr is)) = inr (refuses answer (none_found quarry tries) is (ap is_refusal (none_status quarry tries)) (none_files quarry tries))
+-- an answer that is given whole: its files are those of the request or none, and it writes them only where all is done, or a run was found that ends otherwise
+pub record Row (outputs : List (List ℕ)) (answer : Answer) : Type 0 where
+  pub names : (map (λ file. file.0) answer.files ≡ outputs) ⊎ (answer.files ≡ [])
+  pub own : (answer.status ≡ exit.Done) ⊎ (is_refusal answer.status ≡ true)
+  pub plain : answer.status ≢ exit.Done → answer.status ≢ exit.Otherwise → answer.files ≡ []
 
-pub answers_row : (request : Option Request) (contents : Option Contents) (answer : Answer) → Answers request contents answer → IsDone (outputs_in request) answer ⊎ Refuses answer
-answers_row None contents answer is = inr (refuses answer _ is refl refl)
+pub of_done : (outputs : List (List ℕ)) (answer : Answer) → IsDone outputs answer → Row outputs answer
+of_done outputs answer row = record { names = inl row.files; own = inl row.status; plain = λ not_done other. absurd (not_done row.status) }
+
+pub of_refused : (outputs : List (List ℕ)) (answer : Answer) → Refuses answer → Row outputs answer
+of_refused outputs answer row = record { names = inr row.files; own = inr row.status; plain = λ not_done other. row.files }
+
+of_either : (outputs : List (List ℕ)) (answer : Answer) → IsDone outputs answer ⊎ Refuses answer → Row outputs answer
+of_either outputs answer (inl row) = of_done outputs answer row
+of_either outputs answer (inr row) = of_refused outputs answer row
+
+-- all is done, and nothing had to be written
+of_nothing : (outputs : List (List ℕ)) (answer : Answer) → IsDone [] answer → answer.files ≡ [] → Row outputs answer
+of_nothing outputs answer row none = record { names = inr none; own = inl row.status; plain = λ not_done other. none }
+
+-- what `outcomes` and `always` say
+outcomes_row : (script : Script) (answer : Answer) → OutcomesAnswers script answer → Row [] answer
+outcomes_row script answer (told, moments, stuck, whole, explored, is) = by whole is
+  where
+    by : (whole : Bool) → answer ≡ search_said (search_text script told moments stuck) whole → Row [] answer
+    by true is = of_done [] answer (done [] answer _ is refl refl)
+    by false is = of_refused [] answer (refuses answer _ is refl refl)
+
+always_row : (claim : Claim) (log : List ℕ) (chosen : Source × Option ℕ) (answer : Answer) → AlwaysAnswers claim log chosen answer → Row (log ∷ []) answer
+always_row claim log (source, wanted) answer (inl (holds, is)) = of_nothing (log ∷ []) answer (done [] answer (none_other true) is refl refl) (ap (λ (a : Answer). a.files) is)
+always_row claim log (source, wanted) answer (inr (inl is)) = of_refused (log ∷ []) answer (refuses answer (none_other false) is refl refl)
+always_row claim log (source, wanted) answer (inr (inr (fails, inl witness))) = record {
+  names = inl (ap (λ (a : Answer). map (λ file. file.0) a.files) witness.is);
+  own = inr (ap (λ (a : Answer). is_refusal a.status) witness.is);
+  plain = λ not_done other. absurd (other (ap (λ (a : Answer). a.status) witness.is));
+}
+always_row claim log (source, wanted) answer (inr (inr (fails, inr is))) = of_refused (log ∷ []) answer (refuses answer past_fuel is refl refl)
+
+-- what a request is answered with
+pub request_row : (request : Request) (contents : Option Contents) (answer : Answer) → RequestAnswers request contents answer → Row (outputs_of request) answer
+request_row (Tidy script) contents answer (inl read) = of_refused _ answer (script_refused script contents answer read)
+request_row (Tidy script) contents answer (inr (source, read, is)) = of_done _ answer (tidy_row source answer is)
+request_row (Show log) contents answer (inl read) = of_refused _ answer (log_refused log contents answer read)
+request_row (Show log) contents answer (inr (read, is-read, is)) = of_done _ answer (show_row read answer is)
+request_row (Marks file) contents answer answers = of_either _ answer (file_row file contents answer answers)
+request_row (OfPair task script log object) contents answer (inl read) = of_refused _ answer (pair_refused script log object contents answer read)
+request_row (OfPair task script log object) contents answer (inr (pair, read, inl (fault, other, is))) = of_refused _ answer (refuses answer _ is refl refl)
+request_row (OfPair task script log object) contents answer (inr (pair, read, inr (own, inl (fault, memory, cause, is)))) = of_refused _ answer (refuses answer _ is refl refl)
+request_row (OfPair task script log object) contents answer (inr (pair, read, inr (own, inr (lawful, says)))) = of_either _ answer (row_done task pair answer (pair_row task pair answer says))
+request_row (Parallel script log) contents answer (inl read) = of_refused _ answer (pair_refused script log None contents answer read)
+request_row (Parallel script log) contents answer (inr (pair, read, inl (fault, other, is))) = of_refused _ answer (refuses answer _ is refl refl)
+request_row (Parallel script log) contents answer (inr (pair, read, inr (own, inl (fault, memory, cause, is)))) = of_refused _ answer (refuses answer _ is refl refl)
+request_row (Parallel script log) contents answer (inr (pair, read, inr (own, inr (lawful, says)))) = of_either _ answer (parallel_done pair answer (parallel_row pair answer says))
+request_row (Convert script log out) contents answer (inl read) = of_refused _ answer (pair_refused script log None contents answer read)
+request_row (Convert script log out) contents answer (inr (pair, read, inl (fault, other, is))) = of_refused _ answer (refuses answer _ is refl refl)
+request_row (Convert script log out) contents answer (inr (pair, read, inr (own, inl (of_script, of_log, differ, is)))) = of_refused _ answer (refuses answer _ is refl refl)
+request_row (Convert script log out) contents answer (inr (pair, read, inr (own, inr (threads, file, is)))) = of_done _ answer (done (out ∷ []) answer _ is refl refl)
+request_row (Run task script log) contents answer (inl read) = of_refused _ answer (script_refused script contents answer read)
+request_row (Run task script log) contents answer (inr (source, read, is)) = of_done _ answer (run_row task log source answer is)
+request_row (Gen number script log) contents answer (made, recorded, outcome, generated, faithful, is) = of_done _ answer (done (script ∷ log ∷ []) answer _ is refl refl)
+request_row (Hunt quarry script log tries) contents answer (inl read) = of_refused _ answer (chosen_refused script (named_by quarry) contents answer read)
+request_row (Hunt quarry script log tries) contents answer (inr (chosen, read, inl find)) = of_done _ answer (done (log ∷ []) answer _ find.is refl refl)
+request_row (Hunt quarry script log tries) contents answer (inr (chosen, read, inr is)) = of_refused _ answer (refuses answer (none_found quarry tries) is (ap is_refusal (none_status quarry tries)) (none_files quarry tries))
+request_row (Outcomes script most) contents answer (inl read) = of_refused _ answer (script_refused script contents answer read)
+request_row (Outcomes script most) contents answer (inr (source, read, is)) = outcomes_row source.script answer is
+request_row (Always claim script log most) contents answer (inl read) = of_refused _ answer (chosen_refused script (claimed_of claim) contents answer read)
+request_row (Always claim script log most) contents answer (inr (chosen, read, is)) = always_row claim log chosen answer is
+
+pub answers_row : (request : Option Request) (contents : Option Contents) (answer : Answer) → Answers request contents answer → Row (outputs_in request) answer
+answers_row None contents answer is = of_refused _ answer (refuses answer _ is refl refl)
 answers_row (Some request) contents answer answers = request_row request contents answer answers

@@ -12,7 +12,7 @@ use Rattle.octet_commands.specs.declared.reply.Status.{Status}
 use Rattle.octet_commands.specs.declared.reply.Status.TheVariants as exit
 use Rattle.octet_commands.specs.Answer.{Answer, answer_of, code_of, read_failed, writes_file}
 use Rattle.octet_commands.specs.Request.{Request, request_in}
-use Rattle.octet_commands.specs.declared.request.Request.TheVariants.{Tidy, Show, Marks, OfPair, Parallel, Convert, Run, Gen, Hunt}
+use Rattle.octet_commands.specs.declared.request.Request.TheVariants.{Tidy, Show, Marks, OfPair, Parallel, Convert, Run, Gen, Hunt, Outcomes, Always}
 use Rattle.octet_commands.specs.declared.request.Way.TheVariants.{AsTheyCome, BehindLock, ByPicks}
 use Rattle.octet_commands.specs.Commands.{Answers, IsAnswer}
 use Rattle.octet_commands.specs.Replies.{Replies, TakesFiles}
@@ -34,7 +34,7 @@ use Rattle.octet_commands.proofs.lemmas.Rows.{is_refusal, answers_row}
 
 -- the status of a code
 abbrev pub of_code : ℕ → Status
-of_code code = get_or (exit.Done ∷ exit.Words ∷ exit.Script ∷ exit.Log ∷ exit.Misfit ∷ exit.Read ∷ exit.Write ∷ exit.Memory ∷ exit.TooLong ∷ exit.Unordered ∷ exit.Cycle ∷ exit.NoEvent ∷ exit.NotFound ∷ []) code exit.Done
+of_code code = get_or (exit.Done ∷ exit.Words ∷ exit.Script ∷ exit.Log ∷ exit.Misfit ∷ exit.Read ∷ exit.Write ∷ exit.Memory ∷ exit.TooLong ∷ exit.Unordered ∷ exit.Cycle ∷ exit.NoEvent ∷ exit.NotFound ∷ exit.NotAll ∷ exit.Otherwise ∷ []) code exit.Done
 
 -- codes differ
 pub decoded : (status : Status) → of_code (code_of status) ≡ status
@@ -51,6 +51,8 @@ decoded exit.Unordered = refl
 decoded exit.Cycle = refl
 decoded exit.NoEvent = refl
 decoded exit.NotFound = refl
+decoded exit.NotAll = refl
+decoded exit.Otherwise = refl
 
 pub same_status : (status other : Status) → code_of status ≡ code_of other → status ≡ other
 same_status status other is = sym (decoded status) ∙ ap of_code is ∙ decoded other
@@ -135,6 +137,8 @@ replied_failed (Some (Convert script log out)) Short before mid answer takes is 
 replied_failed (Some (Run task script log)) Short before mid answer takes is = is
 replied_failed (Some (Gen number script log)) Short before mid answer takes is = is
 replied_failed (Some (Hunt quarry script log tries)) Short before mid answer takes is = is
+replied_failed (Some (Outcomes script most)) Short before mid answer takes is = is
+replied_failed (Some (Always claim script log most)) Short before mid answer takes is = is
 
 -- an answer that says so has the status of it, and writes nothing
 pub record Failed (answer : Answer) : Type 0 where
@@ -156,6 +160,8 @@ says_failed (Some (Convert script log out)) contents answer is = failed_by answe
 says_failed (Some (Run task script log)) contents answer is = failed_by answer read_failed is refl refl
 says_failed (Some (Gen number script log)) contents answer is = failed_by answer read_failed is refl refl
 says_failed (Some (Hunt quarry script log tries)) contents answer is = failed_by answer read_failed is refl refl
+says_failed (Some (Outcomes script most)) contents answer is = failed_by answer read_failed is refl refl
+says_failed (Some (Always claim script log most)) contents answer is = failed_by answer read_failed is refl refl
 
 module _ (words : List (List ℕ)) (before after : DeskState) (code : ℕ) where
   replied_ends : IsReplied (request_in words) before after code → Ending words before after code
@@ -270,6 +276,8 @@ module _ (words : List (List ℕ)) (before after : DeskState) (code : ℕ) where
   ends_by (Some (Convert script log out)) asked served = replied_ends (subst (λ (r : Option Request). IsReplied r before after code) (sym asked) served)
   ends_by (Some (Gen number script log)) asked served = replied_ends (subst (λ (r : Option Request). IsReplied r before after code) (sym asked) served)
   ends_by (Some (Hunt quarry script log tries)) asked served = replied_ends (subst (λ (r : Option Request). IsReplied r before after code) (sym asked) served)
+  ends_by (Some (Outcomes script most)) asked served = replied_ends (subst (λ (r : Option Request). IsReplied r before after code) (sym asked) served)
+  ends_by (Some (Always claim script log most)) asked served = replied_ends (subst (λ (r : Option Request). IsReplied r before after code) (sym asked) served)
   ends_by None asked served = replied_ends (subst (λ (r : Option Request). IsReplied r before after code) (sym asked) served)
 
   pub ended : IsServed (request_in words) before after code → Ending words before after code
@@ -290,6 +298,8 @@ own_cause words before after answer exit.Unordered answers is own = (answer, ans
 own_cause words before after answer exit.Cycle answers is own = (answer, answers, is)
 own_cause words before after answer exit.NoEvent answers is own = (answer, answers, is)
 own_cause words before after answer exit.NotFound answers is own = (answer, answers, is)
+own_cause words before after answer exit.NotAll answers is own = (answer, answers, is)
+own_cause words before after answer exit.Otherwise answers is own = (answer, answers, is)
 
 -- whatever status comes, its cause holds
 pub has_cause : (words : List (List ℕ)) (before after : DeskState) (code : ℕ) → IsServed (request_in words) before after code → (status : Status) → code ≡ code_of status → IsCause words before after status
@@ -299,8 +309,7 @@ has_cause words before after code served status is = by (ended words before afte
     comes other is' cause = subst (IsCause words before after) (sym (same_status status other (sym is ∙ is'))) cause
 
     by : Ending words before after code → IsCause words before after status
-    by (Whole answer (inl (answers, same)) is' counts left) = comes answer.status is' (own_cause words before after answer answer.status answers refl
-        (elim (answers_row (request_in words) before.contents answer answers) [ inl row ↦ inl row.status | inr row ↦ inr row.status ]))
+    by (Whole answer (inl (answers, same)) is' counts left) = comes answer.status is' (own_cause words before after answer answer.status answers refl (answers_row (request_in words) before.contents answer answers).own)
     by (Whole answer (inr (said, rose)) is' counts left) = comes exit.Read (is' ∙ ap code_of (says_failed (request_in words) before.contents answer said).status) (inl rose)
     by (CutShort is' rose left) = comes exit.Write is' rose
     by (Lacking is' counts left) = comes exit.Memory is' tt

@@ -1,6 +1,6 @@
 -- Where files are told, words have answers of one status alone.
 use Rattle.octet_model.specs.declared.limits.TheConstants.{MAX_LOG_FILE, MAX_SCRIPT_FILE}
-use Rattle.std.proofs.Common.{◌≡◌, ◌∙◌, ◌⊎◌, ◌<◌, ℕ, List, length, Option, None, Some, IsSomeAnd, Result, Ok, Err, inl, inr, ap, sym, refl, subst, arith, IsTrue}
+use Rattle.std.proofs.Common.{◌≡◌, ◌∙◌, ◌⊎◌, ◌<◌, ℕ, List, length, Option, None, Some, IsSomeAnd, Result, Ok, Err, inl, inr, ap, sym, refl, subst, arith, IsTrue, Bool, true, false}
 use Rattle.std.specs.FinMap.{get}
 use std.HLevel.{prop→path_p}
 use Rattle.std.proofs.Props.{props}
@@ -25,16 +25,18 @@ use Rattle.octet_commands.specs.declared.request.PairTask.{PairTask}
 use Rattle.octet_commands.specs.declared.reply.Status.{Status}
 use Rattle.octet_commands.specs.declared.reply.Status.TheVariants as exit
 use Rattle.octet_commands.specs.Answer.{Answer, code_of, not_a_command, read_failed, too_long, script_refused, log_refused}
-use Rattle.octet_commands.specs.Request.{Request, Quarry, named_by, request_in}
-use Rattle.octet_commands.specs.declared.request.Request.TheVariants.{Tidy, Show, Marks, OfPair, Parallel, Convert, Run, Gen, Hunt}
+use Rattle.octet_commands.specs.Request.{Request, Claim, claimed_of, Quarry, named_by, request_in}
+use Rattle.octet_commands.specs.declared.request.Request.TheVariants.{Tidy, Show, Marks, OfPair, Parallel, Convert, Run, Gen, Hunt, Outcomes, Always}
 use Rattle.octet_commands.specs.Inputs.{◌>>=◌, IsTaken, IsParsed, IsDecoded, IsChosen, IsScriptRead, IsLogRead, IsScriptChosen, IsPairRead}
 use Rattle.octet_commands.specs.Marks.{ReadsTo, fed, judged, pieces_text, SaysRest, MarksAnswers, FileAnswers}
 use Rattle.octet_top.specs.Serving.{IsServed}
-use Rattle.octet_top.specs.Causes.{IsDue, FindsOrNot, NoneFailed}
+use Rattle.octet_top.specs.Causes.{IsDue, MayDiffer, NoneFailed}
 use Rattle.octet_commands.proofs.lemmas.Chains.{Stands, has_none, one_reading as reads_once}
 use Rattle.octet_top.proofs.serving.Causes.{Ending, Whole, CutShort, Lacking, ended}
 use Rattle.octet_commands.proofs.lemmas.Rows.{PairRow, AllDone, NotOrdered, NotSerial, NotThere, ParallelRow, Replayed, Apart, has_event, tidy_row, show_row, pair_row, parallel_row, run_row, none_status}
-use Rattle.octet_commands.specs.Commands.{Answering, Answers, RequestAnswers, IsAnswer, TidyAnswers, ShowAnswers, Matching, PairReplays, PairAnswers, ParallelReplays, ParallelAnswers, Converts, ConvertAnswers, RunAnswers, HuntAnswers}
+use Rattle.octet_commands.specs.Commands.{Answering, Answers, RequestAnswers, IsAnswer, TidyAnswers, ShowAnswers, Matching, PairReplays, PairAnswers, ParallelReplays, ParallelAnswers, Converts, ConvertAnswers, RunAnswers, HuntAnswers, AlwaysAnswers}
+use Rattle.octet_commands.specs.Outcomes.{search_said, search_text, Fails, Holds, OutcomesAnswers}
+use Rattle.octet_commands.specs.declared.request.Claim.TheVariants.{Leaves, CanEnd}
 
 -- a step ends in one way
 pub record Single {A : Type 0} (Step : Result A Answer → Type 0) : Type 0 where
@@ -257,8 +259,64 @@ hunt_status t quarry script log tries a b (inl p) (inr (y, is, q)) = absurd ((sc
 hunt_status t quarry script log tries a b (inr (x, is, p)) (inl q) = absurd ((script_chosen_single t script (named_by quarry)).never x b is q)
 hunt_status t quarry script log tries a b (inr (x, is, p)) (inr (y, is', q)) = both_found a.status b.status (found_status quarry log tries x a p) (found_status quarry log tries y b q)
 
--- two answers to words have one status, or the words ask for a hunt
-answers_status : (words : List (List ℕ)) (t : Contents) (request : Option Request) (a b : Answer) → request_in words ≡ request → Answers request (Some t) a → Answers request (Some t) b → (a.status ≡ b.status) ⊎ FindsOrNot words a.status b.status
+-- those of a search have one status too, or one says that not all was seen
+abbrev pub IsCutEither : Status → Status → Type 0
+IsCutEither status other = (status ≡ exit.NotAll) ⊎ (other ≡ exit.NotAll)
+
+search_status : (script : Script) (a : Answer) → OutcomesAnswers script a → (a.status ≡ exit.Done) ⊎ (a.status ≡ exit.NotAll)
+search_status script a (told, moments, stuck, whole, explored, is) = by whole is
+  where
+    by : (whole : Bool) → a ≡ search_said (search_text script told moments stuck) whole → (a.status ≡ exit.Done) ⊎ (a.status ≡ exit.NotAll)
+    by true is = inl (ap (λ (x : Answer). x.status) is)
+    by false is = inr (ap (λ (x : Answer). x.status) is)
+
+both_searched : (s s' : Status) → (s ≡ exit.Done) ⊎ (s ≡ exit.NotAll) → (s' ≡ exit.Done) ⊎ (s' ≡ exit.NotAll) → (s ≡ s') ⊎ IsCutEither s s'
+both_searched s s' (inl is) (inl is') = inl (is ∙ sym is')
+both_searched s s' (inl is) (inr is') = inr (inr is')
+both_searched s s' (inr is) q = inr (inl is)
+
+outcomes_status : (t : Contents) (script : List ℕ) (most : ℕ) (a b : Answer) → RequestAnswers (Outcomes script most) (Some t) a → RequestAnswers (Outcomes script most) (Some t) b → (a.status ≡ b.status) ⊎ IsCutEither a.status b.status
+outcomes_status t script most a b (inl p) (inl q) = inl (ap (λ (x : Answer). x.status) ((script_single t script).same a b p q))
+outcomes_status t script most a b (inl p) (inr (y, is, q)) = absurd ((script_single t script).never y a is p)
+outcomes_status t script most a b (inr (x, is, p)) (inl q) = absurd ((script_single t script).never x b is q)
+outcomes_status t script most a b (inr (x, is, p)) (inr (y, is', q)) = both_searched a.status b.status (search_status x.script a p) (search_status y.script b q)
+
+-- the claim holds of all runs, not all was seen, or there is a run of which it does not hold
+abbrev pub IsTellingOf : Claim → Source × Option ℕ → Status → Type 0
+IsTellingOf claim (source, wanted) status =
+    ((status ≡ exit.Done) × Holds source.script claim wanted) ⊎ ((status ≡ exit.NotAll) ⊎ ((status ≡ exit.Otherwise) × Fails source.script claim wanted))
+
+pub always_status : (claim : Claim) (log : List ℕ) (chosen : Source × Option ℕ) (a : Answer) → AlwaysAnswers claim log chosen a → IsTellingOf claim chosen a.status
+always_status claim log (source, wanted) a (inl (holds, is)) = inl (ap (λ (x : Answer). x.status) is, holds)
+always_status claim log (source, wanted) a (inr (inl is)) = inr (inl (ap (λ (x : Answer). x.status) is))
+always_status claim log (source, wanted) a (inr (inr (fails, inl witness))) = inr (inr (ap (λ (x : Answer). x.status) witness.is, fails))
+always_status claim log (source, wanted) a (inr (inr (fails, inr is))) = inr (inr (ap (λ (x : Answer). x.status) is, fails))
+
+-- no claim both holds and fails
+never_both : (script : Script) (claim : Claim) (wanted : Option ℕ) → Holds script claim wanted → Fails script claim wanted → ⊥
+never_both script (Leaves name number) None never fails = never
+never_both script (Leaves name number) (Some object) always (value, leaves) = leaves.other (sym leaves.leaves ∙ always leaves.heap leaves.outcome)
+never_both script CanEnd wanted can_end stuck = let leads = can_end stuck.moment stuck.reached in stuck.stuck leads.picks leads.last leads.follows leads.done
+
+both_told : (claim : Claim) (chosen : Source × Option ℕ) (s s' : Status) → IsTellingOf claim chosen s → IsTellingOf claim chosen s' → (s ≡ s') ⊎ IsCutEither s s'
+both_told claim chosen s s' (inr (inl cut)) q = inr (inl cut)
+both_told claim chosen s s' (inl (is, holds)) (inr (inl cut)) = inr (inr cut)
+both_told claim chosen s s' (inl (is, holds)) (inl (is', holds')) = inl (is ∙ sym is')
+both_told claim chosen s s' (inl (is, holds)) (inr (inr (is', fails))) = absurd (never_both chosen.0.script claim chosen.1 holds fails)
+both_told claim chosen s s' (inr (inr (is, fails))) (inl (is', holds)) = absurd (never_both chosen.0.script claim chosen.1 holds fails)
+both_told claim chosen s s' (inr (inr (is, fails))) (inr (inl cut)) = inr (inr cut)
+both_told claim chosen s s' (inr (inr (is, fails))) (inr (inr (is', fails'))) = inl (is ∙ sym is')
+
+claim_status : (t : Contents) (claim : Claim) (script log : List ℕ) (most : ℕ) (a b : Answer) → RequestAnswers (Always claim script log most) (Some t) a → RequestAnswers (Always claim script log most) (Some t) b → (a.status ≡ b.status) ⊎ IsCutEither a.status b.status
+claim_status t claim script log most a b (inl p) (inl q) = inl (ap (λ (x : Answer). x.status) ((script_chosen_single t script (claimed_of claim)).same a b p q))
+claim_status t claim script log most a b (inl p) (inr (y, is, q)) = absurd ((script_chosen_single t script (claimed_of claim)).never y a is p)
+claim_status t claim script log most a b (inr (x, is, p)) (inl q) = absurd ((script_chosen_single t script (claimed_of claim)).never x b is q)
+claim_status t claim script log most a b (inr (x, is, p)) (inr (y, is', q)) =
+    both_told claim x a.status b.status (always_status claim log x a p)
+    (subst (λ (z : Source × Option ℕ). IsTellingOf claim z b.status) ((script_chosen_single t script (claimed_of claim)).one y x is' is) (always_status claim log y b q))
+
+-- two answers to words have one status, or the words ask for a hunt or a search
+answers_status : (words : List (List ℕ)) (t : Contents) (request : Option Request) (a b : Answer) → request_in words ≡ request → Answers request (Some t) a → Answers request (Some t) b → (a.status ≡ b.status) ⊎ MayDiffer words a.status b.status
 answers_status words t None a b asked is is' = inl (as_said a b not_a_command not_a_command is is' refl)
 answers_status words t (Some (Tidy script)) a b asked p q =
     inl (one_status (IsScriptRead script (Some t)) TidyAnswers (script_single t script) (λ source x y p q. (tidy_row source x p).status ∙ sym (tidy_row source y q).status) a b p q)
@@ -276,14 +334,22 @@ answers_status words t (Some (Run task script log)) a b asked p q =
 answers_status words t (Some (Gen number script log)) a b asked p q = inl (as_said a b _ _ p.5 q.5 refl)
 answers_status words t (Some (Hunt quarry script log tries)) a b asked p q = elim (hunt_status t quarry script log tries a b p q) [
   | inl same ↦ inl same
-  | inr differ ↦ inr (record { quarry = quarry; script_name = script; log_name = log; tries = tries; asked = asked; differ = differ })
+  | inr differ ↦ inr (inl (record { quarry = quarry; script_name = script; log_name = log; tries = tries; asked = asked; differ = differ }))
+]
+answers_status words t (Some (Outcomes script most)) a b asked p q = elim (outcomes_status t script most a b p q) [
+  | inl same ↦ inl same
+  | inr differ ↦ inr (inr (record { request = Outcomes script most; asked = asked; searches = tt; differ = differ }))
+]
+answers_status words t (Some (Always claim script log most)) a b asked p q = elim (claim_status t claim script log most a b p q) [
+  | inl same ↦ inl same
+  | inr differ ↦ inr (inr (record { request = Always claim script log most; asked = asked; searches = tt; differ = differ }))
 ]
 
--- exactly one status is due, or the words ask for a hunt
-pub one_due : (words : List (List ℕ)) (t : Contents) (status other : Status) → IsDue words (Some t) status → IsDue words (Some t) other → (status ≡ other) ⊎ FindsOrNot words status other
+-- exactly one status is due, or the words ask for a hunt or a search
+pub one_due : (words : List (List ℕ)) (t : Contents) (status other : Status) → IsDue words (Some t) status → IsDue words (Some t) other → (status ≡ other) ⊎ MayDiffer words status other
 one_due words t status other (a, p, is) (b, q, is') =
-    subst (λ (s : Status). (s ≡ other) ⊎ FindsOrNot words s other) is
-    (subst (λ (s : Status). (a.status ≡ s) ⊎ FindsOrNot words a.status s) is' (answers_status words t (request_in words) a b refl p q))
+    subst (λ (s : Status). (s ≡ other) ⊎ MayDiffer words s other) is
+    (subst (λ (s : Status). (a.status ≡ s) ⊎ MayDiffer words a.status s) is' (answers_status words t (request_in words) a b refl p q))
 
 -- where no call of the desk fails, the status is that of an answer, unless memory was refused
 pub comes : (words : List (List ℕ)) (before after : DeskState) (code : ℕ) → IsServed (request_in words) before after code → (t : Contents) → before.contents ≡ Some t → NoneFailed before after
@@ -297,7 +363,7 @@ comes words before after code served t tells none = by (ended words before after
     by (Lacking is counts left) = inl is
 
 pub comes_as_due : (words : List (List ℕ)) (before after : DeskState) (code : ℕ) → IsServed (request_in words) before after code → (t : Contents) → before.contents ≡ Some t → (status : Status) → IsDue words before.contents status
-    → NoneFailed before after → (code ≡ code_of status) ⊎ ((code ≡ code_of exit.Memory) ⊎ ((other : Status) × FindsOrNot words status other × (code ≡ code_of other)))
+    → NoneFailed before after → (code ≡ code_of status) ⊎ ((code ≡ code_of exit.Memory) ⊎ ((other : Status) × MayDiffer words status other × (code ≡ code_of other)))
 comes_as_due words before after code served t tells status due none = elim (comes words before after code served t tells none) [
   | inl memory ↦ inr (inl memory)
   | inr (answer, answers, is) ↦ elim (one_due words t status answer.status (subst (λ contents. IsDue words contents status) tells due) (answer, answers, refl)) [

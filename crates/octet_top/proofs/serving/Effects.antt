@@ -1,5 +1,5 @@
 -- From what is served to what the top call leaves.
-use Rattle.std.proofs.Common.{◌≡◌, ◌∙◌, ◌⊎◌, ℕ, List, [], ◌∷◌, map, take, Some, Ok, Err, arith, inl, inr, ap, sym, refl, subst, Option, None}
+use Rattle.std.proofs.Common.{◌≡◌, ◌∙◌, ◌⊎◌, ℕ, List, [], ◌∷◌, map, take, Some, Ok, Err, arith, inl, inr, ap, sym, refl, subst, Option, None, Bool, true, false}
 use Rattle.std.specs.FinMap.{get, insert}
 use Rattle.std.proofs.lemmas.List.{take_all}
 use Rattle.octet_base.specs.Desk.{Files, Contents, DeskState}
@@ -11,18 +11,19 @@ use Rattle.octet_commands.specs.declared.request.PairTask.TheVariants.{Replay, V
 use Rattle.octet_commands.specs.declared.reply.Status.{Status}
 use Rattle.octet_commands.specs.declared.reply.Status.TheVariants as exit
 use Rattle.octet_commands.specs.Answer.{Answer, code_of}
-use Rattle.octet_commands.specs.Request.{Request, named_by, request_in, outputs_in}
-use Rattle.octet_commands.specs.declared.request.Request.TheVariants.{Tidy, Show, Marks, OfPair, Parallel, Convert, Run, Gen, Hunt}
+use Rattle.octet_commands.specs.Request.{Request, claimed_of, named_by, request_in, outputs_in}
+use Rattle.octet_commands.specs.declared.request.Request.TheVariants.{Tidy, Show, Marks, OfPair, Parallel, Convert, Run, Gen, Hunt, Outcomes, Always}
 use Rattle.octet_commands.specs.Commands.{Answers, RequestAnswers, PairAnswers, ParallelAnswers, ConvertAnswers, IsAnswer}
 use Rattle.octet_top.specs.Serving.{IsServed}
 use Rattle.octet_commands.specs.Outputs.{written, ArePartlyWritten}
 use Rattle.octet_top.specs.Causes.{NoneFailed}
 use Rattle.octet_top.specs.Effects.{IsStatus, CountsFailures, IsUntouched, IsCut, IsDelivered, IsGivenAnswer, Leaves, LeavesLog, IsOneOf, KeepsOthers, KeepsFiles, SaysFailed, HasFiles, MayLack, MayEndWith, IsCompleted, IsWellMet}
 use Rattle.octet_top.proofs.serving.Causes.{Ending, Whole, CutShort, Lacking, IsFound, IsShort, ended, says_failed}
-use Rattle.octet_commands.proofs.lemmas.Rows.{AllDone, NotOrdered, NotSerial, NotThere, Replayed, Apart, HasItsEvent, JudgesRegions, IsDone, Refuses, is_refusal, answers_row, request_row, tidy_row, show_row, pair_row, parallel_row, run_row, none_status}
+use Rattle.octet_commands.proofs.lemmas.Rows.{AllDone, NotOrdered, NotSerial, NotThere, Replayed, Apart, HasItsEvent, JudgesRegions, Row, of_refused, is_refusal, answers_row, tidy_row, show_row, pair_row, parallel_row, run_row, none_status}
 use Rattle.octet_commands.specs.declared.marks.TheConstants.{TOO_MANY_BYTES}
 use Rattle.octet_commands.specs.Marks.{ReadsTo, fed, pieces_text, SaysRest, MarksAnswers}
-use Rattle.octet_top.proofs.serving.Due.{some_file, marks_once, script_single, log_single, script_chosen_single, pair_single, not_of_another, comes}
+use Rattle.octet_commands.specs.Outcomes.{search_said, search_text}
+use Rattle.octet_top.proofs.serving.Due.{always_status, some_file, marks_once, script_single, log_single, script_chosen_single, pair_single, not_of_another, comes}
 use Rattle.octet_top.proofs.writing.Left.{get-other}
 
 -- files of other names stay
@@ -42,9 +43,9 @@ other_of_left answer contents contents' code name other (inr (inl (part, said), 
 other_of_left answer contents contents' code name other (inr (inr (files, said), is)) = ap (λ (fs : Files). get fs name) files ∙ other_of_written answer.files contents.files name other
 
 -- a given answer writes the files of the request, or none
-pub names_given : (words : List (List ℕ)) (contents : Contents) (before after : ℕ) (answer : Answer) → IsGivenAnswer words contents before after answer → IsDone (outputs_in (request_in words)) answer ⊎ Refuses answer
+pub names_given : (words : List (List ℕ)) (contents : Contents) (before after : ℕ) (answer : Answer) → IsGivenAnswer words contents before after answer → Row (outputs_in (request_in words)) answer
 names_given words contents before after answer (inl answers) = answers_row (request_in words) (Some contents) answer answers
-names_given words contents before after answer (inr (says, rose)) = let failed = says_failed (request_in words) (Some contents) answer says in inr (record { status = ap is_refusal failed.status; files = failed.files })
+names_given words contents before after answer (inr (says, rose)) = let failed = says_failed (request_in words) (Some contents) answer says in of_refused _ answer (record { status = ap is_refusal failed.status; files = failed.files })
 
 module _ (words : List (List ℕ)) (before after : DeskState) (code : ℕ) (served : IsServed (request_in words) before after code) where
   pub status : IsStatus code
@@ -89,23 +90,21 @@ module _ (words : List (List ℕ)) (before after : DeskState) (code : ℕ) (serv
   others contents contents' name tells tells' other = elim (leaves contents contents' tells tells') [
     | inl nothing ↦ ap (λ (fs : Files). get fs name) nothing.files
     | inr (inr (log, is)) ↦ other_of_part ((log.log_name, log.bytes) ∷ []) contents.files contents'.files name (λ one. other (subst (λ (r : Option Request). IsOneOf name (outputs_in r)) (sym log.asked) one)) (inl log.file)
-    | inr (inl (answer, given, delivered)) ↦ other_of_left answer contents contents' code name (elim (names_given words contents _ _ answer given) [
-      | inl whole ↦ λ one. other (subst (IsOneOf name) whole.files one)
-      | inr refused ↦ λ one. subst (λ (fs : List (List ℕ × List ℕ)). IsOneOf name (map (λ file. file.0) fs)) refused.files one
+    | inr (inl (answer, given, delivered)) ↦ other_of_left answer contents contents' code name (elim (names_given words contents _ _ answer given).names [
+      | inl files ↦ λ one. other (subst (IsOneOf name) files one)
+      | inr none ↦ λ one. subst (λ (fs : List (List ℕ × List ℕ)). IsOneOf name (map (λ file. file.0) fs)) none one
     ]) delivered
   ]
 
   pub untouched : KeepsFiles before after code
-  untouched contents contents' tells tells' done write memory = elim (leaves contents contents' tells tells') [
+  untouched contents contents' tells tells' done otherwise write memory = elim (leaves contents contents' tells tells') [
     | inl nothing ↦ nothing.files
     | inr (inr (log, inl is)) ↦ absurd (write is)
     | inr (inr (log, inr is)) ↦ absurd (memory is)
     | inr (inl (answer, given, inr (short, inl is))) ↦ absurd (write is)
     | inr (inl (answer, given, inr (short, inr is))) ↦ absurd (memory is)
-    | inr (inl (answer, given, inl (whole, is))) ↦ elim (names_given words contents _ _ answer given) [
-      | inl row ↦ absurd (done (is ∙ ap code_of row.status))
-      | inr refused ↦ whole.files ∙ ap (λ (fs : List (List ℕ × List ℕ)). written fs contents.files) refused.files
-    ]
+    | inr (inl (answer, given, inl (whole, is))) ↦ whole.files ∙ ap (λ (fs : List (List ℕ × List ℕ)). written fs contents.files)
+        ((names_given words contents _ _ answer given).plain (λ all. done (is ∙ ap code_of all)) (λ other. otherwise (is ∙ ap code_of other)))
   ]
 
 -- a task on regions may end with a cycle
@@ -181,10 +180,22 @@ met_done (Convert script log out) contents answer (pair, outcome, read, own, rec
     fits (inr (mine, inr (threads, file, is))) = inl (ap (λ (a : Answer). a.status) is)
 met_done (Run task script log) contents answer (source, read) (inl refused) = absurd ((script_single contents script).never source answer read refused)
 met_done (Run task script log) contents answer (source, read) (inr (other, is, answers)) = inl (run_row task log other answer answers).status
-met_done (Gen number script log) contents answer met answers = elim (request_row (Gen number script log) (Some contents) answer answers) [ inl row ↦ inl row.status | inr refused ↦ inl (ap (λ (a : Answer). a.status) answers.5) ]
+met_done (Gen number script log) contents answer met answers = inl (ap (λ (a : Answer). a.status) answers.5)
 met_done (Hunt quarry script log tries) contents answer (chosen, read) (inl refused) = absurd ((script_chosen_single contents script (named_by quarry)).never chosen answer read refused)
 met_done (Hunt quarry script log tries) contents answer (chosen, read) (inr (other, is, inl find)) = inl (ap (λ (a : Answer). a.status) find.is)
 met_done (Hunt quarry script log tries) contents answer (chosen, read) (inr (other, is, inr none)) = inr (exit.NotFound, refl, ap (λ (a : Answer). a.status) none ∙ none_status quarry tries)
+met_done (Outcomes script most) contents answer (source, read) (inl refused) = absurd ((script_single contents script).never source answer read refused)
+met_done (Outcomes script most) contents answer (source, read) (inr (other, is, (told, moments, stuck, whole, explored, said))) = by whole said
+  where
+    by : (whole : Bool) → answer ≡ search_said (search_text other.script told moments stuck) whole → IsMet (Outcomes script most) answer
+    by true said = inl (ap (λ (a : Answer). a.status) said)
+    by false said = inr (exit.NotAll, refl, ap (λ (a : Answer). a.status) said)
+met_done (Always claim script log most) contents answer (chosen, read) (inl refused) = absurd ((script_chosen_single contents script (claimed_of claim)).never chosen answer read refused)
+met_done (Always claim script log most) contents answer (chosen, read) (inr (other, is, answers)) = elim (always_status claim log other answer answers) [
+  | inl (done, holds) ↦ inl done
+  | inr (inl cut) ↦ inr (exit.NotAll, inl refl, cut)
+  | inr (inr (refuted, fails)) ↦ inr (exit.Otherwise, inr refl, refuted)
+]
 
 -- and such a status comes, where no call fails, unless memory was refused
 pub complete : (words : List (List ℕ)) (before after : DeskState) (code : ℕ) → IsServed (request_in words) before after code → (contents : Contents) → before.contents ≡ Some contents → IsWellMet words contents → NoneFailed before after

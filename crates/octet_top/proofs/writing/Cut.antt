@@ -72,6 +72,6 @@ cuts words before after code served script log t t' asked cut tells tells' = eli
   | inr (inr (left, is)) ↦ inl left
   | inr (inl (answer, given, inr (short, is))) ↦ answer_cut words script log asked before.take_faults after.take_faults t t' answer given short
   | inr (inl (answer, given, inl (whole, is))) ↦ absurd (never_cut answer.status
-      (elim (names_given words t before.take_faults after.take_faults answer given) [ inl row ↦ inl row.status | inr refused ↦ inr refused.status ])
+      (names_given words t before.take_faults after.take_faults answer given).own
       (elim cut [ inl write ↦ inl (sym is ∙ write) | inr memory ↦ inr (sym is ∙ memory) ]))
 ]

@@ -18,7 +18,7 @@ use Rattle.octet_base.specs.declared.fault.DeskFault.{DeskFault}
 use Rattle.octet_base.specs.declared.call.Call.TheVariants as call
 use Rattle.octet_commands.specs.Answer.{Answer, writes_file}
 use Rattle.octet_commands.specs.Request.{Request}
-use Rattle.octet_commands.specs.declared.request.Request.TheVariants.{Tidy, Show, Marks, OfPair, Parallel, Convert, Run, Gen, Hunt}
+use Rattle.octet_commands.specs.declared.request.Request.TheVariants.{Tidy, Show, Marks, OfPair, Parallel, Convert, Run, Gen, Hunt, Outcomes, Always}
 use Rattle.octet_commands.specs.Inputs.{TakesOne, TakesBoth}
 use Rattle.octet_commands.specs.Replies.{TakesFiles}
 use Rattle.octet_commands.specs.Delivery.{Act, Add, Finish, Say, Makes, IsRefused, pieces, pieces_within, file_acts, acts_of}
@@ -92,6 +92,8 @@ taken_held (Some (Convert script log out)) Short files said before after holds t
 taken_held (Some (Run task script log)) Short files said before after holds takes = one_held script MAX_SCRIPT_FILE Short files said before after holds takes
 taken_held (Some (Gen number script log)) Short files said before after holds same = rw same holds
 taken_held (Some (Hunt quarry script log tries)) Short files said before after holds takes = one_held script MAX_SCRIPT_FILE Short files said before after holds takes
+taken_held (Some (Outcomes script most)) Short files said before after holds takes = one_held script MAX_SCRIPT_FILE Short files said before after holds takes
+taken_held (Some (Always claim script log most)) Short files said before after holds takes = one_held script MAX_SCRIPT_FILE Short files said before after holds takes
 
 -- the calls were refused in the first part, or that was made whole
 split_made : (acts more : List Act) (before : DeskState) (result : Result (Unit {0}) DeskFault) (after : DeskState) → Makes (acts ++ more) before result after

@@ -2,6 +2,7 @@ use Rattle.octet_commands.specs.Request.{texts}
 use Rattle.octet_top.proofs.serving.Causes.{has_cause}
 use Rattle.octet_top.proofs.serving.Promises as promise
 use Rattle.octet_top.proofs.serving.PairPromises as of_pair
+use Rattle.octet_top.proofs.serving.Searches as search
 use Rattle.octet_top.proofs.serving.Due.{one_due, comes_as_due}
 use Rattle.octet_top.proofs.writing.Cut.{cuts}
 use Rattle.octet_top.proofs.serving.Effects as effect
@@ -24,6 +25,9 @@ returns g c =
       traced = of_pair.traces words _ _ _ served;
       traced_misfit = of_pair.traces_misfits words _ _ _ served;
       hunted = promise.hunts words _ _ _ served;
+      outcomes = search.finds_outcomes words _ _ _ served;
+      always = search.shows_always words _ _ _ served;
+      otherwise = search.refutes_always words _ _ _ served;
       converted = promise.converts words _ _ _ served;
       regions = of_pair.finds_regions words _ _ _ served;
       cause = has_cause words _ _ _ served;

@@ -1,0 +1,37 @@
+use Rattle.std.proofs.Common.{ℕ, ◌<◌, ◌+◌, List, length, get_or, slice_index, arith, sym, ap, ap₂, set, map, Some, ◌∙◌}
+use Rattle.std.proofs.lemmas.List.{take_at}
+use Rattle.octet_outcomes.specs.Moments.{MomentsState, Moment, moment_of, no_moment}
+use Rattle.octet_outcomes.proofs.Naming.{reads_moment}
+use Rattle.octet_outcomes.proofs.Looking.{found_next, next_none, next_some}
+use Rattle.octet_outcomes.proofs.moments.Moments.next.Goals as goal
+
+pub returns-in_default : goal.returns-in_default
+returns-in_default c =
+    let rowed = c.deref.ensures.value ∙ c.in_ok-copy_into.ensures ∙ c.row.ensures.row in
+    let len = ap length (c.deref.ensures.value ∙ c.in_ok-copy_into.ensures) ∙ c.row.ensures.len in
+    let threads = ap (λ (s : MomentsState). s.threads) c.self.view_is in
+    let lt : c.args.thread + 1 < length c.deref.result.now = omega (arith, len, threads, c.requires.thread, c.self.invariant.0) in
+    let read = reads_moment c.self.inside.stands c.self.inside.heaps.rows c.self.inside.rows.rows c.args.self.now _ _ c.args.place c.args.thread (c.args.thread + 1) c.deref.result.now c.number_at-2.result c.number_at.result
+    c.stand-stand.result c.deref_mut.result.now c.self.view_is c.requires.there (omega arith) lt rowed c.number_at.ensures
+    (c.number_at-2.ensures ∙ ap (λ (row : List ℕ). slice_index row 0) (c.deref-2.ensures.value ∙ sym c.deref.ensures.value))
+    c.stand-stand.ensures (c.deref_mut.ensures.value ∙ c.in_ok-copy_into-2.ensures ∙ c.row-2.ensures.row) in
+    next_none c.args.program.now.commands c.args.fuel (get_or c.args.self.now.moments c.args.place no_moment) c.args.thread c.stand-stand.result c.deref_mut.result.now c.access.result read.0 read.1 c.access.ensures.stand c.in_default.is
+
+pub returns : goal.returns
+returns c =
+    let rowed = c.deref.ensures.value ∙ c.in_ok-copy_into.ensures ∙ c.row.ensures.row in
+    let len = ap length (c.deref.ensures.value ∙ c.in_ok-copy_into.ensures) ∙ c.row.ensures.len in
+    let threads = ap (λ (s : MomentsState). s.threads) c.self.view_is in
+    let lt : c.args.thread + 1 < length c.deref.result.now = omega (arith, len, threads, c.requires.thread, c.self.invariant.0) in
+    let read = reads_moment c.self.inside.stands c.self.inside.heaps.rows c.self.inside.rows.rows c.args.self.now _ _ c.args.place c.args.thread (c.args.thread + 1) c.deref.result.now c.number_at-2.result c.number_at.result
+    c.stand-stand.result c.deref_mut.result.now c.self.view_is c.requires.there (omega arith) lt rowed c.number_at.ensures
+    (c.number_at-2.ensures ∙ ap (λ (row : List ℕ). slice_index row 0) (c.deref-2.ensures.value ∙ sym c.deref.ensures.value))
+    c.stand-stand.ensures (c.deref_mut.ensures.value ∙ c.in_ok-copy_into-2.ensures ∙ c.row-2.ensures.row) in
+    found_next c.args.self.now.moments (map (moment_of c.self.inside.stands c.self.inside.heaps.rows) c.self.inside.rows.rows) _ _ c.find_moment.result
+    (ap (λ (s : MomentsState). s.moments) c.self.view_is)
+    (next_some c.args.program.now.commands c.args.fuel (get_or c.args.self.now.moments c.args.place no_moment) c.args.thread c.stand-stand.result c.deref_mut.result.now c.access.result
+    read.0 read.1 c.access.ensures.stand c.in-Some.after c.access.new.heap c.in-Some.is c.access.ensures.heap
+    ∙ ap (λ (m : Moment). Some m) (sym (ap₂ (λ (k : Moment) (h : List ℕ). record { stands = set k.stands c.args.thread c.in-Some.after; heap = h })
+    (ap (moment_of c.self.inside.stands c.self.inside.heaps.rows) (c.deref_mut-2.ensures.value ∙ sym c.deref.ensures.value) ∙ read.2)
+    (c.deref-3.ensures.value ∙ take_at c.access.new.heap _ c.copy_into-2.new.copy.len (omega (arith, c.access.auto.heap, c.deref_mut.ensures.len))))))
+    c.find_moment.ensures
