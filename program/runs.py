@@ -1,5 +1,6 @@
 """A recorded run: a folder with what was recorded, and how its program is started. Read by the commands beside this file."""
 
+import bisect
 import ctypes
 import hashlib
 import json
@@ -14,6 +15,9 @@ HERE = pathlib.Path(__file__).resolve().parent
 # The runtime reads its words from this file. Its name has the same length in each run, and so has the environment.
 WORDS_FILE = 900
 NO_RANDOM_ADDRESSES = 0x0040000
+# The runtime writes here what a command wants to know of a second run.
+REPORT_FILE = 901
+MOST_AT_ONCE = 500
 ABOUT = "run.json"
 UNSET = 97
 
@@ -57,7 +61,7 @@ def new_folder(path, program, words):
     if folder.exists() and any(folder.iterdir()) and not (folder / ABOUT).exists():
         raise Refused(f"{path} is no folder of a run, and has other files")
     folder.mkdir(mode=0o700, parents=True, exist_ok=True)
-    for name in (ABOUT, "marks", "end", *(f"inputs.{number}" for number in range(16))):
+    for name in (ABOUT, "marks", "end", *(f"{kind}.{number}" for kind in ("inputs", "places") for number in range(16))):
         (folder / name).unlink(missing_ok=True)
     about = {"program": program, "arguments": words, "folder": os.getcwd(), "environment": dict(os.environ), "digest": digest_of(program)}
     return folder.resolve(), about
@@ -84,7 +88,8 @@ def load(path):
 
 def prepare(folder, about, mode, more=()):
     """Puts the words of the runtime where it reads them, and goes where the program was started. Returns its environment."""
-    text = "".join(f"{line}\n" for line in (f"mode {mode}", f"folder {folder}", f"stacks {int(about.get('stacks', False))}", *more))
+    text = "".join(f"{line}\n" for line in (f"mode {mode}", f"folder {folder}", f"stacks {int(about.get('stacks', False))}",
+                                            f"places {1 if about.get('exact') else 1024}", *more))
     words = os.memfd_create("octet", 0)
     os.write(words, text.encode())
     try:
@@ -108,6 +113,57 @@ def start(words, environment, output=None):
         signal.signal(number, signal.SIG_IGN)
     signal.signal(signal.SIGTERM, lambda number, _: process.send_signal(number))
     return process.wait()
+
+
+def reported(words, environment, output=None):
+    """Runs the program to its end, with a file for its report: its status, and the words of each line."""
+    with open(REPORT_FILE, "r", errors="replace", closefd=False) as file:
+        status = start(words, environment, output)
+        file.seek(0)
+        return status, [line.split() for line in file]
+
+
+def report():
+    """Makes the file that the runtime reports to."""
+    file = os.memfd_create("report", 0)
+    os.dup2(file, REPORT_FILE, inheritable=True)
+    os.close(file)
+
+
+def lines_of(program, addresses):
+    """The file and line, and the function, of each address of code, which are words."""
+    places = {}
+    addresses = sorted(addresses)
+    for first in range(0, len(addresses), MOST_AT_ONCE):
+        some = addresses[first : first + MOST_AT_ONCE]
+        done = subprocess.run(["addr2line", "-f", "-C", "-e", program, *some], capture_output=True, text=True, check=False)
+        said = done.stdout.splitlines()
+        places.update({address: (said[2 * i + 1].partition(" ")[0], said[2 * i]) for i, address in enumerate(some) if 2 * i + 1 < len(said)})
+    return places
+
+
+def variables_of(program):
+    """The variables of a program: address, size and name of each, in order."""
+    done = subprocess.run(["nm", "-S", "-C", program], capture_output=True, text=True, check=False)
+    found = [line.split(maxsplit=3) for line in done.stdout.splitlines()]
+    return sorted((int(part[0], 16), int(part[1], 16), part[3]) for part in found if len(part) == 4 and part[2] in "bBdDrRgGsSvVuC")
+
+
+# Less than this is no address, but the number of an object of the runtime's own.
+OBJECT_NUMBERS = 65536
+OTHERS_THAN_MEMORY = "a thing of the runtime's (threads, streams, files or random numbers)"
+
+
+def variable_at(variables, address):
+    """What lies at an address: a variable, or a part of one, or the address."""
+    if address < OBJECT_NUMBERS:
+        return OTHERS_THAN_MEMORY
+    before = bisect.bisect_right(variables, address, key=lambda each: each[0])
+    if before:
+        begins, size, name = variables[before - 1]
+        if address < begins + size:
+            return name if address == begins else f"{name}+{address - begins}"
+    return f"{address:#x}"
 
 
 def words_of(about):

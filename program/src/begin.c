@@ -2,15 +2,13 @@
 #include "runtime.h"
 #include <sys/personality.h>
 
-
 const char *run_folder;
-int window_accesses;
 static char text[8192];
 
 /* The wrapper names a file that is open, since a text of another length would move the stack. */
 static void read_words(const char *number)
 {
-    int file = atoi(number);
+    int file = (int)take_digits(&number, 10);
     long length = syscall(SYS_pread64, file, text, sizeof text - 1, 0L);
     if (length <= 0) {
         say("octet: start the program by octet-record or octet-again\n");
@@ -20,7 +18,7 @@ static void read_words(const char *number)
     syscall(SYS_close, file);
 }
 
-static char *value_of(char *line, const char *name)
+static const char *value_of(const char *line, const char *name)
 {
     size_t i = 0;
     while (name[i] != 0 && line[i] == name[i])
@@ -28,9 +26,16 @@ static char *value_of(char *line, const char *name)
     return name[i] == 0 && line[i] == ' ' ? line + i + 1 : NULL;
 }
 
-static void take_word(char *line)
+static void take_watch(const char *value)
 {
-    char *value;
+    watch_file = (int)take_digits(&value, 10);
+    watch_at = take_digits(&value, 16);
+    watch_size = take_digits(&value, 10);
+}
+
+static void take_word(const char *line)
+{
+    const char *value;
     if ((value = value_of(line, "mode")) != NULL)
         mode = *value == 'r' ? RECORD : AGAIN;
     else if ((value = value_of(line, "folder")) != NULL)
@@ -38,7 +43,13 @@ static void take_word(char *line)
     else if ((value = value_of(line, "stacks")) != NULL)
         all_stacks = *value == '1';
     else if ((value = value_of(line, "watch")) != NULL)
-        sscanf(value, "%d %lx %lu", &watch_file, &watch_at, &watch_size);
+        take_watch(value);
+    else if ((value = value_of(line, "report")) != NULL)
+        report_file = (int)take_digits(&value, 10);
+    else if ((value = value_of(line, "places")) != NULL)
+        places_mask = take_digits(&value, 10) - 1;
+    else if ((value = value_of(line, "window")) != NULL)
+        window_most = (uint32_t)take_digits(&value, 10);
 }
 
 static void take_words(void)
@@ -101,6 +112,7 @@ static __attribute__((constructor(101))) void begin(void)
     arenas_begin();
     arena_number = ARENA_OF_RUNTIME;
     inputs_begin(run_folder);
+    places_begin();
     ends_begin();
     threads_begin();
     signals_begin();

@@ -1,18 +1,26 @@
 /* How threads stop, and how the run ends: by exit, by a signal, or where a recording was cut.
  *
  * At the end of a recording each other thread stands still: one that runs at its next call of the library, one that rests where it
- * rests. How many calls each had made is kept, and in a second run it stands still there. So what the ending thread can have seen
- * of the others is made again, and nothing more. */
+ * rests, and one that makes no call for long where it is. How many calls each had made is kept. A second run ends once each thread
+ * has made these, and then they stand still in the same way. So what the ending thread can have seen of the others is made again,
+ * and nothing more; and a thread that the end cuts off has not left its recording. */
 #include "runtime.h"
 #include <fcntl.h>
+#include <linux/membarrier.h>
 
 volatile int closing;
+/* A thread ends the run. */
+static int begun;
 bool recording_is_whole;
 static char recorded_cause[64];
 static int recorded_number = -1;
 static uint64_t recorded_calls[THREADS];
+/* The thread was stopped where it was, since it made no call. */
+static bool recorded_cut[THREADS], cut[THREADS];
 
-enum { SECONDS_FOR_OTHERS = 10 };
+/* How long a thread is waited for that makes no call; when the user is told of a wait that has no limit; and how long no thread goes
+ * on until it is taken that none can. */
+enum { SECONDS_FOR_OTHERS = 3, SECONDS_UNTIL_TOLD = 10, SECONDS_STUCK = 30 };
 
 static _Noreturn void stand_still(void)
 {
@@ -20,26 +28,48 @@ static _Noreturn void stand_still(void)
         syscall(SYS_pause);
 }
 
+static int state_of(const struct thread *t)
+{
+    return __atomic_load_n(&t->state, __ATOMIC_SEQ_CST);
+}
+
+static bool change_state(struct thread *t, int from, int to)
+{
+    return __atomic_compare_exchange_n(&t->state, &from, to, false, __ATOMIC_SEQ_CST, __ATOMIC_SEQ_CST);
+}
+
+static void step_inside(struct thread *t)
+{
+    t->inside = true;
+    __atomic_signal_fence(__ATOMIC_SEQ_CST);
+}
+
 /* Before a call that may wait: no other thread waits for this one meanwhile, and nothing of it is followed. */
 void go_away(struct thread *t)
 {
     if (t->away++ > 0)
         return;
+    step_inside(t);
+    if (is_closing())
+        park(t);
     if (t->watched.from != NULL)
         watch_tell(t);
     t->last = NO_OBJECT;
     me = NULL;
     octet_stop(&t->session);
     __atomic_store_n(&t->state, RESTING, __ATOMIC_SEQ_CST);
+    t->inside = false;
 }
 
 void come_back(struct thread *t)
 {
-    int state = RESTING;
     if (--t->away > 0)
         return;
-    if (!__atomic_compare_exchange_n(&t->state, &state, RUNNING, false, __ATOMIC_SEQ_CST, __ATOMIC_SEQ_CST))
+    step_inside(t);
+    if (is_closing() || !change_state(t, RESTING, RUNNING)) {
+        t->inside = false;
         stand_still();
+    }
     t->last = NO_OBJECT;
     int32_t status = octet_start(&t->session);
     if (status != OCTET_READY) {
@@ -47,6 +77,8 @@ void come_back(struct thread *t)
         leave_process(EXIT_UNSET);
     }
     me = t;
+    __atomic_signal_fence(__ATOMIC_SEQ_CST);
+    t->inside = false;
 }
 
 /* Ends a session that is started. What is left of it is taken by the helper, or here, where this is the helper. */
@@ -66,20 +98,31 @@ static void tell_end(const struct thread *t, int32_t status, uint64_t made)
     if (status == OCTET_READY || (status == OCTET_OVER && !recording_is_whole))
         return;
     say("octet: thread %d leaves its recording before its end: it was by it for %lu of %lu calls\n", t->number, made, t->calls);
+    tell_left(t, made, 0, 0, NULL);
     leave_process(EXIT_DIVERGED);
+}
+
+static void end_followed(struct thread *t)
+{
+    uint64_t made = 0;
+    if (mode == RECORD)
+        end_session(t, &made);
+    else if (recording_is_whole)
+        tell_end(t, end_session(t, &made), made);
+    else
+        octet_stop(&t->session);
 }
 
 _Noreturn void park(struct thread *t)
 {
-    uint64_t made = 0;
+    /* The thread that ends the run may have stopped this one. */
+    if (!change_state(t, RUNNING, PARKING))
+        stand_still();
     if (t->watched.from != NULL)
         watch_tell(t);
-    t->stop_after = t->calls;
-    if (mode == RECORD || recording_is_whole)
-        tell_end(t, end_session(t, &made), made);
-    else
-        octet_stop(&t->session);
+    end_followed(t);
     __atomic_store_n(&t->state, PARKED, __ATOMIC_SEQ_CST);
+    t->inside = false;
     stand_still();
 }
 
@@ -90,47 +133,84 @@ static double seconds(void)
     return (double)now.tv_sec + (double)now.tv_nsec / 1e9;
 }
 
-/* Waits until the others stand still. A thread that makes no access for long may go on: it can show nothing to others. */
-static void wait_for_others(int number)
+static void wait_a_little(unsigned tries)
 {
-    double until = seconds() + SECONDS_FOR_OTHERS;
+    if (is_helper() && mode == RECORD)
+        marks_take();
+    pause_short(tries);
+}
+
+static uint64_t made_by(const struct thread *t)
+{
+    return __atomic_load_n(&t->made, __ATOMIC_ACQUIRE);
+}
+
+/* In a second run: whether the thread has made all that was recorded, and stands where it stood. */
+static bool has_come(int i)
+{
+    int state = state_of(&threads[i]);
+    return made_by(&threads[i]) >= recorded_calls[i] && (recorded_cut[i] || (state != RUNNING && state != PARKING));
+}
+
+/* Each thread waits for nothing but marks, so this has no limit of time; but where it is not known what was recorded. */
+static void wait_for_recorded(int number)
+{
+    double told = seconds() + SECONDS_UNTIL_TOLD, until = seconds() + (recording_is_whole ? 1e9 : SECONDS_FOR_OTHERS);
     for (int i = 0; i < THREADS; i++) {
-        for (unsigned tries = 0; i != number && __atomic_load_n(&threads[i].state, __ATOMIC_SEQ_CST) == RUNNING; tries++) {
-            if (is_helper())
-                marks_take();
-            pause_short(tries);
-            if (seconds() > until) {
-                say("octet: thread %d makes no access at the end, and its last ones are not kept\n", i);
-                break;
+        for (unsigned tries = 0; i != number && !has_come(i) && seconds() < until; tries++) {
+            wait_a_little(tries);
+            if (seconds() > told) {
+                say("octet: the end waits for thread %d, which has made %lu of its %lu calls\n", i, made_by(&threads[i]), recorded_calls[i]);
+                told += 1e9;
             }
         }
     }
 }
 
-/* Ends the sessions of all that stand still. Those that run on are left out. */
-static bool end_sessions(int number)
+/* The fence of each thread that is running: from here on each sees that the run closes, or is seen to be inside. */
+static void close_run(void)
 {
-    bool all = true;
-    for (int i = 0; i < THREADS; i++) {
-        struct thread *t = &threads[i];
-        uint64_t made = 0;
-        int state = RESTING, none = UNUSED;
-        if (i != number && __atomic_load_n(&t->state, __ATOMIC_SEQ_CST) == PARKED)
-            continue;
-        if (i != number) {
-            if (!__atomic_compare_exchange_n(&t->state, &state, PARKED, false, __ATOMIC_SEQ_CST, __ATOMIC_SEQ_CST) &&
-                !__atomic_compare_exchange_n(&t->state, &none, PARKED, false, __ATOMIC_SEQ_CST, __ATOMIC_SEQ_CST)) {
-                all = all && __atomic_load_n(&t->state, __ATOMIC_SEQ_CST) == PARKED;
-                continue;
-            }
-            octet_start(&t->session);
-        }
-        t->stop_after = t->calls;
-        int32_t status = end_session(t, &made);
-        if (mode == AGAIN)
-            tell_end(t, status, made);
+    __atomic_store_n(&closing, 1, __ATOMIC_SEQ_CST);
+    if (syscall(SYS_membarrier, MEMBARRIER_CMD_PRIVATE_EXPEDITED, 0, 0) != 0)
+        syscall(SYS_membarrier, MEMBARRIER_CMD_GLOBAL, 0, 0);
+}
+
+/* Takes the session of a thread that stands or makes no call. Whether there is one to be ended here. */
+static bool take_session(struct thread *t, int i, bool late)
+{
+    if (change_state(t, RESTING, PARKING) || change_state(t, UNUSED, PARKING)) {
+        octet_start(&t->session);
+        return true;
     }
-    return all;
+    cut[i] = late && !__atomic_load_n(&t->inside, __ATOMIC_SEQ_CST) && change_state(t, RUNNING, PARKING);
+    return cut[i];
+}
+
+/* Whether the thread stands still now. */
+static bool end_other(int i, bool late)
+{
+    struct thread *t = &threads[i];
+    if (state_of(t) == PARKED)
+        return true;
+    if (!take_session(t, i, recorded_cut[i] || late))
+        return false;
+    end_followed(t);
+    __atomic_store_n(&t->state, PARKED, __ATOMIC_SEQ_CST);
+    return true;
+}
+
+/* Waits until all others stand still. They are looked at in turn, since one may wait for another. */
+static void end_others(int number)
+{
+    double until = seconds() + SECONDS_FOR_OTHERS;
+    bool all = false;
+    for (unsigned tries = 0; !all; tries++) {
+        all = true;
+        for (int i = 0; i < THREADS; i++)
+            all = (i == number || end_other(i, seconds() > until)) && all;
+        if (!all)
+            wait_a_little(tries);
+    }
 }
 
 static void write_end(const char *cause, int number)
@@ -140,7 +220,7 @@ static void write_end(const char *cause, int number)
     snprintf(name, sizeof name, "%s/end", run_folder);
     int file = (int)syscall(SYS_open, name, O_WRONLY | O_CREAT | O_TRUNC, 0600);
     for (int i = 0; i < THREADS; i++) {
-        say_to(file, "thread %d calls %lu accesses %lu\n", i, threads[i].stop_after, threads[i].accesses);
+        say_to(file, "thread %d calls %lu cut %d accesses %lu\n", i, threads[i].made, cut[i], threads[i].accesses);
         foreign += threads[i].foreign;
         crossing += threads[i].crossing;
     }
@@ -153,15 +233,31 @@ static void write_end(const char *cause, int number)
         say("octet: %lu accesses lay in two objects at once: a race on one may come out differently in a second run\n", crossing);
 }
 
+/* Whether the line goes on with this word, which is taken. */
+static bool take_name(const char **line, const char *name)
+{
+    const char *at = *line;
+    while (*at == ' ')
+        at++;
+    for (; *name != 0; name++, at++)
+        if (*at != *name)
+            return false;
+    *line = at;
+    return true;
+}
+
 static void read_line(const char *line)
 {
-    uint64_t calls;
-    int number, taken = 0;
-    if (sscanf(line, "thread %d calls %lu", &number, &calls) == 2 && number >= 0 && number < THREADS)
-        recorded_calls[number] = calls;
-    else if (sscanf(line, "end %d %n", &number, &taken) == 1 && taken > 0) {
-        snprintf(recorded_cause, sizeof recorded_cause, "%s", line + taken);
-        recorded_number = number;
+    if (take_name(&line, "thread")) {
+        uint64_t number = take_digits(&line, 10);
+        if (number >= THREADS || !take_name(&line, "calls"))
+            return;
+        recorded_calls[number] = take_digits(&line, 10);
+        recorded_cut[number] = take_name(&line, "cut") && take_digits(&line, 10) != 0;
+    } else if (take_name(&line, "end")) {
+        bool from_outside = take_name(&line, "-1");
+        recorded_number = from_outside ? -1 : (int)take_digits(&line, 10);
+        snprintf(recorded_cause, sizeof recorded_cause, "%s", *line == ' ' ? line + 1 : line);
         recording_is_whole = true;
     }
 }
@@ -170,6 +266,7 @@ void ends_begin(void)
 {
     char name[4096], line[256];
     size_t length, filled = 0;
+    syscall(SYS_membarrier, MEMBARRIER_CMD_REGISTER_PRIVATE_EXPEDITED, 0, 0);
     if (mode != AGAIN)
         return;
     snprintf(name, sizeof name, "%s/end", run_folder);
@@ -203,53 +300,88 @@ static void compare_end(const char *cause, int number)
 
 void end_run(const char *cause, int number)
 {
-    static int begun;
     if (__atomic_exchange_n(&begun, 1, __ATOMIC_SEQ_CST))
         stand_still();
     if (me != NULL && me->watched.from != NULL)
         watch_tell(me);
     me = NULL;
-    /* In a second run others may wait for its last access, until it makes a call. */
-    if (number >= 0 && mode == AGAIN)
-        octet_safe_point(&threads[number].session);
-    arena_number = ARENA_OF_RUNTIME;
-    if (mode == RECORD)
-        __atomic_store_n(&closing, 1, __ATOMIC_SEQ_CST);
-    wait_for_others(number);
-    bool all = end_sessions(number);
-    if (mode == RECORD && all)
-        write_end(cause, number);
     if (mode == AGAIN)
         compare_end(cause, number);
+    arena_number = ARENA_OF_RUNTIME;
+    if (number >= 0) {
+        /* First, since others may wait for this one. */
+        end_followed(&threads[number]);
+        __atomic_store_n(&threads[number].state, PARKED, __ATOMIC_SEQ_CST);
+    }
+    if (mode == AGAIN)
+        wait_for_recorded(number);
+    close_run();
+    end_others(number);
+    places_end();
+    if (mode == RECORD)
+        write_end(cause, number);
+    window_write();
     marks_end();
     arena_number = number < 0 ? 0 : number;
 }
 
-/* Whether no thread can go on: each stands still or rests, or waits for marks and has made no call since the last look. */
-static bool all_stand(bool *parked)
+/* Whether no thread goes on: each stands still or rests, or waits for marks and has made no call since the last look. */
+static bool all_stand(void)
 {
     static uint64_t calls_before, waits_before[THREADS];
     uint64_t calls = 0;
     bool works = false;
-    *parked = false;
     for (int i = 0; i < THREADS; i++) {
         struct thread *t = &threads[i];
-        int state = __atomic_load_n(&t->state, __ATOMIC_SEQ_CST);
         uint64_t waits = *(volatile uint64_t *)&t->waits;
         calls += *(volatile uint64_t *)&t->calls;
-        *parked = *parked || state == PARKED;
-        works = works || (state == RUNNING && (waits == waits_before[i] || recording_is_whole));
+        works = works || (state_of(t) == RUNNING && waits == waits_before[i]);
         waits_before[i] = waits;
     }
     works = works || calls != calls_before;
     calls_before = calls;
-    return *parked && !works;
+    return !works;
+}
+
+static bool any_is(int state)
+{
+    for (int i = 0; i < THREADS; i++)
+        if (state_of(&threads[i]) == state)
+            return true;
+    return false;
+}
+
+/* In a second run of a whole recording a thread can always go on, unless one has left its recording and it was not seen yet. */
+static void tell_stuck(void)
+{
+    static double since;
+    if (!all_stand() || !any_is(RUNNING)) {
+        since = 0;
+        return;
+    }
+    if (since == 0)
+        since = seconds();
+    if (seconds() - since < SECONDS_STUCK)
+        return;
+    say("octet: no thread can go on, since one has left its recording\n");
+    for (int i = 0; i < THREADS; i++)
+        if (state_of(&threads[i]) == RESTING && made_by(&threads[i]) < recorded_calls[i])
+            tell_left(&threads[i], 0, 0, 0, NULL);
+    leave_process(EXIT_DIVERGED);
+}
+
+static bool all_have_come(void)
+{
+    for (int i = 0; i < THREADS; i++)
+        if (!has_come(i))
+            return false;
+    return true;
 }
 
 static _Noreturn void end_as_recorded(void)
 {
-    int number = 0;
-    sscanf(recorded_cause, "signal %d", &number);
+    const char *cause = recorded_cause;
+    int number = take_name(&cause, "signal") ? (int)take_digits(&cause, 10) : 0;
     say("octet: signal %d ended the process here, from outside\n", number);
     end_run(recorded_cause, -1);
     die_by_signal(number);
@@ -261,14 +393,18 @@ void end_from_outside(void)
 {
     enum { LOOKS = 10 };
     static int looks;
-    bool parked;
-    if (recording_is_whole && (recorded_number >= 0 || recorded_cause[0] != 's'))
+    if (__atomic_load_n(&begun, __ATOMIC_SEQ_CST))
         return;
-    looks = all_stand(&parked) ? looks + 1 : 0;
+    if (recording_is_whole && recorded_number < 0 && recorded_cause[0] == 's' && all_have_come())
+        end_as_recorded();
+    if (recording_is_whole) {
+        tell_stuck();
+        return;
+    }
+    looks = all_stand() && any_is(PARKED) ? looks + 1 : 0;
     if (looks < LOOKS)
         return;
-    if (recording_is_whole)
-        end_as_recorded();
+    window_write();
     say("octet: the recording ends here: the process that was recorded was ended from outside\n");
     leave_process(EXIT_CUT);
 }

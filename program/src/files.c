@@ -281,7 +281,7 @@ void *mmap(void *at, size_t length, int rights, int flags, int file, off_t from)
 /* Streams. Standard input becomes one whose bytes come by `read`, whatever call asks for them. */
 static FILE *first_input;
 
-static FILE *stream(FILE *given)
+static inline __attribute__((always_inline)) FILE *stream(FILE *given)
 {
     if (me != NULL)
         own_lock(me, OBJECT_STDIO);

@@ -52,6 +52,7 @@ void input_bytes(struct thread *t, void *bytes, size_t length)
         if (!recording_is_whole || (t->stops && t->calls == t->stop_after))
             park(t);
         say("octet: thread %d asks for an input that it did not ask for\n", t->number);
+        tell_left(t, t->made, 0, 0, NULL);
         leave_process(EXIT_DIVERGED);
     }
     raw_copy(bytes, t->inputs + t->inputs_taken, length);

@@ -31,6 +31,12 @@ int wait_change(struct thread *t, volatile int *word, int seen, const struct tim
     return until == NULL ? 0 : (int)input(t, found == ETIMEDOUT);
 }
 
+/* The data of a lock: an access of it, where the program calls. */
+static void own_at(struct thread *t, const volatile void *lock)
+{
+    own_lock_from(t, lock_object((const void *)lock), (uintptr_t)lock, t->call);
+}
+
 /* A thread that is not followed, as one that is at its end, finds each lock free. */
 #define FOLLOWED(name, arguments)                                                                                        \
     struct thread *t = me;                                                                                                \
@@ -38,7 +44,8 @@ int wait_change(struct thread *t, volatile int *word, int seen, const struct tim
         if (mode == STARTING)                                                                                             \
             real_begin();                                                                                                 \
         return mode <= ALONE ? real.name arguments : 0;                                                                   \
-    }
+    }                                                                                                                     \
+    t->call = CALLER;
 
 /* Where the C library keeps the kind of a mutex, it is kept here too: a mutex may be initialized without a call. */
 struct lock {
@@ -68,9 +75,8 @@ static int told_owner(struct thread *t, struct lock *lock, bool tries)
 
 static int lock_until(struct thread *t, struct lock *lock, bool tries, const struct timespec *until, clockid_t clock)
 {
-    uint32_t object = lock_object(lock);
     for (int timed = 0;;) {
-        own_lock(t, object);
+        own_at(t, lock);
         if (take_lock(t, lock))
             return 0;
         if (lock->owner == t->number + 1 && (lock->kind & 3) == PTHREAD_MUTEX_RECURSIVE) {
@@ -82,14 +88,14 @@ static int lock_until(struct thread *t, struct lock *lock, bool tries, const str
             return told != 0 ? told : tries ? EBUSY : ETIMEDOUT;
         lock->waiters++;
         timed = wait_change(t, &lock->changes, lock->changes, until, clock);
-        own_lock(t, object);
+        own_at(t, lock);
         lock->waiters--;
     }
 }
 
 static int give_lock(struct thread *t, struct lock *lock)
 {
-    own_lock(t, lock_object(lock));
+    own_at(t, lock);
     if ((lock->kind & 3) != PTHREAD_MUTEX_NORMAL && lock->owner != t->number + 1)
         return EPERM;
     if (--lock->count > 0)
@@ -109,7 +115,7 @@ int pthread_mutex_init(pthread_mutex_t *mutex, const pthread_mutexattr_t *given)
     int kind = PTHREAD_MUTEX_DEFAULT;
     if (given != NULL)
         pthread_mutexattr_gettype(given, &kind);
-    own_lock(t, lock_object(lock));
+    own_at(t, lock);
     *lock = (struct lock){.kind = kind};
     return 0;
 }
@@ -117,7 +123,7 @@ int pthread_mutex_init(pthread_mutex_t *mutex, const pthread_mutexattr_t *given)
 int pthread_mutex_destroy(pthread_mutex_t *mutex)
 {
     FOLLOWED(pthread_mutex_destroy, (mutex))
-    own_lock(t, lock_object(mutex));
+    own_at(t, mutex);
     return ((struct lock *)mutex)->owner != 0 ? EBUSY : 0;
 }
 
@@ -155,7 +161,7 @@ int pthread_mutex_unlock(pthread_mutex_t *mutex)
 int pthread_spin_init(pthread_spinlock_t *spin, int shared)
 {
     FOLLOWED(pthread_spin_init, (spin, shared))
-    own_lock(t, lock_object((const void *)spin));
+    own_at(t, spin);
     *spin = 0;
     return 0;
 }
@@ -168,7 +174,7 @@ int pthread_spin_destroy(pthread_spinlock_t *spin)
 
 static bool take_spin(struct thread *t, pthread_spinlock_t *spin)
 {
-    own_lock(t, lock_object((const void *)spin));
+    own_at(t, spin);
     if (*spin == 2)
         return false;
     *spin = 2;
@@ -197,7 +203,7 @@ int pthread_spin_trylock(pthread_spinlock_t *spin)
 int pthread_spin_unlock(pthread_spinlock_t *spin)
 {
     FOLLOWED(pthread_spin_unlock, (spin))
-    own_lock(t, lock_object((const void *)spin));
+    own_at(t, spin);
     *spin = 0;
     return 0;
 }
@@ -212,7 +218,7 @@ int pthread_cond_init(pthread_cond_t *at, const pthread_condattr_t *given)
     clockid_t clock = CLOCK_REALTIME;
     if (given != NULL)
         pthread_condattr_getclock(given, &clock);
-    own_lock(t, lock_object(at));
+    own_at(t, at);
     *(struct condition *)at = (struct condition){.clock = clock};
     return 0;
 }
@@ -225,15 +231,14 @@ int pthread_cond_destroy(pthread_cond_t *at)
 
 static int wait_condition(struct thread *t, struct condition *at, struct lock *lock, const struct timespec *until, int clock)
 {
-    uint32_t object = lock_object(at);
-    own_lock(t, object);
+    own_at(t, at);
     int seen = at->changes, timed = 0, count = lock->count;
     at->waiters++;
     lock->count = 1;
     give_lock(t, lock);
     do {
         timed = wait_change(t, &at->changes, seen, until, clock);
-        own_lock(t, object);
+        own_at(t, at);
     } while (at->changes == seen && !timed);
     timed = at->changes == seen;
     at->waiters--;
@@ -263,7 +268,7 @@ int pthread_cond_clockwait(pthread_cond_t *at, pthread_mutex_t *mutex, clockid_t
 
 static int wake_condition(struct thread *t, struct condition *at, int most)
 {
-    own_lock(t, lock_object(at));
+    own_at(t, at);
     if (at->waiters > 0) {
         at->changes++;
         wake_waiters(&at->changes, most);
@@ -290,7 +295,7 @@ struct readers {
 static int lock_readers(struct thread *t, struct readers *lock, bool writes, bool tries, const struct timespec *until, clockid_t clock)
 {
     for (int timed = 0;;) {
-        own_lock(t, lock_object(lock));
+        own_at(t, lock);
         if (!lock->writer && (!writes || !lock->readers)) {
             if (writes)
                 lock->writer = t->number + 1;
@@ -309,7 +314,7 @@ static int lock_readers(struct thread *t, struct readers *lock, bool writes, boo
 int pthread_rwlock_init(pthread_rwlock_t *at, const pthread_rwlockattr_t *given)
 {
     FOLLOWED(pthread_rwlock_init, (at, given))
-    own_lock(t, lock_object(at));
+    own_at(t, at);
     *(struct readers *)at = (struct readers){0};
     return 0;
 }
@@ -333,12 +338,15 @@ LOCK_READERS(pthread_rwlock_tryrdlock, (pthread_rwlock_t * at), (at), false, tru
 LOCK_READERS(pthread_rwlock_trywrlock, (pthread_rwlock_t * at), (at), true, true, NULL, 0)
 LOCK_READERS(pthread_rwlock_timedrdlock, TIMED, (at, until), false, false, until, CLOCK_REALTIME)
 LOCK_READERS(pthread_rwlock_timedwrlock, TIMED, (at, until), true, false, until, CLOCK_REALTIME)
+#define CLOCKED (pthread_rwlock_t * at, clockid_t clock, const struct timespec *until)
+LOCK_READERS(pthread_rwlock_clockrdlock, CLOCKED, (at, clock, until), false, false, until, clock)
+LOCK_READERS(pthread_rwlock_clockwrlock, CLOCKED, (at, clock, until), true, false, until, clock)
 
 int pthread_rwlock_unlock(pthread_rwlock_t *at)
 {
     FOLLOWED(pthread_rwlock_unlock, (at))
     struct readers *lock = (struct readers *)at;
-    own_lock(t, lock_object(lock));
+    own_at(t, lock);
     if (lock->writer)
         lock->writer = 0;
     else
@@ -357,7 +365,7 @@ int pthread_barrier_init(pthread_barrier_t *at, const pthread_barrierattr_t *giv
     FOLLOWED(pthread_barrier_init, (at, given, needs))
     if (needs == 0)
         return EINVAL;
-    own_lock(t, lock_object(at));
+    own_at(t, at);
     *(struct barrier *)at = (struct barrier){.needs = (int)needs};
     return 0;
 }
@@ -372,8 +380,7 @@ int pthread_barrier_wait(pthread_barrier_t *at)
 {
     FOLLOWED(pthread_barrier_wait, (at))
     struct barrier *barrier = (struct barrier *)at;
-    uint32_t object = lock_object(at);
-    own_lock(t, object);
+    own_at(t, at);
     int round = barrier->round;
     if (++barrier->here == barrier->needs) {
         barrier->here = 0;
@@ -383,7 +390,7 @@ int pthread_barrier_wait(pthread_barrier_t *at)
     }
     while (barrier->round == round) {
         wait_change(t, &barrier->round, round, NULL, 0);
-        own_lock(t, object);
+        own_at(t, at);
     }
     return 0;
 }
@@ -395,7 +402,7 @@ struct semaphore {
 int sem_init(sem_t *at, int shared, unsigned value)
 {
     FOLLOWED(sem_init, (at, shared, value))
-    own_lock(t, lock_object(at));
+    own_at(t, at);
     *(struct semaphore *)at = (struct semaphore){.value = (int)value};
     return 0;
 }
@@ -410,7 +417,7 @@ int sem_post(sem_t *at)
 {
     FOLLOWED(sem_post, (at))
     struct semaphore *semaphore = (struct semaphore *)at;
-    own_lock(t, lock_object(at));
+    own_at(t, at);
     semaphore->value++;
     semaphore->changes++;
     wake_waiters(&semaphore->changes, 1);
@@ -421,7 +428,7 @@ static int take_semaphore(struct thread *t, sem_t *at, bool tries, const struct 
 {
     struct semaphore *semaphore = (struct semaphore *)at;
     for (int timed = 0;;) {
-        own_lock(t, lock_object(at));
+        own_at(t, at);
         if (semaphore->value > 0) {
             semaphore->value--;
             return 0;
@@ -455,7 +462,7 @@ int sem_timedwait(sem_t *at, const struct timespec *until)
 int sem_getvalue(sem_t *at, int *value)
 {
     FOLLOWED(sem_getvalue, (at, value))
-    own_lock(t, lock_object(at));
+    own_at(t, at);
     int found = ((struct semaphore *)at)->value;
     access_memory((uintptr_t)value, sizeof found, OCTET_WRITE, CALLER);
     *value = found;
@@ -470,7 +477,7 @@ static bool begin_once(volatile int *state)
     struct thread *t = me;
     for (;;) {
         if (t != NULL)
-            own_lock(t, lock_object((const void *)state));
+            own_at(t, state);
         int found = 0;
         if (__atomic_compare_exchange_n(state, &found, ONCE_BEGUN, false, __ATOMIC_SEQ_CST, __ATOMIC_SEQ_CST))
             return true;
@@ -486,7 +493,7 @@ static bool begin_once(volatile int *state)
 static void end_once(volatile int *state, int becomes)
 {
     if (me != NULL)
-        own_lock(me, lock_object((const void *)state));
+        own_at(me, state);
     __atomic_store_n(state, becomes, __ATOMIC_SEQ_CST);
     wake_waiters(state, INT32_MAX);
 }
@@ -504,6 +511,8 @@ static void end_doing(struct doing *doing)
 int pthread_once(pthread_once_t *at, void (*function)(void))
 {
     volatile int *state = (volatile int *)at;
+    if (me != NULL)
+        me->call = CALLER;
     if (!begin_once(state))
         return 0;
     /* An exception of C++ may leave it undone. */
@@ -516,11 +525,15 @@ int pthread_once(pthread_once_t *at, void (*function)(void))
 /* What a compiler puts around the start of a static variable of a function. Its first byte says that it is done. */
 int __cxa_guard_acquire(uint64_t *guard)
 {
+    if (me != NULL)
+        me->call = CALLER;
     return begin_once((volatile int *)guard + 1);
 }
 
 void __cxa_guard_release(uint64_t *guard)
 {
+    if (me != NULL)
+        me->call = CALLER;
     end_once((volatile int *)guard + 1, ONCE_DONE);
     access_memory((uintptr_t)guard, 1, OCTET_WRITE, CALLER);
     __atomic_store_n((volatile char *)guard, 1, __ATOMIC_RELEASE);

@@ -15,14 +15,12 @@ uintptr_t watch_at, watch_size;
 /* After so many accesses without a call one is made, so that others need not wait for long. */
 enum { MOST_WITHOUT_CALL = 1024 };
 
-static _Noreturn void left_recording(struct thread *t, int32_t status, void *from, uint64_t made)
+static _Noreturn void left_recording(struct thread *t, int32_t status, int how, uint64_t at, void *from, uint64_t made)
 {
     if (status == OCTET_OVER || (status == OCTET_HALTED && is_closing()))
         park(t);
     if (status == OCTET_DIVERGED) {
-        say("octet: thread %d leaves its recording at its access %lu; it was still by it at call %lu of %lu\n", t->number,
-            t->accesses, made, t->calls);
-        say("octet: at address %lx of the program: addr2line -fie PROGRAM %lx\n", (uintptr_t)from - 1, (uintptr_t)from - 1);
+        tell_left(t, made, how, at, from);
     } else if (status == OCTET_HALTED) {
         say("octet: thread %d waits for one that has left its recording, or the recording is damaged\n", t->number);
     } else if (status == OCTET_NO_MEMORY) {
@@ -33,7 +31,7 @@ static _Noreturn void left_recording(struct thread *t, int32_t status, void *fro
     leave_process(EXIT_DIVERGED);
 }
 
-static __attribute__((noinline)) void wait_for_right(struct thread *t, void *from)
+static __attribute__((noinline)) void wait_for_right(struct thread *t, int how, uint64_t at, void *from)
 {
     uint64_t value = 0;
     int32_t status = OCTET_PENDING;
@@ -43,32 +41,42 @@ static __attribute__((noinline)) void wait_for_right(struct thread *t, void *fro
         status = octet_poll(&t->session, &value);
     }
     if (unlikely(status != OCTET_READY))
-        left_recording(t, status, from, value);
+        left_recording(t, status, how, at, from, value);
 }
 
 /* One call of the library. `tag` goes into the digest by which a second run is compared. */
 void own(struct thread *t, int how, uint32_t object, uint64_t tag, void *from)
 {
     uint64_t value = 0;
+    t->inside = true;
+    /* The thread that ends the run sees that this one is inside, or this one sees that the run ends (`stand` in ends.c). */
+    __atomic_signal_fence(__ATOMIC_SEQ_CST);
     if (unlikely(is_closing()) || unlikely(t->stops && t->calls == t->stop_after))
         park(t);
     t->calls++;
+    if (unlikely((t->calls & places_mask) == 0))
+        place_of_call(t, how, tag, from);
     int32_t status = octet_access(&t->session, (uint8_t)how, (uint16_t)object, tag, &value);
     if (unlikely(status == OCTET_PENDING))
-        wait_for_right(t, from);
+        wait_for_right(t, how, tag, from);
     else if (unlikely(status != OCTET_READY))
-        left_recording(t, status, from, value);
+        left_recording(t, status, how, tag, from, value);
     t->last = object;
     t->last_mode = (uint32_t)how;
     t->hits = 0;
+    t->made = t->calls;
+    __atomic_signal_fence(__ATOMIC_SEQ_CST);
+    t->inside = false;
 }
 
 /* The data of a lock, or of a thing of the runtime's that is shared as one. */
-void own_lock(struct thread *t, uint32_t object)
+void own_lock_from(struct thread *t, uint32_t object, uintptr_t at, void *from)
 {
     if (unlikely(t->watched.from != NULL))
         watch_tell(t);
-    own(t, OCTET_WRITE, object, object, CALLER);
+    own(t, OCTET_WRITE, object, at, from);
+    if (unlikely(window_most != 0))
+        window_note(t, &(struct watched){at, from, t->accesses, OCTET_WRITE, at > OBJECTS ? sizeof(int) : 0});
 }
 
 /* What the last watched access has left there: said at the thread's next, when no other thread can have come between. */
@@ -77,9 +85,18 @@ void watch_tell(struct thread *t)
     struct watched watched = t->watched;
     uint64_t value = 0;
     t->watched.from = NULL;
+    if (window_most != 0) {
+        window_settle(t, &watched);
+        return;
+    }
     raw_copy(&value, (void *)watch_at, watch_size > 8 ? 8 : watch_size);
     say_to(watch_file, "%d %lu %s %lx %lx %lu\n", t->number, watched.access, watched.mode ? "write" : "read",
            (uintptr_t)watched.from - 1, watched.at, value);
+}
+
+static bool is_watched(uintptr_t at, size_t size)
+{
+    return at + size - watch_at < watch_size + size && watch_size != 0 && at + size != watch_at;
 }
 
 static inline void own_unless_last(struct thread *t, int how, uint32_t object, uintptr_t at, void *from)
@@ -111,8 +128,11 @@ void access_memory(uintptr_t at, size_t size, int how, void *from)
             own_unless_last(t, how, second, at + size - 1, from);
         }
     }
-    if (unlikely(at + size - watch_at < watch_size + size && watch_size != 0 && at + size != watch_at))
-        t->watched = (struct watched){at, from, t->accesses, how};
+    struct watched access = {at, from, t->accesses, how, (uint32_t)size};
+    if (unlikely(window_most != 0))
+        window_note(t, &access);
+    else if (unlikely(is_watched(at, size)))
+        t->watched = access;
 }
 
 /* Memory that the program touches as a whole after this. */

@@ -31,9 +31,9 @@ enum { EXIT_UNSET = 97, EXIT_DIVERGED = 99, EXIT_CUT = 98 };
 /* STARTING: before the runtime knows. ALONE: the program runs as if the runtime were not there. */
 enum mode { STARTING, ALONE, RECORD, AGAIN };
 
-/* Where a thread is. RUNNING: its session is started. RESTING: stopped, in a call that may wait. PARKED: it makes no access
- * any more, since the run ends. */
-enum state { UNUSED, RUNNING, RESTING, PARKED };
+/* Where a thread is. RUNNING: its session is started. RESTING: stopped, in a call that may wait. PARKING, PARKED: it makes no
+ * access any more, since the run ends; its session is being ended, or is. */
+enum state { UNUSED, RUNNING, RESTING, PARKING, PARKED };
 
 struct thread {
     /* The object that it accessed last, or NO_OBJECT. It has the right to it until its next call of the library. */
@@ -42,10 +42,12 @@ struct thread {
     uintptr_t stack_low, stack_size;
     int number;
     int state;
+    volatile bool inside; /* in a call of the library, or about to make one */
     int away;            /* how many calls that may wait it is in */
     octet_session session;
     uint64_t accesses;   /* of the program, with those that are skipped */
     uint64_t calls;      /* of the library */
+    uint64_t made;       /* of these, those that are done */
     uint64_t waits;
     uint64_t foreign;    /* accesses of another thread's stack, which that one skips */
     uint64_t crossing;   /* accesses that lie in two objects */
@@ -63,7 +65,10 @@ struct thread {
     int inputs_file;
     void *room;
     size_t room_size;
-    struct watched { uintptr_t at; void *from; uint64_t access; int mode; } watched;
+    /* The access whose value is told, or noted, at the thread's next. */
+    struct watched { uintptr_t at; void *from; uint64_t access; int mode; uint32_t size; } watched;
+    void *call;          /* where the program calls a lock */
+    struct places { struct place *at; size_t count, length; int file; } places;
 } __attribute__((aligned(256)));
 
 extern HIDDEN struct thread threads[THREADS];
@@ -73,7 +78,6 @@ extern HIDDEN enum mode mode;
 extern HIDDEN bool all_stacks;
 extern HIDDEN int watch_file;
 extern HIDDEN uintptr_t watch_at, watch_size;
-extern HIDDEN int window_accesses;
 extern HIDDEN const char *run_folder;
 /* The recording came to the end of its process, and the file of its end is there. */
 extern HIDDEN bool recording_is_whole;
@@ -85,6 +89,7 @@ HIDDEN int raw_print(char *to, size_t room, const char *format, ...) __attribute
 #define snprintf raw_print
 HIDDEN void say(const char *format, ...) __attribute__((format(printf, 1, 2)));
 HIDDEN void say_to(int file, const char *format, ...) __attribute__((format(printf, 2, 3)));
+HIDDEN uint64_t take_digits(const char **at, unsigned base);
 HIDDEN _Noreturn void leave_process(int status);
 HIDDEN void pause_short(unsigned tries);
 HIDDEN void raw_copy(void *to, const void *from, size_t length);
@@ -129,15 +134,32 @@ HIDDEN void arena_give(int number, void *block);
 
 /* own.c: the right to an object, by the library. */
 HIDDEN void own(struct thread *t, int how, uint32_t object, uint64_t tag, void *from);
-HIDDEN void own_lock(struct thread *t, uint32_t object);
+HIDDEN void own_lock_from(struct thread *t, uint32_t object, uintptr_t at, void *from);
+#define own_lock(t, object) own_lock_from(t, object, object, CALLER)
 HIDDEN void access_memory(uintptr_t at, size_t size, int how, void *from);
 HIDDEN void access_range(const void *at, size_t length, int how, void *from);
 HIDDEN void watch_tell(struct thread *t);
+
+/* places.c: where the calls of the library are in the program, and the last accesses of a second run. */
+struct place {
+    uint64_t at_and_how, from;
+};
+extern HIDDEN uint64_t places_mask;
+extern HIDDEN uint32_t window_most;
+extern HIDDEN int report_file;
+HIDDEN void places_begin(void);
+HIDDEN void places_end(void);
+HIDDEN void place_of_call(struct thread *t, int how, uint64_t at, void *from);
+HIDDEN void tell_left(const struct thread *t, uint64_t made, int how, uint64_t at, void *from);
+HIDDEN void window_note(struct thread *t, const struct watched *access);
+HIDDEN void window_settle(struct thread *t, const struct watched *access);
+HIDDEN void window_write(void);
 
 /* ends.c: how threads stop, and how the run begins and ends. */
 HIDDEN void go_away(struct thread *t);
 HIDDEN void come_back(struct thread *t);
 HIDDEN _Noreturn void park(struct thread *t);
+/* No thread makes a call of the library any more: each stands still before its next. */
 extern HIDDEN volatile int closing;
 static inline bool is_closing(void)
 {
@@ -213,6 +235,8 @@ HIDDEN void signals_of_thread(int number);
     ROW(int, pthread_rwlock_trywrlock, (pthread_rwlock_t *))                                                             \
     ROW(int, pthread_rwlock_timedrdlock, (pthread_rwlock_t *, const struct timespec *))                                  \
     ROW(int, pthread_rwlock_timedwrlock, (pthread_rwlock_t *, const struct timespec *))                                  \
+    ROW(int, pthread_rwlock_clockrdlock, (pthread_rwlock_t *, clockid_t, const struct timespec *))                       \
+    ROW(int, pthread_rwlock_clockwrlock, (pthread_rwlock_t *, clockid_t, const struct timespec *))                       \
     ROW(int, pthread_rwlock_unlock, (pthread_rwlock_t *))                                                                \
     ROW(int, pthread_barrier_init, (pthread_barrier_t *, const pthread_barrierattr_t *, unsigned))                       \
     ROW(int, pthread_barrier_destroy, (pthread_barrier_t *))                                                             \

@@ -59,6 +59,20 @@ void say_to(int file, const char *format, ...)
     va_end(values);
 }
 
+/* A number behind blanks, in a text of the runtime's own. The program's calls for this would be the runtime's too. */
+uint64_t take_digits(const char **at, unsigned base)
+{
+    uint64_t number = 0;
+    while (**at == ' ')
+        ++*at;
+    for (;; ++*at) {
+        unsigned digit = **at >= 'a' ? (unsigned)(**at - 'a') + 10 : (unsigned)(**at - '0');
+        if (digit >= base)
+            return number;
+        number = number * base + digit;
+    }
+}
+
 _Noreturn void leave_process(int status)
 {
     syscall(SYS_exit_group, status);

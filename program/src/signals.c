@@ -79,3 +79,25 @@ void signals_begin(void)
             __sigaction(endings[i], &ends, NULL);
     signals_of_thread(0);
 }
+
+/* A thread that waits for a signal rests meanwhile. Which one came is an input. */
+int sigwait(const sigset_t *restrict set, int *restrict out)
+{
+    enum { KERNEL_SET = 8 };
+    struct thread *t = me;
+    int64_t found = 0;
+    if (t != NULL)
+        go_away(t);
+    if (mode != AGAIN)
+        while ((found = syscall(SYS_rt_sigtimedwait, set, NULL, NULL, KERNEL_SET)) < 0 && errno == EINTR)
+            continue;
+    if (t != NULL) {
+        come_back(t);
+        found = input(t, found < 0 ? -errno : found);
+    }
+    if (found < 0)
+        return t != NULL ? (int)-found : errno;
+    access_memory((uintptr_t)out, sizeof *out, OCTET_WRITE, CALLER);
+    *out = (int)found;
+    return 0;
+}

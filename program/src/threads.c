@@ -10,6 +10,8 @@
 #define STACK_MOST ((1ul << STACK_BITS) - 4096)
 
 static int next_number = 1, unused_count, unused[THREADS];
+/* How many threads of the program there are. */
+static int living = 1;
 static pthread_key_t key;
 
 static void give_number(int number)
@@ -17,11 +19,26 @@ static void give_number(int number)
     unused[unused_count++] = number;
 }
 
+/* A thread that has left its recording may end with fewer calls, and others would wait for the rest for good. */
+static void compare_calls(struct thread *t)
+{
+    uint64_t recorded = (uint64_t)input(t, (int64_t)t->calls);
+    if (recorded == t->calls)
+        return;
+    say("octet: thread %d ends after %lu calls, and was recorded to end after %lu\n", t->number, t->calls, recorded);
+    tell_left(t, 0, 0, 0, NULL);
+    leave_process(EXIT_DIVERGED);
+}
+
 /* The thread makes no further access. */
 static void end_thread(struct thread *t)
 {
     own_lock(t, OBJECT_THREADS);
+    compare_calls(t);
     t->over = true;
+    /* The C library ends the process with its last thread; but there is that of the runtime. */
+    if (--living == 0)
+        exit(0);
     if (t->detached)
         give_number(t->number);
     go_away(t);
@@ -105,6 +122,7 @@ int pthread_create(pthread_t *out, const pthread_attr_t *given, void *(*function
         leave_process(EXIT_UNSET);
     }
     struct thread *made = &threads[number];
+    living++;
     size_t size = read_attributes(given, &made->detached);
     made->function = function;
     made->argument = argument;
