@@ -57,6 +57,7 @@ void go_away(struct thread *t)
     t->last = NO_OBJECT;
     me = NULL;
     octet_stop(&t->session);
+    give_turn(t);
     __atomic_store_n(&t->state, RESTING, __ATOMIC_SEQ_CST);
     t->inside = false;
 }
@@ -121,6 +122,7 @@ _Noreturn void park(struct thread *t)
     if (t->watched.from != NULL)
         watch_tell(t);
     end_followed(t);
+    give_turn(t);
     __atomic_store_n(&t->state, PARKED, __ATOMIC_SEQ_CST);
     t->inside = false;
     stand_still();
@@ -311,6 +313,7 @@ void end_run(const char *cause, int number)
     if (number >= 0) {
         /* First, since others may wait for this one. */
         end_followed(&threads[number]);
+        give_turn(&threads[number]);
         __atomic_store_n(&threads[number].state, PARKED, __ATOMIC_SEQ_CST);
     }
     if (mode == AGAIN)

@@ -31,13 +31,54 @@ static _Noreturn void left_recording(struct thread *t, int32_t status, int how, 
     leave_process(EXIT_DIVERGED);
 }
 
+/* The turn, in a second run: one thread at a time goes on from its call of the library to its next.
+ *
+ * The library shows an access to other threads at this thread's next call. But memory that lies in two objects takes two calls, and
+ * a range as many as it has objects, before the program touches it: at the second the first is shown. So a thread keeps its turn
+ * until it is in a call again, or rests. Who waits for marks gives it up: so the thread whose access is the earliest that is not made
+ * gets it, and goes on. */
+static volatile int turn, waiting;
+enum { MOST_CALLS_IN_TURN = 256 };
+
+static void take_turn(struct thread *t)
+{
+    int free = 0;
+    if (t->has_turn)
+        return;
+    __atomic_fetch_add(&waiting, 1, __ATOMIC_SEQ_CST);
+    for (unsigned tries = 0; !__atomic_compare_exchange_n(&turn, &free, 1, false, __ATOMIC_ACQUIRE, __ATOMIC_RELAXED); tries++) {
+        pause_short(tries);
+        free = 0;
+    }
+    __atomic_fetch_sub(&waiting, 1, __ATOMIC_SEQ_CST);
+    t->has_turn = true;
+}
+
+void give_turn(struct thread *t)
+{
+    if (!t->has_turn)
+        return;
+    t->has_turn = false;
+    __atomic_store_n(&turn, 0, __ATOMIC_RELEASE);
+}
+
+static void keep_turn(struct thread *t)
+{
+    if (waiting > 0 && t->calls % MOST_CALLS_IN_TURN == 0)
+        give_turn(t);
+    take_turn(t);
+}
+
 static __attribute__((noinline)) void wait_for_right(struct thread *t, int how, uint64_t at, void *from)
 {
     uint64_t value = 0;
     int32_t status = OCTET_PENDING;
     for (unsigned tries = 0; status == OCTET_PENDING; tries++) {
+        give_turn(t);
         pause_short(tries);
         t->waits++;
+        if (mode == AGAIN)
+            take_turn(t);
         status = octet_poll(&t->session, &value);
     }
     if (unlikely(status != OCTET_READY))
@@ -53,6 +94,8 @@ void own(struct thread *t, int how, uint32_t object, uint64_t tag, void *from)
     __atomic_signal_fence(__ATOMIC_SEQ_CST);
     if (unlikely(is_closing()) || unlikely(t->stops && t->calls == t->stop_after))
         park(t);
+    if (mode == AGAIN)
+        keep_turn(t);
     t->calls++;
     if (unlikely((t->calls & places_mask) == 0))
         place_of_call(t, how, tag, from);

@@ -16,19 +16,6 @@ static struct noted {
     int thread;
 } *noted;
 static uint64_t noted_count;
-/* Who has it waits for nothing. */
-static int notes_are_locked;
-
-static void lock_notes(void)
-{
-    for (unsigned tries = 0; __atomic_exchange_n(&notes_are_locked, 1, __ATOMIC_ACQUIRE); tries++)
-        pause_short(tries);
-}
-
-static void unlock_notes(void)
-{
-    __atomic_store_n(&notes_are_locked, 0, __ATOMIC_RELEASE);
-}
 
 static void name_of(const struct thread *t, char *name, size_t room)
 {
@@ -116,16 +103,13 @@ void tell_left(const struct thread *t, uint64_t made, int how, uint64_t at, void
             then.at_and_how >> 1, then.from - 1);
 }
 
-/* Of two conflicting accesses, the thread of the first has noted it before its next call of the library, and the second is not made
- * before that. So the order in which accesses are noted is one in which they were made. */
+/* One thread at a time goes on in a second run, so the order in which accesses are noted is one in which they were made. */
 void window_note(struct thread *t, const struct watched *access)
 {
-    lock_notes();
     struct noted *note = &noted[noted_count % window_most];
     *note = (struct noted){*access, 0, t->number};
     t->watched = *access;
     t->watched.access = noted_count++;
-    unlock_notes();
 }
 
 /* The value that the access found or left: at the thread's next, when no other thread can have come between. */
@@ -133,10 +117,9 @@ void window_settle(struct thread *t, const struct watched *watched)
 {
     struct noted *note = &noted[watched->access % window_most];
     size_t size = watched->size > 8 ? 8 : watched->size;
-    lock_notes();
-    if (noted_count - watched->access <= window_most && note->thread == t->number && size != 0)
-        raw_copy(&note->value, (void *)watched->at, size);
-    unlock_notes();
+    if (noted_count - watched->access > window_most || note->thread != t->number || size == 0)
+        return;
+    raw_copy(&note->value, (void *)watched->at, size);
 }
 
 void window_write(void)

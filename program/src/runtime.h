@@ -42,6 +42,7 @@ struct thread {
     uintptr_t stack_low, stack_size;
     int number;
     int state;
+    bool has_turn;
     volatile bool inside; /* in a call of the library, or about to make one */
     int away;            /* how many calls that may wait it is in */
     octet_session session;
@@ -139,6 +140,7 @@ HIDDEN void own_lock_from(struct thread *t, uint32_t object, uintptr_t at, void 
 HIDDEN void access_memory(uintptr_t at, size_t size, int how, void *from);
 HIDDEN void access_range(const void *at, size_t length, int how, void *from);
 HIDDEN void watch_tell(struct thread *t);
+HIDDEN void give_turn(struct thread *t);
 
 /* places.c: where the calls of the library are in the program, and the last accesses of a second run. */
 struct place {
