@@ -7,25 +7,36 @@ void *memcpy(void *restrict to, const void *restrict from, size_t length)
     return to;
 }
 
-static void move_down(char *to, const char *from, size_t length)
+/* How many of the last of these bytes are of one object. */
+static size_t tail_of_object(const char *from, size_t length)
 {
-    while (length-- > 0)
-        ((volatile char *)to)[length] = ((const volatile char *)from)[length];
+    for (size_t left; (left = left_in_object((uintptr_t)from)) < length; from += left)
+        length -= left;
+    return length;
+}
+
+/* The last piece first, since the bytes go to higher addresses, over those that are still to be read. */
+static void move_up(char *to, const char *from, size_t length, void *pc)
+{
+    char room[SMALL_SIZE];
+    while (length > 0) {
+        size_t piece = length < sizeof room ? length : sizeof room;
+        piece = tail_of_object(from + length - piece, piece);
+        piece = tail_of_object(to + length - piece, piece);
+        length -= piece;
+        access_memory((uintptr_t)(from + length), piece, OCTET_READ, pc);
+        raw_copy(room, from + length, piece);
+        access_memory((uintptr_t)(to + length), piece, OCTET_WRITE, pc);
+        raw_copy(to + length, room, piece);
+    }
 }
 
 void *memmove(void *to, const void *from, size_t length)
 {
-    if ((uintptr_t)to - (uintptr_t)from >= length && (uintptr_t)from - (uintptr_t)to >= length) {
-        copy_tracked(to, from, length, CALLER);
-        return to;
-    }
-    /* They overlap, so it is no copy of pieces. */
-    access_range(from, length, OCTET_READ, CALLER);
-    access_range(to, length, OCTET_WRITE, CALLER);
     if ((uintptr_t)to - (uintptr_t)from >= length)
-        raw_copy(to, from, length);
+        copy_tracked(to, from, length, CALLER);
     else
-        move_down(to, from, length);
+        move_up(to, from, length, CALLER);
     return to;
 }
 
