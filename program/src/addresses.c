@@ -4,6 +4,8 @@
  * an arena of its own, and stacks and mappings lie at fixed places. Kinds of memory have ranges of objects of their own: so a
  * lock that is taken often does not slow down a table that lies elsewhere. */
 #include "runtime.h"
+#include <link.h>
+#include <sys/auxv.h>
 #include <sys/mman.h>
 
 uintptr_t main_stack_low, main_stack_size;
@@ -75,8 +77,36 @@ static struct arena {
     void *unused[KINDS];
 } __attribute__((aligned(128))) arenas[ARENAS];
 
+/* Where the code of the loader lies, and that of the C library. What they take for themselves they take under locks of their own,
+ * which the runtime does not see: so a thread may not wait for an access there, since who has the turn may wait for that lock.
+ * And which thread takes the loader's memory may differ: the first that ends by pthread_exit loads a library. So the loader has
+ * an arena of its own. */
+static struct code {
+    uintptr_t begins, size;
+} loader, c_library;
+
+static inline bool is_code_of(const struct code *code, const void *from)
+{
+    return (uintptr_t)from - code->begins < code->size;
+}
+
+static int find_code(struct dl_phdr_info *about, size_t size, void *nothing)
+{
+    uintptr_t end = 0, base = about->dlpi_addr, call = (uintptr_t)real.malloc_usable_size;
+    (void)size, (void)nothing;
+    for (int i = 0; i < about->dlpi_phnum; i++)
+        if (about->dlpi_phdr[i].p_type == PT_LOAD)
+            end = base + about->dlpi_phdr[i].p_vaddr + about->dlpi_phdr[i].p_memsz;
+    if (base != 0 && base == getauxval(AT_BASE))
+        loader = (struct code){base, end - base};
+    else if (base != 0 && call - base < end - base)
+        c_library = (struct code){base, end - base};
+    return 0;
+}
+
 void arenas_begin(void)
 {
+    dl_iterate_phdr(find_code, NULL);
     for (int i = 0; i < ARENAS; i++) {
         uintptr_t at = ARENA_FIRST + ((uintptr_t)i << ARENA_BITS);
         long found = syscall(SYS_mmap, at, 1ul << ARENA_BITS, PROT_READ | PROT_WRITE,
@@ -117,24 +147,45 @@ static void *take_new(struct arena *arena, size_t room)
     return block;
 }
 
-void *arena_take(int number, size_t size)
+/* Where more than one thread takes blocks from one arena. */
+static volatile int taken;
+
+static void lock_arena(int number)
+{
+    for (unsigned tries = 0; number >= THREADS && __atomic_exchange_n(&taken, 1, __ATOMIC_ACQUIRE); tries++)
+        pause_short(tries);
+}
+
+static void unlock_arena(int number)
+{
+    if (number >= THREADS)
+        __atomic_store_n(&taken, 0, __ATOMIC_RELEASE);
+}
+
+static void *take_block(struct arena *arena, size_t size)
 {
     size_t room;
-    if (size > ARENA_HALF / 2) {
-        errno = ENOMEM;
-        return NULL;
-    }
     uint32_t kind = kind_of(size + sizeof(struct head), &room);
-    struct arena *arena = &arenas[number];
     void *block = arena->unused[kind];
     if (block != NULL)
         arena->unused[kind] = *(void **)block;
-    else if ((block = take_new(arena, room)) == NULL) {
-        errno = ENOMEM;
-        return NULL;
+    else
+        block = take_new(arena, room);
+    if (block != NULL)
+        *((struct head *)block - 1) = (struct head){kind, 0, size};
+    return block;
+}
+
+void *arena_take(int number, size_t size)
+{
+    void *block = NULL;
+    if (size <= ARENA_HALF / 2) {
+        lock_arena(number);
+        block = take_block(&arenas[number], size);
+        unlock_arena(number);
     }
-    struct head *head = (struct head *)block - 1;
-    *head = (struct head){kind, 0, size};
+    if (block == NULL)
+        errno = ENOMEM;
     return block;
 }
 
@@ -151,8 +202,10 @@ void arena_give(int number, void *block)
         uintptr_t to = ((uintptr_t)block + head->size) & ~(PAGE_SIZE - 1);
         syscall(SYS_madvise, from, to - from, MADV_DONTNEED);
     }
+    lock_arena(number);
     *(void **)block = arenas[number].unused[head->kind];
     arenas[number].unused[head->kind] = block;
+    unlock_arena(number);
 }
 
 /* The program's calls. Outside a recorded run they are the C library's. */
@@ -167,10 +220,20 @@ static inline bool has_arenas(void)
     return mode >= RECORD;
 }
 
+static bool is_followed(const void *from)
+{
+    return me != NULL && !is_code_of(&c_library, from) && !is_code_of(&loader, from);
+}
+
+static int arena_of_block(const void *block)
+{
+    return (int)(((uintptr_t)block - ARENA_FIRST) >> ARENA_BITS);
+}
+
 /* A block that another thread still uses is written here: so this is an access. */
 static void touch(void *block, void *from)
 {
-    if (me != NULL)
+    if (is_followed(from))
         access_memory((uintptr_t)block, 8, OCTET_WRITE, from);
 }
 
@@ -179,28 +242,42 @@ static size_t size_of(const void *block)
     return ((const struct head *)block - 1)->size;
 }
 
+static void *take_for(void *from, size_t size)
+{
+    return arena_take(is_code_of(&loader, from) ? ARENA_OF_LOADER : arena_number, size);
+}
+
+static void *malloc_for(void *from, size_t size)
+{
+    void *block = take_for(from, size);
+    if (block != NULL)
+        touch(block, from);
+    return block;
+}
+
+static void free_for(void *from, void *block)
+{
+    int before = errno;
+    if (!in_arenas((uintptr_t)block)) {
+        __libc_free(block);
+    } else if (arena_of_block(block) == ARENA_OF_LOADER) {
+        arena_give(ARENA_OF_LOADER, block);
+    } else {
+        touch(block, from);
+        arena_give(arena_number, block);
+    }
+    errno = before;
+}
+
 void *malloc(size_t size)
 {
-    if (!has_arenas())
-        return __libc_malloc(size);
-    void *block = arena_take(arena_number, size);
-    if (block != NULL)
-        touch(block, CALLER);
-    return block;
+    return has_arenas() ? malloc_for(CALLER, size) : __libc_malloc(size);
 }
 
 void free(void *block)
 {
-    int before = errno;
-    if (block == NULL)
-        return;
-    if (in_arenas((uintptr_t)block)) {
-        touch(block, CALLER);
-        arena_give(arena_number, block);
-    } else {
-        __libc_free(block);
-    }
-    errno = before;
+    if (block != NULL)
+        free_for(CALLER, block);
 }
 
 void *calloc(size_t count, size_t size)
@@ -212,9 +289,11 @@ void *calloc(size_t count, size_t size)
         errno = ENOMEM;
         return NULL;
     }
-    void *block = arena_take(arena_number, all);
-    if (block != NULL)
+    void *block = take_for(CALLER, all);
+    if (block != NULL && is_followed(CALLER))
         set_tracked(block, 0, all, CALLER);
+    else if (block != NULL)
+        raw_set(block, 0, all);
     return block;
 }
 
@@ -223,37 +302,45 @@ size_t malloc_usable_size(void *block)
     return block == NULL ? 0 : in_arenas((uintptr_t)block) ? size_of(block) : real.malloc_usable_size(block);
 }
 
-void *realloc(void *block, size_t size)
+static void *realloc_for(void *from, void *block, size_t size)
 {
-    if (block == NULL)
-        return malloc(size);
-    if (!has_arenas())
-        return __libc_realloc(block, size);
-    if (size == 0) {
-        free(block);
-        return NULL;
-    }
-    void *other = malloc(size);
+    void *other = malloc_for(from, size);
     if (other == NULL)
         return NULL;
     /* A block that was taken before the run began is the C library's. */
     size_t length = malloc_usable_size(block);
-    copy_tracked(other, block, length < size ? length : size, CALLER);
-    free(block);
+    length = length < size ? length : size;
+    if (is_followed(from))
+        copy_tracked(other, block, length, from);
+    else
+        raw_copy(other, block, length);
+    free_for(from, block);
     return other;
 }
 
-void *memalign(size_t align, size_t size)
+void *realloc(void *block, size_t size)
+{
+    if (!has_arenas())
+        return __libc_realloc(block, size);
+    if (block == NULL)
+        return malloc_for(CALLER, size);
+    if (size != 0)
+        return realloc_for(CALLER, block, size);
+    free_for(CALLER, block);
+    return NULL;
+}
+
+static void *memalign_for(void *from, size_t align, size_t size)
 {
     if (!has_arenas())
         return __libc_memalign(align, size);
     if (align <= sizeof(struct head))
-        return malloc(size);
+        return malloc_for(from, size);
     if (align > ARENA_HALF / 4 || size > ARENA_HALF / 4 || (align & (align - 1)) != 0) {
         errno = align & (align - 1) ? EINVAL : ENOMEM;
         return NULL;
     }
-    char *block = malloc(size + align + sizeof(struct head));
+    char *block = malloc_for(from, size + align + sizeof(struct head));
     if (block == NULL)
         return NULL;
     uintptr_t at = ((uintptr_t)block + sizeof(struct head) + align - 1) & ~(align - 1);
@@ -261,14 +348,19 @@ void *memalign(size_t align, size_t size)
     return (void *)at;
 }
 
+void *memalign(size_t align, size_t size)
+{
+    return memalign_for(CALLER, align, size);
+}
+
 void *aligned_alloc(size_t align, size_t size)
 {
-    return memalign(align, size);
+    return memalign_for(CALLER, align, size);
 }
 
 int posix_memalign(void **out, size_t align, size_t size)
 {
-    void *block = memalign(align, size);
+    void *block = memalign_for(CALLER, align, size);
     if (block == NULL)
         return ENOMEM;
     *out = block;
@@ -277,7 +369,7 @@ int posix_memalign(void **out, size_t align, size_t size)
 
 void *valloc(size_t size)
 {
-    return memalign(PAGE_SIZE, size);
+    return memalign_for(CALLER, PAGE_SIZE, size);
 }
 
 void *reallocarray(void *block, size_t count, size_t size)

@@ -118,7 +118,7 @@ _Static_assert(OBJECTS <= 65535, "the library has no more objects");
 
 #define ARENA_FIRST 0x100000000000ul
 #define ARENA_BITS 34
-enum { ARENA_OF_NOBODY = 16, ARENA_OF_RUNTIME = 17, ARENAS = 18 };
+enum { ARENA_OF_NOBODY = 16, ARENA_OF_RUNTIME = 17, ARENA_OF_LOADER = 18, ARENAS = 19 };
 #define ARENA_END (ARENA_FIRST + ((uintptr_t)ARENAS << ARENA_BITS))
 #define STACK_FIRST 0x200000000000ul
 #define STACK_BITS 30
