@@ -61,7 +61,7 @@ def new_folder(path, program, words):
     if folder.exists() and any(folder.iterdir()) and not (folder / ABOUT).exists():
         raise Refused(f"{path} is no folder of a run, and has other files")
     folder.mkdir(mode=0o700, parents=True, exist_ok=True)
-    for name in (ABOUT, "marks", "end", *(f"{kind}.{number}" for kind in ("inputs", "places") for number in range(16))):
+    for name in (ABOUT, "marks", "end", *(f"{kind}.{number}" for kind in ("inputs", "places", "signals") for number in range(16))):
         (folder / name).unlink(missing_ok=True)
     about = {"program": program, "arguments": words, "folder": os.getcwd(), "environment": dict(os.environ), "digest": digest_of(program)}
     return folder.resolve(), about

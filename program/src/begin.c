@@ -116,6 +116,7 @@ static __attribute__((constructor(101))) void begin(void)
     ends_begin();
     threads_begin();
     signals_begin();
+    handlers_begin();
     marks_begin(run_folder);
     begin_main();
 }

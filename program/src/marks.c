@@ -150,7 +150,11 @@ void marks_begin(const char *folder)
     }
     for (int i = 0; i < THREADS; i++)
         threads[i].session = sessions[i];
+    /* A signal is for a thread of the program. */
+    uint64_t all = UINT64_MAX, before;
+    syscall(SYS_rt_sigprocmask, SIG_BLOCK, &all, &before, sizeof all);
     real.pthread_create(&helper, NULL, mode == RECORD ? take_all : feed_all, NULL);
+    syscall(SYS_rt_sigprocmask, SIG_SETMASK, &before, NULL, sizeof all);
 }
 
 void marks_end(void)

@@ -89,6 +89,8 @@ static __attribute__((noinline)) void wait_for_right(struct thread *t, int how, 
 void own(struct thread *t, int how, uint32_t object, uint64_t tag, void *from)
 {
     uint64_t value = 0;
+    if (unlikely(t->calls >= t->signal_at))
+        handle_signals(t);
     t->inside = true;
     /* The thread that ends the run sees that this one is inside, or this one sees that the run ends (`stand` in ends.c). */
     __atomic_signal_fence(__ATOMIC_SEQ_CST);

@@ -8,6 +8,7 @@
 #include "octet.h"
 #include <errno.h>
 #include <pthread.h>
+#include <signal.h>
 #include <stdarg.h>
 #include <stdbool.h>
 #include <stdint.h>
@@ -69,6 +70,12 @@ struct thread {
     /* The access whose value is told, or noted, at the thread's next. */
     struct watched { uintptr_t at; void *from; uint64_t access; int mode; uint32_t size; } watched;
     void *call;          /* where the program calls a lock */
+    /* Signals that came, a bit for each, and at how many calls they are handled. */
+    uint64_t signals;
+    volatile uint64_t signal_at;
+    int handles, handled_file;
+    const struct handled *handled;
+    size_t handled_count, handled_taken;
     struct places { struct place *at; size_t count, length; int file; } places;
 } __attribute__((aligned(256)));
 
@@ -110,7 +117,7 @@ enum {
     FIRST_OTHER = FIRST_STACK + THREADS * STACKS,
     FIRST_LOCK = FIRST_OTHER + OTHERS,
     OBJECT_THREADS = FIRST_LOCK + LOCKS,
-    OBJECT_STDIO, OBJECT_FILES, OBJECT_RANDOM,
+    OBJECT_STDIO, OBJECT_FILES, OBJECT_RANDOM, OBJECT_SIGNALS,
     FIRST_FILE,
     OBJECTS = FIRST_FILE + FILES
 };
@@ -201,8 +208,13 @@ HIDDEN void pass_key(struct thread *t);
 /* files.c */
 HIDDEN void files_begin(void);
 
-/* signals.c */
+/* handlers.c: the program's own handlers of signals. */
+HIDDEN void handlers_begin(void);
+HIDDEN void handle_signals(struct thread *t);
+
+/* signals.c: signals that end the process. */
 HIDDEN void signals_begin(void);
+HIDDEN int signal_is_default(int number);
 HIDDEN void signals_of_thread(int number);
 
 /* real.c: the calls of the C library that the runtime stands before. */
@@ -251,6 +263,7 @@ HIDDEN void signals_of_thread(int number);
     ROW(int, sem_timedwait, (sem_t *, const struct timespec *))                                                          \
     ROW(int, sem_getvalue, (sem_t *, int *))                                                                             \
     ROW(int, pthread_once, (pthread_once_t *, void (*)(void)))                                                           \
+    ROW(int, pthread_kill, (pthread_t, int))                                                                             \
     ROW(int, pthread_cancel, (pthread_t))                                                                                \
     ROW(pid_t, fork, (void))                                                                                             \
     ROW(int, vfprintf, (FILE *, const char *, va_list))                                                                  \

@@ -1,8 +1,7 @@
-/* Signals.
+/* Signals that end the process.
  *
  * A crash ends the run, so that its recording is whole: a second run comes to the same instruction. A signal that would end the
- * process from outside does so too, where no thread is inside a call of the library: the helper does it. A handler of the program's
- * for other signals is called at the thread's next call of the library, and the recording says at which. */
+ * process from outside does so too, where no thread is inside a call of the library: the helper does it. */
 #include "runtime.h"
 #include <fcntl.h>
 #include <signal.h>
@@ -73,11 +72,20 @@ void signals_begin(void)
     struct sigaction action = {.sa_sigaction = crash, .sa_flags = SA_SIGINFO | SA_ONSTACK}, before;
     for (size_t i = 0; i < sizeof crashes / sizeof *crashes; i++)
         __sigaction(crashes[i], &action, NULL);
-    struct sigaction ends = {.sa_handler = note_ending, .sa_flags = SA_RESTART};
-    for (size_t i = 0; i < sizeof endings / sizeof *endings && mode == RECORD; i++)
+    for (size_t i = 0; i < sizeof endings / sizeof *endings; i++)
         if (__sigaction(endings[i], NULL, &before) == 0 && before.sa_handler == SIG_DFL)
-            __sigaction(endings[i], &ends, NULL);
+            signal_is_default(endings[i]);
     signals_of_thread(0);
+}
+
+/* The program has no handler of this signal. */
+int signal_is_default(int number)
+{
+    struct sigaction action = {.sa_handler = SIG_DFL};
+    for (size_t i = 0; i < sizeof endings / sizeof *endings && mode == RECORD; i++)
+        if (endings[i] == number)
+            action = (struct sigaction){.sa_handler = note_ending, .sa_flags = SA_RESTART};
+    return __sigaction(number, &action, NULL);
 }
 
 /* A thread that waits for a signal rests meanwhile. Which one came is an input. */
