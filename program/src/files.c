@@ -281,10 +281,24 @@ void *mmap(void *at, size_t length, int rights, int flags, int file, off_t from)
 /* Streams. Standard input becomes one whose bytes come by `read`, whatever call asks for them. */
 static FILE *first_input;
 
+/* A thread keeps the streams from flockfile to funlockfile, whichever it names. Here and not in the C library: there others would
+ * wait for a lock that is none in a second run. */
+static volatile int keeper, kept, keeps;
+
+static inline __attribute__((always_inline)) void own_streams(struct thread *t)
+{
+    for (;;) {
+        own_lock(t, OBJECT_STDIO);
+        if (keeper == 0 || keeper == t->number + 1)
+            return;
+        wait_change(t, &keeps, keeps, NULL, 0);
+    }
+}
+
 static inline __attribute__((always_inline)) FILE *stream(FILE *given)
 {
     if (me != NULL)
-        own_lock(me, OBJECT_STDIO);
+        own_streams(me);
     else if (mode == STARTING)
         real_begin();
     return given == first_input && given != NULL ? stdin : given;
@@ -296,6 +310,44 @@ static ssize_t read_input(void *nothing, char *to, size_t length)
     if (me == NULL)
         return syscall(SYS_read, 0, to, length);
     return (ssize_t)without_error(read_outside(me, 0, to, length));
+}
+
+void flockfile(FILE *file)
+{
+    if (me == NULL) {
+        real.flockfile(file);
+        return;
+    }
+    own_streams(me);
+    keeper = me->number + 1;
+    kept++;
+}
+
+int ftrylockfile(FILE *file)
+{
+    struct thread *t = me;
+    if (t == NULL)
+        return real.ftrylockfile(file);
+    own_lock(t, OBJECT_STDIO);
+    if (keeper != 0 && keeper != t->number + 1)
+        return -1;
+    keeper = t->number + 1;
+    kept++;
+    return 0;
+}
+
+void funlockfile(FILE *file)
+{
+    if (me == NULL) {
+        real.funlockfile(file);
+        return;
+    }
+    own_streams(me);
+    if (--kept > 0)
+        return;
+    keeper = 0;
+    keeps++;
+    wake_waiters(&keeps, INT32_MAX);
 }
 
 void files_begin(void)
@@ -445,7 +497,7 @@ char *fgets(char *to, int room, FILE *file)
         to[length++] = (char)c;
         if (c == '\n')
             break;
-        own_lock(t, OBJECT_STDIO);
+        own_streams(t);
     }
     if (length == 0)
         return NULL;

@@ -269,6 +269,9 @@ HIDDEN void signals_of_thread(int number);
     ROW(int, vfprintf, (FILE *, const char *, va_list))                                                                  \
     ROW(int, __isoc99_vfscanf, (FILE *, const char *, va_list))                                                          \
     ROW(int, vsnprintf, (char *, size_t, const char *, va_list))                                                         \
+    ROW(void, flockfile, (FILE *))                                                                                       \
+    ROW(int, ftrylockfile, (FILE *))                                                                                     \
+    ROW(void, funlockfile, (FILE *))                                                                                     \
     ROW(FILE *, fdopen, (int, const char *))                                                                             \
     ROW(int, puts, (const char *))                                                                                       \
     ROW(int, fputs, (const char *, FILE *))                                                                              \
