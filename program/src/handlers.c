@@ -132,18 +132,17 @@ static void handle_here(struct thread *t)
     call_handlers(t, (uint64_t)input(t, (int64_t)which));
 }
 
+/* A signal with a handler is not sent in a second run; but a timer of the program's may send it, and then it is left aside. */
 static int set_handler(int number, const struct sigaction *action)
 {
     struct sigaction noting = *action;
     handlers[number] = *action;
-    if (mode == AGAIN && has_handler(number))
-        return 0;
-    if (has_handler(number)) {
-        noting.sa_flags &= ~(SA_SIGINFO | SA_RESETHAND);
-        noting.sa_handler = note_signal;
-    }
     if (noting.sa_handler == SIG_DFL)
         return signal_is_default(number);
+    if (has_handler(number)) {
+        noting.sa_flags &= ~(SA_SIGINFO | SA_RESETHAND);
+        noting.sa_handler = mode == RECORD ? note_signal : is_ending(number) ? SIG_DFL : SIG_IGN;
+    }
     return __sigaction(number, &noting, NULL);
 }
 

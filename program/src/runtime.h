@@ -214,6 +214,7 @@ HIDDEN void handle_signals(struct thread *t);
 
 /* signals.c: signals that end the process. */
 HIDDEN void signals_begin(void);
+HIDDEN bool is_ending(int number);
 HIDDEN int signal_is_default(int number);
 HIDDEN void signals_of_thread(int number);
 

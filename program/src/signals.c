@@ -78,13 +78,20 @@ void signals_begin(void)
     signals_of_thread(0);
 }
 
+bool is_ending(int number)
+{
+    for (size_t i = 0; i < sizeof endings / sizeof *endings; i++)
+        if (endings[i] == number)
+            return true;
+    return false;
+}
+
 /* The program has no handler of this signal. */
 int signal_is_default(int number)
 {
     struct sigaction action = {.sa_handler = SIG_DFL};
-    for (size_t i = 0; i < sizeof endings / sizeof *endings && mode == RECORD; i++)
-        if (endings[i] == number)
-            action = (struct sigaction){.sa_handler = note_ending, .sa_flags = SA_RESTART};
+    if (mode == RECORD && is_ending(number))
+        action = (struct sigaction){.sa_handler = note_ending, .sa_flags = SA_RESTART};
     return __sigaction(number, &action, NULL);
 }
 

@@ -1,7 +1,9 @@
-/* Signals from one thread to another: some while it works, some for which the first thread waits. Their handlers race with all. */
+/* Signals from one thread to another, and of a timer: some while it works, some for which the first thread waits. Their handlers
+ * race with all. */
 #include <pthread.h>
 #include <signal.h>
 #include <stdio.h>
+#include <sys/time.h>
 #include <unistd.h>
 
 enum { TURNS = 2000, SIGNALS = 20, WORKERS = 2 };
@@ -44,10 +46,13 @@ int main(void)
     pthread_t other;
     sigset_t blocked, before;
     struct sigaction action = {.sa_handler = handle}, was;
+    struct itimerval often = {{0, 2000}, {0, 2000}}, never = {{0, 0}, {0, 0}};
     sigemptyset(&action.sa_mask);
     sigaction(SIGUSR1, &action, NULL);
     action.sa_handler = wake;
     sigaction(SIGUSR2, &action, &was);
+    signal(SIGALRM, handle);
+    setitimer(ITIMER_REAL, &often, NULL);
     sigemptyset(&blocked);
     sigaddset(&blocked, SIGUSR2);
     pthread_sigmask(SIG_BLOCK, &blocked, &before);
@@ -59,6 +64,7 @@ int main(void)
     pthread_join(other, NULL);
     for (int i = 0; i < WORKERS; i++)
         pthread_join(workers[i], NULL);
+    setitimer(ITIMER_REAL, &never, NULL);
     pthread_sigmask(SIG_SETMASK, &before, NULL);
     sigaction(SIGUSR2, NULL, &action);
     printf("number %ld handled %ld told %ld %d\n", number, handled, told, was.sa_handler == SIG_DFL && action.sa_handler == wake);
