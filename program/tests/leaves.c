@@ -2,15 +2,18 @@
 #include <pthread.h>
 #include <stdio.h>
 
-static _Alignas(64) volatile long even, odd;
+static _Alignas(64) volatile long even, odd, turn;
 
 static void *work(void *given)
 {
-    for (int i = 0; i < 64; i++)
+    for (int i = 0; i < 64; i++) {
+        /* So that the next access is a call of the library, whichever variable it is of. */
+        turn = i;
         if (__builtin_ia32_rdtsc() / 8 % 2 == 0)
             even++;
         else
             odd++;
+    }
     return given;
 }
 
