@@ -1,9 +1,7 @@
 //! As `std::cell`, with an `UnsafeCell` whose accesses may be told.
 #![allow(clippy::cast_possible_truncation, reason = "a word has two numbers of 32 bits")]
-use crate::Error;
 use crate::program::ctx::{Ctx, with};
 use crate::program::slot::Caller;
-use crate::program::world::Way;
 use crate::turns::Does;
 pub use std::cell::{BorrowError, BorrowMutError, Cell, LazyCell, OnceCell, Ref, RefCell, RefMut};
 use std::fmt;
@@ -11,7 +9,8 @@ use std::panic::Location;
 use std::sync::atomic::{AtomicU64, Ordering};
 
 /// As [`std::cell::UnsafeCell`]; `with` and `with_mut` are those of loom. By a schedule two accesses by these, of different threads
-/// and one of them `with_mut`, are a data race where no lock, join or release and acquire orders them, and the run fails.
+/// and one of them `with_mut`, are a data race where no lock, join or release and acquire orders them, and the run fails. In a
+/// recorded run they are by [`Program::data_races`](crate::Program::data_races).
 ///
 /// `get` answers a pointer, and what is done with it is not seen; [`Program::strict_cells`](crate::Program::strict_cells) counts
 /// it as a write. Nor is what a `static mut` or raw memory is used for.
@@ -71,25 +70,25 @@ impl<T: ?Sized> UnsafeCell<T> {
             memory.touch(ctx.seat, word as u32, writes, caller)
         };
         if let Some(race) = race {
-            ctx.fail(Error::DataRace(Box::new(race)));
+            ctx.world.note_race(ctx, race);
         }
     }
 
-    fn touch_in_turn(&self, writes: bool, caller: Caller) {
-        with(|ctx| ctx.filter(|ctx| ctx.way == Way::Turns).map(|ctx| self.touch(ctx, writes, caller)));
+    fn judge(&self, writes: bool, caller: Caller) {
+        with(|ctx| ctx.filter(|ctx| ctx.finds_races).map(|ctx| self.touch(ctx, writes, caller)));
     }
 
     /// As that of loom: a read.
     #[track_caller]
     pub fn with<R>(&self, read: impl FnOnce(*const T) -> R) -> R {
-        self.touch_in_turn(false, Location::caller());
+        self.judge(false, Location::caller());
         read(self.value.get())
     }
 
     /// As that of loom: a write.
     #[track_caller]
     pub fn with_mut<R>(&self, write: impl FnOnce(*mut T) -> R) -> R {
-        self.touch_in_turn(true, Location::caller());
+        self.judge(true, Location::caller());
         write(self.value.get())
     }
 
@@ -99,7 +98,7 @@ impl<T: ?Sized> UnsafeCell<T> {
     pub fn get(&self) -> *mut T {
         let caller = Location::caller();
         with(|ctx| {
-            let ctx = ctx.filter(|ctx| ctx.way == Way::Turns)?;
+            let ctx = ctx.filter(|ctx| ctx.finds_races)?;
             // What comes next is not one step with it.
             ctx.pass(caller, Does::Writes(std::ptr::from_ref(&self.word) as usize));
             if ctx.world.is_strict {

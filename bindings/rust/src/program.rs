@@ -113,6 +113,7 @@ impl Program {
             threads: SEATS,
             patience: Duration::from_secs(10),
             is_strict: false,
+            finds_races: false,
             words_are_addresses: false,
         };
         Program { sizes, steps: 100_000, depth: None }
@@ -209,6 +210,35 @@ impl Program {
     /// ```
     pub fn strict_cells(mut self) -> Program {
         self.sizes.is_strict = true;
+        self
+    }
+
+    /// A recorded run and a second run look for data races, too, as a run by a schedule does. The run goes on after one, and is
+    /// kept; the first one is what `record` and `rerun` answer. It is found whichever thread comes first, but each access takes a
+    /// lock for it.
+    ///
+    /// ```
+    /// # let file = std::env::temp_dir().join(format!("octet-races-{}", std::process::id()));
+    /// use octet::cell::UnsafeCell;
+    /// use octet::{Error, Program, sync::Arc, thread};
+    ///
+    /// struct Shared(UnsafeCell<u32>);
+    /// unsafe impl Sync for Shared {}
+    ///
+    /// let racy = || {
+    ///     let here = Arc::new(Shared(UnsafeCell::new(0)));
+    ///     let there = Arc::clone(&here);
+    ///     let other = thread::spawn(move || there.0.with_mut(|value| unsafe { *value = 1 }));
+    ///     here.0.with(|value| unsafe { *value });
+    ///     other.join().expect("it does not panic");
+    /// };
+    /// let program = Program::new().data_races();
+    /// assert!(matches!(program.record(&file, racy), Err(Error::DataRace(_))));
+    /// assert!(matches!(program.rerun(&file, racy), Err(Error::DataRace(_))));
+    /// assert!(Program::new().rerun(&file, racy).is_ok());
+    /// ```
+    pub fn data_races(mut self) -> Program {
+        self.sizes.finds_races = true;
         self
     }
 
@@ -443,6 +473,9 @@ impl Program {
         };
         world.close(values.as_ref().ok().cloned());
         values?;
+        if let Some(race) = left.race {
+            return Err(Error::DataRace(Box::new(race)));
+        }
         match ended {
             Some(Ok(value)) => Ok(value),
             Some(Err(payload)) => panic::resume_unwind(payload),
@@ -467,7 +500,7 @@ impl Program {
     /// it runs; the notes at its end.
     ///
     /// # Errors
-    /// `Refused` where the run outgrows its room or its patience, and `File`.
+    /// `Refused` where the run outgrows its room or its patience, `File`, and `DataRace` where it looks for those.
     ///
     /// # Panics
     /// Where the program does; its run is kept.
@@ -509,7 +542,7 @@ impl Program {
     /// Runs the program again by the file. It must be as large as it was recorded with.
     ///
     /// # Errors
-    /// `Diverged` and `NotWhole` where the program is another one, `BadMarks` where a file is damaged, and `File`.
+    /// `Diverged` and `NotWhole` where the program is another one, `BadMarks` where a file is damaged, and as `record`.
     ///
     /// # Panics
     /// Where the program does.

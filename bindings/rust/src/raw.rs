@@ -37,6 +37,13 @@ pub(crate) enum Access {
     Update { change: Change, operand: u64, expected: u64 },
 }
 
+impl Access {
+    /// Whether it is more than a read, where this was found: an exchange may not be.
+    pub(crate) fn changes(self, found: u64) -> bool {
+        !matches!(self, Access::Update { change: Change::CompareExchange, expected, .. } if expected != found)
+    }
+}
+
 /// `octet_change`.
 #[derive(Clone, Copy, Debug)]
 #[repr(u8)]

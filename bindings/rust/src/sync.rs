@@ -25,9 +25,8 @@ pub use rwlock::{RwLock, RwLockReadGuard, RwLockWriteGuard};
 pub use std::sync::{LockResult, PoisonError, TryLockError, TryLockResult};
 pub use weak::Weak;
 
-use std::sync::atomic::{AtomicBool, Ordering};
-
 // What a lock answers: what it gives, as poisoned where it is.
-fn answered<G>(guard: G, is_poisoned: &AtomicBool) -> LockResult<G> {
-    if is_poisoned.load(Ordering::Relaxed) { Err(PoisonError::new(guard)) } else { Ok(guard) }
+#[inline]
+fn answered<G>(guard: G, is_poisoned: bool) -> LockResult<G> {
+    if is_poisoned { Err(PoisonError::new(guard)) } else { Ok(guard) }
 }

@@ -200,17 +200,16 @@ pub fn available_parallelism() -> io::Result<NonZero<usize>> {
 
 // Waits until the thread is over.
 fn wait_over(ctx: &Ctx, done: &Arc<Done>, caller: Caller) {
-    if ctx.way != Way::Turns {
-        if !ctx.stopped(|| ctx.world.wait_over(done)) {
-            ctx.stay();
-        }
-        return;
+    if ctx.way != Way::Turns && !ctx.stopped(|| ctx.world.wait_over(done)) {
+        ctx.stay();
     }
     while !done.is_over.load(Ordering::Acquire) {
         ctx.block(done.key(), Wake { what: "the end of a thread", place: caller, holder: None }, false);
     }
-    let clock = *held(&done.clock);
-    ctx.memory().join(ctx.seat, &clock);
+    if ctx.finds_races {
+        let clock = *held(&done.clock);
+        ctx.memory().join(ctx.seat, &clock);
+    }
 }
 
 // Waits until a thread of a run is over, whose end is told to who waits.

@@ -169,7 +169,7 @@ impl fmt::Display for Race {
     }
 }
 
-/// What only the thread that moves uses: the objects' values, where they are not on Octet's heap, and the clocks.
+/// The objects' values, where they are not on Octet's heap, and the clocks.
 #[derive(Default)]
 pub(crate) struct Memory {
     values: Vec<u64>,
@@ -183,13 +183,18 @@ pub(crate) struct Memory {
 impl Memory {
     /// An object that a thread has met, or has met again under another's number.
     pub(crate) fn begin(&mut self, number: u32, value: u64) {
+        self.make_room(number);
+        self.values[number as usize] = value;
+        self.carried[number as usize] = Carried::default();
+    }
+
+    // A second run may come to an object before the thread that has begun it, where its first value is 0.
+    fn make_room(&mut self, number: u32) {
         let at = number as usize;
         if self.values.len() <= at {
             self.values.resize(at + 1, 0);
             self.carried.resize(at + 1, Carried::default());
         }
-        self.values[at] = value;
-        self.carried[at] = Carried::default();
     }
 
     pub(crate) fn value(&self, number: u32) -> u64 {
@@ -218,6 +223,7 @@ impl Memory {
 
     /// Orders what the access orders. `is_changed` says whether an exchange was made.
     pub(crate) fn order(&mut self, seat: usize, number: u32, kind: Kind, is_changed: bool, place: Caller) {
+        self.make_room(number);
         let (load, store) = kind.orders(is_changed);
         if let Some(order) = load {
             self.load(seat, number, order, place);

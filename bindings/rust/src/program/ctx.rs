@@ -5,7 +5,7 @@ use super::held;
 use super::pointers::{coded, is_address, untagged};
 use super::slot::{Caller, Holds, Real, Slot};
 use super::world::{Deal, Done, Part, Way, Whims, World};
-use crate::raw::{self, Access, Change};
+use crate::raw::{self, Access};
 use crate::turns::draws::mixed;
 use crate::turns::{Does, Stuck, Wake};
 use crate::{Error, Place, thread};
@@ -28,6 +28,8 @@ pub(crate) struct Ctx {
     pub(crate) seat: usize,
     pub(crate) way: Way,
     has_heap: bool,
+    /// Whether its accesses are judged by what they order.
+    pub(crate) finds_races: bool,
     /// By turns: it was picked, and has not yet made an access since.
     pub(crate) has_turn: Cell<bool>,
     // By turns: where it starts, or goes on after a wait or a yield, its next access is another step.
@@ -97,6 +99,7 @@ pub(crate) fn enter(world: &Arc<World>, seat: usize, part: Part, done: &Arc<Done
         seat,
         way: world.way,
         has_heap: world.has_heap,
+        finds_races: world.finds_races,
         has_turn: Cell::new(!is_fine),
         is_fine,
         part: RefCell::new(part),
@@ -218,7 +221,7 @@ impl Ctx {
         }
     }
 
-    /// By turns: what only the thread that moves uses.
+    /// By turns, and where data races are looked for. Nobody waits for another thread while this is held.
     pub(crate) fn memory(&self) -> MutexGuard<'_, Memory> {
         held(&self.world.memory)
     }
@@ -305,7 +308,12 @@ impl Ctx {
     fn begin<R: Real>(&self, number: u32, value: u64, is_fresh: bool, caller: Caller) {
         let value = if self.has_heap { self.noted_value::<R>(value) } else { value };
         if self.has_heap && (!is_fresh || value != 0) {
-            self.make(number as u16, Access::Write { value }, caller);
+            let access = Access::Write { value };
+            if self.finds_races && self.way != Way::Turns {
+                self.make_judged(number as u16, access, caller, |memory, _| memory.begin(number, value));
+            } else {
+                self.make(number as u16, access, caller);
+            }
         }
         if self.way == Way::Turns {
             self.memory().begin(number, value);
@@ -354,7 +362,7 @@ impl Ctx {
         }
         let mut status = part.handle.access(number, access, &mut out);
         if status != raw::READY {
-            status = self.polled(&mut part, status, &mut out);
+            status = self.polled(status, || part.handle.poll(&mut out));
         }
         part.accesses += 1;
         if self.world.keeps_places {
@@ -372,7 +380,7 @@ impl Ctx {
 
     // Waits until the access is made, or the run is over, or it has taken too long: then it is still pending.
     #[cold]
-    fn polled(&self, part: &mut Part, mut status: i32, out: &mut u64) -> i32 {
+    fn polled(&self, mut status: i32, mut poll: impl FnMut() -> i32) -> i32 {
         let (mut round, mut since) = (0_u32, None);
         while status == raw::PENDING {
             if round < 100 {
@@ -387,9 +395,34 @@ impl Ctx {
                     return status;
                 }
             }
-            status = part.handle.poll(out);
+            status = poll();
         }
         status
+    }
+
+    // By threads that move freely, or again: makes it, and orders at once what it orders, so that no access after it comes before.
+    #[cold]
+    fn make_judged(&self, number: u16, access: Access, caller: Caller, order: impl Fn(&mut Memory, u64)) -> u64 {
+        let mut out = 0;
+        let mut part = self.part.borrow_mut();
+        let mut is_begun = false;
+        let mut attempt = || {
+            let mut memory = self.memory();
+            let status = if is_begun { part.handle.poll(&mut out) } else { part.handle.access(number, access, &mut out) };
+            is_begun = true;
+            if status == raw::READY {
+                order(&mut memory, out);
+            }
+            status
+        };
+        let status = attempt();
+        let status = if status == raw::READY { status } else { self.polled(status, attempt) };
+        part.accesses += 1;
+        drop(part);
+        if status != raw::READY {
+            self.not_made(status, out, caller);
+        }
+        out
     }
 
     #[cold]
@@ -409,11 +442,23 @@ impl Ctx {
     /// An access to the object: the value read or found, or the one written.
     #[inline(always)]
     pub(crate) fn access<R: Real>(&self, slot: &Slot, real: &R, access: Access, kind: Kind, caller: Caller) -> u64 {
-        if self.way == Way::Turns {
-            return self.access_in_turn(slot, real, access, kind, self.placed(caller));
+        if self.finds_races {
+            return self.access_judged(slot, real, access, kind, caller);
         }
         let number = self.number(slot, real, caller) as u16;
         self.make_of::<R>(number, access, caller)
+    }
+
+    fn access_judged<R: Real>(&self, slot: &Slot, real: &R, access: Access, kind: Kind, caller: Caller) -> u64 {
+        if self.way == Way::Turns {
+            return self.access_in_turn(slot, real, access, kind, self.placed(caller));
+        }
+        let number = self.number(slot, real, caller);
+        let has_addresses = self.holds_addresses::<R>();
+        let access = if has_addresses { self.access_in_numbers(access) } else { access };
+        let order = |memory: &mut Memory, found| memory.order(self.seat, number, kind, access.changes(found), caller);
+        let found = self.make_judged(number as u16, access, caller, order);
+        if has_addresses { self.world.pointers.pointer(found) } else { found }
     }
 
     #[inline(always)]
@@ -426,14 +471,18 @@ impl Ctx {
     }
 
     fn make_of_pointers(&self, number: u16, access: Access, caller: Caller) -> u64 {
-        let access = match access {
+        self.world.pointers.pointer(self.make(number, self.access_in_numbers(access), caller))
+    }
+
+    // The access with the numbers for which its pointers stand.
+    fn access_in_numbers(&self, access: Access) -> Access {
+        match access {
             Access::Read => Access::Read,
             Access::Write { value } => Access::Write { value: self.pointer_in(value) },
             Access::Update { change, operand, expected } => {
                 Access::Update { change, operand: self.pointer_in(operand), expected: self.pointer_in(expected) }
             }
-        };
-        self.world.pointers.pointer(self.make(number, access, caller))
+        }
     }
 
     fn access_in_turn<R: Real>(&self, slot: &Slot, real: &R, access: Access, kind: Kind, caller: Caller) -> u64 {
@@ -442,11 +491,7 @@ impl Ctx {
         let number = self.number(slot, real, caller);
         let found =
             if self.has_heap { self.make_of::<R>(number as u16, access, caller) } else { self.memory().make(number, access) };
-        let is_changed = match access {
-            Access::Update { change: Change::CompareExchange, expected, .. } => found == expected,
-            _ => true,
-        };
-        self.memory().order(self.seat, number, kind, is_changed, caller);
+        self.memory().order(self.seat, number, kind, access.changes(found), caller);
         found
     }
 

@@ -8,7 +8,7 @@
 //! What a thread gets from elsewhere than from an access is a *note*: the number of an object that it meets first, the number of
 //! a pointer that it stores, the seat of a thread that it starts, whether a wait timed out, what the clock said. Notes of a
 //! thread are kept in its order, and taken again by a second run.
-use super::clocks::{Clock, Memory};
+use super::clocks::{Clock, Memory, Race};
 use super::ctx::Ctx;
 use super::held;
 use super::pointers::Pointers;
@@ -100,6 +100,7 @@ struct Ending {
     first_panic: Option<(u64, String)>,
     // The threads that are alive are waited for no more.
     is_left: bool,
+    race: Option<Race>,
 }
 
 #[allow(clippy::struct_excessive_bools, reason = "each says one thing of how the run is made")]
@@ -109,6 +110,8 @@ pub(crate) struct World {
     /// Whether its accesses are made on Octet's heap: always, but by turns only where the run is to be kept.
     pub(crate) has_heap: bool,
     pub(crate) keeps_places: bool,
+    /// Always by turns, and else where it is asked for.
+    pub(crate) finds_races: bool,
     pub(crate) objects: u32,
     pub(crate) patience: Duration,
     /// Nothing is printed of its threads' panics.
@@ -143,6 +146,7 @@ pub(crate) struct Sizes {
     pub(crate) threads: usize,
     pub(crate) patience: Duration,
     pub(crate) is_strict: bool,
+    pub(crate) finds_races: bool,
     pub(crate) words_are_addresses: bool,
 }
 
@@ -163,6 +167,8 @@ pub(crate) struct Setup {
 /// What is left of a run.
 pub(crate) struct Left {
     pub(crate) why: Option<Error>,
+    /// The first data race of a run that has gone on after it.
+    pub(crate) race: Option<Race>,
     /// One that nobody joined, or, where the program's own thread has panicked, the first one of the run.
     pub(crate) panic: Option<String>,
     /// None where a thread has not come back.
@@ -227,6 +233,7 @@ impl World {
             way,
             has_heap,
             keeps_places: has_heap && way == Way::Turns,
+            finds_races: way == Way::Turns || sizes.finds_races,
             objects: if has_heap { sizes.objects } else { MOST_OBJECTS },
             patience: sizes.patience,
             is_quiet,
@@ -342,6 +349,14 @@ impl World {
         ending.panics.push(Arc::clone(done));
     }
 
+    /// Two threads race for a cell. By turns the run ends here; else it goes on, as the program does, and is kept.
+    pub(crate) fn note_race(&self, ctx: &Ctx, race: Race) {
+        if self.way == Way::Turns {
+            ctx.fail(Error::DataRace(Box::new(race)));
+        }
+        held(&self.ending).race.get_or_insert(race);
+    }
+
     /// The run ends here; nothing of it moves any more.
     pub(crate) fn halt(&self, why: Error) {
         held(&self.ending).why.get_or_insert(why);
@@ -361,7 +376,6 @@ impl World {
 
     // By turns: those who wait for the thread's end go on.
     fn end_in_turn(&self, ctx: &Ctx) {
-        *held(&ctx.done.clock) = ctx.memory().clock(ctx.seat);
         ctx.done.is_over.store(true, Ordering::Release);
         self.turns().wake(ctx.done.key(), true);
         if let Err(stuck) = self.turns().end(ctx.seat) {
@@ -383,6 +397,9 @@ impl World {
         let mut part = ctx.part();
         if self.has_heap {
             part.handle.stop();
+        }
+        if is_over && self.finds_races {
+            *held(&ctx.done.clock) = ctx.memory().clock(ctx.seat);
         }
         {
             let mut seats = held(&self.seats);
@@ -438,6 +455,7 @@ impl World {
         let unjoined = unjoined.and_then(|done| held(&done.panic).clone());
         Left {
             why: ending.why.take(),
+            race: ending.race.take(),
             panic: if main_panicked { ending.first_panic.take().map(|(_, message)| message) } else { unjoined },
             notes: parts.iter_mut().map(|part| std::mem::take(&mut part.notes)).collect(),
             places: parts

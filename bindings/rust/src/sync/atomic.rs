@@ -15,7 +15,7 @@
     clippy::cast_sign_loss,
     reason = "each type is kept in 64 bits, and comes back as it was"
 )]
-use crate::program::ctx::{Ctx, with};
+use crate::program::ctx::{Ctx, is_in_run, with};
 use crate::program::slot::{Caller, Holds, Object, Real, Refused};
 use crate::program::{Kind, world::Way};
 use crate::raw::{Access, Change};
@@ -36,9 +36,9 @@ pub use std::sync::atomic::{Ordering, compiler_fence};
 #[track_caller]
 pub fn fence(order: Ordering) {
     let is_told = with(|ctx| match ctx {
-        Some(ctx) if ctx.way == Way::Turns && order != Ordering::Relaxed => {
+        Some(ctx) if ctx.finds_races && order != Ordering::Relaxed => {
             ctx.memory().fence(ctx.seat, order);
-            true
+            ctx.way == Way::Turns
         }
         _ => false,
     });
@@ -81,6 +81,7 @@ fn judge_store(order: Ordering) {
 }
 
 // A read and an exchange, again until nothing comes between. By turns nothing does.
+#[cold]
 fn by_exchange<R: Real>(object: &Object<R>, ctx: &Ctx, order: Ordering, caller: Caller, new: impl Fn(u64) -> u64) -> u64 {
     loop {
         ctx.pass_and_keep(caller, Does::Writes(object.key()));
@@ -116,11 +117,24 @@ macro_rules! atomic {
 
             #[inline(always)]
             fn access(&self, access: Access, kind: Kind, caller: Caller) -> Option<$value> {
-                with(|ctx| Some(($from)(self.object.access(ctx?, access, kind, caller))))
+                if is_in_run() { Some(($from)(self.in_run(access, kind, caller))) } else { None }
+            }
+
+            // A function of its own, so that one which is outside of a run keeps no registers for it.
+            #[cold]
+            #[inline(never)]
+            fn in_run(&self, access: Access, kind: Kind, caller: Caller) -> u64 {
+                with(|ctx| self.object.access(ctx.expect("the thread is one of a run"), access, kind, caller))
             }
 
             // Whether an exchange of this thread's fails here for nothing: what it then finds.
+            #[inline(always)]
             fn whim(&self, order: Ordering, caller: Caller) -> Option<$value> {
+                if is_in_run() { self.whim_in_run(order, caller) } else { None }
+            }
+
+            #[cold]
+            fn whim_in_run(&self, order: Ordering, caller: Caller) -> Option<$value> {
                 with(|ctx| {
                     let ctx = ctx.filter(|ctx| ctx.fails_for_nothing())?;
                     Some(($from)(self.object.access(ctx, Access::Read, Kind::Load(order), caller)))
@@ -333,16 +347,16 @@ macro_rules! integer {
             #[track_caller]
             pub fn $fetch(&self, by: $value, order: Ordering) -> $value {
                 let caller = Location::caller();
-                let found = with(|ctx| {
-                    let ctx = ctx?;
-                    Some(if $is_one {
-                        self.object.access(ctx, update(Change::$change, by as u64), Kind::Update(order), caller) as $value
-                    } else {
-                        let new = |found| ($new)(found as $value, by) as u64;
-                        by_exchange(&self.object, ctx, order, caller, new) as $value
-                    })
-                });
-                found.unwrap_or_else(|| self.object.outside(caller).$fetch(by, order))
+                if !is_in_run() {
+                    return self.object.outside(caller).$fetch(by, order);
+                }
+                if $is_one {
+                    self.in_run(update(Change::$change, by as u64), Kind::Update(order), caller) as $value
+                } else {
+                    let new = |found| ($new)(found as $value, by) as u64;
+                    let found = with(|ctx| ctx.map(|ctx| by_exchange(&self.object, ctx, order, caller, new)));
+                    found.expect("the thread is one of a run") as $value
+                }
             }
         }
     };

@@ -117,8 +117,8 @@ impl Condvar {
 
     pub(super) fn wait_at<'a, T: ?Sized>(&self, mut guard: MutexGuard<'a, T>, caller: Caller) -> LockResult<MutexGuard<'a, T>> {
         self.wait_with(&mut guard, None, caller);
-        let poison = guard.poison();
-        answered(guard, poison)
+        let is_poisoned = guard.is_poisoned();
+        answered(guard, is_poisoned)
     }
 
     /// As that of `std`.
@@ -148,8 +148,8 @@ impl Condvar {
         most: Duration,
     ) -> LockResult<(MutexGuard<'a, T>, WaitTimeoutResult)> {
         let is_in_time = self.wait_with(&mut guard, Some(most), Location::caller());
-        let poison = guard.poison();
-        answered((guard, WaitTimeoutResult(!is_in_time)), poison)
+        let is_poisoned = guard.is_poisoned();
+        answered((guard, WaitTimeoutResult(!is_in_time)), is_poisoned)
     }
 
     /// As that of `std`.

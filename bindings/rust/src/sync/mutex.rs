@@ -54,7 +54,10 @@ impl Real for Outside {
 /// ```
 pub struct Mutex<T: ?Sized> {
     object: Object<Outside>,
+    // By threads of runs. By others its lock outside is.
     is_poisoned: AtomicBool,
+    // Whether who holds it in a run took it while it panicked.
+    has_panicked: AtomicBool,
     value: UnsafeCell<T>,
 }
 
@@ -77,7 +80,6 @@ impl<T: ?Sized> RefUnwindSafe for Mutex<T> {}
 pub struct MutexGuard<'a, T: ?Sized> {
     lock: &'a Mutex<T>,
     outside: Option<sync::MutexGuard<'a, ()>>,
-    has_panicked: bool,
     not_send: PhantomData<*const ()>,
 }
 
@@ -89,7 +91,8 @@ impl<T> Mutex<T> {
     #[must_use]
     pub const fn new(value: T) -> Mutex<T> {
         let outside = Outside { lock: sync::Mutex::new(()), is_spoilt: AtomicBool::new(false) };
-        Mutex { object: Object::new(outside), is_poisoned: AtomicBool::new(false), value: UnsafeCell::new(value) }
+        let (is_poisoned, has_panicked) = (AtomicBool::new(false), AtomicBool::new(false));
+        Mutex { object: Object::new(outside), is_poisoned, has_panicked, value: UnsafeCell::new(value) }
     }
 
     /// As that of `std`.
@@ -97,7 +100,8 @@ impl<T> Mutex<T> {
     /// # Errors
     /// The value as a poisoned one, where it is.
     pub fn into_inner(self) -> LockResult<T> {
-        answered(self.value.into_inner(), &self.is_poisoned)
+        let is_poisoned = self.is_poisoned();
+        answered(self.value.into_inner(), is_poisoned)
     }
 }
 
@@ -105,6 +109,7 @@ impl<T: ?Sized> Mutex<T> {
     /// By a thread of a run: whether it was taken at once, or who holds it.
     fn try_take(&self, ctx: &Ctx, caller: Caller) -> Result<(), u64> {
         self.object.exchange(ctx, 0, ctx.seat as u64 + 1, caller)?;
+        self.has_panicked.store(thread::panicking(), Ordering::Relaxed);
         if ctx.way == Way::Turns {
             self.object.real().is_spoilt.store(true, Ordering::Relaxed);
         }
@@ -137,26 +142,39 @@ impl<T: ?Sized> Mutex<T> {
         ctx.wake(self.key(), true);
     }
 
+    #[inline(always)]
     fn guard<'a>(&'a self, outside: Option<sync::MutexGuard<'a, ()>>) -> MutexGuard<'a, T> {
-        MutexGuard { lock: self, outside, has_panicked: thread::panicking(), not_send: PhantomData }
+        MutexGuard { lock: self, outside, not_send: PhantomData }
     }
 
     /// As that of `std`.
     ///
     /// # Errors
     /// The guard as a poisoned one, where a thread has panicked while it held one.
+    #[inline]
     #[track_caller]
     pub fn lock(&self) -> LockResult<MutexGuard<'_, T>> {
         self.lock_at(Location::caller())
     }
 
+    #[inline(always)]
     pub(super) fn lock_at(&self, caller: Caller) -> LockResult<MutexGuard<'_, T>> {
-        let is_taken = with(|ctx| ctx.map(|ctx| self.take(ctx, caller))).is_some();
-        let outside = (!is_taken).then(|| self.object.outside(caller).lock.lock().unwrap_or_else(PoisonError::into_inner));
-        if outside.is_some() {
+        let outside = if is_in_run() {
+            self.take_in_run(caller);
+            None
+        } else {
+            let outside = self.object.outside(caller).lock.lock().unwrap_or_else(PoisonError::into_inner);
             self.object.outside(caller);
-        }
-        answered(self.guard(outside), &self.is_poisoned)
+            Some(outside)
+        };
+        answered(self.guard(outside), self.is_poisoned())
+    }
+
+    // A function of its own, so that a thread which is outside of a run keeps no registers for it.
+    #[cold]
+    #[inline(never)]
+    fn take_in_run(&self, caller: Caller) {
+        with(|ctx| ctx.map(|ctx| self.take(ctx, caller)));
     }
 
     /// As that of `std`.
@@ -178,18 +196,20 @@ impl<T: ?Sized> Mutex<T> {
         if outside.is_some() {
             self.object.outside(caller);
         }
-        Ok(answered(self.guard(outside), &self.is_poisoned)?)
+        Ok(answered(self.guard(outside), self.is_poisoned())?)
     }
 
     /// As that of `std`.
     #[must_use]
+    #[inline]
     pub fn is_poisoned(&self) -> bool {
-        self.is_poisoned.load(Ordering::Relaxed)
+        self.is_poisoned.load(Ordering::Relaxed) || self.object.real().lock.is_poisoned()
     }
 
     /// As that of `std`.
     pub fn clear_poison(&self) {
         self.is_poisoned.store(false, Ordering::Relaxed);
+        self.object.real().lock.clear_poison();
     }
 
     /// As that of `std`.
@@ -197,7 +217,8 @@ impl<T: ?Sized> Mutex<T> {
     /// # Errors
     /// The value as a poisoned one, where it is.
     pub fn get_mut(&mut self) -> LockResult<&mut T> {
-        answered(self.value.get_mut(), &self.is_poisoned)
+        let is_poisoned = self.is_poisoned();
+        answered(self.value.get_mut(), is_poisoned)
     }
 }
 
@@ -207,8 +228,8 @@ impl<'a, T: ?Sized> MutexGuard<'a, T> {
         (self.lock, self.outside.take())
     }
 
-    pub(super) fn poison(&self) -> &'a AtomicBool {
-        &self.lock.is_poisoned
+    pub(super) fn is_poisoned(&self) -> bool {
+        self.lock.is_poisoned()
     }
 
     pub(super) fn set_outside(&mut self, outside: sync::MutexGuard<'a, ()>) {
@@ -216,15 +237,23 @@ impl<'a, T: ?Sized> MutexGuard<'a, T> {
     }
 }
 
-impl<T: ?Sized> Drop for MutexGuard<'_, T> {
-    #[track_caller]
-    fn drop(&mut self) {
-        if !self.has_panicked && thread::panicking() {
+impl<T: ?Sized> MutexGuard<'_, T> {
+    #[cold]
+    #[inline(never)]
+    fn free_in_run(&self, caller: Caller) {
+        if thread::panicking() && !self.lock.has_panicked.load(Ordering::Relaxed) {
             self.lock.is_poisoned.store(true, Ordering::Relaxed);
         }
-        if self.outside.is_none() && is_in_run() {
-            let caller = Location::caller();
-            with(|ctx| ctx.map(|ctx| self.lock.free(ctx, caller)));
+        with(|ctx| ctx.map(|ctx| self.lock.free(ctx, caller)));
+    }
+}
+
+impl<T: ?Sized> Drop for MutexGuard<'_, T> {
+    #[inline(always)]
+    #[track_caller]
+    fn drop(&mut self) {
+        if self.outside.is_none() {
+            self.free_in_run(Location::caller());
         }
     }
 }

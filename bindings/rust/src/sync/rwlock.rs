@@ -118,7 +118,8 @@ impl<T> RwLock<T> {
     /// # Errors
     /// The value as a poisoned one, where it is.
     pub fn into_inner(self) -> LockResult<T> {
-        answered(self.value.into_inner(), &self.is_poisoned)
+        let is_poisoned = self.is_poisoned();
+        answered(self.value.into_inner(), is_poisoned)
     }
 }
 
@@ -191,7 +192,7 @@ impl<T: ?Sized> RwLock<T> {
         let caller = Location::caller();
         let is_taken = with(|ctx| ctx.map(|ctx| self.take(ctx, false, caller))).is_some();
         let outside = (!is_taken).then(|| self.object.outside(caller).lock.read().unwrap_or_else(PoisonError::into_inner));
-        answered(self.reading(self.judged(outside, caller)), &self.is_poisoned)
+        answered(self.reading(self.judged(outside, caller)), self.is_poisoned())
     }
 
     /// As that of `std`.
@@ -203,7 +204,7 @@ impl<T: ?Sized> RwLock<T> {
         let caller = Location::caller();
         let is_taken = with(|ctx| ctx.map(|ctx| self.take(ctx, true, caller))).is_some();
         let outside = (!is_taken).then(|| self.object.outside(caller).lock.write().unwrap_or_else(PoisonError::into_inner));
-        answered(self.writing(self.judged(outside, caller)), &self.is_poisoned)
+        answered(self.writing(self.judged(outside, caller)), self.is_poisoned())
     }
 
     // Tries it by a thread of a run, or outside.
@@ -233,7 +234,7 @@ impl<T: ?Sized> RwLock<T> {
         let caller = Location::caller();
         let tried = self.try_now(false, caller, || self.object.outside(caller).lock.try_read());
         let outside = tried.map_err(|_| TryLockError::WouldBlock)?;
-        Ok(answered(self.reading(outside), &self.is_poisoned)?)
+        Ok(answered(self.reading(outside), self.is_poisoned())?)
     }
 
     /// As that of `std`.
@@ -245,7 +246,7 @@ impl<T: ?Sized> RwLock<T> {
         let caller = Location::caller();
         let tried = self.try_now(true, caller, || self.object.outside(caller).lock.try_write());
         let outside = tried.map_err(|_| TryLockError::WouldBlock)?;
-        Ok(answered(self.writing(outside), &self.is_poisoned)?)
+        Ok(answered(self.writing(outside), self.is_poisoned())?)
     }
 
     /// As that of `std`.
@@ -264,7 +265,8 @@ impl<T: ?Sized> RwLock<T> {
     /// # Errors
     /// The value as a poisoned one, where it is.
     pub fn get_mut(&mut self) -> LockResult<&mut T> {
-        answered(self.value.get_mut(), &self.is_poisoned)
+        let is_poisoned = self.is_poisoned();
+        answered(self.value.get_mut(), is_poisoned)
     }
 }
 

@@ -32,9 +32,11 @@ pub(super) fn seat_by() -> io::Result<Option<(Arc<World>, usize)>> {
         };
         let all_taken = || io::Error::other("all threads of the run are alive: Program::threads allows up to 16");
         let seat = taken.ok_or_else(all_taken)?;
+        if ctx.finds_races {
+            ctx.memory().start(ctx.seat, seat);
+        }
         if ctx.way == Way::Turns {
             world.turns().seat(seat, false);
-            ctx.memory().start(ctx.seat, seat);
             // The new thread may come before what this one does next.
             ctx.has_turn.set(false);
         }

@@ -1,6 +1,7 @@
 //! Runs that are recorded, and run again in processes of their own.
 use crate::{scratch, small};
-use octet::sync::atomic::{AtomicPtr, AtomicU8, AtomicU64, AtomicUsize, Ordering::*};
+use octet::cell::UnsafeCell;
+use octet::sync::atomic::{AtomicBool, AtomicPtr, AtomicU8, AtomicU64, AtomicUsize, Ordering, Ordering::*};
 use octet::sync::{Arc, Barrier, Condvar, Mutex, Once, OnceLock, RwLock, mpsc};
 use octet::{thread, time};
 use std::process::Command;
@@ -163,5 +164,69 @@ fn each_is_the_first_one_again() {
             firsts.insert(first);
         }
         println!("{name}: {} different runs of 8", firsts.len());
+    }
+}
+
+/// A value that threads share and that nothing orders but what the program does.
+struct Shared(UnsafeCell<u64>);
+// SAFETY: what goes wrong with it is what is looked for.
+unsafe impl Sync for Shared {}
+
+impl Shared {
+    fn add(&self, more: u64) -> u64 {
+        // SAFETY: as above.
+        self.0.with_mut(|sum| unsafe {
+            *sum += more;
+            *sum
+        })
+    }
+}
+
+// Two threads add to a cell under a lock of their own, which is freed by this order.
+fn under_a_lock(free: Ordering) {
+    let (is_taken, sum) = (AtomicBool::new(false), Shared(UnsafeCell::new(0)));
+    thread::scope(|scope| {
+        for _ in 0..2 {
+            scope.spawn(|| {
+                for _ in 0..20 {
+                    while is_taken.swap(true, Acquire) {
+                        thread::yield_now();
+                    }
+                    sum.add(1);
+                    is_taken.store(false, free);
+                }
+            });
+        }
+    });
+    assert_eq!(sum.add(0), 40);
+}
+
+#[test]
+fn data_races_are_told_in_free_runs_and_again() {
+    let (program, file) = (small().data_races(), scratch("races"));
+    for _ in 0..20 {
+        program.record(&file, || under_a_lock(Release)).expect("all is ordered");
+        program.rerun(&file, || under_a_lock(Release)).expect("all is ordered, again");
+    }
+    let told = |run: Result<(), octet::Error>| {
+        let Err(octet::Error::DataRace(race)) = run else { panic!("{run:?}") };
+        let hint = race.hint.expect("they have met");
+        assert!(hint.contains("would have to be a Release"), "{hint}");
+    };
+    for _ in 0..20 {
+        told(program.record(&file, || under_a_lock(Relaxed)));
+        told(program.rerun(&file, || under_a_lock(Relaxed)));
+        small().rerun(&file, || under_a_lock(Relaxed)).expect("the run is whole");
+    }
+}
+
+#[test]
+fn what_joins_locks_and_channels_order_is_no_race() {
+    let (program, file) = (small().data_races(), scratch("ordered"));
+    for (_, each) in PROGRAMS {
+        for _ in 0..4 {
+            let first = program.record(&file, each).expect("nothing races");
+            assert_eq!(program.rerun(&file, each).expect("nothing races, again"), first);
+        }
     }
 }
