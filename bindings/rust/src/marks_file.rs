@@ -1,6 +1,7 @@
 //! A marks file that is written, or read, while threads run.
 use crate::Error;
 use crate::error::checked;
+use crate::program::NotesFile;
 use crate::raw::{self, Handle};
 use std::fs::{self, File};
 use std::io::{Read, Write};
@@ -54,6 +55,8 @@ pub(crate) struct Writing {
     // Room for one block, and what is written next.
     block: Vec<u8>,
     bytes: Vec<u8>,
+    // Beside it, and never behind it.
+    notes: Option<NotesFile>,
     fault: Option<Error>,
 }
 
@@ -66,7 +69,13 @@ impl Writing {
         }
         let mut file = File::create(path).map_err(named(path))?;
         file.write_all(head).map_err(named(path))?;
-        Ok(Writing { path: path.to_path_buf(), file, streams, block: vec![0; PIECE], bytes: Vec::new(), fault: None })
+        let (block, bytes) = (vec![0; PIECE], Vec::new());
+        Ok(Writing { path: path.to_path_buf(), file, streams, block, bytes, notes: None, fault: None })
+    }
+
+    /// With a file of notes.
+    pub(crate) fn with_notes(self, notes: NotesFile) -> Writing {
+        Writing { notes: Some(notes), ..self }
     }
 
     // Takes all whole blocks of a stream.
@@ -91,15 +100,22 @@ impl Writing {
             }
         }
         if self.fault.is_none() {
-            self.fault = self.file.write_all(&self.bytes).map_err(named(&self.path)).err();
+            self.fault = self.write().err();
         }
         !self.bytes.is_empty()
+    }
+
+    // What a thread notes comes before the access that it makes by that, and so does its place in the files.
+    fn write(&mut self) -> Result<(), Error> {
+        self.notes.as_mut().map_or(Ok(()), NotesFile::round)?;
+        self.file.write_all(&self.bytes).map_err(named(&self.path))
     }
 
     /// Writes what the threads hand on until they have ended. Answers the first fault.
     pub(crate) fn write_until(mut self, are_done: impl Fn() -> bool) -> Result<(), Error> {
         rounds_until(are_done, || self.round());
-        self.fault.map_or(Ok(()), Err)
+        let ended = self.notes.as_mut().map_or(Ok(()), NotesFile::end);
+        self.fault.map_or(ended, Err)
     }
 }
 

@@ -17,6 +17,7 @@ pub(crate) mod world;
 pub(crate) use clocks::Kind;
 pub use clocks::{Race, Touch};
 pub use found::Found;
+pub(crate) use notes::NotesFile;
 
 use crate::error::checked;
 use crate::explore::play;
@@ -295,9 +296,9 @@ impl Program {
             way: Way::Turns,
             sizes,
             handles,
-            notes: Vec::new(),
+            notes: Notes { whims, ..Notes::none() },
+            handed: Arc::default(),
             turns: Some(turns),
-            whims,
             seed: Some(seed).filter(|_| schedule.search().is_none()),
             is_quiet: schedule.is_given(),
         });
@@ -310,7 +311,7 @@ impl Program {
             let (record, status) = raw::close(handles);
             checked(status, 0)?;
             schedule.keep(&Recording::of(record, left.places)?);
-            held(told).kept = Some(Notes { whims, threads: left.notes });
+            held(told).kept = Some(Notes { whims, threads: left.notes, are_whole: true });
         }
         if let Some(message) = left.panic {
             panic::resume_unwind(Box::new(message));
@@ -456,7 +457,6 @@ impl Program {
         setup: Setup,
         beside: Option<Beside>,
         program: impl FnOnce() -> T + Send + 'static,
-        keep: impl FnOnce(Vec<Vec<u32>>) -> Result<(), Error>,
     ) -> Result<T, Error> {
         let world = World::new(setup);
         let ended = run_in(&world, program);
@@ -466,7 +466,6 @@ impl Program {
         if let Some(mut beside) = beside {
             beside.end()?;
         }
-        keep(left.notes)?;
         let values = match left.why.or(fault) {
             Some(error) => Err(error),
             None => values_of(handles),
@@ -484,20 +483,12 @@ impl Program {
     }
 
     fn setup(&self, way: Way, handles: Vec<Handle>, notes: Notes) -> Setup {
-        Setup {
-            way,
-            sizes: self.sizes,
-            handles,
-            notes: notes.threads,
-            turns: None,
-            whims: notes.whims,
-            seed: None,
-            is_quiet: false,
-        }
+        let handed = Arc::default();
+        Setup { way, sizes: self.sizes, handles, notes, handed, turns: None, seed: None, is_quiet: false }
     }
 
-    /// Runs the program on threads that move freely, and keeps the run in this file and in `FILE.notes`. Marks are written while
-    /// it runs; the notes at its end.
+    /// Runs the program on threads that move freely, and keeps the run in this file and in `FILE.notes`. Both are written while it
+    /// runs, so that one which is killed leaves what its threads have handed on by then.
     ///
     /// # Errors
     /// `Refused` where the run outgrows its room or its patience, `File`, and `DataRace` where it looks for those.
@@ -533,16 +524,17 @@ impl Program {
         checked(status, 0)?;
         let (sessions, streams, status) = raw::open_long(&starts, self.sizes.threads);
         checked(status, 0)?;
-        let beside = Beside::start(Work::Writing(Writing::begin(path, &head, streams)?));
-        let none = Notes { whims: Whims::None, threads: Vec::new() };
-        let keep = |threads| Notes { whims: Whims::None, threads }.write(with_ending(path, ".notes"));
-        self.by_marks(self.setup(Way::Free, sessions, none), Some(beside), program, keep)
+        let setup = self.setup(Way::Free, sessions, Notes::none());
+        let writing = Writing::begin(path, &head, streams)?;
+        let writing = writing.with_notes(NotesFile::begin(path, Arc::clone(&setup.handed))?);
+        self.by_marks(setup, Some(Beside::start(Work::Writing(writing))), program)
     }
 
     /// Runs the program again by the file. It must be as large as it was recorded with.
     ///
     /// # Errors
-    /// `Diverged` and `NotWhole` where the program is another one, `BadMarks` where a file is damaged, and as `record`.
+    /// `Diverged` and `NotWhole` where the program is another one, `RecordingEnds` where the recorded one was killed, `BadMarks` where
+    /// a file is damaged, and as `record`.
     ///
     /// # Panics
     /// Where the program does.
@@ -567,7 +559,7 @@ impl Program {
         let (sessions, streams, status) = raw::follow_long(&starts, DECLARED, 0, self.sizes.threads);
         checked(status, 0)?;
         let beside = Beside::start(Work::Feeding(Feeding::open(path, streams)?));
-        self.by_marks(self.setup(Way::Again, sessions, notes), Some(beside), program, |_| Ok(()))
+        self.by_marks(self.setup(Way::Again, sessions, notes), Some(beside), program)
     }
 
     /// Runs the program again by a run that [`Found::save`] has saved.
@@ -599,7 +591,7 @@ impl Program {
         let (sessions, status) = raw::follow(recording.script().as_bytes(), recording.log(), threads);
         checked(status, 0)?;
         let sized = Program { sizes: Sizes { threads, ..self.sizes }, ..self.clone() };
-        sized.by_marks(sized.setup(Way::Again, sessions, notes), None, program, |_| Ok(()))
+        sized.by_marks(sized.setup(Way::Again, sessions, notes), None, program)
     }
 }
 

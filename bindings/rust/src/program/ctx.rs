@@ -174,7 +174,7 @@ impl Ctx {
         if self.way != Way::Again {
             let note = found();
             if self.has_heap {
-                self.part.borrow_mut().notes.push(note);
+                self.world.handed.push(self.seat, note);
             }
             return note;
         }
@@ -185,7 +185,12 @@ impl Ctx {
             (note, part.accesses)
         };
         let place = self.place.get().map(Place::from);
-        note.unwrap_or_else(|| self.fail(Error::Diverged { thread: self.seat, accesses, place }))
+        note.unwrap_or_else(|| {
+            if !self.world.notes_are_whole {
+                self.world.recording_ends(self);
+            }
+            self.fail(Error::Diverged { thread: self.seat, accesses, place })
+        })
     }
 
     /// A note of 64 bits.
@@ -429,6 +434,7 @@ impl Ctx {
     fn not_made(&self, status: i32, out: u64, caller: Caller) -> ! {
         let error = match status {
             raw::PENDING if self.world.is_halted() => self.stay(),
+            raw::OVER => self.world.recording_ends(self),
             raw::PENDING => {
                 let at = Place::from(caller);
                 self.refuse(format!("thread {} has waited at {at} for too long for its access", self.seat))

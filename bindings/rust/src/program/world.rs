@@ -11,6 +11,7 @@
 use super::clocks::{Clock, Memory, Race};
 use super::ctx::Ctx;
 use super::held;
+use super::notes::{Handed, Notes};
 use super::pointers::Pointers;
 use super::slot::{self, Caller};
 use crate::bells::Bells;
@@ -66,6 +67,7 @@ impl Done {
 /// What a thread makes its accesses by, and what is kept of it. Its seat has it while no thread sits there.
 pub(crate) struct Part {
     pub(crate) handle: Handle,
+    // Again: what was noted, and what comes next of it.
     pub(crate) notes: Vec<u32>,
     pub(crate) next: usize,
     pub(crate) places: Vec<Caller>,
@@ -131,6 +133,8 @@ pub(crate) struct World {
     pub(crate) scopes: Mutex<HashMap<usize, Vec<Arc<Done>>>>,
     pub(crate) bells: Bells,
     pub(crate) pointers: Pointers,
+    pub(crate) handed: Arc<Handed>,
+    pub(crate) notes_are_whole: bool,
     /// How many notes a second run has; no number of a pointer is greater.
     pub(crate) most_notes: usize,
     panics_begun: AtomicU64,
@@ -157,9 +161,10 @@ pub(crate) struct Setup {
     /// None where it is by turns and not to be kept.
     pub(crate) handles: Vec<Handle>,
     /// Those of the run that is made again.
-    pub(crate) notes: Vec<Vec<u32>>,
+    pub(crate) notes: Notes,
+    /// Where those of a run that is kept go.
+    pub(crate) handed: Arc<Handed>,
     pub(crate) turns: Option<Turns>,
-    pub(crate) whims: Whims,
     pub(crate) seed: Option<u64>,
     pub(crate) is_quiet: bool,
 }
@@ -224,7 +229,8 @@ fn seats_of(handles: Vec<Handle>, notes: Vec<Vec<u32>>, count: usize) -> Vec<Sea
 
 impl World {
     pub(crate) fn new(setup: Setup) -> Arc<World> {
-        let Setup { way, sizes, handles, notes, turns, whims, seed, is_quiet } = setup;
+        let Setup { way, sizes, handles, notes: Notes { whims, threads: notes, are_whole }, handed, turns, seed, is_quiet } =
+            setup;
         let has_heap = !handles.is_empty();
         let epoch = EPOCHS.fetch_add(1, Ordering::Relaxed);
         slot::begin_run(epoch);
@@ -253,6 +259,8 @@ impl World {
             scopes: Mutex::default(),
             bells: Bells::new(),
             pointers: Pointers::default(),
+            handed,
+            notes_are_whole: are_whole,
             panics_begun: AtomicU64::new(0),
             is_halted: AtomicBool::new(false),
             ending: Mutex::default(),
@@ -367,6 +375,12 @@ impl World {
         self.ended.notify_all();
     }
 
+    /// The recording of this thread ends here, and those of others near. They are given time to come there.
+    pub(crate) fn recording_ends(&self, ctx: &Ctx) -> ! {
+        std::thread::sleep(HALTING);
+        ctx.fail(Error::RecordingEnds { thread: ctx.seat })
+    }
+
     /// The run ends here, since its threads are stuck.
     pub(crate) fn halt_stuck(&self, stuck: Stuck) {
         if let Some(error) = error_of(stuck) {
@@ -457,7 +471,7 @@ impl World {
             why: ending.why.take(),
             race: ending.race.take(),
             panic: if main_panicked { ending.first_panic.take().map(|(_, message)| message) } else { unjoined },
-            notes: parts.iter_mut().map(|part| std::mem::take(&mut part.notes)).collect(),
+            notes: (0..parts.len()).map(|seat| self.handed.take(seat)).collect(),
             places: parts
                 .iter_mut()
                 .map(|part| std::mem::take(&mut part.places).into_iter().map(Place::from).collect())

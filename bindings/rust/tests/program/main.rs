@@ -4,6 +4,7 @@ mod corners;
 mod crashes;
 mod elsewhere;
 mod found;
+mod killed;
 mod literature;
 mod lookalikes;
 mod planted;
