@@ -175,7 +175,8 @@ pub(crate) struct Memory {
     values: Vec<u64>,
     carried: Vec<Carried>,
     touches: Vec<Touches>,
-    threads: [Knows; SEATS],
+    // As many as have come.
+    threads: Vec<Knows>,
     /// The time that threads have slept, or waited in vain.
     pub(crate) passed: Duration,
 }
@@ -195,6 +196,14 @@ impl Memory {
             self.values.resize(at + 1, 0);
             self.carried.resize(at + 1, Carried::default());
         }
+    }
+
+    // A thread that has come.
+    fn knows(&mut self, seat: usize) -> &mut Knows {
+        if self.threads.len() <= seat {
+            self.threads.resize(seat + 1, Knows::default());
+        }
+        &mut self.threads[seat]
     }
 
     pub(crate) fn value(&self, number: u32) -> u64 {
@@ -224,6 +233,7 @@ impl Memory {
     /// Orders what the access orders. `is_changed` says whether an exchange was made.
     pub(crate) fn order(&mut self, seat: usize, number: u32, kind: Kind, is_changed: bool, place: Caller) {
         self.make_room(number);
+        self.knows(seat);
         let (load, store) = kind.orders(is_changed);
         if let Some(order) = load {
             self.load(seat, number, order, place);
@@ -256,7 +266,7 @@ impl Memory {
     /// A fence: what relaxed loads have found is acquired, and what relaxed stores will carry is released. One of `SeqCst` orders
     /// no more than one of `AcqRel` here, as in C11 by itself it makes nothing happen before anything.
     pub(crate) fn fence(&mut self, seat: usize, order: Ordering) {
-        let knows = &mut self.threads[seat];
+        let knows = self.knows(seat);
         if acquires(order) {
             join(&mut knows.clock, &knows.found);
         }
@@ -268,20 +278,20 @@ impl Memory {
 
     /// A thread begins in this seat, whom the other one starts. Who sat there before is none of its past.
     pub(crate) fn start(&mut self, by: usize, seat: usize) {
-        let own = self.threads[seat].clock[seat] + 1;
-        let mut clock = self.threads[by].clock;
+        let own = self.knows(seat).clock[seat] + 1;
+        let mut clock = self.knows(by).clock;
         clock[seat] = own;
         self.threads[seat] = Knows { clock, ..Knows::default() };
         self.threads[by].clock[by] += 1;
     }
 
-    pub(crate) fn clock(&self, seat: usize) -> Clock {
-        self.threads[seat].clock
+    pub(crate) fn clock(&mut self, seat: usize) -> Clock {
+        self.knows(seat).clock
     }
 
     /// The thread has seen the end of another one, whose clock this was.
     pub(crate) fn join(&mut self, seat: usize, clock: &Clock) {
-        join(&mut self.threads[seat].clock, clock);
+        join(&mut self.knows(seat).clock, clock);
     }
 
     pub(crate) fn new_cell(&mut self) -> u32 {
@@ -292,7 +302,7 @@ impl Memory {
 
     /// A plain read or write of a cell: the race with an earlier one that it conflicts with, if nothing orders them.
     pub(crate) fn touch(&mut self, seat: usize, number: u32, writes: bool, place: Caller) -> Option<Race> {
-        let clock = &self.threads[seat].clock;
+        let clock = self.knows(seat).clock;
         let touches = &mut self.touches[number as usize];
         let is_unknown = |by: usize, at: u32| by != seat && clock[by] < at;
         let wrote = touches.write.filter(|&(by, at, _)| is_unknown(by, at)).map(|(by, at, place)| (by, at, true, place));
