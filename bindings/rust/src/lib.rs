@@ -37,7 +37,7 @@
 //! All accesses of a [`Session`] are sequentially consistent. So a mistake that only a weaker order of memory shows, as a missing
 //! `Acquire` or `Release`, is not found there. `loom` and `ThreadSanitizer` look for those, and [`program`] finds the data races that
 //! they leave.
-#![deny(missing_docs, unsafe_code)]
+#![deny(missing_debug_implementations, missing_docs, unsafe_code)]
 
 mod bells;
 #[allow(unsafe_code)]

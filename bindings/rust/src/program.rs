@@ -311,7 +311,8 @@ impl Program {
             let (record, status) = raw::close(handles);
             checked(status, 0)?;
             schedule.keep(&Recording::of(record, left.places)?);
-            held(told).kept = Some(Notes { whims, threads: left.notes, are_whole: true });
+            let threads = (0..sizes.threads).map(|seat| world.handed.take(seat)).collect();
+            held(told).kept = Some(Notes { whims, threads, are_whole: true });
         }
         if let Some(message) = left.panic {
             panic::resume_unwind(Box::new(message));

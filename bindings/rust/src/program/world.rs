@@ -178,7 +178,6 @@ pub(crate) struct Left {
     pub(crate) panic: Option<String>,
     /// None where a thread has not come back.
     pub(crate) handles: Option<Vec<Handle>>,
-    pub(crate) notes: Vec<Vec<u32>>,
     pub(crate) places: Vec<Vec<Place>>,
 }
 
@@ -471,7 +470,6 @@ impl World {
             why: ending.why.take(),
             race: ending.race.take(),
             panic: if main_panicked { ending.first_panic.take().map(|(_, message)| message) } else { unjoined },
-            notes: (0..parts.len()).map(|seat| self.handed.take(seat)).collect(),
             places: parts
                 .iter_mut()
                 .map(|part| std::mem::take(&mut part.places).into_iter().map(Place::from).collect())

@@ -81,7 +81,7 @@ fn judge_store(order: Ordering) {
 }
 
 // A read and an exchange, again until nothing comes between. By turns nothing does.
-#[cold]
+#[inline(never)]
 fn by_exchange<R: Real>(object: &Object<R>, ctx: &Ctx, order: Ordering, caller: Caller, new: impl Fn(u64) -> u64) -> u64 {
     loop {
         ctx.pass_and_keep(caller, Does::Writes(object.key()));
@@ -120,8 +120,7 @@ macro_rules! atomic {
                 if is_in_run() { Some(($from)(self.in_run(access, kind, caller))) } else { None }
             }
 
-            // A function of its own, so that one which is outside of a run keeps no registers for it.
-            #[cold]
+            // A function of its own, so that a thread which is outside of a run keeps no registers for it.
             #[inline(never)]
             fn in_run(&self, access: Access, kind: Kind, caller: Caller) -> u64 {
                 with(|ctx| self.object.access(ctx.expect("the thread is one of a run"), access, kind, caller))
@@ -133,7 +132,7 @@ macro_rules! atomic {
                 if is_in_run() { self.whim_in_run(order, caller) } else { None }
             }
 
-            #[cold]
+            #[inline(never)]
             fn whim_in_run(&self, order: Ordering, caller: Caller) -> Option<$value> {
                 with(|ctx| {
                     let ctx = ctx.filter(|ctx| ctx.fails_for_nothing())?;

@@ -11,7 +11,7 @@ use std::mem;
 use std::ops::{Deref, DerefMut};
 use std::panic::{Location, RefUnwindSafe, UnwindSafe};
 use std::sync::atomic::{AtomicBool, Ordering};
-use std::sync::{self, LockResult, PoisonError, TryLockError, TryLockResult};
+use std::sync::{self, LockResult, TryLockError, TryLockResult};
 use std::thread;
 
 /// What a mutex is outside of runs.
@@ -159,19 +159,21 @@ impl<T: ?Sized> Mutex<T> {
 
     #[inline(always)]
     pub(super) fn lock_at(&self, caller: Caller) -> LockResult<MutexGuard<'_, T>> {
-        let outside = if is_in_run() {
+        let (outside, is_poisoned) = if is_in_run() {
             self.take_in_run(caller);
-            None
+            (None, self.is_poisoned())
         } else {
-            let outside = self.object.outside(caller).lock.lock().unwrap_or_else(PoisonError::into_inner);
+            let (outside, is_poisoned) = match self.object.outside(caller).lock.lock() {
+                Ok(outside) => (outside, self.is_poisoned.load(Ordering::Relaxed)),
+                Err(poisoned) => (poisoned.into_inner(), true),
+            };
             self.object.outside(caller);
-            Some(outside)
+            (Some(outside), is_poisoned)
         };
-        answered(self.guard(outside), self.is_poisoned())
+        answered(self.guard(outside), is_poisoned)
     }
 
     // A function of its own, so that a thread which is outside of a run keeps no registers for it.
-    #[cold]
     #[inline(never)]
     fn take_in_run(&self, caller: Caller) {
         with(|ctx| ctx.map(|ctx| self.take(ctx, caller)));
@@ -238,7 +240,6 @@ impl<'a, T: ?Sized> MutexGuard<'a, T> {
 }
 
 impl<T: ?Sized> MutexGuard<'_, T> {
-    #[cold]
     #[inline(never)]
     fn free_in_run(&self, caller: Caller) {
         if thread::panicking() && !self.lock.has_panicked.load(Ordering::Relaxed) {
