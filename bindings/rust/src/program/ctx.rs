@@ -4,7 +4,7 @@ use super::clocks::{Kind, Memory};
 use super::held;
 use super::pointers::{coded, is_address, untagged};
 use super::slot::{Caller, Holds, Real, Slot};
-use super::world::{Deal, Done, Part, Way, Whims, World};
+use super::world::{Deal, Done, HALTING, Part, Way, Whims, World};
 use crate::raw::{self, Access};
 use crate::turns::draws::mixed;
 use crate::turns::{Does, Stuck, Wake};
@@ -157,6 +157,12 @@ impl Ctx {
         self.fail(Error::Refused { what })
     }
 
+    // Again: the recording of this thread ends here, and those of others near. They are given time to come there.
+    fn recording_ends(&self) -> ! {
+        std::thread::sleep(HALTING);
+        self.fail(Error::RecordingEnds { thread: self.seat })
+    }
+
     fn refuse_use(&self, caller: Caller, why: &str) -> ! {
         self.refuse(format!("what is used at {} {why}", Place::from(caller)))
     }
@@ -187,7 +193,7 @@ impl Ctx {
         let place = self.place.get().map(Place::from);
         note.unwrap_or_else(|| {
             if !self.world.notes_are_whole {
-                self.world.recording_ends(self);
+                self.recording_ends();
             }
             self.fail(Error::Diverged { thread: self.seat, accesses, place })
         })
@@ -434,7 +440,7 @@ impl Ctx {
     fn not_made(&self, status: i32, out: u64, caller: Caller) -> ! {
         let error = match status {
             raw::PENDING if self.world.is_halted() => self.stay(),
-            raw::OVER => self.world.recording_ends(self),
+            raw::OVER => self.recording_ends(),
             raw::PENDING => {
                 let at = Place::from(caller);
                 self.refuse(format!("thread {} has waited at {at} for too long for its access", self.seat))

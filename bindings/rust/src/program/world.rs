@@ -28,7 +28,7 @@ use std::time::{Duration, Instant};
 pub(crate) const MOST_OBJECTS: u32 = 65_535;
 /// How often one that waits looks again, and how long threads of a run that was halted are waited for.
 const LOOK: Duration = Duration::from_millis(20);
-const HALTING: Duration = Duration::from_millis(200);
+pub(crate) const HALTING: Duration = Duration::from_millis(200);
 
 #[derive(Clone, Copy, Debug, PartialEq, Eq)]
 pub(crate) enum Way {
@@ -372,12 +372,6 @@ impl World {
             turns.stop();
         }
         self.ended.notify_all();
-    }
-
-    /// The recording of this thread ends here, and those of others near. They are given time to come there.
-    pub(crate) fn recording_ends(&self, ctx: &Ctx) -> ! {
-        std::thread::sleep(HALTING);
-        ctx.fail(Error::RecordingEnds { thread: ctx.seat })
     }
 
     /// The run ends here, since its threads are stuck.

@@ -1,4 +1,4 @@
-//! Twenty mistakes that others chose, years before this crate: from `SCTBench` (Thomson, Donaldson and Betts, PPoPP 2014), from
+//! Twenty mistakes that others chose, years before this crate: from `SCTBench` (Thomson, Donaldson and Betts, 2014), from
 //! Herlihy and Shavit's book, and from papers that are named. The default way has to find eighteen of them within 2,000 seeds.
 use octet::cell::UnsafeCell;
 use octet::sync::atomic::{AtomicBool, AtomicI64, AtomicUsize};
@@ -461,8 +461,10 @@ fn closed_channel() {
     drop(sends.join());
 }
 
+type Mistake = (&'static str, u64, fn(), &'static str);
+
 /// Each mistake, within how many seeds it is found, and a part of what is told of it. The stack needs five preemptions or more.
-const MISTAKES: [(&str, u64, fn(), &str); 20] = [
+const MISTAKES: [Mistake; 20] = [
     ("account", 10, account, "the balance is another one"),
     ("bluetooth driver", 10, bluetooth, "a stopped device"),
     ("carter", 10, carter, "deadlock: "),
