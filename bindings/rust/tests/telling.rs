@@ -209,3 +209,23 @@ fn files_that_are_something_else_are_told() {
     let missing = heap.clone().rerun(&marks).run(|threads| threads.spawn(|_| Ok(()))).unwrap_err();
     assert!(missing.to_string().contains("No such file"), "{missing}");
 }
+
+#[test]
+fn what_a_program_prints_that_ends_with_a_failure_is_short() {
+    let failure = explore(0..4, |schedule| take_turns(Heap::builder().schedule(schedule), true).map(|_| ())).unwrap_err();
+    let recording = failure.recording().expect("its run is kept");
+    assert!(recording.script().len() > 1_000, "there would be more to print");
+    let (printed, its) = (format!("{failure:?}"), format!("{recording:?}"));
+    assert!(printed.len() < 300 && its.len() < 100, "{printed}\n{its}");
+}
+
+#[test]
+fn threads_have_names() {
+    let run = Heap::builder().object("x", 0).run(|threads| {
+        for _ in 0..2 {
+            threads.spawn(|_| Ok::<_, Error>(thread::current().name().map(str::to_string)));
+        }
+    });
+    let names = run.unwrap().into_values();
+    assert_eq!(names, [Some("octet 0".to_string()), Some("octet 1".to_string())]);
+}
