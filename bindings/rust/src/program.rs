@@ -4,7 +4,8 @@
 //! The program is one function. What it makes in a run is of that run alone, and no two runs have one object at a time: where
 //! tests that run beside each other share a static, the one that comes later is refused with its line. What outlives an explored
 //! run has afterwards what it had before, so no seed depends on another; a lock whose value nobody can set back is refused when a
-//! second seed asks for it. What the seeds are to gather stands in types of `std`.
+//! second seed asks for it. What the seeds are to gather stands in types of `std`. Plain memory of a static stays as it was left: one
+//! that a crate of others makes of atomics and such memory, as a cell that is filled once, is as new only for the first seed.
 mod clocks;
 mod crash;
 pub(crate) mod ctx;
