@@ -18,7 +18,8 @@ use Rattle.octet_outcomes.specs.Moments.{Moment, no_stand, stand_in, stand_after
 use Rattle.octet_model.specs.Machine.{Next, is_enabled}
 use Rattle.octet_model.specs.Orders.{commands_of, is_done}
 use Rattle.octet_interp.specs.Standing.{stand_past}
-use Rattle.octet_outcomes.proofs.Fuel.{IsStuck, less_fuel}
+use Rattle.octet_outcomes.proofs.Fuel.{IsHalted, less_fuel}
+use Rattle.octet_outcomes.proofs.Likeness.{by_access}
 use Rattle.octet_outcomes.specs.Interleavings.{next_demanded, by_program, plan_with}
 use Rattle.octet_outcomes.specs.Moments.{next_moment}
 use Rattle.octet_outcomes.specs.Runs.{Follows}
@@ -88,10 +89,10 @@ makes_next commands d heap demand fuelled is = go (slice_get commands d.place) r
         })
     go (Some _) at is = absurd cc
 
--- a thread has fuel for so many more accesses, and is stuck in its moment or stands there
+-- a thread has fuel for so many more accesses, and is halted in its moment or stands there
 record Holds (script : Script) (more thread : ℕ) (c : Configuration) (stand : Stand) : Type 0 where
   enough : more * suc script.fuel + script.fuel ≤ c.fuel
-  stands : IsStuck (commands_of script thread) stand ⊎ ((stand_of (settled (commands_of script thread) c) ≡ stand) × (c.fuel ≤ (settled (commands_of script thread) c).fuel + script.fuel))
+  stands : IsHalted (commands_of script thread) stand ⊎ ((stand_of (settled (commands_of script thread) c) ≡ stand) × (c.fuel ≤ (settled (commands_of script thread) c).fuel + script.fuel))
 
 abbrev config_with : Script → ℕ → ℕ → List Event → Configuration
 config_with script fuel thread journal = configuration_after (commands_of script thread) (starting_configuration fuel) journal
@@ -105,15 +106,8 @@ record HoldsAll (script : Script) (fuel more : ℕ) (s : PlainState) (m : Moment
 fewer : (script : Script) (more thread : ℕ) (c : Configuration) (stand : Stand) → Holds script (suc more) thread c stand → Holds script more thread c stand
 fewer script more thread c stand holds = record { enough = omega (arith, holds.enough); stands = holds.stands }
 
--- which access a next moment is by
-by_access : (m : Moment) (t : ℕ) (commands : List Command) (fuel : ℕ) (o : Option Demand) (between : Moment)
-    → moved m t (moments.heap_after o m.heap) (stand_after commands fuel (stand_in m t) m.heap o) ≡ Some between
-    → (demand : Demand) × (o ≡ Some demand) × (record { stands = set m.stands t (stand_past commands fuel (stand_in m t) (value_given demand m.heap)); heap = heap_past demand m.heap } ≡ between)
-by_access m t commands fuel None between is = absurd cc
-by_access m t commands fuel (Some demand) between is = (demand, refl, cc)
-
-not_stuck : (commands : List Command) (stand : Stand) (demand : Demand) → access_at commands stand ≡ Some demand → IsStuck commands stand → ⊥
-not_stuck commands stand demand is stuck = go stuck.command stuck.plain (sym (ap (access_of stand.registers) stuck.at) ∙ is)
+not_halted : (commands : List Command) (stand : Stand) (demand : Demand) → access_at commands stand ≡ Some demand → IsHalted commands stand → ⊥
+not_halted commands stand demand is halted = go halted.command halted.plain (sym (ap (access_of stand.registers) halted.at) ∙ is)
   where
     go : (command : Command) → is_access command ≡ false → access_demand command stand.registers ≡ Some demand → ⊥
     go (command.Read to object) plain is = cc
@@ -144,7 +138,7 @@ module _ (script : Script) (fuel more : ℕ) (s : PlainState) (m between : Momen
   demand = by.0
 
   here : (stand_of d ≡ stand_in m t) × (c.fuel ≤ d.fuel + script.fuel)
-  here = elim (holds.each t lt).stands [ inl stuck ↦ absurd (not_stuck commands (stand_in m t) by.0 by.1 stuck) | inr is ↦ is ]
+  here = elim (holds.each t lt).stands [ inl halted ↦ absurd (not_halted commands (stand_in m t) by.0 by.1 halted) | inr is ↦ is ]
 
   enough : suc more * suc script.fuel + script.fuel ≤ c.fuel
   enough = (holds.each t lt).enough
@@ -176,7 +170,7 @@ module _ (script : Script) (fuel more : ℕ) (s : PlainState) (m between : Momen
       record {
         enough = left;
         stands = elim alike [
-          | inl stuck ↦ inl (subst (λ (x : Stand). IsStuck commands x) (sym stand) stuck)
+          | inl halted ↦ inl (subst (λ (x : Stand). IsHalted commands x) (sym stand) halted)
           | inr same ↦ inr (same.stand ∙ sym stand, omega (arith, same.left, pred_le script.fuel))
         ];
       }
@@ -228,7 +222,7 @@ opens script fuel more enough = record {
     begun t = record {
       enough = enough;
       stands = elim (less_fuel (commands_of script t) script.fuel fuel (starting_configuration fuel) refl (omega (arith, enough))) [
-        | inl stuck ↦ inl stuck
+        | inl halted ↦ inl halted
         | inr same ↦ inr (same.stand, same.left)
       ];
     }
@@ -238,7 +232,7 @@ module _ (script : Script) (fuel : ℕ) (s : PlainState) (last : Moment) (holds 
   demands_end t lt =
       let none : slice_get (commands_of script t) (stand_in last t).place ≡ None = slice_get_past (commands_of script t) (stand_in last t).place (done t lt) in
       elim (holds.each t lt).stands [
-        | inl stuck ↦ absurd (let no : None ≡ Some stuck.command = sym (slice_get_past (commands_of script t) (stand_in last t).place (done t lt)) ∙ stuck.at in cc)
+        | inl halted ↦ absurd (let no : None ≡ Some halted.command = sym (slice_get_past (commands_of script t) (stand_in last t).place (done t lt)) ∙ halted.at in cc)
         | inr is ↦
             ap (λ (o : Option Command). demand_at o (settled (commands_of script t) (config_with script fuel t (journal_of s.journals t))))
             (ap (λ (x : Stand). slice_get (commands_of script t) x.place) is.0 ∙ slice_get_past (commands_of script t) (stand_in last t).place (done t lt))

@@ -8,10 +8,12 @@ use Rattle.std.proofs.lemmas.List.Sorted.{Contains-permutation, IsPermutation-ma
 use Rattle.octet_model.specs.declared.script.Script.{Script}
 use Rattle.octet_outcomes.specs.declared.endings.Ending.{Ending}
 use Rattle.octet_outcomes.specs.Rows.{RowsState, Keeps, Grows}
-use Rattle.octet_outcomes.specs.Moments.{Moment, MomentsState, no_moment, AllDone}
-use Rattle.octet_outcomes.specs.Runs.{AreAllOutcomes, AreFollowed, AreMomentsOf, IsListed}
-use Rattle.octet_outcomes.specs.Endings.{AreEnds, IsEnd, heap_at, heap_of}
+use Rattle.octet_outcomes.specs.Moments.{Moment, MomentsState, no_moment, first_moment, AllDone}
+use Rattle.octet_outcomes.specs.Runs.{AreAllOutcomes, IsLedTo, IsListed}
+use Rattle.octet_outcomes.specs.Searches.{AreLed}
+use Rattle.octet_outcomes.specs.Endings.{AreEnds, IsEnd, IsEnding, heap_at, heap_of}
 use Rattle.octet_outcomes.proofs.Closing.{below_suc, contains_more, all_outcomes}
+use Rattle.octet_outcomes.proofs.Likeness.{done_like, like_sym}
 
 -- heaps, and the places at which they were found, of the ends among the first so many moments
 pub record AreFinal (script : Script) (moments : List Moment) (many : ℕ) (heaps : List (List ℕ)) (places : List ℕ) : Type 0 where
@@ -67,13 +69,23 @@ are_ends script moments many heaps places final = record {
 }
 
 -- endings in any order have all outcomes, where they have the heap of each end
-pub all_ended : (script : Script) (s : MomentsState) (places : List ℕ) (endings ordered : List Ending) → AreMomentsOf script s → AreFollowed script (length s.moments) s.moments
+pub all_ended : (script : Script) (s : MomentsState) (rows : List (List ℕ)) (places : List ℕ) (endings ordered : List Ending) → AreLed script s.moments rows → length s.moments ≤ length rows
+    → 0 < length s.moments → get_or s.moments 0 no_moment ≡ first_moment script
     → AreEnds script s.moments (length s.moments) places → map heap_of endings ≡ map (heap_at s.moments) places → IsPermutation endings ordered
     → AreAllOutcomes script (map heap_of ordered)
-all_ended script s places endings ordered of followed ends same permutation heap outcome =
-    let all = all_outcomes script s (map (heap_at s.moments) places) of followed ends.listed heap outcome in
+all_ended script s rows places endings ordered led whole some first ends same permutation heap outcome =
+    let all = all_outcomes script s rows (map (heap_at s.moments) places) led whole some first ends.listed heap outcome in
     Contains-permutation (map heap_of endings) (map heap_of ordered) heap (IsPermutation-map heap_of endings ordered permutation)
     (subst (λ (hs : List (List ℕ)). Contains hs heap) (sym same) all)
+
+-- a run that comes to a moment like an end ends
+pub is_ending : (script : Script) (ending : Ending) (m : Moment) → IsLedTo script ending.picks m → AllDone script m → ending.heap ≡ m.heap → IsEnding script ending
+is_ending script ending m led done is = record {
+  last = led.last;
+  follows = led.follows;
+  done = done_like script m led.last (like_sym script led.last m led.like) done;
+  leaves = led.like.heap ∙ sym is;
+}
 
 -- the same, with how wide the heaps are
 pub record AreKept (script : Script) (moments : List Moment) (objects many : ℕ) (heaps : RowsState) (places : List ℕ) : Type 0 where

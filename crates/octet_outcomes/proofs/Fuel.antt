@@ -60,7 +60,7 @@ module _ (commands : List Command) where
   run_step : (n : ℕ) (c : Configuration) (o : Option Command) → slice_get commands c.place ≡ o → run_to is_access commands (suc n) c ≡ at_command n c o
   run_step n c o is = ap (at_command n c) is
 
-  run_on : (n : ℕ) (c : Configuration) (command : Command) → slice_get commands c.place ≡ Some command → is_access command ≡ false → run_to is_access commands (suc n) c ≡ run_to is_access commands n (stepped commands c command)
+  pub run_on : (n : ℕ) (c : Configuration) (command : Command) → slice_get commands c.place ≡ Some command → is_access command ≡ false → run_to is_access commands (suc n) c ≡ run_to is_access commands n (stepped commands c command)
   run_on n c command is plain = run_step n c (Some command) is ∙ ap (at_kind n c command) plain
 
   abbrev Alive : Configuration → Type 0
@@ -119,7 +119,7 @@ module _ (commands : List Command) where
       more_fuel c.fuel (pred fuel) c refl few alive ∙ ap (λ (e : Configuration). stand_of (run_to is_access commands e.fuel e)) (sym (same_past (slice_get commands d.place) d fuel value))
 
 -- a thread stands at a command that is no access
-pub record IsStuck (commands : List Command) (stand : Stand) : Type 0 where
+pub record IsHalted (commands : List Command) (stand : Stand) : Type 0 where
   pub command : Command
   pub at : slice_get commands stand.place ≡ Some command
   pub plain : is_access command ≡ false
@@ -130,14 +130,14 @@ pub record GoesAlike (commands : List Command) (few many : ℕ) (c : Configurati
   pub left : many ≤ (run_to is_access commands many c).fuel + few
 
 module _ (commands : List Command) where
-  pub less_fuel : (few many : ℕ) (c : Configuration) → c.fuel ≡ many → few ≤ many → IsStuck commands (stand_of (run_to is_access commands few (with_fuel few (stand_of c)))) ⊎ GoesAlike commands few many c
+  pub less_fuel : (few many : ℕ) (c : Configuration) → c.fuel ≡ many → few ≤ many → IsHalted commands (stand_of (run_to is_access commands few (with_fuel few (stand_of c)))) ⊎ GoesAlike commands few many c
   less_fuel zero many c fuelled le = go (slice_get commands c.place) refl
     where
-      kind : (command : Command) (b : Bool) → slice_get commands c.place ≡ Some command → is_access command ≡ b → IsStuck commands (stand_of c) ⊎ GoesAlike commands 0 many c
+      kind : (command : Command) (b : Bool) → slice_get commands c.place ≡ Some command → is_access command ≡ b → IsHalted commands (stand_of c) ⊎ GoesAlike commands 0 many c
       kind command true is stop = let e = stays_at is_access commands many c command is stop in inr (record { stand = ap stand_of e; left = omega (arith, ap (λ (d : Configuration). d.fuel) e, fuelled) })
       kind command false is plain = inl (record { command = command; at = is; plain = plain })
 
-      go : (o : Option Command) → slice_get commands c.place ≡ o → IsStuck commands (stand_of c) ⊎ GoesAlike commands 0 many c
+      go : (o : Option Command) → slice_get commands c.place ≡ o → IsHalted commands (stand_of c) ⊎ GoesAlike commands 0 many c
       go None is = let e = stays_past is_access commands many c is in inr (record { stand = ap stand_of e; left = omega (arith, ap (λ (d : Configuration). d.fuel) e, fuelled) })
       go (Some command) is = kind command (is_access command) is refl
   less_fuel (suc few) zero c fuelled le = absurd (omega arith)
@@ -145,28 +145,28 @@ module _ (commands : List Command) where
       go (slice_get commands c.place) refl (λ command. less_fuel few many (stepped commands c command) (one_fuel commands c command ∙ ap pred fuelled) (omega arith))
     where
       both : (command : Command) → slice_get commands c.place ≡ Some command → is_access command ≡ false
-          → IsStuck commands (stand_of (run_to is_access commands few (with_fuel few (stand_of (stepped commands c command))))) ⊎ GoesAlike commands few many (stepped commands c command)
-          → IsStuck commands (stand_of (run_to is_access commands (suc few) (with_fuel (suc few) (stand_of c)))) ⊎ GoesAlike commands (suc few) (suc many) c
+          → IsHalted commands (stand_of (run_to is_access commands few (with_fuel few (stand_of (stepped commands c command))))) ⊎ GoesAlike commands few many (stepped commands c command)
+          → IsHalted commands (stand_of (run_to is_access commands (suc few) (with_fuel (suc few) (stand_of c)))) ⊎ GoesAlike commands (suc few) (suc many) c
       both command is plain rest =
           let right : run_to is_access commands (suc few) (with_fuel (suc few) (stand_of c)) ≡ run_to is_access commands few (with_fuel few (stand_of (stepped commands c command))) =
           run_on commands few (with_fuel (suc few) (stand_of c)) command is plain ∙ ap (run_to is_access commands few) (same_step commands command c few) in
           let left : run_to is_access commands (suc many) c ≡ run_to is_access commands many (stepped commands c command) = run_on commands many c command is plain in
           elim rest [
-            | inl stuck ↦ inl (subst (λ (d : Configuration). IsStuck commands (stand_of d)) (sym right) stuck)
+            | inl halted ↦ inl (subst (λ (d : Configuration). IsHalted commands (stand_of d)) (sym right) halted)
             | inr alike ↦ inr (record { stand = ap stand_of left ∙ alike.stand ∙ ap stand_of (sym right); left = omega (arith, ap (λ (d : Configuration). d.fuel) left, alike.left) })
           ]
 
       kind : (command : Command) (b : Bool) → slice_get commands c.place ≡ Some command → is_access command ≡ b
-          → IsStuck commands (stand_of (run_to is_access commands few (with_fuel few (stand_of (stepped commands c command))))) ⊎ GoesAlike commands few many (stepped commands c command)
-          → IsStuck commands (stand_of (run_to is_access commands (suc few) (with_fuel (suc few) (stand_of c)))) ⊎ GoesAlike commands (suc few) (suc many) c
+          → IsHalted commands (stand_of (run_to is_access commands few (with_fuel few (stand_of (stepped commands c command))))) ⊎ GoesAlike commands few many (stepped commands c command)
+          → IsHalted commands (stand_of (run_to is_access commands (suc few) (with_fuel (suc few) (stand_of c)))) ⊎ GoesAlike commands (suc few) (suc many) c
       kind command true is stop rest =
           let e = stays_at is_access commands (suc many) c command is stop in
           inr (record { stand = ap stand_of e ∙ ap stand_of (sym (stays_at is_access commands (suc few) (with_fuel (suc few) (stand_of c)) command is stop)); left = omega (arith, ap (λ (d : Configuration). d.fuel) e, fuelled) })
       kind command false is plain rest = both command is plain rest
 
       go : (o : Option Command) → slice_get commands c.place ≡ o
-          → ((command : Command) → IsStuck commands (stand_of (run_to is_access commands few (with_fuel few (stand_of (stepped commands c command))))) ⊎ GoesAlike commands few many (stepped commands c command))
-          → IsStuck commands (stand_of (run_to is_access commands (suc few) (with_fuel (suc few) (stand_of c)))) ⊎ GoesAlike commands (suc few) (suc many) c
+          → ((command : Command) → IsHalted commands (stand_of (run_to is_access commands few (with_fuel few (stand_of (stepped commands c command))))) ⊎ GoesAlike commands few many (stepped commands c command))
+          → IsHalted commands (stand_of (run_to is_access commands (suc few) (with_fuel (suc few) (stand_of c)))) ⊎ GoesAlike commands (suc few) (suc many) c
       go None is rest =
           let e = stays_past is_access commands (suc many) c is in
           inr (record { stand = ap stand_of e ∙ ap stand_of (sym (stays_past is_access commands (suc few) (with_fuel (suc few) (stand_of c)) is)); left = omega (arith, ap (λ (d : Configuration). d.fuel) e, fuelled) })

@@ -1,6 +1,10 @@
 pub mod RowsIn
+pub mod Likeness
+pub mod Sparing
+pub mod Flowing
+pub mod Quieting
+pub mod Commuting
 pub mod Naming
-pub mod Looking
 pub mod Closing
 pub mod Ways
 pub mod Ends

@@ -6,7 +6,8 @@ use Rattle.octet_interp.specs.declared.program.Stand.{Stand}
 use Rattle.octet_outcomes.specs.Rows.{Grows}
 use Rattle.octet_model.specs.declared.command.Command.{Command}
 use Rattle.octet_interp.specs.Standing.{access_at}
-use Rattle.octet_outcomes.specs.Moments.{Moment, MomentsState, no_stand, no_moment, stand_in, stand_after, heap_after, moved, next_by, moment_of, IsRowOf, Names, AddsMoment, Finds}
+use Rattle.octet_outcomes.specs.Ahead.{Finds, FindsNext, MayStandAlike}
+use Rattle.octet_outcomes.specs.Moments.{Moment, MomentsState, no_stand, no_moment, stand_in, stand_after, heap_after, moment_of, IsRowOf, Names, AddsMoment}
 
 pub grow_len : {A : Type 0} (xs ys : List A) (x : A) → Grows xs x ys → length xs ≤ length ys
 grow_len xs ys x (inl e) = omega (arith, ap length e)
@@ -80,27 +81,40 @@ module _ (stands : List Stand) (heaps : List (List ℕ)) where
   heap_named [] lt = absurd (omega arith)
   heap_named (number ∷ numbers) lt = refl
 
-pub finds_none : (before : MomentsState) (commands : List Command) (fuel : ℕ) (m : Moment) (thread : ℕ) (stand : Stand) (heap : List ℕ) (found : Option Stand)
-    → stand ≡ stand_in m thread → heap ≡ m.heap → found ≡ stand_after commands fuel stand heap (access_at commands stand) → found ≡ None
-    → Finds before (next_by commands fuel m thread) None before
-finds_none before commands fuel m thread stand heap found si hi is none =
-    let here : stand_after commands fuel (stand_in m thread) m.heap (access_at commands (stand_in m thread)) ≡ None =
-    ap₂ (λ (s : Stand) (h : List ℕ). stand_after commands fuel s h (access_at commands s)) (sym si) (sym hi) ∙ sym is ∙ none in
-    let next : next_by commands fuel m thread ≡ None = ap (moved m thread (heap_after (access_at commands (stand_in m thread)) m.heap)) here in
-    subst (λ (o : Option Moment). Finds before o None before) (sym next) refl
+-- what is found of a thread's next access, by where it stands and the heap
+abbrev AtStand : List Command → ℕ → MomentsState → Moment → ℕ → Option ℕ → MomentsState → Stand → List ℕ → Type 0
+AtStand commands fuel before m thread found after stand heap = Finds commands fuel before m thread (heap_after (access_at commands stand) heap) (stand_after commands fuel stand heap (access_at commands stand)) found after
 
-pub finds_some : (before now : MomentsState) (commands : List Command) (fuel : ℕ) (m : Moment) (thread place : ℕ) (stand after : Stand) (heap later : List ℕ) (found : Option Stand)
-    → stand ≡ stand_in m thread → heap ≡ m.heap → found ≡ stand_after commands fuel stand heap (access_at commands stand) → found ≡ Some after
+at_moment : (commands : List Command) (fuel : ℕ) (before : MomentsState) (m : Moment) (thread : ℕ) (found : Option ℕ) (after : MomentsState) (stand : Stand) (heap : List ℕ) → stand ≡ stand_in m thread → heap ≡ m.heap
+    → AtStand commands fuel before m thread found after stand heap → FindsNext commands fuel before m thread found after
+at_moment commands fuel before m thread found after stand heap si hi finds =
+    subst (λ (s : Stand). AtStand commands fuel before m thread found after s m.heap) si (subst (λ (h : List ℕ). AtStand commands fuel before m thread found after stand h) hi finds)
+
+pub finds_none : (before : MomentsState) (commands : List Command) (fuel : ℕ) (m : Moment) (thread : ℕ) (stand : Stand) (heap : List ℕ) (kept : Option Stand)
+    → stand ≡ stand_in m thread → heap ≡ m.heap → MayStandAlike commands fuel (stand_after commands fuel stand heap (access_at commands stand)) kept → kept ≡ None
+    → FindsNext commands fuel before m thread None before
+finds_none before commands fuel m thread stand heap kept si hi alike none =
+    at_moment commands fuel before m thread None before stand heap si hi (go (stand_after commands fuel stand heap (access_at commands stand)) (subst (λ (k : Option Stand). MayStandAlike commands fuel (stand_after commands fuel stand heap (access_at commands stand)) k) none alike))
+  where
+    go : (o : Option Stand) → MayStandAlike commands fuel o None → Finds commands fuel before m thread (heap_after (access_at commands stand) heap) o None before
+    go None alike = refl
+    go (Some after) alike = absurd alike
+
+pub finds_some : (before now : MomentsState) (commands : List Command) (fuel : ℕ) (m : Moment) (thread place : ℕ) (stand after : Stand) (heap later : List ℕ) (kept : Option Stand)
+    → stand ≡ stand_in m thread → heap ≡ m.heap → MayStandAlike commands fuel (stand_after commands fuel stand heap (access_at commands stand)) kept → kept ≡ Some after
     → later ≡ heap_after (access_at commands stand) heap
     → AddsMoment before (record { stands = set m.stands thread after; heap = later }) place now
-    → Finds before (next_by commands fuel m thread) (Some place) now
-finds_some before now commands fuel m thread place stand after heap later found si hi is some heaped adds =
-    let here : stand_after commands fuel (stand_in m thread) m.heap (access_at commands (stand_in m thread)) ≡ Some after =
-    ap₂ (λ (s : Stand) (h : List ℕ). stand_after commands fuel s h (access_at commands s)) (sym si) (sym hi) ∙ sym is ∙ some in
-    let there : heap_after (access_at commands (stand_in m thread)) m.heap ≡ later =
-    ap₂ (λ (s : Stand) (h : List ℕ). heap_after (access_at commands s) h) (sym si) (sym hi) ∙ sym heaped in
-    let next : next_by commands fuel m thread ≡ Some (record { stands = set m.stands thread after; heap = later }) = ap₂ (moved m thread) there here in
-    subst (λ (o : Option Moment). Finds before o (Some place) now) (sym next) adds
+    → FindsNext commands fuel before m thread (Some place) now
+finds_some before now commands fuel m thread place stand after heap later kept si hi alike some heaped adds =
+    at_moment commands fuel before m thread (Some place) now stand heap si hi (go (stand_after commands fuel stand heap (access_at commands stand)) (subst (λ (k : Option Stand). MayStandAlike commands fuel (stand_after commands fuel stand heap (access_at commands stand)) k) some alike))
+  where
+    go : (o : Option Stand) → MayStandAlike commands fuel o (Some after) → Finds commands fuel before m thread (heap_after (access_at commands stand) heap) o (Some place) now
+    go None alike = absurd alike
+    go (Some stood) alike = record {
+      kept = after;
+      alike = alike;
+      adds = subst (λ (h : List ℕ). AddsMoment before (record { stands = set m.stands thread after; heap = h }) place now) heaped adds;
+    }
 
 -- moments that rows name grow
 pub adds_named : (stands after : List Stand) (heaps heaps_after rows rows_after : List (List ℕ)) (before : MomentsState) (threads objects more_threads more_objects place : ℕ) (m : Moment)

@@ -1,7 +1,7 @@
 -- Rows in one list of words.
 use Rattle.std.proofs.Common.{◌≡◌, ℕ, zero, suc, ◌+◌, ◌*◌, ◌-◌, ◌<◌, ◌≤◌, List, [], ◌∷◌, ◌++◌, length, take, drop, get_or, refl, sym, ap, ap₂, inr, ◌∙◌, arith, length-append, length-drop}
 use Rattle.std.proofs.lemmas.Grind.{common_steps}
-use Rattle.std.proofs.lemmas.List.{drop-drop, take-append-le, drop-append-le}
+use Rattle.std.proofs.lemmas.List.{drop-drop, get_or-drop, get_or-take, take-append-le, drop-append-le}
 use Rattle.std.proofs.Math.Seq.{take-length}
 use Rattle.std.specs.List.{slice_range}
 use Rattle.octet_outcomes.specs.Rows.{rows_in, RowsState, Keeps}
@@ -54,3 +54,21 @@ keeps_more width count more words row longer before view one is few fits =
   where
     at_end : (rows : List (List ℕ)) (row : List ℕ) (n : ℕ) → length rows ≡ n → get_or (rows ++ row ∷ []) n [] ≡ row
     at_end rows row n is = grind (arith, common_steps)
+
+-- the same, as the whole state then
+pub pushed_row : (width count more : ℕ) (words row longer : List ℕ) (before : RowsState) → record { width = width; rows = rows_in width count words } ≡ before
+    → more ≡ suc count → longer ≡ words ++ row → length words ≡ count * width → length row ≡ before.width
+    → ◌≡◌ {A = RowsState} (record { width = width; rows = rows_in width more longer }) (record { width = before.width; rows = before.rows ++ row ∷ [] })
+pushed_row width count more words row longer before view one is few fits =
+    let same : width ≡ before.width = ap (λ (s : RowsState). s.width) view in
+    ap₂ (λ (w : ℕ) (rs : List (List ℕ)). record { width = w; rows = rs }) same
+    (ap₂ (rows_in width) one is ∙ rows_more width count words row few (fits ∙ sym same) ∙ ap (λ (s : RowsState). s.rows ++ row ∷ []) view)
+
+-- a word of a row
+pub entry_at : (width count : ℕ) (words : List ℕ) (place at : ℕ) → place < count → at < width → get_or (get_or (rows_in width count words) place []) at 0 ≡ get_or words (place * width + at) 0
+entry_at width zero words place at lt within = absurd (omega arith)
+entry_at width (suc count) words zero at lt within = get_or-take width words at 0 within ∙ ap (λ (n : ℕ). get_or words n 0) (let e : at ≡ 0 * width + at = omega arith in e)
+entry_at width (suc count) words (suc place) at lt within =
+    entry_at width count (drop width words) place at (omega arith) within
+    ∙ get_or-drop width words (place * width + at) 0
+    ∙ ap (λ (n : ℕ). get_or words n 0) (let e : width + (place * width + at) ≡ suc place * width + at = omega arith in e)

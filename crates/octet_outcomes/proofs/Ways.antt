@@ -1,5 +1,6 @@
 -- The steps of a search lead to its moments.
-use Rattle.std.proofs.Common.{◌≡◌, ℕ, zero, suc, ◌+◌, ◌<◌, ◌≤◌, List, [], ◌∷◌, ◌++◌, length, get_or, refl, sym, ap, ap₂, map, subst, ◌∙◌, inl, inr, arith, length-append, Option, Some, None, below_more}
+use Rattle.std.proofs.Common.{◌≡◌, ℕ, zero, suc, ◌+◌, ◌<◌, ◌≤◌, List, [], ◌∷◌, ◌++◌, length, set, get_or, refl, sym, ap, ap₂, map, subst, ◌∙◌, inl, inr, arith, length-append, Option, Some, None, IfSome, true, below_more}
+use Rattle.std.proofs.lemmas.Bool.{eq-eqb}
 use Rattle.octet_model.specs.declared.command.Command.{Command}
 use Rattle.octet_model.specs.declared.script.Script.{Script}
 use Rattle.octet_model.specs.Orders.{commands_of, starting_heap}
@@ -7,10 +8,16 @@ use Rattle.octet_interp.specs.declared.program.Stand.{Stand}
 use Rattle.octet_interp.specs.Standing.{ThreadProgram}
 use Rattle.octet_outcomes.specs.declared.tree.Step.{Step}
 use Rattle.octet_outcomes.specs.Rows.{Grows}
-use Rattle.octet_outcomes.specs.Moments.{Moment, MomentsState, no_moment, next_by, next_moment, first_moment, start_of, Finds}
-use Rattle.octet_outcomes.specs.Runs.{AreProgramsOf}
-use Rattle.octet_outcomes.specs.Searches.{AreFound, IsStep, no_step}
-use Rattle.octet_outcomes.proofs.Closing.{starts_first}
+use Rattle.octet_interp.specs.declared.demand.Demand.{Demand}
+use Rattle.octet_interp.specs.Standing.{access_at, stand_past}
+use Rattle.octet_outcomes.specs.Ahead.{Finds, FindsNext}
+use Rattle.octet_outcomes.specs.Alike.{AreAlike, Leads}
+use Rattle.octet_outcomes.specs.Moments.{Moment, MomentsState, no_moment, stand_in, stand_after, heap_after, heap_past, value_given, moved, next_moment, first_moment, start_of, AddsMoment}
+use Rattle.octet_outcomes.specs.Runs.{AreMomentsOf, AreProgramsOf}
+use Rattle.octet_outcomes.specs.Alone.{IsAlone}
+use Rattle.octet_outcomes.specs.Searches.{is_followed, AreEdges, AreFound, AreLed, Extends, IsEdge, IsNumberOf, IsStep, MayBeEdge, no_step}
+use Rattle.octet_outcomes.proofs.Closing.{below_suc, extends_by, leads_more, starts_first}
+use Rattle.octet_outcomes.proofs.Likeness.{accessed, like_same, like_sym, like_trans, next_accessed, run_like, stood_like, RunLike}
 use Rattle.octet_outcomes.proofs.Naming.{grow_at}
 
 pub at_end : {A : Type 0} (xs : List A) (x d : A) (n : ℕ) → length xs ≡ n → get_or (xs ++ x ∷ []) n d ≡ x
@@ -22,7 +29,7 @@ at_end (y ∷ ys) x d (suc n) is = at_end ys x d n (omega arith)
 -- one more moment, and the step that made it
 module _ (script : Script) (before after : List Moment) (m : Moment) (steps more : List Step) (place thread : ℕ)
     (of : AreFound script before steps) (there : place < length before) (lt : thread < length script.threads)
-    (next : next_moment script (get_or before place no_moment) thread ≡ Some m)
+    (leads : Leads script after (get_or before place no_moment) thread (length before))
     (grown : after ≡ before ++ m ∷ []) (longer : more ≡ steps ++ record { from = place; thread = thread } ∷ []) where
   abbrev step : Step
   step = record { from = place; thread = thread }
@@ -30,8 +37,11 @@ module _ (script : Script) (before after : List Moment) (m : Moment) (steps more
   lengths : length after ≡ length before + 1
   lengths = omega (arith, ap length grown, length-append before (m ∷ []))
 
-  same_at : (k : ℕ) → k < length before → get_or after k no_moment ≡ get_or before k no_moment
-  same_at k below = grow_at before after m k no_moment below (inr grown)
+  extends : Extends before after
+  extends = extends_by before after m (inr grown)
+
+  at_place : (k : ℕ) → k < length before → get_or before k no_moment ≡ get_or after k no_moment
+  at_place k below = sym (extends.1 k below)
 
   earlier_step : (k : ℕ) → k < length before → 0 < k → IsStep script after k (get_or more k no_step)
   earlier_step k below some =
@@ -41,18 +51,17 @@ module _ (script : Script) (before after : List Moment) (m : Moment) (steps more
       let is : IsStep script after k old = record {
         earlier = s.earlier;
         thread = s.thread;
-        makes = ap (λ (n : Moment). next_moment script n old.thread) (same_at old.from (omega (arith, s.earlier))) ∙ s.makes ∙ ap (λ (n : Moment). Some n) (sym (same_at k below));
+        leads = subst (λ (n : Moment). Leads script after n old.thread k) (at_place old.from (omega (arith, s.earlier, below))) (leads_more script before after (get_or before old.from no_moment) old.thread k extends s.leads);
       } in
       subst (λ (t : Step). IsStep script after k t) (sym same) is
 
   new_step : IsStep script after (length before) (get_or more (length before) no_step)
   new_step =
       let same : get_or more (length before) no_step ≡ step = ap (λ (ss : List Step). get_or ss (length before) no_step) longer ∙ at_end steps step no_step (length before) of.len in
-      let here : get_or after (length before) no_moment ≡ m = ap (λ (ms : List Moment). get_or ms (length before) no_moment) grown ∙ at_end before m no_moment (length before) refl in
       let is : IsStep script after (length before) step = record {
         earlier = there;
         thread = lt;
-        makes = ap (λ (n : Moment). next_moment script n thread) (same_at place there) ∙ next ∙ ap (λ (n : Moment). Some n) (sym here);
+        leads = subst (λ (n : Moment). Leads script after n thread (length before)) (at_place place there) leads;
       } in
       subst (λ (t : Step). IsStep script after (length before) t) (sym same) is
 
@@ -60,33 +69,70 @@ module _ (script : Script) (before after : List Moment) (m : Moment) (steps more
   found_more = record {
     len = omega (arith, lengths, ap length longer, length-append steps (step ∷ []), of.len);
     some = omega (arith, lengths);
-    first = same_at 0 of.some ∙ of.first;
+    first = extends.1 0 of.some ∙ of.first;
     made = λ k some below. below_more (λ (n : ℕ). 0 < n → IsStep script after n (get_or more n no_step)) (length before) earlier_step (λ _. new_step) k (omega (arith, lengths, below)) some;
   }
 
--- what an access finds, noted
-pub found_step : (script : Script) (before after : MomentsState) (place thread : ℕ) (steps more : List Step) (found : Option ℕ) (commands : List Command)
-    → AreFound script before.moments steps → place < length before.moments → thread < length script.threads → commands ≡ commands_of script thread
-    → Finds before (next_by commands script.fuel (get_or before.moments place no_moment) thread) found after
-    → (length after.moments ≤ length steps → more ≡ steps) → (length steps < length after.moments → more ≡ steps ++ record { from = place; thread = thread } ∷ [])
-    → AreFound script after.moments more
-found_step script before after place thread steps more found commands of there lt is finds same longer =
-    go (next_moment script (get_or before.moments place no_moment) thread) found refl (subst (λ (cs : List Command). Finds before (next_by cs script.fuel (get_or before.moments place no_moment) thread) found after) is finds)
-  where
-    keeps : after.moments ≡ before.moments → AreFound script after.moments more
-    keeps e =
-        let s : more ≡ steps = same (omega (arith, ap length e, of.len)) in
-        subst (λ (ss : List Step). AreFound script after.moments ss) (sym s) (subst (λ (ms : List Moment). AreFound script ms steps) (sym e) of)
+-- what one access of a thread adds
+pub record Followed (script : Script) (before after : MomentsState) (m : Moment) (thread : ℕ) (found : Option ℕ) (more : List Step) : Type 0 where
+  pub moments : AreMomentsOf script after
+  pub ways : AreFound script after.moments more
+  pub extends : Extends before.moments after.moments
+  pub edge : IsEdge script after.moments m thread (elim found [ None ↦ 0 | Some place ↦ suc place ])
 
-    adds : (m : Moment) → next_moment script (get_or before.moments place no_moment) thread ≡ Some m → Grows before.moments m after.moments → AreFound script after.moments more
-    adds m next (inl e) = keeps e
-    adds m next (inr e) = found_more script before.moments after.moments m steps more place thread of there lt next e (longer (omega (arith, ap length e, length-append before.moments (m ∷ []), of.len)))
+module _ (script : Script) (before after : MomentsState) (place thread : ℕ) (steps more : List Step)
+    (moments : AreMomentsOf script before) (of : AreFound script before.moments steps) (there : place < length before.moments) (lt : thread < length script.threads)
+    (same : length after.moments ≤ length steps → more ≡ steps) (longer : length steps < length after.moments → more ≡ steps ++ record { from = place; thread = thread } ∷ []) where
+  abbrev here : Moment
+  here = get_or before.moments place no_moment
 
-    go : (o : Option Moment) (found : Option ℕ) → next_moment script (get_or before.moments place no_moment) thread ≡ o → Finds before o found after → AreFound script after.moments more
-    go None None next e = keeps (ap (λ (s : MomentsState). s.moments) e)
-    go (Some m) (Some at) next a = adds m next a.grows
-    go None (Some at) next never = absurd never
-    go (Some m) None next never = absurd never
+  -- the thread makes no access
+  stays : next_moment script here thread ≡ None → after ≡ before → Followed script before after here thread None more
+  stays none e =
+      let s : more ≡ steps = same (omega (arith, ap (λ (t : MomentsState). length t.moments) e, of.len)) in
+      record {
+        moments = subst (λ (t : MomentsState). AreMomentsOf script t) (sym e) moments;
+        ways = subst (λ (ss : List Step). AreFound script after.moments ss) (sym s) (subst (λ (t : MomentsState). AreFound script t.moments steps) (sym e) of);
+        extends = subst (λ (t : MomentsState). Extends before.moments t.moments) (sym e) (omega arith, λ k below. refl);
+        edge = record { none = λ _. none; right = λ p no. absurd (omega (arith, no)) };
+      }
+
+  -- it leads to a moment that was there, or to a new one
+  adds : (next kept : Moment) (found : ℕ) → next_moment script here thread ≡ Some next → AreAlike script next kept → AddsMoment before kept found after → Followed script before after here thread (Some found) more
+  adds next kept found is like a = record {
+    moments = record { threads = a.same_threads ∙ moments.threads; objects = a.same_objects ∙ moments.objects };
+    ways = go a.grows;
+    extends = extends_by before.moments after.moments kept a.grows;
+    edge = record { none = λ no. absurd (omega (arith, no)); right = λ p e. let q : found ≡ p = omega (arith, e) in subst (λ (n : ℕ). Leads script after.moments (get_or before.moments place no_moment) thread n) q leads };
+  }
+    where
+      leads : Leads script after.moments (get_or before.moments place no_moment) thread found
+      leads = record { there = a.there; after = next; next = is; like = like_same script next kept (get_or after.moments found no_moment) (sym a.is) like }
+
+      go : Grows before.moments kept after.moments → AreFound script after.moments more
+      go (inl e) =
+          let s : more ≡ steps = same (omega (arith, ap length e, of.len)) in
+          subst (λ (ss : List Step). AreFound script after.moments ss) (sym s) (subst (λ (ms : List Moment). AreFound script ms steps) (sym e) of)
+      go (inr e) =
+          let len : length after.moments ≡ length before.moments + 1 = omega (arith, ap length e, length-append before.moments (kept ∷ [])) in
+          let at : get_or after.moments (length before.moments) no_moment ≡ kept = ap (λ (ms : List Moment). get_or ms (length before.moments) no_moment) e ∙ at_end before.moments kept no_moment (length before.moments) refl in
+          found_more script before.moments after.moments kept steps more place thread of there lt
+          (record { there = omega (arith, len); after = next; next = is; like = like_same script next kept (get_or after.moments (length before.moments) no_moment) (sym at) like }) e
+          (longer (omega (arith, len, of.len)))
+
+  pub followed : (found : Option ℕ) (commands : List Command) → commands ≡ commands_of script thread → FindsNext commands script.fuel before here thread found after → Followed script before after here thread found more
+  followed found commands is finds =
+      go (access_at (commands_of script thread) (stand_in here thread)) found refl (subst (λ (cs : List Command). FindsNext cs script.fuel before here thread found after) is finds)
+    where
+      go : (o : Option Demand) (found : Option ℕ) → access_at (commands_of script thread) (stand_in here thread) ≡ o
+          → Finds (commands_of script thread) script.fuel before here thread (heap_after o here.heap) (stand_after (commands_of script thread) script.fuel (stand_in here thread) here.heap o) found after
+          → Followed script before after here thread found more
+      go None None at e = stays (ap (λ (o : Option Demand). moved here thread (heap_after o here.heap) (stand_after (commands_of script thread) script.fuel (stand_in here thread) here.heap o)) at) e
+      go (Some demand) (Some found) at a =
+          adds (accessed script here thread demand) (record { stands = set here.stands thread a.kept; heap = heap_past demand here.heap }) found (next_accessed script here thread demand at)
+          (stood_like script here thread (stand_past (commands_of script thread) script.fuel (stand_in here thread) (value_given demand here.heap)) a.kept (heap_past demand here.heap) a.alike) a.adds
+      go None (Some found) at never = absurd never
+      go (Some demand) None at never = absurd never
 
 -- the first moment alone, with any one step
 pub found_first : (script : Script) (moments : List Moment) (steps : List Step) → length moments ≡ 1 → get_or moments 0 no_moment ≡ first_moment script → length steps ≡ 1 → AreFound script moments steps
@@ -104,3 +150,66 @@ found_begun script programs heap s steps of heaped is one =
     let m : record { stands = map (start_of script.fuel) programs; heap = heap } ≡ first_moment script = ap₂ (λ (ss : List Stand) (h : List ℕ). record { stands = ss; heap = h }) (starts_first script programs of) heaped in
     let all : s.moments ≡ first_moment script ∷ [] = ap (λ (t : MomentsState). t.moments) is ∙ ap (λ (k : Moment). k ∷ []) m in
     found_first script s.moments steps (ap length all) (ap (λ (ms : List Moment). get_or ms 0 no_moment) all) one
+
+-- one step more in front
+pub way_on : (script : Script) (moments : List Moment) (place : ℕ) (taken : Step) (picks : List ℕ) (end : Moment) → IsStep script moments place taken → RunLike script (get_or moments place no_moment) picks end
+    → RunLike script (get_or moments taken.from no_moment) (taken.thread ∷ picks) end
+way_on script moments place taken picks end is run =
+    let r = run_like script picks (get_or moments place no_moment) is.leads.after run.end (like_sym script is.leads.after (get_or moments place no_moment) is.leads.like) run.follows in
+    record { end = r.end; follows = (is.thread, (is.leads.after, is.leads.next, r.follows)); like = like_trans script end run.end r.end run.like r.like }
+
+-- an edge with the number of what was found
+pub numbered_edge : (script : Script) (moments : List Moment) (m : Moment) (thread number : ℕ) (found : Option ℕ) → IsNumberOf found number → IsEdge script moments m thread (elim found [ None ↦ 0 | Some place ↦ suc place ]) → IsEdge script moments m thread number
+numbered_edge script moments m thread number None is edge = subst (λ (n : ℕ). IsEdge script moments m thread n) (sym is) edge
+numbered_edge script moments m thread number (Some place) is edge = subst (λ (n : ℕ). IsEdge script moments m thread n) (sym is) edge
+
+-- what is said of each item is said of one more at the end
+pub pushed : {A : Type 0} (xs more : List A) (n : ℕ) (x d : A) (P : ℕ → A → Type 0) → length xs ≡ n → more ≡ xs ++ x ∷ [] → P n x → ((k : ℕ) → k < n → P k (get_or xs k d)) → (k : ℕ) → k < suc n → P k (get_or more k d)
+pushed {A = A} xs more n x d P len grown here before =
+    below_suc (λ k. P k (get_or more k d)) n
+    (λ k lt. subst (λ (b : A). P k b) (sym (grow_at xs more x k d (omega (arith, lt, len)) (inr grown))) (before k lt))
+    (subst (λ (b : A). P n b) (sym (ap (λ (ys : List A). get_or ys n d) grown ∙ at_end xs x d n len)) here)
+
+-- edges of the first so many threads from a moment, where one thread may stand alone
+pub record RowTo (script : Script) (moments : List Moment) (m : Moment) (only : Option ℕ) (many : ℕ) (row : List ℕ) : Type 0 where
+  pub len : length row ≡ many
+  pub alone : IfSome only (IsAlone script m)
+  pub right : (thread place : ℕ) → thread < many → get_or row thread 0 ≡ suc place → Leads script moments m thread place
+  pub none : (thread : ℕ) → thread < many → is_followed only thread ≡ true → get_or row thread 0 ≡ 0 → next_moment script m thread ≡ None
+
+pub row_more : (script : Script) (before after : List Moment) (place : ℕ) (only : Option ℕ) (many edge : ℕ) (row more : List ℕ) → place < length before → Extends before after
+    → MayBeEdge script after (get_or before place no_moment) only many edge → more ≡ row ++ edge ∷ []
+    → RowTo script before (get_or before place no_moment) only many row → RowTo script after (get_or after place no_moment) only (suc many) more
+row_more script before after place only many edge row more there extends may grown to =
+    subst (λ (m : Moment). RowTo script after m only (suc many) more) (sym (extends.1 place there)) (record {
+      len = omega (arith, ap length grown, length-append row (edge ∷ []), to.len);
+      alone = to.alone;
+      right = λ thread next lt.
+          pushed row more many edge 0 (λ (k : ℕ) (e : ℕ). e ≡ suc next → Leads script after (get_or before place no_moment) k next) to.len grown (may.right next)
+          (λ k below is. leads_more script before after (get_or before place no_moment) k next extends (to.right k next below is)) thread lt;
+      none = pushed row more many edge 0 (λ (k : ℕ) (e : ℕ). is_followed only k ≡ true → e ≡ 0 → next_moment script (get_or before place no_moment) k ≡ None) to.len grown may.none to.none;
+    })
+
+pub row_edges : (script : Script) (moments : List Moment) (m : Moment) (only : Option ℕ) (many : ℕ) (row : List ℕ) → many ≡ length script.threads → IfSome only (λ thread. thread < length script.threads) → RowTo script moments m only many row → AreEdges script moments m row
+row_edges script moments m None many row all there to = record {
+  right = λ thread place lt. to.right thread place (omega (arith, lt, all));
+  enough = inl (λ thread lt. to.none thread (omega (arith, lt, all)) refl);
+}
+row_edges script moments m (Some only) many row all there to = record {
+  right = λ thread place lt. to.right thread place (omega (arith, lt, all));
+  enough = inr (record {
+    thread = only;
+    there = there;
+    alone = to.alone;
+    edge = λ zero_edge.
+        let stands : next_moment script m only ≡ None = to.none only (omega (arith, there, all)) (eq-eqb only only refl) zero_edge in
+        let no : None ≡ Some (accessed script m only to.alone.demand) = sym stands ∙ next_accessed script m only to.alone.demand to.alone.at in
+        cc;
+  });
+}
+
+-- the edges of one more moment
+pub led_push : (script : Script) (moments : List Moment) (rows : List (List ℕ)) (row : List ℕ) (place : ℕ) → place ≡ length rows → AreLed script moments rows → AreEdges script moments (get_or moments place no_moment) row → AreLed script moments (rows ++ row ∷ [])
+led_push script moments rows row place is led edges k lt =
+    pushed rows (rows ++ row ∷ []) (length rows) row [] (λ (n : ℕ) (r : List ℕ). AreEdges script moments (get_or moments n no_moment) r) refl refl
+    (subst (λ (n : ℕ). AreEdges script moments (get_or moments n no_moment) row) is edges) led k (omega (arith, lt, length-append rows (row ∷ [])))

@@ -1,6 +1,5 @@
 pub mod Rows
 pub mod Moments
-pub mod Ahead
 pub mod Runs
 pub mod Searches
 pub mod Endings
@@ -8,3 +7,9 @@ pub mod Stuck
 pub mod Stands
 pub mod Laws
 pub mod Interleavings
+pub mod Alike
+pub mod Ahead
+pub mod Alone
+pub mod Flow
+pub mod Quiets
+pub mod Guided

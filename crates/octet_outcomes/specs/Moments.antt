@@ -100,13 +100,6 @@ pub record AddsMoment (before : MomentsState) (m : Moment) (place : ℕ) (after 
   pub same_threads : after.threads ≡ before.threads
   pub same_objects : after.objects ≡ before.objects
 
--- where there is such a moment, it is added, and its place answered; else nothing changes
-abbrev pub Finds : MomentsState → Option Moment → Option ℕ → MomentsState → Type 0
-Finds before None None after = after ≡ before
-Finds before (Some m) (Some place) after = AddsMoment before m place after
-Finds before None (Some place) after = ⊥
-Finds before (Some m) None after = ⊥
-
 -- the rows name the moments as before, with this moment at this place, which may be new
 pub record Names (stands : List Stand) (heaps rows : List (List ℕ)) (m : Moment) (place : ℕ) (stands_after : List Stand) (heaps_after rows_after : List (List ℕ)) : Type 0 where
   pub there : place < length rows_after

@@ -1,6 +1,6 @@
 -- Rows of equally many words, in one list of words.
-use Rattle.octet_outcomes.specs.declared.rows.Found.{Found}
-use Rattle.octet_outcomes.specs.declared.rows.Found.TheVariants.{At}
+use Rattle.octet_outcomes.specs.declared.slots.Found.{Found}
+use Rattle.octet_outcomes.specs.declared.slots.Found.TheVariants.{At}
 use Rattle.std.specs.Prelude.{◌≡◌, ℕ, zero, suc, ◌<◌, ◌⊎◌, List, [], ◌∷◌, ◌++◌, length, take, drop, get_or}
 
 -- the first so many rows of this width

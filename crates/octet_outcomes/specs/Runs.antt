@@ -4,12 +4,19 @@ use Rattle.std.specs.List.{All}
 use Rattle.octet_model.specs.declared.script.Script.{Script}
 use Rattle.octet_model.specs.Orders.{commands_of}
 use Rattle.octet_interp.specs.Standing.{ThreadProgram}
+use Rattle.octet_outcomes.specs.Alike.{AreAlike}
 use Rattle.octet_outcomes.specs.Moments.{Moment, MomentsState, no_moment, next_moment, first_moment, AllDone}
 
 -- the moment comes after this one by accesses of these threads, one after another
 abbrev pub Follows : Script → Moment → List ℕ → Moment → Type 0
 Follows script m [] after = after ≡ m
 Follows script m (thread ∷ picks) after = (thread < length script.threads) × ((between : Moment) × (next_moment script m thread ≡ Some between) × Follows script between picks after)
+
+-- by the picks a run comes to a moment like this one
+pub record IsLedTo (script : Script) (picks : List ℕ) (m : Moment) : Type 0 where
+  pub last : Moment
+  pub follows : Follows script (first_moment script) picks last
+  pub like : AreAlike script last m
 
 -- some run comes to this moment
 pub record IsReached (script : Script) (m : Moment) : Type 0 where
@@ -37,21 +44,10 @@ pub record AreProgramsOf (script : Script) (programs : List ThreadProgram) : Typ
   pub commands : (thread : ℕ) → thread < length script.threads → (get_or programs thread no_program).commands ≡ commands_of script thread
   pub objects : (thread : ℕ) → thread < length script.threads → (get_or programs thread no_program).objects ≡ length script.objects
 
--- each moment that follows from the one at this place, by one of the first so many threads, is there
-abbrev pub IsFollowed : Script → ℕ → List Moment → ℕ → Type 0
-IsFollowed script place moments threads =
-    (thread : ℕ) → thread < threads → (after : Moment) → next_moment script (get_or moments place no_moment) thread ≡ Some after → Contains moments after
-
--- the same for each of the first so many places, by every thread
-abbrev pub AreFollowed : Script → ℕ → List Moment → Type 0
-AreFollowed script places moments = (place : ℕ) → place < places → IsFollowed script place moments (length script.threads)
-
--- moments of a script: each is reached, and the first one is there
+-- moments of so many threads on so many objects
 pub record AreMomentsOf (script : Script) (s : MomentsState) : Type 0 where
   pub threads : s.threads ≡ length script.threads
   pub objects : s.objects ≡ length script.objects
-  pub first : Contains s.moments (first_moment script)
-  pub reached : All (IsReached script) s.moments
 
 -- the heaps have that of each of the first so many moments in which all threads are done
 abbrev pub IsListed : Script → List Moment → ℕ → List (List ℕ) → Type 0

@@ -1,8 +1,8 @@
 -- Stands that are kept once.
 use Rattle.std.specs.Prelude.{◌≡◌, ℕ, ◌<◌, List, length, get_or}
 use Rattle.octet_interp.specs.declared.program.Stand.{Stand}
-use Rattle.octet_outcomes.specs.declared.stands.Found.{Found}
-use Rattle.octet_outcomes.specs.declared.stands.Found.TheVariants.{At}
+use Rattle.octet_outcomes.specs.declared.slots.Found.{Found}
+use Rattle.octet_outcomes.specs.declared.slots.Found.TheVariants.{At}
 use Rattle.octet_outcomes.specs.Rows.{Grows}
 use Rattle.octet_outcomes.specs.Moments.{no_stand}
 

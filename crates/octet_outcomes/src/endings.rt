@@ -27,9 +27,9 @@ pub(crate) fn are_done(script: &Script, found: &Searched, place: usize) -> bool
     requires there { place < length found.now.moments.moments }
     ensures { result ≡ true ↔ AllDone script.now (get_or found.now.moments.moments place no_moment) }
 {
-    for thread in 0..found.programs.len() {
+    for thread in 0..found.guides.len() {
         let stand = found.moments.stand(place, thread);
-        if !found.programs[thread].is_done(&stand) {
+        if !found.guides[thread].is_done(&stand) {
             return false;
         }
     }
@@ -123,7 +123,7 @@ pub(crate) fn endings_of(
 ) -> Result<List<Ending>, OutOfMemory>
     requires { IsSearched script.now found.now }
     ensures each { IfOk result (λ endings. All (IsEnding script.now) endings) }
-    ensures all { IfOk result (λ endings. length found.now.moments.moments ≤ found.now.followed → AreAllOutcomes script.now (map heap_of endings)) }
+    ensures all { IfOk result (λ endings. length found.now.moments.moments ≤ length found.now.edges.rows → AreAllOutcomes script.now (map heap_of endings)) }
 {
     let places = final_places(alloc, script, found)?;
     let endings = endings_at(alloc, script, found, &places)?;

@@ -1,13 +1,19 @@
 //! The outcomes of a script: the final heaps of all interleavings of its threads.
 #![tactic(auto)]
 
+mod closers;
+mod edges;
 mod endings;
+mod guide;
 mod hash;
 pub mod laws;
+mod live;
 mod moments;
 mod outcomes;
+mod quiet;
 mod rows;
 mod search;
+mod slots;
 mod stands;
 mod stuck;
 mod tree;

@@ -3,12 +3,13 @@ ghost use Rattle.octet_interp.specs.Demands.{IsPossible};
 ghost use Rattle.std.specs.Prelude.{◌≡◌, ℕ, List, true, suc, All, ◌+◌, ◌<◌, ◌≤◌, length, get_or, map, [], ◌∷◌, ◌++◌, Some, None, IfOk, OnOk, slice_index, slice_set};
 ghost use Rattle.octet_model.specs.declared.limits.TheConstants.{MAX_FUEL};
 ghost use Rattle.octet_interp.specs.Standing.{access_at};
-ghost use Rattle.octet_outcomes.specs.Ahead.{IsNext};
-ghost use Rattle.octet_outcomes.specs.Moments.{heap_after, heap_past, moment_of, next_by, no_moment, stand_after, stand_in, start_of, value_given, Finds, IsRowOf, Names};
+ghost use Rattle.octet_outcomes.specs.Ahead.{FindsNext, MayStandAlike};
+ghost use Rattle.octet_outcomes.specs.Moments.{heap_after, heap_past, moment_of, no_moment, stand_after, stand_in, start_of, value_given, IsRowOf, Names};
 
+use crate::guide::Guide;
 use crate::rows::Rows;
 use crate::stands::Stands;
-use octet_interp::{Demand, Program, Stand};
+use octet_interp::{Demand, Stand};
 use octet_model::OutOfMemory;
 use std::alloc::Global;
 use std::marker::Model;
@@ -59,18 +60,19 @@ fn put_access(demand: Demand, heap: &mut [u64])
     }
 }
 
-/// Makes the access at which a thread stands, if it stands at one, and answers where it stands then.
-pub(crate) fn access(program: &Program, stand: &Stand, heap: &mut [u64], fuel: u32) -> Option<Stand>
-    requires objects { program.now.objects ≡ length heap.old }
+// Makes the access at which a thread stands, if it stands at one, and answers a stand from which it
+// goes on alike.
+fn access(guide: &Guide, stand: &Stand, heap: &mut [u64], fuel: u32) -> Option<Stand>
+    requires objects { guide.now.objects ≡ length heap.old }
     requires some { 0 < fuel }
     requires few { fuel ≤ MAX_FUEL }
-    ensures stand { result ≡ stand_after program.now.commands fuel stand.now heap.old (access_at program.now.commands stand.now) }
-    ensures heap { heap.new ≡ heap_after (access_at program.now.commands stand.now) heap.old }
+    ensures stand { MayStandAlike guide.now.commands fuel (stand_after guide.now.commands fuel stand.now heap.old (access_at guide.now.commands stand.now)) result }
+    ensures heap { heap.new ≡ heap_after (access_at guide.now.commands stand.now) heap.old }
 {
-    let demand = program.access(stand)?;
+    let demand = guide.access(stand)?;
     let value = value_given(demand, heap);
     put_access(demand, heap);
-    Some(program.past(stand, value, fuel))
+    Some(guide.past(stand, value, fuel))
 }
 
 fn copy_into(copy: &mut Vec<u64>, words: &[u64]) -> Result<(), OutOfMemory>
@@ -95,17 +97,6 @@ impl Scratch {
             heap: Vec::new(alloc),
         }
     }
-}
-
-/// What comes of the next access of a thread from a moment.
-#[derive(Clone, Copy)]
-pub(crate) enum Next {
-    /// There is no access.
-    Nothing,
-    /// The moment at a place.
-    At { place: usize },
-    /// A moment that is not found.
-    Unseen,
 }
 
 // Names the moment in which a thread of a row stands elsewhere, on this heap. Writes over the row.
@@ -136,38 +127,12 @@ fn name_moment(
     Ok(place)
 }
 
-// Where the moment is in which a thread of a row stands elsewhere, on this heap. Writes over the row.
-fn find_moment(
-    stands: &Stands,
-    heaps: &Rows,
-    rows: &Rows,
-    row: &mut [u64],
-    thread: usize,
-    stand: &Stand,
-    heap: &[u64],
-) -> Next
-    requires row { IsRowOf (length stands.now) (length heaps.now.rows) row.old }
-    requires thread { suc thread < length row.old }
-    ensures { IsNext (map (moment_of stands.now heaps.now.rows) rows.now.rows) (Some (record { stands = slice_set (moment_of stands.now heaps.now.rows row.old).stands thread stand.now; heap = heap.now })) result }
-{
-    let (Some(stand_number), Some(heap_number)) = (stands.place_of(stand), heaps.place_of(heap))
-    else {
-        return Next::Unseen;
-    };
-    row[0] = heap_number as u64;
-    row[thread + 1] = stand_number as u64;
-    match rows.place_of(row) {
-        Some(place) => Next::At { place },
-        None => Next::Unseen,
-    }
-}
-
 // The row of the moment before the first access.
 fn first_row(
     alloc: Global,
     stands: &mut Stands,
     heaps: &mut Rows,
-    programs: &[Program],
+    guides: &[Guide],
     fuel: u32,
     heap: &[u64],
 ) -> Result<Vec<u64>, OutOfMemory>
@@ -175,14 +140,14 @@ fn first_row(
     requires objects { length heap.now ≡ heaps.old.width }
     ensures objects { heaps.new.width ≡ heaps.old.width }
     ensures row { IfOk result (λ row. IsRowOf (length stands.new) (length heaps.new.rows) row.items) }
-    ensures len { IfOk result (λ row. length row.items ≡ suc (length programs.now)) }
-    ensures names { IfOk result (λ row. moment_of stands.new heaps.new.rows row.items ≡ record { stands = map (start_of fuel) programs.now; heap = heap.now }) }
+    ensures len { IfOk result (λ row. length row.items ≡ suc (length guides.now)) }
+    ensures names { IfOk result (λ row. moment_of stands.new heaps.new.rows row.items ≡ record { stands = map (start_of fuel) guides.now; heap = heap.now }) }
 {
     let mut row = Vec::new(alloc);
     let heap_number = heaps.add(heap)?;
     row.push(heap_number as u64)?;
-    for program in programs {
-        let number = stands.add(program.start(fuel))?;
+    for guide in guides {
+        let number = stands.add(guide.start(fuel))?;
         row.push(number as u64)?;
     }
     Ok(row)
@@ -200,16 +165,16 @@ impl Moments {
     /// The moment before the first access alone.
     pub(crate) fn begin(
         alloc: Global,
-        programs: &[Program],
+        guides: &[Guide],
         fuel: u32,
         heap: &[u64],
     ) -> Result<Moments, OutOfMemory>
         requires few { fuel ≤ MAX_FUEL }
-        ensures { IfOk result (λ moments. moments ≡ record { threads = length programs.now; objects = length heap.now; moments = record { stands = map (start_of fuel) programs.now; heap = heap.now } ∷ [] }) }
+        ensures { IfOk result (λ moments. moments ≡ record { threads = length guides.now; objects = length heap.now; moments = record { stands = map (start_of fuel) guides.now; heap = heap.now } ∷ [] }) }
     {
         let mut stands = Stands::new(alloc)?;
         let mut heaps = Rows::new(alloc, heap.len())?;
-        let row = first_row(alloc, &mut stands, &mut heaps, programs, fuel, heap)?;
+        let row = first_row(alloc, &mut stands, &mut heaps, guides, fuel, heap)?;
         let mut rows = Rows::new(alloc, row.len())?;
         let _place = rows.add(&row)?;
         Ok(Moments {
@@ -226,10 +191,11 @@ impl Moments {
         self.rows.len()
     }
 
-    /// Adds the moment after the next access of a thread, if it stands at one, and answers its place.
+    /// Adds a moment like the one after the next access of a thread, if it stands at one, and answers
+    /// its place.
     pub(crate) fn follow(
         &mut self,
-        program: &Program,
+        guide: &Guide,
         fuel: u32,
         place: usize,
         thread: usize,
@@ -237,10 +203,10 @@ impl Moments {
     ) -> Result<Option<usize>, OutOfMemory>
         requires there { place < length self.old.moments }
         requires thread { thread < self.old.threads }
-        requires objects { program.now.objects ≡ self.old.objects }
+        requires objects { guide.now.objects ≡ self.old.objects }
         requires some { 0 < fuel }
         requires few { fuel ≤ MAX_FUEL }
-        ensures { IfOk result (λ found. Finds self.old (next_by program.now.commands fuel (get_or self.old.moments place no_moment) thread) found self.new) }
+        ensures { IfOk result (λ found. FindsNext guide.now.commands fuel self.old (get_or self.old.moments place no_moment) thread found self.new) }
     {
         copy_into(&mut scratch.row, self.rows.row(place))?;
         let stand = self.stands.stand(number_at(&scratch.row, thread + 1));
@@ -248,7 +214,7 @@ impl Moments {
             &mut scratch.heap,
             self.heaps.row(number_at(&scratch.row, 0)),
         )?;
-        let Some(after) = access(program, &stand, &mut scratch.heap, fuel) else {
+        let Some(after) = access(guide, &stand, &mut scratch.heap, fuel) else {
             return Ok(None);
         };
         let found = name_moment(
@@ -261,42 +227,6 @@ impl Moments {
             &scratch.heap,
         )?;
         Ok(Some(found))
-    }
-
-    /// What comes of the next access of a thread from the moment at a place.
-    pub(crate) fn next(
-        &self,
-        program: &Program,
-        fuel: u32,
-        place: usize,
-        thread: usize,
-        scratch: &mut Scratch,
-    ) -> Result<Next, OutOfMemory>
-        requires there { place < length self.now.moments }
-        requires thread { thread < self.now.threads }
-        requires objects { program.now.objects ≡ self.now.objects }
-        requires some { 0 < fuel }
-        requires few { fuel ≤ MAX_FUEL }
-        ensures { IfOk result (IsNext self.now.moments (next_by program.now.commands fuel (get_or self.now.moments place no_moment) thread)) }
-    {
-        copy_into(&mut scratch.row, self.rows.row(place))?;
-        let stand = self.stands.stand(number_at(&scratch.row, thread + 1));
-        copy_into(
-            &mut scratch.heap,
-            self.heaps.row(number_at(&scratch.row, 0)),
-        )?;
-        let Some(after) = access(program, &stand, &mut scratch.heap, fuel) else {
-            return Ok(Next::Nothing);
-        };
-        Ok(find_moment(
-            &self.stands,
-            &self.heaps,
-            &self.rows,
-            &mut scratch.row,
-            thread,
-            &after,
-            &scratch.heap,
-        ))
     }
 
     /// How many objects there are.

@@ -1,5 +1,5 @@
 //! The outcomes of a script: how all its runs can end, whatever the order of their accesses.
-ghost use Rattle.std.specs.Prelude.{◌≡◌, ◌<◌, true, map, IfOk};
+ghost use Rattle.std.specs.Prelude.{◌≡◌, ◌<◌, true, false, map, IfOk};
 ghost use Rattle.std.specs.List.{All};
 ghost use Rattle.octet_outcomes.specs.Endings.{IsEnding, heap_of};
 ghost use Rattle.octet_outcomes.specs.Moments.{Moment};
@@ -20,7 +20,9 @@ pub struct Outcomes {
     pub is_whole: bool,
     /// Each final heap once, in ascending order of its numbers.
     pub endings: List<Ending>,
-    /// How many moments were found.
+    /// How many moments were found. Those that differ in registers that are read no more may count
+    /// as one; where a thread's access conflicts with none that another may still make, only what
+    /// follows by it was looked for.
     pub moments: usize,
     /// From how many of them no run comes to a moment in which all threads are done.
     pub stuck: usize,
@@ -50,6 +52,7 @@ pub fn explore(alloc: Global, script: &Script, most: usize) -> Result<Outcomes, 
     ensures each { IfOk result (λ found. All (IsEnding script.now) found.endings) }
     ensures all { IfOk result (λ found. found.is_whole ≡ true → AreAllOutcomes script.now (map heap_of found.endings)) }
     ensures stuck { IfOk result (λ found. 0 < found.stuck → LeadsToStuck script.now found.way) }
+    ensures most { IfOk result (λ found. found.is_whole ≡ false → most < found.moments) }
     ensures free { IfOk result (λ found. found.is_whole ≡ true → found.stuck ≡ 0 → (m : Moment) → IsReached script.now m → LeadsToEnd script.now m) }
 {
     let found = search(alloc, script, most)?;
@@ -57,7 +60,7 @@ pub fn explore(alloc: Global, script: &Script, most: usize) -> Result<Outcomes, 
     let way = way_of(alloc, script, &found, stuck)?;
     let endings = endings_of(alloc, script, &found)?;
     Ok(Outcomes {
-        is_whole: stuck.is_whole,
+        is_whole: found.moments.len() <= found.edges.len(),
         endings,
         moments: found.moments.len(),
         stuck: stuck.count,

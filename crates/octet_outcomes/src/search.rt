@@ -1,119 +1,212 @@
 //! The search through all moments of a script.
-ghost use Rattle.std.specs.Prelude.{◌≡◌, ◌<◌, ◌≤◌, suc, true, length, get_or, IfOk, OnOk};
-ghost use Rattle.octet_outcomes.specs.Ahead.{IsNext};
-ghost use Rattle.octet_outcomes.specs.Moments.{no_moment, first_moment, next_moment};
-ghost use Rattle.octet_outcomes.specs.Runs.{AreFollowed, AreMomentsOf, AreProgramsOf, Follows};
-ghost use Rattle.octet_outcomes.specs.Searches.{AreFound, IsSearched};
+ghost use Rattle.std.specs.Prelude.{◌≡◌, ◌<◌, ◌≤◌, suc, true, length, get_or, IfOk, IfSome, OnOk};
+ghost use Rattle.octet_outcomes.specs.Alone.{IsAlone};
+ghost use Rattle.octet_outcomes.specs.Moments.{no_moment, first_moment};
+ghost use Rattle.octet_outcomes.specs.Runs.{AreProgramsOf, IsLedTo};
+ghost use Rattle.octet_outcomes.specs.Searches.{is_followed, Extends, IsEdge, IsNumberOf, IsSearched, MayBeEdge};
 
-use crate::moments::{Moments, Next, Scratch};
+use crate::edges::Edges;
+use crate::guide::Guide;
+use crate::moments::{Moments, Scratch};
 use crate::tree::Tree;
-use octet_interp::Program;
 use octet_model::{List, OutOfMemory, Script};
 use std::alloc::Global;
 
 // The programs of the threads of a script.
-fn programs_of(alloc: Global, script: &Script) -> Result<Vec<Program>, OutOfMemory>
-    ensures { IfOk result (λ programs. AreProgramsOf script.now programs.items) }
+fn guides_of(alloc: Global, script: &Script) -> Result<Vec<Guide>, OutOfMemory>
+    ensures { IfOk result (λ guides. AreProgramsOf script.now guides.items) }
 {
-    let mut programs = Vec::new(alloc);
+    let mut guides = Vec::new(alloc);
     for thread in 0..script.thread_count() {
-        programs.push(Program::new(alloc, script, thread)?)?;
+        guides.push(Guide::new(alloc, script, thread)?)?;
     }
-    Ok(programs)
+    Ok(guides)
 }
 
-// Adds each moment that follows from the one at a place.
-fn follow_all(
-    moments: &mut Moments,
-    tree: &mut Tree,
-    script: &Script,
-    programs: &[Program],
-    place: usize,
-    scratch: &mut Scratch,
-) -> Result<(), OutOfMemory>
-    requires programs { AreProgramsOf script.now programs.now }
-    requires moments { AreMomentsOf script.now moments.old }
-    requires found { AreFound script.now moments.old.moments tree.old.steps.items }
-    requires there { place < length moments.old.moments }
-    requires before { AreFollowed script.now place moments.old.moments }
-    ensures moments { OnOk result (AreMomentsOf script.now moments.new) }
-    ensures found { OnOk result (AreFound script.now moments.new.moments tree.new.steps.items) }
-    ensures followed { OnOk result (AreFollowed script.now (suc place) moments.new.moments) }
-    ensures more { OnOk result (length moments.old.moments ≤ length moments.new.moments) }
+// Whether a thread is followed, where one may stand alone.
+fn is_followed(only: Option<u8>, thread: u8) -> bool
+    ensures { result ≡ is_followed only thread }
 {
-    let threads = script.thread_count();
-    for thread in 0..threads {
-        let program = &programs[thread as usize];
-        let _found = moments.follow(program, script.fuel, place, thread as usize, scratch)?;
-        tree.note(place, thread, moments.len())?;
+    match only {
+        Some(only) => only == thread,
+        None => true,
     }
-    Ok(())
+}
+
+// One more than a place, if there is one, and else 0.
+fn edge_of(found: Option<usize>) -> Result<u32, OutOfMemory>
+    ensures { IfOk result (IsNumberOf found) }
+{
+    let Some(place) = found else {
+        return Ok(0);
+    };
+    match u32::try_from(place) {
+        Ok(number) if number < u32::MAX => Ok(number + 1),
+        _ => Err(OutOfMemory),
+    }
 }
 
 /// What a search through the moments of a script found.
 #[derive(Drop)]
 pub(crate) struct Searched {
-    pub(crate) programs: Vec<Program>,
+    pub(crate) guides: Vec<Guide>,
     pub(crate) moments: Moments,
     pub(crate) tree: Tree,
-    /// Of so many moments, the first ones, all that follows was found.
-    pub(crate) followed: usize,
+    /// From each moment that was gone on from, in the order of their places.
+    pub(crate) edges: Edges,
 }
 
 /// Goes through the moments of a script, in the order in which they are found, until there are
 /// more than so many.
 pub(crate) fn search(alloc: Global, script: &Script, most: usize) -> Result<Searched, OutOfMemory>
-    ensures { IfOk result (IsSearched script.now) }
+    ensures searched { IfOk result (IsSearched script.now) }
+    ensures whole { IfOk result (λ found. length found.edges.rows < length found.moments.moments → most < length found.moments.moments) }
 {
-    let programs = programs_of(alloc, script)?;
-    let heap = script.starting_heap(alloc)?;
-    let mut moments = Moments::begin(alloc, &programs, script.fuel, &heap)?;
-    let mut tree = Tree::new(alloc)?;
+    let mut found = Searched::begin(alloc, script)?;
     let mut scratch = Scratch::new(alloc);
-    let mut followed = 0;
+    let mut row = Vec::new(alloc);
     for place in 0..most {
-        if place >= moments.len() || moments.len() > most {
+        if place >= found.moments.len() || found.moments.len() > most {
             break;
         }
-        follow_all(
-            &mut moments,
-            &mut tree,
-            script,
-            &programs,
-            place,
-            &mut scratch,
-        )?;
-        moments.widen(alloc)?;
-        followed = place + 1;
+        found.follow_all(script, place, &mut scratch, &mut row)?;
+        found.moments.widen(alloc)?;
     }
-    Ok(Searched {
-        programs,
-        moments,
-        tree,
-        followed,
-    })
+    Ok(found)
 }
 
 impl Searched {
-    /// What comes of the next access of a thread from the moment at a place.
-    pub(crate) fn next(
-        &self,
+    // The first moment alone.
+    fn begin(alloc: Global, script: &Script) -> Result<Searched, OutOfMemory>
+        ensures searched { IfOk result (IsSearched script.now) }
+        ensures none { IfOk result (λ found. length found.edges.rows ≡ 0) }
+    {
+        let guides = guides_of(alloc, script)?;
+        let heap = script.starting_heap(alloc)?;
+        let moments = Moments::begin(alloc, &guides, script.fuel, &heap)?;
+        let tree = Tree::new(alloc)?;
+        let threads = script.thread_count();
+        let edges = Edges::new(alloc, threads as usize);
+        Ok(Searched {
+            guides,
+            moments,
+            tree,
+            edges,
+        })
+    }
+
+    // Adds what follows from the moment at a place by the access of a thread, and answers its edge.
+    fn follow(
+        &mut self,
         script: &Script,
         place: usize,
         thread: u8,
         scratch: &mut Scratch,
-    ) -> Result<Next, OutOfMemory>
+    ) -> Result<u32, OutOfMemory>
+        requires searched { IsSearched script.now self.old }
+        requires there { place < length self.old.moments.moments }
+        requires thread { thread < length script.now.threads }
+        ensures searched { OnOk result (IsSearched script.now self.new) }
+        ensures more { OnOk result (Extends self.old.moments.moments self.new.moments.moments) }
+        ensures edges { OnOk result (self.new.edges ≡ self.old.edges) }
+        ensures edge { IfOk result (IsEdge script.now self.new.moments.moments (get_or self.old.moments.moments place no_moment) thread) }
+    {
+        let found = self.moments.follow(
+            &self.guides[thread as usize],
+            script.fuel,
+            place,
+            thread as usize,
+            scratch,
+        )?;
+        self.tree.note(place, thread, self.moments.len())?;
+        let edge = edge_of(found)?;
+        Ok(edge)
+    }
+
+    // The same of a thread that is followed; another one has no edge.
+    fn edge(
+        &mut self,
+        script: &Script,
+        only: Option<u8>,
+        place: usize,
+        thread: u8,
+        scratch: &mut Scratch,
+    ) -> Result<u32, OutOfMemory>
+        requires searched { IsSearched script.now self.old }
+        requires there { place < length self.old.moments.moments }
+        requires thread { thread < length script.now.threads }
+        ensures searched { OnOk result (IsSearched script.now self.new) }
+        ensures more { OnOk result (Extends self.old.moments.moments self.new.moments.moments) }
+        ensures edges { OnOk result (self.new.edges ≡ self.old.edges) }
+        ensures edge { IfOk result (MayBeEdge script.now self.new.moments.moments (get_or self.old.moments.moments place no_moment) only thread) }
+    {
+        if is_followed(only, thread) {
+            return self.follow(script, place, thread, scratch);
+        }
+        Ok(0)
+    }
+
+    // Whether a thread stands at an access that conflicts with none that others may still make.
+    fn is_alone(&self, script: &Script, place: usize, thread: u8) -> bool
         requires searched { IsSearched script.now self.now }
         requires there { place < length self.now.moments.moments }
         requires thread { thread < length script.now.threads }
-        ensures { IfOk result (IsNext self.now.moments.moments (next_moment script.now (get_or self.now.moments.moments place no_moment) thread)) }
+        ensures { result ≡ true → IsAlone script.now (get_or self.now.moments.moments place no_moment) thread }
     {
-        let program = &self.programs[thread as usize];
-        self.moments
-            .next(program, script.fuel, place, thread as usize, scratch)
+        let stand = self.moments.stand(place, thread as usize);
+        let Some(demand) = self.guides[thread as usize].access(&stand) else {
+            return false;
+        };
+        for other in 0..self.guides.len() {
+            let there = self.moments.stand(place, other);
+            if other != thread as usize && !self.guides[other].keeps_off(demand, there.place) {
+                return false;
+            }
+        }
+        true
     }
 
-    /// The threads whose accesses lead to the moment at a place of a script's search, in order.
+    // A thread that stands alone, if there is one.
+    fn alone(&self, script: &Script, place: usize) -> Option<u8>
+        requires searched { IsSearched script.now self.now }
+        requires there { place < length self.now.moments.moments }
+        ensures alone { IfSome result (IsAlone script.now (get_or self.now.moments.moments place no_moment)) }
+        ensures there { IfSome result (λ thread. thread < length script.now.threads) }
+    {
+        for thread in 0..script.thread_count() {
+            if self.is_alone(script, place, thread) {
+                return Some(thread);
+            }
+        }
+        None
+    }
+
+    // Adds each moment that follows from the one at a place, or what follows by a thread that stands
+    // alone.
+    fn follow_all(
+        &mut self,
+        script: &Script,
+        place: usize,
+        scratch: &mut Scratch,
+        row: &mut Vec<u32>,
+    ) -> Result<(), OutOfMemory>
+        requires searched { IsSearched script.now self.old }
+        requires next { place ≡ length self.old.edges.rows }
+        requires there { place < length self.old.moments.moments }
+        ensures searched { OnOk result (IsSearched script.now self.new) }
+        ensures next { OnOk result (length self.new.edges.rows ≡ suc place) }
+    {
+        let only = self.alone(script, place);
+        row.clear();
+        for thread in 0..script.thread_count() {
+            let edge = self.edge(script, only, place, thread, scratch)?;
+            row.push(edge)?;
+        }
+        self.edges.add(row)?;
+        Ok(())
+    }
+
+    /// The threads whose accesses lead to a moment like the one at a place of a script's search.
     pub(crate) fn picks_to(
         &self,
         alloc: Global,
@@ -122,7 +215,7 @@ impl Searched {
     ) -> Result<List<u8>, OutOfMemory>
         requires searched { IsSearched script.now self.now }
         requires there { place < length self.now.moments.moments }
-        ensures { IfOk result (λ picks. Follows script.now (first_moment script.now) picks (get_or self.now.moments.moments place no_moment)) }
+        ensures { IfOk result (λ picks. IsLedTo script.now picks (get_or self.now.moments.moments place no_moment)) }
     {
         let mut picks = Vec::new(alloc);
         let mut at = place;

@@ -1,73 +1,70 @@
 //! Moments from which no run comes to its end.
-ghost use Rattle.std.specs.Prelude.{◌≡◌, ◌<◌, ◌≤◌, suc, true, length, get_or, IfOk, OnOk};
-ghost use Rattle.octet_outcomes.specs.Moments.{no_moment};
-ghost use Rattle.octet_outcomes.specs.Stuck.{AreMarks, IsApart, IsCounted, LeadsToEnd};
+ghost use Rattle.std.specs.Prelude.{◌≡◌, ◌<◌, ◌≤◌, suc, true, false, length, get_or, IfOk, OnOk};
+ghost use Rattle.octet_outcomes.specs.Moments.{no_moment, AllDone};
+ghost use Rattle.octet_outcomes.specs.Stuck.{left_in, AreApart, AreMarks, IsApart, IsCounted, IsSettled, IsWhole, LeadsToEnd};
 ghost use Rattle.octet_outcomes.specs.Searches.{IsSearched};
 
 use crate::endings::are_done;
-use crate::moments::{Next, Scratch};
 use crate::search::Searched;
 use crate::waiting::Waiting;
 use octet_model::{OutOfMemory, Script};
 use std::alloc::Global;
 
-/// What a look ahead from a moment sees.
-#[derive(Clone, Copy)]
-enum Ahead {
-    /// A marked moment, so that this one is marked now.
-    Marked,
-    /// A moment that is not marked so far.
-    Unmarked { place: usize },
-    Nothing,
+// Whether an edge leads from a moment to a marked one.
+fn leads_to_marked(script: &Script, found: &Searched, place: usize, marks: &[bool]) -> bool
+    requires searched { IsSearched script.now found.now }
+    requires marks { AreMarks script.now found.now marks.now }
+    requires there { place < length found.now.edges.rows }
+    ensures some { result ≡ true → IsWhole found.now → LeadsToEnd script.now (get_or found.now.moments.moments place no_moment) }
+    ensures none { result ≡ false → IsApart script.now found.now marks.now place }
+{
+    for thread in 0..script.thread_count() {
+        let edge = found.edges.edge(place, thread as usize);
+        if edge > 0 && marks[edge as usize - 1] {
+            return true;
+        }
+    }
+    false
 }
 
-// Marks a moment from which the next access of a thread leads to a marked one.
-fn look(
-    script: &Script,
-    found: &Searched,
-    place: usize,
-    thread: u8,
-    marks: &mut [bool],
-    scratch: &mut Scratch,
-) -> Result<Ahead, OutOfMemory>
+// Marks a moment that is not marked and from which an edge leads to a marked one, and says whether
+// it is such a one.
+fn look(script: &Script, found: &Searched, place: usize, marks: &mut [bool]) -> bool
     requires searched { IsSearched script.now found.now }
     requires marks { AreMarks script.now found.now marks.old }
-    requires there { place < length found.now.moments.moments }
-    requires thread { thread < length script.now.threads }
-    ensures { OnOk result (AreMarks script.now found.now marks.new) }
+    requires there { place < length marks.old }
+    ensures marks { AreMarks script.now found.now marks.new }
+    ensures fewer { result ≡ true → left_in marks.new < left_in marks.old }
+    ensures same { result ≡ false → marks.new ≡ marks.old }
+    ensures apart { result ≡ false → get_or marks.old place false ≡ false → IsApart script.now found.now marks.old place }
 {
-    let Next::At { place: after } = found.next(script, place, thread, scratch)? else {
-        return Ok(Ahead::Nothing);
-    };
-    if marks[after] {
-        marks[place] = true;
-        return Ok(Ahead::Marked);
+    if marks[place] || !leads_to_marked(script, found, place, marks) {
+        return false;
     }
-    Ok(Ahead::Unmarked { place: after })
+    marks[place] = true;
+    true
 }
 
-// Looks ahead from a moment by each thread until it is marked, or else waits for what is ahead.
+// Looks ahead from a moment. One that is not marked then waits for what is ahead.
 fn look_ahead(
     script: &Script,
     found: &Searched,
     place: usize,
     marks: &mut [bool],
     waiting: &mut Waiting,
-    scratch: &mut Scratch,
 ) -> Result<(), OutOfMemory>
     requires searched { IsSearched script.now found.now }
     requires marks { AreMarks script.now found.now marks.old }
-    requires there { place < length found.now.moments.moments }
+    requires there { place < length marks.old }
     ensures { OnOk result (AreMarks script.now found.now marks.new) }
 {
-    if marks[place] {
+    if look(script, found, place, marks) || marks[place] {
         return waiting.call(place);
     }
     for thread in 0..script.thread_count() {
-        match look(script, found, place, thread, marks, scratch)? {
-            Ahead::Marked => return waiting.call(place),
-            Ahead::Unmarked { place: after } => waiting.wait(after, place, thread)?,
-            Ahead::Nothing => {}
+        let edge = found.edges.edge(place, thread as usize);
+        if edge > 0 {
+            waiting.wait(edge as usize - 1, place)?;
         }
     }
     Ok(())
@@ -80,7 +77,6 @@ fn look_back(
     place: usize,
     marks: &mut [bool],
     waiting: &mut Waiting,
-    scratch: &mut Scratch,
 ) -> Result<(), OutOfMemory>
     requires searched { IsSearched script.now found.now }
     requires marks { AreMarks script.now found.now marks.old }
@@ -92,10 +88,8 @@ fn look_back(
             break;
         };
         let before = wait.place as usize;
-        if before < marks.len() && wait.thread < script.thread_count() && !marks[before] {
-            if let Ahead::Marked = look(script, found, before, wait.thread, marks, scratch)? {
-                waiting.call(before)?;
-            }
+        if before < marks.len() && look(script, found, before, marks) {
+            waiting.call(before)?;
         }
         number = wait.next;
     }
@@ -108,7 +102,6 @@ fn go_back(
     found: &Searched,
     marks: &mut [bool],
     waiting: &mut Waiting,
-    scratch: &mut Scratch,
 ) -> Result<(), OutOfMemory>
     requires searched { IsSearched script.now found.now }
     requires marks { AreMarks script.now found.now marks.old }
@@ -118,21 +111,20 @@ fn go_back(
         let Some(place) = waiting.next_called() else {
             break;
         };
-        look_back(script, found, place, marks, waiting, scratch)?;
+        look_back(script, found, place, marks, waiting)?;
     }
     Ok(())
 }
 
-// Whether a moment is marked at first: all threads are done, or what follows was not sought.
+// Whether a moment is marked at first: all threads are done, or it was not gone on from.
 fn is_marked_first(script: &Script, found: &Searched, place: usize) -> bool
     requires searched { IsSearched script.now found.now }
     requires there { place < length found.now.moments.moments }
-    ensures { result ≡ true → length found.now.moments.moments ≤ found.now.followed → LeadsToEnd script.now (get_or found.now.moments.moments place no_moment) }
+    ensures leads { result ≡ true → IsWhole found.now → LeadsToEnd script.now (get_or found.now.moments.moments place no_moment) }
+    ensures ends { AllDone script.now (get_or found.now.moments.moments place no_moment) → result ≡ true }
+    ensures rest { length found.now.edges.rows ≤ place → result ≡ true }
 {
-    if place >= found.followed {
-        return true;
-    }
-    are_done(script, found, place)
+    place >= found.edges.len() || are_done(script, found, place)
 }
 
 // The first marks.
@@ -147,56 +139,58 @@ fn first_marks(alloc: Global, script: &Script, found: &Searched) -> Result<Vec<b
     Ok(marks)
 }
 
-// Marks each moment from which a run can come to its end, as far as is known. The later a moment
-// was found the nearer it is to an end, so the last ones come first.
+// Looks once from each moment, and says whether there are more marks then.
+fn add_marks(script: &Script, found: &Searched, marks: &mut [bool]) -> bool
+    requires searched { IsSearched script.now found.now }
+    requires marks { AreMarks script.now found.now marks.old }
+    ensures marks { AreMarks script.now found.now marks.new }
+    ensures fewer { result ≡ true → left_in marks.new < left_in marks.old }
+    ensures apart { result ≡ false → AreApart script.now found.now marks.new (length marks.new) }
+{
+    let mut is_more = false;
+    for place in 0..marks.len() {
+        if look(script, found, place, marks) {
+            is_more = true;
+        }
+    }
+    is_more
+}
+
+// Looks from all moments until there are no more marks.
+fn add_all(script: &Script, found: &Searched, marks: &mut [bool])
+    requires searched { IsSearched script.now found.now }
+    requires marks { AreMarks script.now found.now marks.old }
+    ensures { IsSettled script.now found.now marks.new }
+{
+    for _round in 0..marks.len() {
+        if !add_marks(script, found, marks) {
+            return;
+        }
+    }
+}
+
+// Marks each moment from which a run can come to its end. The later a moment was found the nearer it
+// is to an end, so the last ones come first. Nothing is promised of what waits, so all are looked at
+// once more.
 fn mark(alloc: Global, script: &Script, found: &Searched) -> Result<Vec<bool>, OutOfMemory>
     requires { IsSearched script.now found.now }
-    ensures { IfOk result (λ marks. AreMarks script.now found.now marks.items) }
+    ensures { IfOk result (λ marks. IsSettled script.now found.now marks.items) }
 {
     let mut marks = first_marks(alloc, script, found)?;
     let many = marks.len();
     let mut waiting = Waiting::new(alloc, many)?;
-    let mut scratch = Scratch::new(alloc);
     for later in 0..many {
         let place = many - 1 - later;
-        look_ahead(script, found, place, &mut marks, &mut waiting, &mut scratch)?;
-        go_back(script, found, &mut marks, &mut waiting, &mut scratch)?;
+        look_ahead(script, found, place, &mut marks, &mut waiting)?;
+        go_back(script, found, &mut marks, &mut waiting)?;
     }
+    add_all(script, found, &mut marks);
     Ok(marks)
-}
-
-// Whether a moment is no end, and each that follows is there and not marked.
-fn is_apart(
-    script: &Script,
-    found: &Searched,
-    place: usize,
-    marks: &[bool],
-    scratch: &mut Scratch,
-) -> Result<bool, OutOfMemory>
-    requires searched { IsSearched script.now found.now }
-    requires marks { length marks.now ≡ length found.now.moments.moments }
-    requires there { place < length found.now.moments.moments }
-    ensures { IfOk result (λ apart. apart ≡ true → IsApart script.now found.now.moments.moments marks.now place) }
-{
-    for thread in 0..script.thread_count() {
-        match found.next(script, place, thread, scratch)? {
-            Next::Nothing => {}
-            Next::At { place: after } => {
-                if marks[after] {
-                    return Ok(false);
-                }
-            }
-            Next::Unseen => return Ok(false),
-        }
-    }
-    Ok(!are_done(script, found, place))
 }
 
 /// What was found of stuck moments.
 #[derive(Clone, Copy)]
 pub(crate) struct Stuck {
-    /// Whether these are all.
-    pub(crate) is_whole: bool,
     /// How many there are.
     pub(crate) count: usize,
     /// The place of the first one, if there is one.
@@ -206,13 +200,11 @@ pub(crate) struct Stuck {
 // Counts a stuck moment at a place.
 fn count_one(stuck: Stuck, place: usize) -> Stuck
     requires { stuck.count < usize.MAX }
-    ensures whole { result.is_whole ≡ stuck.is_whole }
     ensures count { result.count ≡ suc stuck.count }
     ensures start { stuck.count ≡ 0 → result.first ≡ place }
     ensures later { 0 < stuck.count → result.first ≡ stuck.first }
 {
     Stuck {
-        is_whole: stuck.is_whole,
         count: stuck.count + 1,
         first: if stuck.count == 0 { place } else { stuck.first },
     }
@@ -228,21 +220,9 @@ pub(crate) fn stuck_of(
     ensures { IfOk result (IsCounted script.now found.now) }
 {
     let marks = mark(alloc, script, found)?;
-    let mut scratch = Scratch::new(alloc);
-    let mut stuck = Stuck {
-        is_whole: found.moments.len() <= found.followed,
-        count: 0,
-        first: 0,
-    };
+    let mut stuck = Stuck { count: 0, first: 0 };
     for place in 0..marks.len() {
         if !marks[place] {
-            if !is_apart(script, found, place, &marks, &mut scratch)? {
-                return Ok(Stuck {
-                    is_whole: false,
-                    count: 0,
-                    first: 0,
-                });
-            }
             stuck = count_one(stuck, place);
         }
     }

@@ -3,11 +3,10 @@
 use octet_model::OutOfMemory;
 use std::alloc::Global;
 
-/// A moment from which the next access of a thread leads to the one that it waits for.
+/// A moment from which an edge leads to the one that it waits for.
 #[derive(Clone, Copy)]
 pub(crate) struct Wait {
     pub(crate) place: u32,
-    pub(crate) thread: u8,
     /// The number of the next one that waits for the same.
     pub(crate) next: u32,
 }
@@ -60,16 +59,10 @@ impl Waiting {
     }
 
     /// Lets a moment wait for another one.
-    pub(crate) fn wait(
-        &mut self,
-        after: usize,
-        place: usize,
-        thread: u8,
-    ) -> Result<(), OutOfMemory> {
+    pub(crate) fn wait(&mut self, after: usize, place: usize) -> Result<(), OutOfMemory> {
         let next = self.first(after);
         self.waits.push(Wait {
             place: number_of(place)?,
-            thread,
             next,
         })?;
         let number = number_of(self.waits.len())?;

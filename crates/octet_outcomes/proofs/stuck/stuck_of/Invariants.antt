@@ -2,4 +2,4 @@ use Rattle.octet_outcomes.proofs.Going.{AreCounted}
 use Rattle.octet_outcomes.proofs.stuck.stuck_of.Given as goal
 
 abbrev pub invariant-loop-place : goal.invariant-loop-place
-invariant-loop-place l = AreCounted l.script l.found l.marks.items l.place l.stuck
+invariant-loop-place l = AreCounted l.marks.items l.place l.stuck

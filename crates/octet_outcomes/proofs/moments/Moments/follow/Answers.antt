@@ -14,7 +14,7 @@ returns-in_default c =
     c.stand-stand.result c.deref_mut.result.now c.self.view_is c.requires.there (omega arith) lt rowed c.number_at.ensures
     (c.number_at-2.ensures ∙ ap (λ (row : List ℕ). slice_index row 0) (c.deref-2.ensures.value ∙ sym c.deref.ensures.value))
     c.stand-stand.ensures (c.deref_mut.ensures.value ∙ c.in_ok-copy_into-2.ensures ∙ c.row-2.ensures.row) in
-    finds_none c.args.self.now c.args.program.now.commands c.args.fuel (get_or c.args.self.now.moments c.args.place no_moment) c.args.thread c.stand-stand.result c.deref_mut.result.now c.access.result read.0 read.1 c.access.ensures.stand c.in_default.is
+    finds_none c.args.self.now c.args.guide.now.commands c.args.fuel (get_or c.args.self.now.moments c.args.place no_moment) c.args.thread c.stand-stand.result c.deref_mut.result.now c.access.result read.0 read.1 c.access.ensures.stand c.in_default.is
 
 pub returns : goal.returns
 returns c =
@@ -26,7 +26,7 @@ returns c =
     c.stand-stand.result c.deref_mut.result.now c.self.view_is c.requires.there (omega arith) lt rowed c.number_at.ensures
     (c.number_at-2.ensures ∙ ap (λ (row : List ℕ). slice_index row 0) (c.deref-2.ensures.value ∙ sym c.deref.ensures.value))
     c.stand-stand.ensures (c.deref_mut.ensures.value ∙ c.in_ok-copy_into-2.ensures ∙ c.row-2.ensures.row) in
-    finds_some c.args.self.now _ c.args.program.now.commands c.args.fuel (get_or c.args.self.now.moments c.args.place no_moment) c.args.thread c.in_ok-found.found c.stand-stand.result c.in-Some.after c.deref_mut.result.now c.access.new.heap c.access.result
+    finds_some c.args.self.now _ c.args.guide.now.commands c.args.fuel (get_or c.args.self.now.moments c.args.place no_moment) c.args.thread c.in_ok-found.found c.stand-stand.result c.in-Some.after c.deref_mut.result.now c.access.new.heap c.access.result
     read.0 read.1 c.access.ensures.stand c.in-Some.is c.access.ensures.heap
     (adds_named c.self.inside.stands c.name_moment.new.stands c.self.inside.heaps.rows c.name_moment.new.heaps.rows c.self.inside.rows.rows c.name_moment.new.rows.rows c.args.self.now _ _ _ _ c.in_ok-found.found _
     c.self.view_is (ap (λ (n : ℕ). n - 1) c.in_ok-found.ensures.width) c.in_ok-found.ensures.objects

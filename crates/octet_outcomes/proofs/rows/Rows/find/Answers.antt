@@ -1,4 +1,4 @@
-use Rattle.std.proofs.Common.{◌<◌, ◌-◌, length, sym, ap, ◌∙◌, arith}
+use Rattle.std.proofs.Common.{◌<◌, length, sym, ap, ◌∙◌, arith}
 use Rattle.octet_outcomes.specs.Rows.{RowsState}
 use Rattle.octet_outcomes.proofs.RowsIn.{rows_len}
 use Rattle.octet_outcomes.proofs.rows.Rows.find.Goals as goal
@@ -13,5 +13,5 @@ pub returns-then-are_equal : goal.returns-then-are_equal
 returns-then-are_equal c =
     let len = rows_len c.self.inside.width c.self.inside.count c.self.inside.words.items in
     let same = ap (λ (s : RowsState). length s.rows) c.self.view_is in
-    let lt : c.index-entry.result.now - 1 < length c.args.self.now.rows = omega (arith, len, same, c.if-place-self.true) in
+    let lt : c.in-Some.place < length c.args.self.now.rows = omega (arith, len, same, c.if-place-self.true) in
     (lt, sym c.row.ensures.row ∙ c.are_equal.ensures c.if-are_equal.true)
