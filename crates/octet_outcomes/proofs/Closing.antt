@@ -1,5 +1,5 @@
 -- What was found has all ends of runs.
-use Rattle.std.proofs.Common.{◌≡◌, ℕ, zero, suc, ◌<◌, ◌≤◌, ◌⊎◌, List, [], ◌∷◌, ◌++◌, length, get_or, refl, sym, ap, ap₂, map, subst, ◌∙◌, inl, inr, arith, Option, Some, None, below_more}
+use Rattle.std.proofs.Common.{◌≡◌, ℕ, zero, suc, ◌<◌, ◌≤◌, ◌⊎◌, List, [], ◌∷◌, ◌++◌, length, get_or, refl, sym, ap, ap₂, map, subst, ◌∙◌, inl, inr, arith, Some, None, below_more}
 use Rattle.std.specs.List.{Contains}
 use Rattle.std.proofs.lemmas.List.Elements.{Contains-append_left}
 use Rattle.std.proofs.lemmas.List.{length-map}
@@ -16,7 +16,7 @@ use Rattle.octet_outcomes.specs.Moments.{Moment, MomentsState, no_moment, next_m
 use Rattle.octet_outcomes.specs.Runs.{Follows, IsReached, AreMomentsOf, AreProgramsOf, AreAllOutcomes, no_program}
 use Rattle.octet_outcomes.specs.Searches.{AreEdges, AreLed, Extends, HasAlone}
 use Rattle.octet_outcomes.proofs.Commuting.{Brought, Made, Left, brought, none_done}
-use Rattle.octet_outcomes.proofs.Likeness.{like_refl, like_same, like_sym, like_trans, done_like, run_like, RunLike}
+use Rattle.octet_outcomes.proofs.Likeness.{like_refl, like_same, like_trans, done_like, run_like}
 use Rattle.octet_outcomes.proofs.Naming.{grow_len, grow_at}
 
 pub any_default : {A : Type 0} (xs : List A) (k : ℕ) (d e : A) → k < length xs → get_or xs k d ≡ get_or xs k e

@@ -13,8 +13,7 @@ use Rattle.octet_interp.specs.declared.demand.Demand.{Demand}
 use Rattle.octet_interp.specs.declared.demand.Demand.TheVariants as wanted
 use Rattle.octet_interp.specs.declared.program.Stand.{Stand}
 use Rattle.octet_interp.specs.Standing.{access_at, access_demand, stand_of}
-use Rattle.octet_outcomes.specs.Moments as moments
-use Rattle.octet_outcomes.specs.Moments.{Moment, no_stand, stand_in, stand_after, moved, value_given, heap_past}
+use Rattle.octet_outcomes.specs.Moments.{Moment, no_stand, stand_in, value_given, heap_past}
 use Rattle.octet_model.specs.Machine.{Next, is_enabled}
 use Rattle.octet_model.specs.Orders.{commands_of, is_done}
 use Rattle.octet_interp.specs.Standing.{stand_past}

@@ -1,17 +1,17 @@
 -- Where runs can come to an end, and where they cannot.
-use Rattle.std.proofs.Common.{◌≡◌, ◌⊎◌, ℕ, Bool, true, false, zero, suc, pred, ◌+◌, ◌<◌, ◌≤◌, List, [], ◌∷◌, ◌++◌, length, set, get_or, refl, sym, ap, subst, ◌∙◌, inl, inr, arith, Some, None, below_more}
+use Rattle.std.proofs.Common.{◌≡◌, ◌⊎◌, ℕ, Bool, true, false, zero, suc, pred, ◌<◌, ◌≤◌, List, [], ◌∷◌, length, set, get_or, refl, sym, ap, subst, ◌∙◌, inl, inr, arith, Some, None}
 use Rattle.std.proofs.lemmas.Bool.{cases_lt}
 use Rattle.octet_model.specs.declared.script.Script.{Script}
 use Rattle.octet_outcomes.specs.declared.search.Searched.{Searched}
 use Rattle.octet_outcomes.specs.declared.stuck.Stuck.{Stuck}
 use Rattle.octet_outcomes.specs.Alike.{AreAlike, Leads}
-use Rattle.octet_outcomes.specs.Moments.{Moment, no_moment, next_moment, first_moment, AllDone}
-use Rattle.octet_outcomes.specs.Runs.{Follows, IsReached, IsLedTo}
+use Rattle.octet_outcomes.specs.Moments.{Moment, no_moment, next_moment, AllDone}
+use Rattle.octet_outcomes.specs.Runs.{Follows, IsLedTo}
 use Rattle.octet_outcomes.specs.Searches.{AreEdges, HasAlone, IsSearched}
-use Rattle.octet_outcomes.specs.Stuck.{left_in, AreApart, AreMarks, IsApart, IsCounted, IsSettled, IsStuck, IsWhole, LeadsToEnd, LeadsToStuck}
+use Rattle.octet_outcomes.specs.Stuck.{left_in, AreMarks, IsCounted, IsSettled, IsStuck, IsWhole, LeadsToEnd, LeadsToStuck}
 use Rattle.octet_outcomes.proofs.Closing.{below_suc, along_alone, along_any, Along}
 use Rattle.octet_outcomes.proofs.Commuting.{brought, none_done, Brought, Made, Left}
-use Rattle.octet_outcomes.proofs.Likeness.{done_like, like_refl, like_sym, run_like, RunLike}
+use Rattle.octet_outcomes.proofs.Likeness.{done_like, like_sym, run_like}
 
 suc_pred : (n : ℕ) → 0 < n → suc (pred n) ≡ n
 suc_pred zero lt = absurd (omega arith)

@@ -1,18 +1,18 @@
 -- Past a place from which on a thread makes no conflicting access, it makes none.
-use Rattle.std.proofs.Common.{◌≡◌, ℕ, zero, suc, ◌<◌, ◌≤◌, ◌==◌, if◌then◌else◌, inl, inr, Bool, true, false, List, length, get_or, Option, Some, None, IfSome, slice_get, refl, sym, ap, ◌∙◌, subst, arith}
+use Rattle.std.proofs.Common.{◌≡◌, ℕ, zero, suc, ◌≤◌, ◌==◌, if◌then◌else◌, inl, inr, Bool, true, false, List, get_or, Option, Some, None, IfSome, slice_get, refl, subst, arith}
 use Rattle.std.proofs.lemmas.Bool.{cases_lt}
 use Rattle.octet_model.specs.declared.command.Command.{Command}
 use Rattle.octet_model.specs.declared.command.Command.TheVariants.{Read, Loop, Branch, Close}
-use Rattle.octet_model.specs.Thread.{Configuration, is_access, matching_end, place_after_close, stepped, settled, run_to, past_access}
+use Rattle.octet_model.specs.Thread.{Configuration, is_access, matching_end, place_after_close, stepped, settled, past_access}
 use Rattle.octet_interp.specs.declared.demand.Demand.{Demand}
 use Rattle.octet_interp.specs.declared.demand.Demand.TheVariants as wanted
 use Rattle.octet_interp.specs.declared.program.Stand.{Stand}
-use Rattle.octet_interp.specs.Standing.{access_at, access_demand, stand_past, with_fuel}
+use Rattle.octet_interp.specs.Standing.{access_demand, stand_past, with_fuel}
 use Rattle.octet_interp.proofs.Runs.{along}
 use Rattle.octet_outcomes.specs.declared.quiet.Quiet.{Quiet}
 use Rattle.octet_outcomes.specs.Alone.{Conflicts, KeepsOff}
-use Rattle.octet_outcomes.specs.Flow.{AreOpened, IsQuietFrom, MayConflict}
-use Rattle.octet_outcomes.specs.Quiets.{unknown, AreQuiet, IsKnown, IsOver}
+use Rattle.octet_outcomes.specs.Flow.{AreOpened, IsQuietFrom}
+use Rattle.octet_outcomes.specs.Quiets.{AreQuiet, IsKnown, IsOver}
 use Rattle.octet_outcomes.proofs.Flowing.{closer_leads, matched_past, LeadsTo, On, Back}
 
 past_place : (o : Option Command) (c : Configuration) (value : ℕ) → (past_access o c value).place ≡ suc c.place

@@ -4,7 +4,7 @@ use Rattle.std.proofs.lemmas.Bool.{eq-eqb}
 use Rattle.std.proofs.lemmas.Option.{slice_get-get_or}
 use Rattle.std.specs.Cmp.Derive.{both_true}
 use Rattle.octet_model.specs.declared.command.Command.{Command}
-use Rattle.octet_model.specs.Thread.{is_opener, is_opened_at, matching_end}
+use Rattle.octet_model.specs.Thread.{is_opener, matching_end}
 use Rattle.octet_outcomes.specs.Flow.{live_at, set_by, uses, AreEnds, IsOpened, IsSpared}
 
 -- the command at a place

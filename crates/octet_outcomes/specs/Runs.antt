@@ -1,6 +1,5 @@
 -- Runs by picks, and what a search through all of them finds.
 use Rattle.std.specs.Prelude.{◌≡◌, ℕ, ◌<◌, List, [], ◌∷◌, length, get_or, Some, Contains}
-use Rattle.std.specs.List.{All}
 use Rattle.octet_model.specs.declared.script.Script.{Script}
 use Rattle.octet_model.specs.Orders.{commands_of}
 use Rattle.octet_interp.specs.Standing.{ThreadProgram}

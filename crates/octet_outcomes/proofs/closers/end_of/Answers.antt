@@ -1,6 +1,5 @@
-use Rattle.std.proofs.Common.{◌≡◌, ℕ, ◌+◌, ◌<◌, ◌∷◌, drop, length, suc, sym, ap, ◌∙◌, arith, add-one, List}
+use Rattle.std.proofs.Common.{ℕ, ◌+◌, ◌<◌, drop, length, sym, ap, ◌∙◌, arith, add-one}
 use Rattle.std.proofs.lemmas.List.{drop_more}
-use Rattle.octet_model.specs.declared.command.Command.{Command}
 use Rattle.octet_model.specs.Thread.{end_from}
 use Rattle.octet_outcomes.proofs.closers.end_of.Goals as goal
 

@@ -1,4 +1,4 @@
-use Rattle.std.proofs.Common.{◌≡◌, ◌≤◌, ◌+◌, drop}
+use Rattle.std.proofs.Common.{◌≡◌, ◌≤◌, drop}
 use Rattle.octet_model.specs.Thread.{end_from, matching_end}
 use Rattle.octet_outcomes.proofs.closers.end_of.Given as goal
 

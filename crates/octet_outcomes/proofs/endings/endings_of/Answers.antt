@@ -1,4 +1,4 @@
-use Rattle.std.proofs.Common.{◌≡◌, List, All, length, map, sym, ap, ◌∙◌, subst}
+use Rattle.std.proofs.Common.{List, All, map, sym, ap, ◌∙◌, subst}
 use Rattle.std.proofs.lemmas.List.Sorted.{All-permutation}
 use Rattle.octet_outcomes.specs.declared.endings.Ending.{Ending}
 use Rattle.octet_outcomes.specs.Endings.{IsEnding, heap_at, heap_of}

@@ -1,7 +1,6 @@
-use Rattle.std.proofs.Common.{◌≡◌, ℕ, suc, true, false, Some, get_or, sym, ap, ◌∙◌}
+use Rattle.std.proofs.Common.{◌≡◌, ℕ, suc, true, false, sym, ap, ◌∙◌}
 use Rattle.std.proofs.lemmas.Option.{slice_get-get_or}
-use Rattle.octet_model.specs.Thread.{is_opener, matching_end}
-use Rattle.octet_outcomes.specs.Flow.{live_at, set_by}
+use Rattle.octet_outcomes.specs.Flow.{live_at}
 use Rattle.octet_outcomes.proofs.Sparing.{spared_by}
 use Rattle.octet_outcomes.proofs.live.is_needed.Goals as goal
 use Rattle.octet_outcomes.proofs.live.is_needed.Goals.{else-is_live_past-via-then-is_live_past+else-not-sets, else-is_live_past-via-else-is_live_past}

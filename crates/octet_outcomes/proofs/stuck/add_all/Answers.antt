@@ -1,4 +1,4 @@
-use Rattle.std.proofs.Common.{◌≡◌, true, false, ◌≤◌, sym, ◌∙◌, arith}
+use Rattle.std.proofs.Common.{◌≡◌, true, false, sym, ◌∙◌, arith}
 use Rattle.octet_outcomes.proofs.Going.{left_few, none_left}
 use Rattle.octet_outcomes.proofs.stuck.add_all.Goals as goal
 

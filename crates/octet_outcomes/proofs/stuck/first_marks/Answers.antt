@@ -1,4 +1,4 @@
-use Rattle.std.proofs.Common.{◌≡◌, ◌+◌, ◌≤◌, ℕ, Bool, true, false, [], ◌∷◌, ap, arith, length, length-append, get_or, add-one}
+use Rattle.std.proofs.Common.{◌≡◌, ◌≤◌, ℕ, Bool, true, false, [], ◌∷◌, ap, arith, length, length-append, get_or, add-one}
 use Rattle.octet_outcomes.specs.Moments.{no_moment, AllDone}
 use Rattle.octet_outcomes.specs.Stuck.{IsWhole, LeadsToEnd}
 use Rattle.octet_outcomes.proofs.Ways.{pushed}

@@ -1,4 +1,4 @@
-use Rattle.std.proofs.Common.{◌≡◌, ℕ, ◌<◌, ◌≤◌, Bool, true, false, length, get_or}
+use Rattle.std.proofs.Common.{◌≡◌, ℕ, ◌<◌, ◌≤◌, true, false, length, get_or}
 use Rattle.octet_outcomes.specs.Moments.{no_moment, AllDone}
 use Rattle.octet_outcomes.specs.Stuck.{IsWhole, LeadsToEnd}
 use Rattle.octet_outcomes.proofs.stuck.first_marks.Given as goal

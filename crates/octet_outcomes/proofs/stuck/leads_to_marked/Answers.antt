@@ -1,5 +1,4 @@
-use Rattle.std.proofs.Common.{◌≡◌, ◌<◌, ◌-◌, ℕ, suc, [], length, get_or, arith, ap, ◌∙◌}
-use Rattle.octet_outcomes.specs.Alike.{Leads}
+use Rattle.std.proofs.Common.{◌≡◌, ◌<◌, ◌-◌, suc, [], length, get_or, arith}
 use Rattle.octet_outcomes.specs.Moments.{no_moment}
 use Rattle.octet_outcomes.proofs.Going.{leads_by}
 use Rattle.octet_outcomes.proofs.stuck.leads_to_marked.Goals as goal

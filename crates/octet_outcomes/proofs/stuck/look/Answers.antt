@@ -1,5 +1,5 @@
 use Rattle.std.proofs.Common.{arith}
-use Rattle.octet_outcomes.proofs.Going.{left_fewer, mark_more}
+use Rattle.octet_outcomes.proofs.Going.{left_fewer}
 use Rattle.octet_outcomes.proofs.stuck.look.Goals as goal
 
 pub returns-clause-fewer : goal.returns-clause-fewer

@@ -1,4 +1,4 @@
-use Rattle.std.proofs.Common.{◌+◌, ◌*◌, ◌<◌, ◌≤◌, ◌^◌, [], length, get_or, sym, ap, ◌∙◌, arith, List, ℕ}
+use Rattle.std.proofs.Common.{◌+◌, ◌*◌, ◌<◌, [], length, get_or, sym, ap, ◌∙◌, arith}
 use Rattle.std.proofs.lemmas.List.{get_or_default}
 use Rattle.octet_outcomes.specs.Rows.{RowsState}
 use Rattle.octet_outcomes.proofs.RowsIn.{entry_at, rows_len, within}

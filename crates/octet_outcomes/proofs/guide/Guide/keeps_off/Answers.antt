@@ -2,7 +2,6 @@ use Rattle.std.proofs.Common.{List, Option, IfSome, ◌∙◌, subst}
 use Rattle.octet_model.specs.declared.command.Command.{Command}
 use Rattle.octet_interp.specs.Standing.{ThreadProgram}
 use Rattle.octet_outcomes.specs.declared.guide.Tables.{Tables}
-use Rattle.octet_outcomes.specs.declared.quiet.Quiet.{Quiet}
 use Rattle.octet_outcomes.specs.Alone.{KeepsOff}
 use Rattle.octet_outcomes.specs.Guided.{IsGuided}
 use Rattle.octet_outcomes.specs.Quiets.{IsOver}

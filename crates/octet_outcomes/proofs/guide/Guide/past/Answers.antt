@@ -1,4 +1,4 @@
-use Rattle.std.proofs.Common.{Bool, List, Option, IfSome, sym, subst}
+use Rattle.std.proofs.Common.{Bool, List, Option, IfSome, subst}
 use Rattle.octet_interp.specs.declared.program.Stand.{Stand}
 use Rattle.octet_interp.specs.Standing.{stand_past, ThreadProgram}
 use Rattle.octet_outcomes.specs.declared.guide.Tables.{Tables}

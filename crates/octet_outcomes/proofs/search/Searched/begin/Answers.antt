@@ -1,8 +1,7 @@
-use Rattle.std.proofs.Common.{◌≡◌, ℕ, ◌<◌, List, [], length, refl, sym, ap, ◌∙◌, subst, arith}
+use Rattle.std.proofs.Common.{◌≡◌, List, length, sym, ap, ◌∙◌, subst, arith}
 use Rattle.octet_interp.specs.Standing.{ThreadProgram}
 use Rattle.octet_outcomes.specs.Rows.{RowsState}
 use Rattle.octet_outcomes.specs.Runs.{AreProgramsOf}
-use Rattle.octet_outcomes.specs.Searches.{AreLed}
 use Rattle.octet_outcomes.proofs.Closing.{begins}
 use Rattle.octet_outcomes.proofs.Ways.{found_begun}
 use Rattle.octet_outcomes.proofs.search.Searched.begin.Goals as goal

@@ -1,8 +1,7 @@
-use Rattle.std.proofs.Common.{◌≡◌, ℕ, ◌<◌, ◌++◌, ◌∷◌, [], List, Option, length, get_or, refl, sym, ap, ◌∙◌, subst, arith, length-append, add-one, IfSome}
+use Rattle.std.proofs.Common.{◌≡◌, ℕ, ◌++◌, ◌∷◌, [], List, length, get_or, refl, sym, ap, ◌∙◌, subst, arith, length-append, add-one}
 use Rattle.octet_outcomes.specs.Rows.{RowsState}
-use Rattle.octet_outcomes.specs.Alone.{IsAlone}
 use Rattle.octet_outcomes.specs.Moments.{no_moment}
-use Rattle.octet_outcomes.specs.Searches.{AreEdges, AreLed}
+use Rattle.octet_outcomes.specs.Searches.{AreLed}
 use Rattle.octet_outcomes.proofs.Ways.{led_push, row_edges, row_more, RowTo}
 use Rattle.octet_outcomes.proofs.search.Searched.follow_all.Goals as goal
 
