@@ -100,10 +100,15 @@ def search_problem(folder, content, searched, most=()):
     (pathlib.Path(folder) / "S").write_bytes(content)
     status, said = octet(["outcomes", "S", *most], folder)
     heaps, rest = parsed(said)
-    wanted = [f"moments {searched.moments}", f"stuck {searched.stuck}", ""]
-    return first(
-        differs("status", status, 0), differs("heaps", heaps, searched.heaps), differs("the last lines", rest, wanted)
-    )
+    wrong = differs("status", status, 0) or differs("heaps", heaps, searched.heaps)
+    counts = re.fullmatch(r"moments ([0-9]+)\nstuck ([0-9]+)\n", "\n".join(rest))
+    if wrong or not counts:
+        return wrong or f"the last lines are {rest}"
+    # Of moments from which threads go on alike one is kept, and some orders are left out.
+    moments, stuck = map(int, counts.groups())
+    if not 0 < moments <= searched.moments or not stuck <= searched.stuck or (stuck == 0) != (searched.stuck == 0):
+        return f"{rest[:2]} of {searched.moments} moments and {searched.stuck} stuck ones"
+    return None
 
 
 def claim_problem(folder, content, searched, dice):
@@ -193,21 +198,21 @@ NOT_ALL = "not all was seen"
 
 
 def worked_by_hand():
-    """Printed bytes: two bumps have one end in four moments, two lost updates two; MOST at, above and below the count."""
+    """Printed bytes: of two bumps one order is gone through, of two lost updates all; MOST at, above and below the count."""
     one = "outcome", "object n 1"
     two = "outcome", "object n 2"
     rows = [
-        (["outcomes", "S"], TWICE, 0, text(*two, "moments 4", "stuck 0")),
-        (["outcomes", "S", "4"], TWICE, 0, text(*two, "moments 4", "stuck 0")),
-        (["outcomes", "S", "5"], TWICE, 0, text(*two, "moments 4", "stuck 0")),
-        (["outcomes", "S", "1"], TWICE, 13, text("moments 3", "stuck 0", NOT_ALL)),
+        (["outcomes", "S"], TWICE, 0, text(*two, "moments 3", "stuck 0")),
+        (["outcomes", "S", "3"], TWICE, 0, text(*two, "moments 3", "stuck 0")),
+        (["outcomes", "S", "4"], TWICE, 0, text(*two, "moments 3", "stuck 0")),
+        (["outcomes", "S", "1"], TWICE, 13, text("moments 2", "stuck 0", NOT_ALL)),
         (["outcomes", "S"], LONG, 0, text("outcome past the fuel", "object n 0", "moments 7", "stuck 0")),
         (["always", "S", "L", "n", "2"], TWICE, 0, text("always")),
         (["always", "S", "L", "n", "2", "2"], TWICE, 13, text(NOT_ALL)),
         (["always", "S", "L", "n", "1"], LONG, 14, text("otherwise past the fuel")),
         (["always", "S", "L"], TWICE, 0, text("always")),
-        (["always", "S", "L", "4"], TWICE, 0, text("always")),
-        (["always", "S", "L", "3"], TWICE, 13, text(NOT_ALL)),
+        (["always", "S", "L", "3"], TWICE, 0, text("always")),
+        (["always", "S", "L", "2"], TWICE, 13, text(NOT_ALL)),
         (["always", "S", "L", "n", "2"], LOST, 14, text("otherwise", "preemptions 1", "thread 0 done 0", "thread 1 done 0", "object n 1")),
     ]
     with tempfile.TemporaryDirectory() as folder:
