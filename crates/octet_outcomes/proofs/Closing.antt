@@ -19,11 +19,6 @@ use Rattle.octet_outcomes.proofs.Commuting.{Brought, Made, Left, brought, none_d
 use Rattle.octet_outcomes.proofs.Likeness.{like_refl, like_same, like_trans, done_like, run_like}
 use Rattle.octet_outcomes.proofs.Naming.{grow_len, grow_at}
 
-pub any_default : {A : Type 0} (xs : List A) (k : ℕ) (d e : A) → k < length xs → get_or xs k d ≡ get_or xs k e
-any_default [] k d e lt = absurd (omega arith)
-any_default (x ∷ xs) zero d e lt = refl
-any_default (x ∷ xs) (suc k) d e lt = any_default xs k d e (omega arith)
-
 pub follows_on : (script : Script) (m between after : Moment) (picks : List ℕ) (thread : ℕ) → Follows script m picks between → thread < length script.threads → next_moment script between thread ≡ Some after → Follows script m (picks ++ thread ∷ []) after
 follows_on script m between after [] thread is lt next = (lt, (after, subst (λ (k : Moment). next_moment script k thread ≡ Some after) is next, refl))
 follows_on script m between after (pick ∷ picks) thread f lt next = (f.0, (f.1.0, f.1.1, follows_on script f.1.0 between after picks thread f.1.2 lt next))

@@ -6,9 +6,9 @@ use Rattle.octet_outcomes.specs.declared.search.Searched.{Searched}
 use Rattle.octet_outcomes.specs.declared.stuck.Stuck.{Stuck}
 use Rattle.octet_outcomes.specs.Alike.{AreAlike, Leads}
 use Rattle.octet_outcomes.specs.Moments.{Moment, no_moment, next_moment, AllDone}
-use Rattle.octet_outcomes.specs.Runs.{Follows, IsLedTo}
+use Rattle.octet_outcomes.specs.Runs.{Follows}
 use Rattle.octet_outcomes.specs.Searches.{AreEdges, HasAlone, IsSearched}
-use Rattle.octet_outcomes.specs.Stuck.{left_in, AreMarks, IsCounted, IsSettled, IsStuck, IsWhole, LeadsToEnd, LeadsToStuck}
+use Rattle.octet_outcomes.specs.Stuck.{left_in, IsCounted, IsSettled, IsStuck, IsWhole, LeadsToEnd}
 use Rattle.octet_outcomes.proofs.Closing.{below_suc, along_alone, along_any, Along}
 use Rattle.octet_outcomes.proofs.Commuting.{brought, none_done, Brought, Made, Left}
 use Rattle.octet_outcomes.proofs.Likeness.{done_like, like_sym, run_like}
@@ -21,9 +21,6 @@ suc_pred (suc n) lt = refl
 pub leads_on : (script : Script) (m after : Moment) (thread : ℕ) → thread < length script.threads → next_moment script m thread ≡ Some after → LeadsToEnd script after → LeadsToEnd script m
 leads_on script m after thread lt next leads = record { last = leads.last; picks = thread ∷ leads.picks; follows = (lt, (after, next, leads.follows)); done = leads.done }
 
-pub done_leads : (script : Script) (m : Moment) → AllDone script m → LeadsToEnd script m
-done_leads script m done = record { last = m; picks = []; follows = refl; done = done }
-
 -- a moment like one that leads to an end does so too
 pub leads_like : (script : Script) (m k : Moment) → AreAlike script m k → LeadsToEnd script k → LeadsToEnd script m
 leads_like script m k alike leads =
@@ -33,36 +30,6 @@ leads_like script m k alike leads =
 -- a moment leads to an end where an access leads to one like a moment that does
 pub leads_by : (script : Script) (moments : List Moment) (m : Moment) (thread place : ℕ) → thread < length script.threads → Leads script moments m thread place → LeadsToEnd script (get_or moments place no_moment) → LeadsToEnd script m
 leads_by script moments m thread place lt leads ends = leads_on script m leads.after thread lt leads.next (leads_like script leads.after (get_or moments place no_moment) leads.like ends)
-
--- one mark more
-pub set_marked : (marks : List Bool) (place k : ℕ) (P : ℕ → Type 0) → place < length marks → P place → (get_or marks k false ≡ true → P k) → get_or (set marks place true) k false ≡ true → P k
-set_marked [] place k P lt here there is = absurd (omega arith)
-set_marked (mark ∷ marks) zero zero P lt here there is = here
-set_marked (mark ∷ marks) zero (suc k) P lt here there is = there is
-set_marked (mark ∷ marks) (suc place) zero P lt here there is = there is
-set_marked (mark ∷ marks) (suc place) (suc k) P lt here there is = set_marked marks place k (λ n. P (suc n)) (omega arith) here there is
-
--- a mark stays
-set_stays : (marks : List Bool) (place k : ℕ) → get_or marks k false ≡ true → get_or (set marks place true) k false ≡ true
-set_stays [] place k is = is
-set_stays (mark ∷ marks) zero zero is = refl
-set_stays (mark ∷ marks) zero (suc k) is = is
-set_stays (mark ∷ marks) (suc place) zero is = is
-set_stays (mark ∷ marks) (suc place) (suc k) is = set_stays marks place k is
-
-pub mark_more : (script : Script) (found : Searched) (marks more : List Bool) (place : ℕ) → place < length marks → more ≡ set marks place true → length more ≡ length marks
-    → (IsWhole found → LeadsToEnd script (get_or found.moments.moments place no_moment)) → AreMarks script found marks → AreMarks script found more
-mark_more script found marks more place lt is len leads of = record {
-  len = len ∙ of.len;
-  ends = λ k below done. stays k (of.ends k (omega (arith, below, len)) done);
-  rest = λ k below past. stays k (of.rest k (omega (arith, below, len)) past);
-  leads = λ k below marked whole.
-      set_marked marks place k (λ n. LeadsToEnd script (get_or found.moments.moments n no_moment)) lt (leads whole) (λ before. of.leads k (omega (arith, below, len)) before whole)
-      (ap (λ (ms : List Bool). get_or ms k false) (sym is) ∙ marked);
-}
-  where
-    stays : (k : ℕ) → get_or marks k false ≡ true → get_or more k false ≡ true
-    stays k marked = ap (λ (ms : List Bool). get_or ms k false) is ∙ set_stays marks place k marked
 
 -- then fewer are left
 pub left_fewer : (marks : List Bool) (place : ℕ) → place < length marks → get_or marks place false ≡ false → left_in marks ≡ suc (left_in (set marks place true))
@@ -236,7 +203,3 @@ is_counted script found marks many stuck of settled all c = record {
       leading script found of whole (λ place lt. settled.right.leads place (omega (arith, lt, settled.right.len)) (c.none none place (omega (arith, lt, settled.right.len, all))) whole)
       (length reached.picks) 0 reached.picks m of.ways.some (omega arith) (subst (λ (k : Moment). Follows script k reached.picks m) (sym of.ways.first) reached.follows);
 }
-
--- a way to a moment like a stuck one leads to a stuck one
-pub way_stuck : (script : Script) (found : Searched) (stuck : Stuck) (picks : List ℕ) → IsCounted script found stuck → 0 < stuck.count → IsLedTo script picks (get_or found.moments.moments stuck.first no_moment) → LeadsToStuck script picks
-way_stuck script found stuck picks counted some led = record { last = led.last; follows = led.follows; stuck = counted.some some led.last led.like }

@@ -110,13 +110,6 @@ next_like script m k t between alike next =
       });
     }
 
-pub none_like : (script : Script) (m k : Moment) (t : ℕ) → AreAlike script m k → next_moment script k t ≡ None → next_moment script m t ≡ None
-none_like script m k t alike none = go (next_moment script m t) refl
-  where
-    go : (o : Option Moment) → next_moment script m t ≡ o → next_moment script m t ≡ None
-    go None is = is
-    go (Some after) is = let n = next_like script m k t after alike is in absurd (let no : None ≡ Some n.other = sym none ∙ n.next in cc)
-
 -- a whole run
 pub record RunLike (script : Script) (k : Moment) (picks : List ℕ) (last : Moment) : Type 0 where
   pub end : Moment
