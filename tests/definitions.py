@@ -61,6 +61,8 @@ OTHERS = {
 ANSWERS = {"Answers", "Invariants", "Proof", "Measures", "Send", "Sync"}
 # What the prover computes by itself: worked examples of the definitions.
 EXAMPLES = {"octet_model.proofs.Examples", "octet_model.proofs.Executions", "octet_state.proofs.Examples"}
+# What a crate gives out for those above it, of which none takes it yet: the right to an object that a poll leaves.
+GIVEN_OUT = {"octet_stream.proofs.lemmas.Rights"}
 
 
 def without_comments(text):
@@ -379,7 +381,7 @@ def unread(known):
     lines = []
     taken = in_code.union(*(module.imports.values() for module in known.values()))
     for module in known.values():
-        if module.path.stem in ANSWERS or module.name in EXAMPLES:
+        if module.path.stem in ANSWERS or module.name in EXAMPLES | GIVEN_OUT:
             continue
         for name in module.items:
             if name != HEADS and (module.name, name) not in read:

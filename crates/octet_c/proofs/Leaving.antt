@@ -1,6 +1,9 @@
 -- What threads leave that were taken back.
 use Rattle.std.proofs.Common.{List, map, Some, refl, inl, inr}
+use Rattle.std.specs.Arc.{arc_value}
 use Rattle.std.specs.Prelude.{Any}
+use Rattle.octet_host.proofs.lemmas.Sealing.{all_of_any}
+use Rattle.octet_host.specs.Sealed.{ShareOne}
 use Rattle.octet_host.specs.declared.fault.CloseFault.{CloseFault}
 use Rattle.octet_host.specs.HandedBack.{IsAtWork, AreAsOne}
 use Rattle.octet_host_long.specs.declared.following.ClosedAgain.{ClosedAgain}
@@ -8,12 +11,15 @@ use Rattle.octet_host_long.specs.declared.recorded.LongRecorded.{LongRecorded}
 use Rattle.octet_host_long.specs.declared.repeated.LongRepeated.{LongRepeated}
 use Rattle.octet_host_long.specs.Closed.{IsClosedRecording, IsClosedAgain}
 use Rattle.octet_host_long.specs.HandedBack as long
+use Rattle.octet_host_long.specs.Theirs.{RecordsThreads, RepeatsThreads}
 use Rattle.octet_host_long.specs.Threads as of
 use Rattle.octet_host_script.specs.declared.kept.Kept.{Kept}
 use Rattle.octet_host_script.specs.declared.recorded.Recorded.{Recorded}
+use Rattle.octet_host_script.specs.declared.repeated.Course.{Course}
 use Rattle.octet_host_script.specs.declared.repeated.Repeated.{Repeated}
 use Rattle.octet_host_script.specs.HandedBack as script
 use Rattle.octet_host_script.specs.Records.{KeepsRecording, RepeatsRecording}
+use Rattle.octet_host_script.specs.Theirs.{KeepsThreads}
 use Rattle.octet_host_script.specs.Threads.{recorder_of, course_of}
 use Rattle.octet_c.specs.declared.held.Held.TheVariants as held
 use Rattle.octet_c.specs.declared.kept.Values.{Values}
@@ -25,10 +31,11 @@ use Rattle.octet_c.proofs.Ended.{any_map, run_behind, refused_behind}
 
 module _ (threads : List Recorded) where
   -- the record of recorded threads, behind handles
-  pub closes_recorded : (kept : Kept) → AreAsOne script.IsRecordedAs threads → Any (λ it. KeepsRecording (recorder_of it) kept) threads → Closes (map (λ it. Some (held.Recorded it)) threads) (Some (held.Kept kept))
-  closes_recorded kept one keeps = record {
+  pub closes_recorded : (kept : Kept) → AreAsOne script.IsRecordedAs threads → Any (λ it. KeepsRecording (recorder_of it) kept) threads → (ShareOne (λ it. arc_value it.heap) threads → KeepsThreads threads kept) → Closes (map (λ it. Some (held.Recorded it)) threads) (Some (held.Kept kept))
+  closes_recorded kept one keeps theirs = record {
     one_run = run_behind (λ it. held.Recorded it) kinds.Recorded script.IsRecordedAs (λ it. refl) (λ n m it is. is) threads one;
     of = any_map (λ it. Some (held.Recorded it)) (λ s. IsRecordOf s (Some (held.Kept kept))) threads keeps;
+    theirs = inl (threads, refl, theirs);
   }
 
   -- it is a good one
@@ -47,6 +54,12 @@ module _ (threads : List Repeated) where
   closes_repeated kept one repeats = record {
     one_run = run_behind (λ it. held.Repeated it) kinds.Repeated script.IsRepeatedAs (λ it. refl) (λ n m it is. is) threads one;
     of = any_map (λ it. Some (held.Repeated it)) (λ s. IsRecordOf s (Some (held.Kept kept))) threads repeats;
+    theirs = inr (
+      threads,
+      refl,
+      λ share.
+          all_of_any (λ it. course_of it) (λ (course : Course). RepeatsRecording course kept) threads repeats share,
+    );
   }
 
   pub good_repeated : (kept : Kept) → Any (λ it. RepeatsRecording (course_of it) kept) threads → IsGood kept
@@ -59,10 +72,11 @@ module _ (threads : List Repeated) where
 
 module _ (threads : List LongRecorded) where
   -- likewise of recorded threads of a run of any length
-  pub closes_long : (kept : Values) → AreAsOne long.IsRecordedAs threads → Any (λ it. IsClosedRecording (of.run_of it) kept.values) threads → Closes (map (λ it. Some (held.LongRecorded it)) threads) (Some (held.Values kept))
-  closes_long kept one closed = record {
+  pub closes_long : (kept : Values) → AreAsOne long.IsRecordedAs threads → Any (λ it. IsClosedRecording (of.run_of it) kept.values) threads → (ShareOne (λ it. arc_value it.heap) threads → RecordsThreads threads kept.values) → Closes (map (λ it. Some (held.LongRecorded it)) threads) (Some (held.Values kept))
+  closes_long kept one closed theirs = record {
     one_run = run_behind (λ it. held.LongRecorded it) kinds.LongRecorded long.IsRecordedAs (λ it. refl) (λ n m it is. is) threads one;
     of = any_map (λ it. Some (held.LongRecorded it)) (λ s. IsRecordOf s (Some (held.Values kept))) threads closed;
+    theirs = (threads, refl, theirs);
   }
 
   pub good_long : (kept : Values) → Any (λ it. IsClosedRecording (of.run_of it) kept.values) threads → AreGood kept
@@ -75,10 +89,11 @@ module _ (threads : List LongRecorded) where
 
 module _ (threads : List LongRepeated) where
   -- likewise of threads of such a run that is made again
-  pub closes_again : (kept : ClosedAgain) → AreAsOne long.IsRepeatedAs threads → Any (λ it. IsClosedAgain (of.course_of it) kept) threads → Closes (map (λ it. Some (held.LongRepeated it)) threads) (Some (held.Again kept))
-  closes_again kept one closed = record {
+  pub closes_again : (kept : ClosedAgain) → AreAsOne long.IsRepeatedAs threads → Any (λ it. IsClosedAgain (of.course_of it) kept) threads → (ShareOne (λ it. arc_value it.course) threads → RepeatsThreads threads kept) → Closes (map (λ it. Some (held.LongRepeated it)) threads) (Some (held.Again kept))
+  closes_again kept one closed theirs = record {
     one_run = run_behind (λ it. held.LongRepeated it) kinds.LongRepeated long.IsRepeatedAs (λ it. refl) (λ n m it is. is) threads one;
     of = any_map (λ it. Some (held.LongRepeated it)) (λ s. IsRecordOf s (Some (held.Again kept))) threads closed;
+    theirs = (threads, refl, theirs);
   }
 
   pub good_again : (kept : ClosedAgain) → Any (λ it. IsClosedAgain (of.course_of it) kept) threads → IsLeftOf kept

@@ -1,12 +1,20 @@
 -- What a clause says of sessions whose run is ended.
-use Rattle.std.specs.Prelude.{◌≡◌, ℕ, ℤ, Any, List, [], ◌∷◌, Option, Some, None}
+use Rattle.std.specs.Prelude.{◌≡◌, ◌⊎◌, ℕ, ℤ, All, Any, List, [], ◌∷◌, map, Option, Some, None}
+use Rattle.std.specs.Arc.{arc_value}
 use Rattle.octet_host.specs.declared.fault.CloseFault.{CloseFault}
 use Rattle.octet_host.specs.HandedBack.{IsAtWork, Both, AreAsOne, HasCloseFault}
+use Rattle.octet_host.specs.Sealed.{ShareOne}
+use Rattle.octet_host_long.specs.declared.recorded.LongRecorded.{LongRecorded}
+use Rattle.octet_host_long.specs.declared.repeated.LongRepeated.{LongRepeated}
 use Rattle.octet_host_long.specs.Closed.{IsClosedRecording, IsClosedAgain}
 use Rattle.octet_host_long.specs.HandedBack as long
+use Rattle.octet_host_long.specs.Theirs.{RecordsThreads, RepeatsThreads}
 use Rattle.octet_host_long.specs.Threads as threads
+use Rattle.octet_host_script.specs.declared.recorded.Recorded.{Recorded}
+use Rattle.octet_host_script.specs.declared.repeated.Repeated.{Repeated}
 use Rattle.octet_host_script.specs.HandedBack.{IsRecordedAt, IsRecordedAmong, IsRepeatedAt, IsRepeatedAmong, LeavesSome, RecordsTooMany}
 use Rattle.octet_host_script.specs.Records.{KeepsRecording, RepeatsRecording}
+use Rattle.octet_host_script.specs.Theirs.{KeepsThreads}
 use Rattle.octet_host_script.specs.Threads.{recorder_of, course_of}
 use Rattle.octet_c.specs.declared.held.Held.{Held}
 use Rattle.octet_c.specs.declared.held.Held.TheVariants as held
@@ -106,7 +114,22 @@ IsRecordOf (Some (held.LongRecorded it)) (Some (held.Values kept)) = IsClosedRec
 IsRecordOf (Some (held.LongRepeated it)) (Some (held.Again again)) = IsClosedAgain (threads.course_of it) again
 IsRecordOf _ _ = ⊥
 
--- the sessions are as those of one run, and what is kept is of the run of one of them
+-- these threads are behind the handles, in order; and where they all share one run, as those do that one call gave, this is so
+abbrev pub AreBehind : {X S : Type 0} → (X → Held) → (X → S) → (List X → Type 0) → List (Option Held) → Type 0
+AreBehind {X = X} wrap share Said sessions = (them : List X) × (sessions ≡ map (λ it. Some (wrap it)) them) × (ShareOne share them → Said them)
+
+-- what is kept is the record of just the threads behind the handles: thread by thread, in order, of what each has made
+abbrev pub IsRecordOfThem : List (Option Held) → Option Held → Type 0
+IsRecordOfThem sessions (Some (held.Kept kept)) =
+    AreBehind (λ (it : Recorded). held.Recorded it) (λ it. arc_value it.heap) (λ them. KeepsThreads them kept) sessions
+    ⊎ AreBehind (λ (it : Repeated). held.Repeated it) course_of (All (λ it. RepeatsRecording (course_of it) kept)) sessions
+IsRecordOfThem sessions (Some (held.Values kept)) = AreBehind (λ (it : LongRecorded). held.LongRecorded it) (λ it. arc_value it.heap) (λ them. RecordsThreads them kept.values) sessions
+IsRecordOfThem sessions (Some (held.Again again)) = AreBehind (λ (it : LongRepeated). held.LongRepeated it) threads.course_of (λ them. RepeatsThreads them again) sessions
+IsRecordOfThem sessions _ = ⊥
+
+-- the sessions are as those of one run, and what is kept is of the run of one of them. Where they all share one run, it is the record
+-- of just them
 pub record Closes (sessions : List (Option Held)) (kept : Option Held) : Type 0 where
   pub one_run : AreOneRun sessions
   pub of : Any (λ session. IsRecordOf session kept) sessions
+  pub theirs : IsRecordOfThem sessions kept

@@ -1,3 +1,5 @@
+pub mod Noted
 pub mod Rows
-pub mod Values
+pub mod Sealing
 pub mod Taking
+pub mod Values

@@ -1,5 +1,6 @@
 //! What a thread does, whether it is recorded or run again. What a session asks of its callers is tested.
 ghost use Rattle.std.specs.Prelude.{◌≡◌, ◌<◌, Err, OnOk};
+ghost use Rattle.octet_recorder.specs.declared.access.Access.{Access as Wanted};
 ghost use Rattle.octet_session.specs.Asking.{object_of, MayAsk};
 ghost use Rattle.octet_host.specs.Calls.{Does, Goes, BeginsNext, IsNoRest, IsNotIdle, made_of, stage_asked, IsOfAsking, AsksOn, Accesses, GoesOn, Ends};
 ghost use Rattle.octet_host.specs.Stages.{StandsAt};
@@ -126,6 +127,7 @@ fn ask<S: Session>(
     ensures own { S.IsThreadOf session.now thread.new }
     ensures stands { StandsAt (S.Runs thread.new) (S.Rests thread.new) (S.HasEnded session.now thread.new) (S.objects session.now) stage.new (S.standing session.now thread.new) }
     ensures asks { AsksOn (λ asked. S.IsReason session.now asked thread.old thread.new) wanted (S.standing session.now thread.old) result stage.new (S.standing session.now thread.new) }
+    ensures made { OnOk (made_of result) (S.HasMade session.now wanted thread.old thread.new) }
 {
     match session.ask(thread, wanted) {
         Ok(value) => {
@@ -186,6 +188,7 @@ pub fn poll<S: Session>(session: &S, thread: &mut S::Thread, stage: &mut Stage) 
     ensures own { S.IsThreadOf session.now thread.new }
     ensures stands { StandsAt (S.Runs thread.new) (S.Rests thread.new) (S.HasEnded session.now thread.new) (S.objects session.now) stage.new (S.standing session.now thread.new) }
     ensures goes_on { GoesOn (λ asked. S.IsReason session.now asked thread.old thread.new) stage.old (S.standing session.now thread.old) result stage.new (S.standing session.now thread.new) }
+    ensures made { (wanted : Wanted) → stage.old ≡ at.Begun wanted → OnOk (made_of result) (S.HasMade session.now wanted thread.old thread.new) }
 {
     let Stage::Begun { wanted: begun } = *stage else {
         return Answer::Refused {

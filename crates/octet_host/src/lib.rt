@@ -10,6 +10,7 @@ mod fault;
 mod handing_in;
 mod loose;
 mod misuse;
+mod sealing;
 mod stage;
 
 pub use answer::Answer;
@@ -19,4 +20,5 @@ pub use fault::CloseFault;
 pub use handing_in::{HandIn, hand_in_all};
 pub use loose::Loose;
 pub use misuse::Misuse;
+pub use sealing::{agree, seal, seals};
 pub use stage::Stage;

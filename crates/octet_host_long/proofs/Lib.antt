@@ -1,3 +1,4 @@
 pub mod Beginning
+pub mod Leaving
 pub mod Making
 pub mod Passing

@@ -5,3 +5,4 @@ pub mod Opened
 pub mod Closed
 pub mod HandedBack
 pub mod Cutting
+pub mod Theirs

@@ -1,5 +1,6 @@
 -- What a clause says of a run of any length at its beginning.
 use Rattle.std.specs.Prelude.{◌≡◌, ℕ, ◌<◌, List, [], length, slice_index_or}
+use Rattle.std.specs.Arc.{arc_value}
 use Rattle.sha2.specs.Sha256.{sha256}
 use Rattle.rtrb.specs.Ring.{sent, received}
 use Rattle.octet_follow.specs.Calls.{starts_in, followers_in}
@@ -12,6 +13,7 @@ use Rattle.octet_stream.specs.declared.long_rerun.LongRerun.{LongRerun}
 use Rattle.octet_stream.specs.Followers.{IsFedAt}
 use Rattle.octet_stream.specs.Runs.{IsNew}
 use Rattle.octet_host.specs.declared.stage.Stage.TheVariants.{Resting}
+use Rattle.octet_host.specs.Sealed.{ShareOne}
 use Rattle.octet_host_long.specs.declared.inlet.Inlet.{Inlet}
 use Rattle.octet_host_long.specs.declared.outlet.Outlet.{Outlet}
 use Rattle.octet_host_long.specs.declared.recorded.LongRecorded.{LongRecorded}
@@ -44,6 +46,7 @@ pub record Opens (threads : ℕ) (starts : List ℕ) (sessions : List LongRecord
   pub streams_count : length streams ≡ threads
   pub each : (thread : ℕ) (none : LongRecorded) (nobody : Outlet) → thread < length sessions
       → IsOpened run (length starts) thread (slice_index_or sessions thread none) (slice_index_or streams thread nobody)
+  pub share : ShareOne (λ it. arc_value it.heap) sessions
 
 -- what the marks file of a run begins with: the digest of the declared bytes
 abbrev pub head_with : ℕ → List ℕ → List ℕ → Head
@@ -79,3 +82,4 @@ pub record Follows (threads : ℕ) (starts declared : List ℕ) (last : ℕ) (se
   pub streams_count : length streams ≡ threads
   pub each : (thread : ℕ) (none : LongRepeated) (nobody : Inlet) → thread < length sessions
       → IsFollowing rerun (head_with threads starts declared) last thread (slice_index_or sessions thread none) (slice_index_or streams thread nobody)
+  pub share : ShareOne course_of sessions

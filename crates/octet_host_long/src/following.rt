@@ -9,16 +9,21 @@ ghost use Rattle.octet_stream.specs.Followers.{EachOf};
 ghost use Rattle.octet_tail.specs.Tails.{IsTail};
 ghost use Rattle.octet_host.specs.declared.fault.CloseFault.TheVariants.{OutOfMemory as MemoryRefused, TwoRuns as OfTwoRuns};
 ghost use Rattle.octet_host.specs.HandedBack.{AreAsOne};
+ghost use Rattle.octet_host.specs.Sealed.{IsSealed, AreFound, ShareOne};
 ghost use Rattle.octet_host_long.specs.Closed.{HaveMade, IsClosedAgain};
 ghost use Rattle.octet_host_long.specs.HandedBack.{IsRepeatedAt, IsRepeatedAmong, IsRepeatedAs, RefusesRepeated};
 ghost use Rattle.octet_host_long.specs.Opened.{head_with, IsSeatAgain, IsInlet, Follows};
 ghost use Rattle.octet_host_long.specs.Tailed.{HasRoom, IsTailedOf};
+ghost use Rattle.octet_host_long.specs.Theirs.{RepeatsThreads};
 ghost use Rattle.octet_host_long.specs.Threads.{course_of, IsLongRepeated};
 
 use crate::inlet::Inlet;
 use crate::opening::ROOM;
-use crate::repeated::{Follower, LeftFollower, LongCourse, LongRepeated, Place};
-use octet_host::{CloseFault, HandIn, Left, Stage, hand_in_all, lay, places};
+use crate::repeated::{
+    Follower, FollowerNote, LeftFollower, LongCourse, LongRepeated, NotedFollower, Place,
+    SealedFollower, SealedRerun,
+};
+use octet_host::{CloseFault, HandIn, Left, Stage, agree, hand_in_all, lay, places, seal, seals};
 use octet_log::digest;
 use octet_marks::Head;
 use octet_model::{List, OutOfMemory};
@@ -39,9 +44,19 @@ fn shared(
     ensures rerun { IfOk result (λ course. (arc_value course).rerun.session ≡ rerun) }
     ensures last { IfOk result (λ course. (arc_value course).last ≡ last) }
 {
-    let desk = places(alloc, threads, &rerun)?;
-    let rerun = Tailed { session: rerun };
-    match Arc::new(alloc, LongCourse { rerun, last, desk }) {
+    let sealed = SealedRerun {
+        rerun: Tailed { session: rerun },
+        seals: seals(alloc, threads)?,
+    };
+    let desk = places(alloc, threads, &sealed)?;
+    let SealedRerun { rerun, seals } = sealed;
+    let course = LongCourse {
+        rerun,
+        last,
+        seals,
+        desk,
+    };
+    match Arc::new(alloc, course) {
         Ok(course) => Ok(course),
         Err(_) => Err(OutOfMemory),
     }
@@ -67,6 +82,7 @@ fn seat(
 ) -> Result<LongRepeated, OutOfMemory>
     ensures seat { IfOk result (IsSeatAgain (arc_value course.now).rerun.session objects (arc_value course.now).last) }
     ensures thread { IfOk result (λ it. it.thread.thread ≡ thread) }
+    ensures share { IfOk result (λ it. arc_value it.course ≡ arc_value course.now) }
 {
     let tail = tail_of(alloc, course.last)?;
     Ok(LongRepeated {
@@ -86,6 +102,7 @@ fn seat_all(
 ) -> Result<Vec<LongRepeated>, OutOfMemory>
     ensures seats { IfOk result (λ threads. All (IsSeatAgain (arc_value course.now).rerun.session objects (arc_value course.now).last) threads.items) }
     ensures followers { IfOk result (λ threads. map (λ it. it.thread.thread) threads.items ≡ followers.items) }
+    ensures share { IfOk result (λ threads. All (λ it. arc_value it.course ≡ arc_value course.now) threads.items) }
 {
     let mut threads = Vec::new(alloc);
     for follower in followers {
@@ -167,8 +184,9 @@ pub fn follow(
 
 impl LongCourse {
     // Lays a follower down, if its place is there and free.
-    fn lay(&self, number: usize, left: Left<Follower>)
-        requires { IsTailedOf self.now.rerun.session left.loose.value }
+    fn lay(&self, number: usize, left: Left<NotedFollower>)
+        requires own { IsTailedOf self.now.rerun.session left.loose.value.follower }
+        requires sealed { IsSealed self.now.seals.items left.loose.value.follower.thread.follower.number left.loose.value.follower left.loose.value.note }
     {
         if let Some(place) = self.desk.get(number) {
             lay(place, LeftFollower { left });
@@ -178,6 +196,8 @@ impl LongCourse {
 
 impl HandIn for LongRepeated {
     type Shared = LongCourse;
+
+    type Note = FollowerNote;
 
     ghost IsGood = { IsLongRepeated };
 
@@ -193,12 +213,14 @@ impl HandIn for LongRepeated {
 
     ghost IsTooLong = { λ _. ⊥ };
 
+    ghost IsNoted = { λ number it note. IsSealed (arc_value it.course).seals.items number it.thread note };
+
     fn hand_in(
         self,
         alloc: Global,
         number: usize,
         threads: usize,
-    ) -> Result<Option<LongCourse>, CloseFault> {
+    ) -> Result<(Option<LongCourse>, FollowerNote), CloseFault> {
         let LongRepeated {
             course,
             thread,
@@ -214,31 +236,50 @@ impl HandIn for LongRepeated {
         if thread.thread.thread() as usize != number {
             return Err(CloseFault::OutOfOrder);
         }
-        let left = Left::new(alloc, thread)?;
+        let mut note = seal(
+            alloc,
+            course.seals.as_slice(),
+            number,
+            SealedFollower,
+            &thread,
+        )?;
+        let noted = NotedFollower {
+            follower: thread,
+            note: note.again(),
+        };
+        let left = Left::new(alloc, noted)?;
         course.lay(number, left);
-        Ok(Arc::into_inner(course))
+        Ok((Arc::into_inner(course), note))
     }
 }
 
-// What the threads of a run leave on its desk, in order, and what each has made.
+// What the threads of a run leave on its desk, in order, and what each has made: those of which these are the notes.
 fn followers_on(
     alloc: Global,
-    rerun: &LongRerun,
+    sealed: &SealedRerun,
     desk: Vec<Place>,
+    notes: Vec<FollowerNote>,
 ) -> Result<(List<LongFollower>, List<Made>), CloseFault>
-    requires tags { All (λ tag. tag ≡ rerun.now) desk.items }
+    requires tags { All (λ tag. tag ≡ sealed.now) desk.items }
     ensures all { IfOk result (λ left. length left.0 ≡ length desk.items) }
-    ensures each { IfOk result (λ left. EachOf rerun.now left.0) }
+    ensures each { IfOk result (λ left. EachOf sealed.now.rerun.session left.0) }
     ensures made { IfOk result (λ left. HaveMade left.0 left.1) }
+    ensures found { IfOk result (λ left. AreFound (λ it. it.thread) sealed.now.seals.items notes.items left.0) }
     ensures refused { IfErr result (λ fault. (fault ≡ MemoryRefused) ⊎ (fault ≡ OfTwoRuns)) }
 {
     let mut followers = List::new(alloc);
     let mut made = List::new(alloc);
+    let mut noted = notes.into_iter();
     for place in desk {
         let Some(left) = place.into_inner() else {
             return Err(CloseFault::TwoRuns);
         };
-        let Follower { thread, tail } = left.left.into_inner();
+        let Some(mut mine) = noted.next() else {
+            return Err(CloseFault::TwoRuns);
+        };
+        let NotedFollower { follower, mut note } = left.left.into_inner();
+        agree(&mut mine, &mut note);
+        let Follower { thread, tail } = follower;
         if thread.thread() as usize != followers.len() {
             return Err(CloseFault::TwoRuns);
         }
@@ -276,11 +317,19 @@ pub fn close_repeated(alloc: Global, threads: Vec<LongRepeated>) -> Result<Close
     requires { All IsLongRepeated threads.items }
     ensures as_one { OnOk result (AreAsOne IsRepeatedAs threads.items) }
     ensures closed { IfOk result (λ again. Any (λ it. IsClosedAgain (course_of it) again) threads.items) }
+    ensures theirs { IfOk result (λ again. ShareOne (λ it. arc_value it.course) threads.items → RepeatsThreads threads.items again) }
     ensures refused { IfErr result (RefusesRepeated threads.items) }
 {
-    let LongCourse { rerun, last, desk } = hand_in_all(alloc, threads)?;
-    let Tailed { session } = rerun;
-    let (followers, made) = followers_on(alloc, &session, desk)?;
+    let (course, notes) = hand_in_all(alloc, threads)?;
+    let LongCourse {
+        rerun,
+        last,
+        seals,
+        desk,
+    } = course;
+    let sealed = SealedRerun { rerun, seals };
+    let (followers, made) = followers_on(alloc, &sealed, desk, notes)?;
+    let Tailed { session } = sealed.rerun;
     let values = session.close(alloc, followers)?;
     Ok(ClosedAgain { values, made, last })
 }

@@ -9,8 +9,8 @@ ghost use Rattle.octet_host_long.specs.Opened.{IsSeat, IsOutlet, Opens};
 ghost use Rattle.octet_host_long.specs.Threads.{IsLongRecorded};
 
 use crate::outlet::Outlet;
-use crate::recorded::{CACHE_PADDING, LongHeap, LongRecorded};
-use octet_host::{Stage, places};
+use crate::recorded::{CACHE_PADDING, LongHeap, LongRecorded, SealedRun};
+use octet_host::{Stage, places, seals};
 use octet_model::{List, OutOfMemory};
 use octet_stream::{LongRun, Receiver, Room, Track};
 use std::alloc::Global;
@@ -28,8 +28,13 @@ fn shared(alloc: Global, run: LongRun, threads: usize) -> Result<Arc<LongHeap, G
     requires { threads ≡ (heap_model run.heap).threads }
     ensures { IfOk result (λ heap. (arc_value heap).run ≡ run) }
 {
-    let desk = places(alloc, threads, &run)?;
-    match Arc::new(alloc, LongHeap { run, desk }) {
+    let sealed = SealedRun {
+        run,
+        seals: seals(alloc, threads)?,
+    };
+    let desk = places(alloc, threads, &sealed)?;
+    let SealedRun { run, seals } = sealed;
+    match Arc::new(alloc, LongHeap { run, seals, desk }) {
         Ok(heap) => Ok(heap),
         Err(_) => Err(OutOfMemory),
     }
@@ -43,6 +48,7 @@ fn seat(
 ) -> Result<LongRecorded, OutOfMemory>
     ensures seat { IfOk result (IsSeat (arc_value heap.now).run objects) }
     ensures track { IfOk result (λ it. it.track ≡ track) }
+    ensures share { IfOk result (λ it. arc_value it.heap ≡ arc_value heap.now) }
 {
     Ok(LongRecorded {
         heap: Arc::try_clone(heap)?,
@@ -62,6 +68,7 @@ fn seat_all(
 ) -> Result<Vec<LongRecorded>, OutOfMemory>
     ensures seats { IfOk result (λ threads. All (IsSeat (arc_value heap.now).run objects) threads.items) }
     ensures tracks { IfOk result (λ threads. map (λ it. it.track) threads.items ≡ tracks.items) }
+    ensures share { IfOk result (λ threads. All (λ it. arc_value it.heap ≡ arc_value heap.now) threads.items) }
 {
     let mut threads = Vec::new(alloc);
     for track in tracks {

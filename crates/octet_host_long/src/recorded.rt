@@ -2,29 +2,58 @@
 ghost use Rattle.std.specs.Prelude.{◌≡◌, All, length, OnOk};
 ghost use Rattle.octet_heap.specs.Markers.{Rests};
 ghost use Rattle.octet_heap.specs.Models.{heap_model};
-ghost use Rattle.octet_stream.specs.Tracks.{IsTrackOf};
+ghost use Rattle.octet_stream.specs.Tracks.{number_of, IsTrackOf};
+ghost use Rattle.octet_host.specs.Sealed.{IsSealed};
 
 use counted_slot::{Counted, Fits};
 use octet_host::{Answer, Left, Misuse, Stage, calls};
 use octet_session::Access;
 use octet_stream::{Full, LongRun, Track};
+use once_cell::race::{Note, OnceBox};
 use std::alloc::Global;
 use std::sync::Arc;
 
 /// How many words lie between what two threads write: two cache lines.
 pub(crate) const CACHE_PADDING: usize = 16;
 
-/// The track that a thread leaves.
+/// What is under the seal of a thread: which track it has left.
 #[derive(Drop)]
-pub(crate) struct LeftTrack {
-    pub(crate) left: Left<Track>,
+pub struct SealedTrack;
+
+impl Fits for SealedTrack {
+    type Tag = Track;
+
+    ghost fits = { λ _ _. Unit {0} };
 }
 
-// What lies on the desk of a run is a track of it, off or blocked.
-impl Fits for LeftTrack {
-    type Tag = LongRun;
+/// A note of what is under a seal.
+pub type TrackNote = Note<Counted<SealedTrack>>;
 
-    ghost fits = { λ run it. IsTrackOf run it.left.loose.value × Rests it.left.loose.value.marker };
+/// The seals of a run's threads, in order.
+#[derive(Drop)]
+pub(crate) struct SealedRun {
+    pub(crate) run: LongRun,
+    pub(crate) seals: Vec<OnceBox<Counted<SealedTrack>>>,
+}
+
+/// The track that a thread leaves, and the note of it.
+#[derive(Drop)]
+pub(crate) struct NotedTrack {
+    pub(crate) track: Track,
+    pub(crate) note: TrackNote,
+}
+
+/// The same where other threads do not see it.
+#[derive(Drop)]
+pub(crate) struct LeftTrack {
+    pub(crate) left: Left<NotedTrack>,
+}
+
+// What lies on the desk of a run is a track of it, off or blocked, which is the one under the seal of its thread.
+impl Fits for LeftTrack {
+    type Tag = SealedRun;
+
+    ghost fits = { λ sealed it. IsTrackOf sealed.run it.left.loose.value.track × Rests it.left.loose.value.track.marker × IsSealed sealed.seals.items (number_of it.left.loose.value.track) it.left.loose.value.track it.left.loose.value.note };
 }
 
 /// Where a thread lays its track once its session is handed back.
@@ -34,10 +63,13 @@ pub(crate) type Place = Counted<Option<LeftTrack>>;
 #[derive(Drop)]
 pub struct LongHeap {
     pub(crate) run: LongRun,
+    // A seal for each thread.
+    pub(crate) seals: Vec<OnceBox<Counted<SealedTrack>>>,
     // A place for each thread.
     pub(crate) desk: Vec<Place>,
-    ghost tags: { All (λ tag. tag ≡ run) desk.items },
+    ghost tags: { All (λ tag. tag ≡ record { run = run; seals = seals }) desk.items },
     ghost places: { length desk.items ≡ (heap_model run.heap).threads },
+    ghost sealed: { length seals.items ≡ (heap_model run.heap).threads },
 }
 
 /// A thread that is recorded.

@@ -1,6 +1,7 @@
 //! A thread of a run of any length that is made again.
 ghost use Rattle.std.specs.Prelude.{◌≡◌, All, length};
 ghost use Rattle.octet_follow.specs.Calls.{followers_in};
+ghost use Rattle.octet_host.specs.Sealed.{IsSealed};
 ghost use Rattle.octet_host_long.specs.Tailed.{IsTailedOf};
 
 use counted_slot::{Counted, Fits};
@@ -8,23 +9,51 @@ use octet_host::{Answer, Left, Misuse, Stage, calls};
 use octet_session::Access;
 use octet_stream::{Halt, LongFollower, LongRerun};
 use octet_tail::{Tailed, TailedThread};
+use once_cell::race::{Note, OnceBox};
 use std::alloc::Global;
 use std::sync::Arc;
 
 /// What drives a thread: its follower, with its last accesses, if they are noted.
-pub(crate) type Follower = TailedThread<LongFollower>;
+pub type Follower = TailedThread<LongFollower>;
 
-/// The follower that a thread leaves.
+/// What is under the seal of a thread: which follower it has left.
 #[derive(Drop)]
-pub(crate) struct LeftFollower {
-    pub(crate) left: Left<Follower>,
+pub struct SealedFollower;
+
+impl Fits for SealedFollower {
+    type Tag = Follower;
+
+    ghost fits = { λ _ _. Unit {0} };
 }
 
-// What lies on the desk of a run is a follower of it.
-impl Fits for LeftFollower {
-    type Tag = LongRerun;
+/// A note of what is under a seal.
+pub type FollowerNote = Note<Counted<SealedFollower>>;
 
-    ghost fits = { λ rerun it. IsTailedOf rerun it.left.loose.value };
+/// The seals of a run's threads, in order.
+#[derive(Drop)]
+pub(crate) struct SealedRerun {
+    pub(crate) rerun: Tailed<LongRerun>,
+    pub(crate) seals: Vec<OnceBox<Counted<SealedFollower>>>,
+}
+
+/// The follower that a thread leaves, and the note of it.
+#[derive(Drop)]
+pub(crate) struct NotedFollower {
+    pub(crate) follower: Follower,
+    pub(crate) note: FollowerNote,
+}
+
+/// The same where other threads do not see it.
+#[derive(Drop)]
+pub(crate) struct LeftFollower {
+    pub(crate) left: Left<NotedFollower>,
+}
+
+// What lies on the desk of a run is a follower of it, which is the one under the seal of its thread.
+impl Fits for LeftFollower {
+    type Tag = SealedRerun;
+
+    ghost fits = { λ sealed it. IsTailedOf sealed.rerun.session it.left.loose.value.follower × IsSealed sealed.seals.items it.left.loose.value.follower.thread.follower.number it.left.loose.value.follower it.left.loose.value.note };
 }
 
 /// Where a thread lays its follower once its session is handed back.
@@ -36,10 +65,13 @@ pub struct LongCourse {
     pub(crate) rerun: Tailed<LongRerun>,
     // How many last accesses each of them notes.
     pub(crate) last: u16,
+    // A seal for each thread.
+    pub(crate) seals: Vec<OnceBox<Counted<SealedFollower>>>,
     // A place for each thread.
     pub(crate) desk: Vec<Place>,
-    ghost tags: { All (λ tag. tag ≡ rerun.session) desk.items },
+    ghost tags: { All (λ tag. tag ≡ record { rerun = rerun; seals = seals }) desk.items },
     ghost places: { length desk.items ≡ followers_in rerun.session.course },
+    ghost sealed: { length seals.items ≡ followers_in rerun.session.course },
 }
 
 /// A thread that is made again.

@@ -5,3 +5,4 @@ pub mod Records
 pub mod Threads
 pub mod Opened
 pub mod HandedBack
+pub mod Theirs

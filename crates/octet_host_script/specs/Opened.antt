@@ -1,5 +1,6 @@
 -- What a clause says of threads at the beginning of a run.
 use Rattle.std.specs.Prelude.{◌≡◌, ℕ, ◌<◌, false, List, [], length, Some, None, slice_index_or}
+use Rattle.std.specs.Arc.{arc_value}
 use Rattle.octet_parallel.specs.Calls.{script_in, log_in}
 use Rattle.octet_recorder.specs.declared.recorder.Recorder.{Recorder}
 use Rattle.octet_recorder.specs.Tracks.{lines_in, threads_in}
@@ -9,10 +10,11 @@ use Rattle.octet_session.specs.Again.{second_standing}
 use Rattle.octet_session.specs.Recording.{track_standing}
 use Rattle.octet_session.specs.Standing.{Standing}
 use Rattle.octet_host.specs.declared.stage.Stage.TheVariants.{Resting}
+use Rattle.octet_host.specs.Sealed.{ShareOne}
 use Rattle.octet_host_script.specs.declared.recorded.Recorded.{Recorded}
 use Rattle.octet_host_script.specs.declared.repeated.Repeated.{Repeated}
 use Rattle.octet_host_script.specs.Spelled.{IsSpelled}
-use Rattle.octet_host_script.specs.Threads.{recorder_of, rerun_of}
+use Rattle.octet_host_script.specs.Threads.{recorder_of, course_of, rerun_of}
 
 -- the thread of this number has made nothing, and may have so many lines in its recording
 pub record IsFirst (thread lines : ℕ) (v : Standing) : Type 0 where
@@ -48,6 +50,7 @@ pub record Opens (text : List ℕ) (threads : List Recorded) : Type 0 where
   pub spelled : Spells text recorder.opening
   pub count : length threads ≡ threads_in recorder
   pub each : EachFirst recorder threads
+  pub share : ShareOne (λ it. arc_value it.heap) threads
 
 -- the threads of a second run by the script and the log that the bytes spell, in order
 pub record Follows (text bytes : List ℕ) (threads : List Repeated) : Type 0 where
@@ -55,3 +58,4 @@ pub record Follows (text bytes : List ℕ) (threads : List Repeated) : Type 0 wh
   pub spelled : IsSpelled text bytes (script_in rerun.field) (log_in rerun.field).threads
   pub count : length threads ≡ length (log_in rerun.field).threads
   pub each : EachFirstAgain rerun threads
+  pub share : ShareOne course_of threads

@@ -3,29 +3,34 @@ ghost use Rattle.std.specs.Prelude.{◌≡◌, ◌<◌, ◌≤◌, ◌⊎◌, Al
 ghost use Rattle.std.specs.Arc.{arc_value};
 ghost use Rattle.octet_model.specs.Orders.{IsFaithful};
 ghost use Rattle.octet_log.specs.v2.Pieces.{marks_in};
-ghost use Rattle.octet_recorder.specs.Tracks.{EachRests, IsTrackOf};
+ghost use Rattle.octet_recorder.specs.Tracks.{number_of, EachRests, IsTrackOf};
 ghost use Rattle.octet_host.specs.declared.fault.CloseFault.TheVariants.{OutOfMemory as MemoryRefused, TwoRuns as OfTwoRuns};
 ghost use Rattle.octet_host.specs.HandedBack.{AreAsOne};
+ghost use Rattle.octet_host.specs.Sealed.{IsSealed, AreFound, ShareOne};
 ghost use Rattle.octet_session.specs.Recording.{TrackRests};
 ghost use Rattle.octet_host_script.specs.HandedBack.{IsRecordedAt, IsRecordedAmong, IsRecordedAs, RecordsTooMany, RefusesToKeep, RefusesRecorded};
 ghost use Rattle.octet_host_script.specs.Records.{Keeps, KeepsRecording};
+ghost use Rattle.octet_host_script.specs.Theirs.{KeepsThreads};
 ghost use Rattle.octet_host_script.specs.Threads.{recorder_of, IsRecorded};
 
 use crate::kept::Kept;
-use crate::recorded::{Heap, LeftTrack, Place, Recorded};
-use octet_host::{CloseFault, HandIn, Left, Stage, hand_in_all, lay};
+use crate::recorded::{
+    Heap, LeftTrack, NotedTrack, Place, Recorded, SealedRun, SealedTrack, TrackNote,
+};
+use octet_host::{CloseFault, HandIn, Left, Stage, agree, hand_in_all, lay, seal};
 use octet_log::{MAX_MARKS, digest, encode_v2};
 use octet_model::{List, Outcome, ThreadLog};
-use octet_recorder::{Recorder, Recording, Track};
+use octet_recorder::{Recording, Track};
 use octet_script::print;
 use std::alloc::Global;
 use std::sync::Arc;
 
 impl Heap {
     // Lays a track down, if its place is there and free.
-    fn lay(&self, number: usize, left: Left<Track>)
-        requires own { IsTrackOf self.now.recorder left.loose.value }
-        requires rests { TrackRests left.loose.value }
+    fn lay(&self, number: usize, left: Left<NotedTrack>)
+        requires own { IsTrackOf self.now.recorder left.loose.value.track }
+        requires rests { TrackRests left.loose.value.track }
+        requires sealed { IsSealed self.now.seals.items (number_of left.loose.value.track) left.loose.value.track left.loose.value.note }
     {
         if let Some(place) = self.desk.get(number) {
             lay(place, LeftTrack { left });
@@ -35,6 +40,8 @@ impl Heap {
 
 impl HandIn for Recorded {
     type Shared = Heap;
+
+    type Note = TrackNote;
 
     ghost IsGood = { IsRecorded };
 
@@ -50,12 +57,14 @@ impl HandIn for Recorded {
 
     ghost IsTooLong = { λ it. RecordsTooMany (recorder_of it) };
 
+    ghost IsNoted = { λ number it note. IsSealed (arc_value it.heap).seals.items number it.track note };
+
     fn hand_in(
         self,
         alloc: Global,
         number: usize,
         threads: usize,
-    ) -> Result<Option<Heap>, CloseFault> {
+    ) -> Result<(Option<Heap>, TrackNote), CloseFault> {
         let Recorded {
             heap,
             track,
@@ -71,32 +80,44 @@ impl HandIn for Recorded {
         if track.thread() as usize != number {
             return Err(CloseFault::OutOfOrder);
         }
-        let left = Left::new(alloc, track)?;
+        let mut note = seal(alloc, heap.seals.as_slice(), number, SealedTrack, &track)?;
+        let noted = NotedTrack {
+            track,
+            note: note.again(),
+        };
+        let left = Left::new(alloc, noted)?;
         heap.lay(number, left);
-        Ok(Arc::into_inner(heap))
+        Ok((Arc::into_inner(heap), note))
     }
 }
 
-// The tracks that lie on a desk, in order.
+// The tracks that lie on the desk of a run, in order: those of which these are the notes.
 fn tracks_on(
     alloc: Global,
-    recorder: &Recorder,
+    run: &SealedRun,
     desk: Vec<Place>,
+    notes: Vec<TrackNote>,
 ) -> Result<List<Track>, CloseFault>
-    requires tags { All (λ tag. tag ≡ recorder.now) desk.items }
+    requires tags { All (λ tag. tag ≡ run.now) desk.items }
     ensures all { IfOk result (λ tracks. length tracks ≡ length desk.items) }
-    ensures rest { IfOk result (EachRests recorder.now) }
+    ensures rest { IfOk result (EachRests run.now.recorder) }
+    ensures found { IfOk result (AreFound (λ it. it) run.now.seals.items notes.items) }
     ensures refused { IfErr result (λ fault. (fault ≡ MemoryRefused) ⊎ (fault ≡ OfTwoRuns)) }
 {
     let mut tracks = List::new(alloc);
+    let mut noted = notes.into_iter();
     for place in desk {
         let Some(left) = place.into_inner() else {
             return Err(CloseFault::TwoRuns);
         };
-        let track = left.left.into_inner();
+        let Some(mut mine) = noted.next() else {
+            return Err(CloseFault::TwoRuns);
+        };
+        let NotedTrack { track, mut note } = left.left.into_inner();
         if track.thread() as usize != tracks.len() {
             return Err(CloseFault::TwoRuns);
         }
+        agree(&mut mine, &mut note);
         tracks.push(track)?;
     }
     Ok(tracks)
@@ -148,10 +169,17 @@ pub fn close_recorded(alloc: Global, threads: Vec<Recorded>) -> Result<Kept, Clo
     requires { All IsRecorded threads.items }
     ensures as_one { OnOk result (AreAsOne IsRecordedAs threads.items) }
     ensures keeps { IfOk result (λ kept. Any (λ it. KeepsRecording (recorder_of it) kept) threads.items) }
+    ensures theirs { IfOk result (λ kept. ShareOne (λ it. arc_value it.heap) threads.items → KeepsThreads threads.items kept) }
     ensures refused { IfErr result (RefusesRecorded threads.items) }
 {
-    let Heap { recorder, desk } = hand_in_all(alloc, threads)?;
-    let tracks = tracks_on(alloc, &recorder, desk)?;
-    let recording = recorder.close(alloc, tracks)?;
+    let (heap, notes) = hand_in_all(alloc, threads)?;
+    let Heap {
+        recorder,
+        seals,
+        desk,
+    } = heap;
+    let run = SealedRun { recorder, seals };
+    let tracks = tracks_on(alloc, &run, desk, notes)?;
+    let recording = run.recorder.close(alloc, tracks)?;
     kept_of(alloc, recording)
 }

@@ -90,6 +90,7 @@ fn seat(
     requires fuel { fuel ≡ (script_in (arc_value course.now).rerun.field).fuel }
     ensures good { IfOk result IsRepeated }
     ensures first { IfOk result (IsFirstAgain (arc_value course.now).rerun follower.thread) }
+    ensures share { IfOk result (λ it. arc_value it.course ≡ arc_value course.now) }
 {
     Ok(Repeated {
         course: Arc::try_clone(course)?,
@@ -113,6 +114,7 @@ fn seat_all(
     ensures count { IfOk result (λ threads. length threads.items ≡ length followers.items) }
     ensures good { IfOk result (λ threads. All IsRepeated threads.items) }
     ensures first { IfOk result (λ threads. EachFirstAgain (arc_value course.now).rerun threads.items) }
+    ensures share { IfOk result (λ threads. All (λ it. arc_value it.course ≡ arc_value course.now) threads.items) }
 {
     let mut threads = Vec::new(alloc);
     for follower in followers {
@@ -155,6 +157,9 @@ impl Course {
 impl HandIn for Repeated {
     type Shared = Course;
 
+    // What it leaves is what was recorded of it.
+    type Note = ();
+
     ghost IsGood = { IsRepeated };
 
     ghost stage = { λ it. it.stage };
@@ -169,12 +174,14 @@ impl HandIn for Repeated {
 
     ghost IsTooLong = { λ _. ⊥ };
 
+    ghost IsNoted = { λ _ _ _. Unit {0} };
+
     fn hand_in(
         self,
         alloc: Global,
         number: usize,
         threads: usize,
-    ) -> Result<Option<Course>, CloseFault> {
+    ) -> Result<(Option<Course>, ()), CloseFault> {
         let Repeated {
             course,
             thread,
@@ -196,7 +203,7 @@ impl HandIn for Repeated {
         }
         let left = Left::new(alloc, follower)?;
         course.lay(number, left);
-        Ok(Arc::into_inner(course))
+        Ok((Arc::into_inner(course), ()))
     }
 }
 
@@ -232,12 +239,13 @@ pub fn close_repeated(alloc: Global, threads: Vec<Repeated>) -> Result<Kept, Clo
     ensures repeats { IfOk result (λ kept. Any (λ it. RepeatsRecording (course_of it) kept) threads.items) }
     ensures refused { IfErr result (RefusesRepeated threads.items) }
 {
+    let (course, _) = hand_in_all(alloc, threads)?;
     let Course {
         rerun,
         script,
         log,
         desk,
-    } = hand_in_all(alloc, threads)?;
+    } = course;
     let followers = followers_on(alloc, &rerun, desk)?;
     let Outcome { heap, .. } = rerun.close(alloc, followers)?.outcome;
     Ok(Kept {

@@ -8,8 +8,8 @@ ghost use Rattle.octet_host_script.specs.Refusals.{RefusesToOpen};
 ghost use Rattle.octet_host_script.specs.Threads.{IsRecorded};
 
 use crate::fault::OpenFault;
-use crate::recorded::{CACHE_PADDING, Heap, Recorded};
-use octet_host::{Stage, places};
+use crate::recorded::{CACHE_PADDING, Heap, Recorded, SealedRun};
+use octet_host::{Stage, places, seals};
 use octet_model::{MAX_SCRIPT_FILE, OutOfMemory, Script};
 use octet_recorder::{Recorder, Track};
 use octet_script::parse;
@@ -33,8 +33,18 @@ fn shared(
     requires { threads ≡ threads_in recorder }
     ensures { IfOk result (λ heap. (arc_value heap).recorder ≡ recorder) }
 {
-    let desk = places(alloc, threads, &recorder)?;
-    match Arc::new(alloc, Heap { recorder, desk }) {
+    let run = SealedRun {
+        recorder,
+        seals: seals(alloc, threads)?,
+    };
+    let desk = places(alloc, threads, &run)?;
+    let SealedRun { recorder, seals } = run;
+    let heap = Heap {
+        recorder,
+        seals,
+        desk,
+    };
+    match Arc::new(alloc, heap) {
         Ok(heap) => Ok(heap),
         Err(_) => Err(OutOfMemory),
     }
@@ -48,6 +58,7 @@ fn seat(heap: &Arc<Heap, Global>, objects: u16, track: Track) -> Result<Recorded
     requires objects { objects ≡ objects_in (arc_value heap.now).recorder }
     ensures good { IfOk result IsRecorded }
     ensures first { IfOk result (IsFirstOf (arc_value heap.now).recorder (number_of track)) }
+    ensures share { IfOk result (λ it. arc_value it.heap ≡ arc_value heap.now) }
 {
     Ok(Recorded {
         heap: Arc::try_clone(heap)?,
@@ -70,6 +81,7 @@ fn seat_all(
     ensures count { IfOk result (λ threads. length threads.items ≡ length tracks.items) }
     ensures good { IfOk result (λ threads. All IsRecorded threads.items) }
     ensures first { IfOk result (λ threads. EachFirst (arc_value heap.now).recorder threads.items) }
+    ensures share { IfOk result (λ threads. All (λ it. arc_value it.heap ≡ arc_value heap.now) threads.items) }
 {
     let mut threads = Vec::new(alloc);
     for track in tracks {

@@ -1,12 +1,14 @@
 //! A thread that is recorded.
 ghost use Rattle.std.specs.Prelude.{◌≡◌, All, length, OnOk};
-ghost use Rattle.octet_recorder.specs.Tracks.{threads_in, IsTrackOf};
+ghost use Rattle.octet_recorder.specs.Tracks.{threads_in, number_of, IsTrackOf};
 ghost use Rattle.octet_session.specs.Recording.{TrackRests};
+ghost use Rattle.octet_host.specs.Sealed.{IsSealed};
 
 use counted_slot::{Counted, Fits};
 use octet_host::{Answer, Left, Misuse, Stage, calls};
 use octet_recorder::{Recorder, Track};
 use octet_session::Access;
+use once_cell::race::{Note, OnceBox};
 use std::alloc::Global;
 use std::convert::Infallible;
 use std::sync::Arc;
@@ -14,17 +16,44 @@ use std::sync::Arc;
 /// How many words lie between what two threads write: two cache lines.
 pub(crate) const CACHE_PADDING: usize = 16;
 
-/// The track that a thread leaves.
+/// What is under the seal of a thread: which track it has left.
 #[derive(Drop)]
-pub(crate) struct LeftTrack {
-    pub(crate) left: Left<Track>,
+pub struct SealedTrack;
+
+impl Fits for SealedTrack {
+    type Tag = Track;
+
+    ghost fits = { λ _ _. Unit {0} };
 }
 
-// What lies on the desk of a recorder is a track of it, off or blocked.
-impl Fits for LeftTrack {
-    type Tag = Recorder;
+/// A note of what is under a seal.
+pub type TrackNote = Note<Counted<SealedTrack>>;
 
-    ghost fits = { λ recorder it. IsTrackOf recorder it.left.loose.value × TrackRests it.left.loose.value };
+/// The seals of a recorder's threads, in order.
+#[derive(Drop)]
+pub(crate) struct SealedRun {
+    pub(crate) recorder: Recorder,
+    pub(crate) seals: Vec<OnceBox<Counted<SealedTrack>>>,
+}
+
+/// The track that a thread leaves, and the note of it.
+#[derive(Drop)]
+pub(crate) struct NotedTrack {
+    pub(crate) track: Track,
+    pub(crate) note: TrackNote,
+}
+
+/// The same where other threads do not see it.
+#[derive(Drop)]
+pub(crate) struct LeftTrack {
+    pub(crate) left: Left<NotedTrack>,
+}
+
+// What lies on the desk of a recorder is a track of it, off or blocked, which is the one under the seal of its thread.
+impl Fits for LeftTrack {
+    type Tag = SealedRun;
+
+    ghost fits = { λ run it. IsTrackOf run.recorder it.left.loose.value.track × TrackRests it.left.loose.value.track × IsSealed run.seals.items (number_of it.left.loose.value.track) it.left.loose.value.track it.left.loose.value.note };
 }
 
 /// Where a thread lays its track once its session is handed back.
@@ -34,10 +63,13 @@ pub(crate) type Place = Counted<Option<LeftTrack>>;
 #[derive(Drop)]
 pub struct Heap {
     pub(crate) recorder: Recorder,
+    // A seal for each thread.
+    pub(crate) seals: Vec<OnceBox<Counted<SealedTrack>>>,
     // A place for each thread.
     pub(crate) desk: Vec<Place>,
-    ghost tags: { All (λ tag. tag ≡ recorder) desk.items },
+    ghost tags: { All (λ tag. tag ≡ record { recorder = recorder; seals = seals }) desk.items },
     ghost places: { length desk.items ≡ threads_in recorder },
+    ghost sealed: { length seals.items ≡ threads_in recorder },
 }
 
 /// A thread that is recorded.

@@ -1,6 +1,8 @@
 pub mod Items
 pub mod Tracks
 pub mod Accesses
+pub mod Rights
+pub mod Next
 pub mod Runs
 pub mod Fed
 pub mod Followers

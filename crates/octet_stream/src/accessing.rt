@@ -117,6 +117,7 @@ fn read_on(run: &LongRun, track: &mut Track, begun: bool, object: u16) -> Answer
     ensures asks { Asks (want.Read object) (track_standing track.old) result (track_standing track.new) }
     ensures reason { IfErr result (IsMarkerReason (want.Read object) track.old track.new) }
     ensures made { OnOk result (PollsReady (want.Read object) (marker_seat track.old.marker) (marker_seat track.new.marker)) }
+    ensures same { IsSameBuffer track.old.marker track.new.marker }
 {
     match access_on(&run.heap, &mut track.marker, begun, object, Mode::Read, 0) {
         Poll::Ready { value } => track.made(track.digest.read(object, value), value),
@@ -135,6 +136,7 @@ fn write_on(run: &LongRun, track: &mut Track, begun: bool, object: u16, value: u
     ensures asks { Asks (want.Write object value) (track_standing track.old) result (track_standing track.new) }
     ensures reason { IfErr result (IsMarkerReason (want.Write object value) track.old track.new) }
     ensures made { OnOk result (PollsReady (want.Write object value) (marker_seat track.old.marker) (marker_seat track.new.marker)) }
+    ensures same { IsSameBuffer track.old.marker track.new.marker }
 {
     match access_on(
         &run.heap,
@@ -160,6 +162,7 @@ fn update_on(run: &LongRun, track: &mut Track, begun: bool, object: u16, change:
     ensures asks { Asks (want.Update object change) (track_standing track.old) result (track_standing track.new) }
     ensures reason { IfErr result (IsMarkerReason (want.Update object change) track.old track.new) }
     ensures made { OnOk result (PollsReady (want.Update object change) (marker_seat track.old.marker) (marker_seat track.new.marker)) }
+    ensures same { IsSameBuffer track.old.marker track.new.marker }
 {
     match track.marker.update(&run.heap, object, change) {
         Updated::Made { before } => {
@@ -183,6 +186,7 @@ pub(crate) fn go_on(run: &LongRun, track: &mut Track, begun: bool, wanted: Acces
     ensures asks { Asks wanted (track_standing track.old) result (track_standing track.new) }
     ensures reason { IfErr result (IsMarkerReason wanted track.old track.new) }
     ensures made { OnOk result (PollsReady wanted (marker_seat track.old.marker) (marker_seat track.new.marker)) }
+    ensures same { IsSameBuffer track.old.marker track.new.marker }
 {
     match wanted {
         Access::Read { object } => read_on(run, track, begun, object),

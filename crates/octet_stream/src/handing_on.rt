@@ -7,6 +7,7 @@ ghost use Rattle.octet_heap.specs.Models.{marker_model};
 ghost use Rattle.octet_heap.specs.Markers.{HasRoom, HasWholeRoom};
 ghost use Rattle.octet_stream.specs.declared.item.Item.TheVariants.{Marked, BlockEnd};
 ghost use Rattle.octet_stream.specs.Items.{items_of_end};
+ghost use Rattle.octet_stream.specs.Next.{HasHandedAllOn};
 ghost use Rattle.octet_stream.specs.Tracks.{IsTrackOf, HandsOn, LacksRing};
 
 use crate::item::Item;
@@ -57,6 +58,7 @@ impl LongRun {
         ensures own { IsTrackOf self.now track.new }
         ensures same { HandsOn track.old track.new }
         ensures on { result ≡ true → track.new.ended ≡ ends }
+        ensures all { result ≡ true → HasHandedAllOn track.new }
         ensures room { result ≡ true → accesses_of (marker_model track.old.marker) < MAX_ACCESSES_OF_THREAD → HasWholeRoom track.new.marker }
         ensures lacks { result ≡ false → LacksRing track.new × (track.new.ended ≡ false) }
     {

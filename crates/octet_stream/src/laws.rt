@@ -1,5 +1,6 @@
 //! The laws of what is handed on and received, each the contract of a function that does nothing else.
 ghost use Rattle.octet_stream.specs.Laws.{MarksJoin, FedIsTold, DivergenceIsReal};
+ghost use Rattle.octet_stream.specs.Rights.{RightStands, ReadyHoldsRight};
 
 /// The marks that are handed on block by block are those of the whole journal, with its gaps.
 pub fn marks_join()
@@ -18,3 +19,9 @@ pub fn divergence_is_real()
 {
     octet_follow::laws::digests_tell();
 }
+
+/// After an access the right of its thread to the object stands until that thread takes a step, whatever the others do.
+pub fn right_stands()
+    ensures access { RightStands }
+    ensures poll { ReadyHoldsRight }
+{}

@@ -1,6 +1,6 @@
 //! One thread of a long run that is made again.
 ghost use Rattle.std.specs.Prelude.{◌≡◌};
-ghost use Rattle.octet_model.specs.Journals.{access_count};
+ghost use Rattle.octet_model.specs.Journals.{access_count, mark_count};
 ghost use Rattle.octet_follow.specs.Calls.{journal_in, IsUpTo};
 
 use crate::item::Item;
@@ -41,5 +41,14 @@ impl LongFollower {
         ensures { result ≡ access_count (journal_in self.now.follower) }
     {
         self.follower.accesses()
+    }
+
+    /// How many marks it has made.
+    #[tactic(auto, using(octet_model::proofs::lemmas::Splits::length_parts))]
+    pub fn marks(&self) -> u64
+        requires { IsUpTo self.now.follower }
+        ensures { result ≡ mark_count (journal_in self.now.follower) }
+    {
+        self.follower.events() - self.follower.accesses()
     }
 }

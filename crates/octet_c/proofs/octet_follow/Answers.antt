@@ -9,6 +9,9 @@ returns-in-Ok-clause-ready c = λ ready. record {
   sessions_hold = holds_of (λ box. box.value) c.in-Ok.opened.items c.put_all.new.handles (c.put_all.ensures.ready (search (rules, ready)));
 }
 
+pub returns-in-Ok-clause-kept : goal.returns-in-Ok-clause-kept
+returns-in-Ok-clause-kept c = λ unready. (c.put_all.ensures.refused (λ ready. unready (search (rules, ready)))).1
+
 pub returns-in-Ok-clause-cause : goal.returns-in-Ok-clause-cause
 returns-in-Ok-clause-cause c = λ unready.
     let refused = c.put_all.ensures.refused (λ ready. unready (search (rules, ready))) in

@@ -45,5 +45,6 @@ returns-clause-follows c =
       followers = c.in_ok-rerun.ensures.of.1;
       sessions_count = first;
       streams_count = second;
+      share = (arc_value c.in_ok-course.course, c.in_ok-sessions.ensures.share);
       each = each_following rerun head c.args.last sessions streams seats inlets start (first ∙ sym second);
     }

@@ -11,5 +11,7 @@ loop-follower-preserved c =
     let pushed : c.push.new.self.items ≡ threads ++ made ∷ [] = search rules in record {
       seats = subst (All (IsSeatAgain c.args.course.now.value.rerun.session c.args.objects c.args.course.now.value.last)) (sym pushed)
           (All-push (IsSeatAgain c.args.course.now.value.rerun.session c.args.objects c.args.course.now.value.last) threads made i.seats c.in_ok-seat.ensures.seat);
+      share = subst (All (λ (it : LongRepeated). it.course.value ≡ c.args.course.now.value)) (sym pushed)
+          (All-push (λ (it : LongRepeated). it.course.value ≡ c.args.course.now.value) threads made i.share c.in_ok-seat.ensures.share);
       followers = ap (map (λ (it : LongRepeated). it.thread.thread)) pushed ∙ map_push (λ (it : LongRepeated). it.thread.thread) threads made c.loop-follower.yielded c.in-Some.follower i.followers c.in_ok-seat.ensures.thread;
     }

@@ -1,5 +1,6 @@
 use Rattle.std.proofs.Common.{rules, ◌≡◌, ◌∙◌, List, All, length, map, ap, sym, subst, arith}
 use Rattle.std.proofs.lemmas.List.{length-map}
+use Rattle.std.specs.Arc.{arc_value}
 use Rattle.octet_heap.specs.Models.{heap_model}
 use Rattle.octet_stream.specs.declared.long_run.LongRun.{LongRun}
 use Rattle.octet_stream.specs.declared.track.Track.{Track}
@@ -35,5 +36,6 @@ returns-clause-opens c =
       model = search rules;
       sessions_count = first;
       streams_count = second;
+      share = (arc_value c.in_ok-heap.heap, c.in_ok-sessions.ensures.share);
       each = each_opened run objects sessions streams seats c.in_ok-outlets.ensures.each new (first ∙ sym second);
     }

@@ -11,5 +11,7 @@ loop-track-preserved c =
     let pushed : c.push.new.self.items ≡ threads ++ made ∷ [] = search rules in record {
       seats = subst (All (IsSeat c.args.heap.now.value.run c.args.objects)) (sym pushed)
           (All-push (IsSeat c.args.heap.now.value.run c.args.objects) threads made i.seats c.in_ok-seat.ensures.seat);
+      share = subst (All (λ (it : LongRecorded). it.heap.value ≡ c.args.heap.now.value)) (sym pushed)
+          (All-push (λ (it : LongRecorded). it.heap.value ≡ c.args.heap.now.value) threads made i.share c.in_ok-seat.ensures.share);
       tracks = ap (map (λ (it : LongRecorded). it.track)) pushed ∙ map_push (λ (it : LongRecorded). it.track) threads made c.loop-track.yielded c.in-Some.track i.tracks c.in_ok-seat.ensures.track;
     }

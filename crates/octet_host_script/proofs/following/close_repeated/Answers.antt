@@ -9,7 +9,7 @@ use Rattle.octet_host_script.proofs.following.close_repeated.Goals as goal
 
 pub returns-clause-repeats : goal.returns-clause-repeats
 returns-clause-repeats c =
-    let course = c.in_ok-rerun.field-0 in
+    let course = c.in_ok-course.course in
     let kept : Kept = record { script = course.script; log = course.log; values = c.in_ok-heap.field-0.outcome.heap } in
     let repeats : RepeatsRecording course kept = record {
       script_is = refl;
@@ -17,4 +17,4 @@ returns-clause-repeats c =
       spelled = course.spelled;
       values = λ outcome faithful. ap (λ (o : Outcome). o.heap) (c.in_ok-heap.ensures.outcome outcome faithful);
     } in
-    any_more (λ it. it.course.value ≡ course) (λ it. RepeatsRecording (course_of it) kept) (λ it same. subst (λ (h : Course). RepeatsRecording h kept) (sym same) repeats) c.args.threads.items c.in_ok-rerun.ensures.shared
+    any_more (λ it. it.course.value ≡ course) (λ it. RepeatsRecording (course_of it) kept) (λ it same. subst (λ (h : Course). RepeatsRecording h kept) (sym same) repeats) c.args.threads.items c.in_ok-course.ensures.shared

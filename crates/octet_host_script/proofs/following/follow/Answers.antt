@@ -21,5 +21,6 @@ returns-clause-follows c =
       spelled = subst (λ (script : Script). IsSpelled c.args.text.now c.args.bytes.now script (log_in c.in-Ok.new.0.field).threads) (sym of_script)
           (subst (λ (log : Log). IsSpelled c.args.text.now c.args.bytes.now c.in_ok-script.script log.threads) (sym of_log) c.in_ok-script.ensures.spelled);
       count = c.in_ok-seat_all.ensures.count ∙ (ap length items ∙ (c.in-Ok.ensures.as_many.0 ∙ ap (λ (log : Log). length log.threads) (sym of_log)));
+      share = (c.in_ok-course.course.value, c.in_ok-seat_all.ensures.share);
       each = subst (λ rerun. EachFirstAgain rerun c.in_ok-seat_all.field-0.items) c.in_ok-course.ensures c.in_ok-seat_all.ensures.first;
     }

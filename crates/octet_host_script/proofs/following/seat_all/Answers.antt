@@ -1,6 +1,7 @@
 use Rattle.std.proofs.Common.{rules, ◌≡◌, [], ◌∷◌, ◌++◌, All, length, length-append, slice_index_or, ap, sym, subst, arith, suc}
 use Rattle.std.proofs.lemmas.List.Elements.{All-push}
 use Rattle.octet_rerun.specs.Reruns.{IsAtStart}
+use Rattle.octet_host_script.specs.declared.repeated.Repeated.{Repeated}
 use Rattle.octet_host_script.specs.Opened.{EachFirstAgain, IsFirstAgain}
 use Rattle.octet_host_script.specs.Threads.{IsRepeated}
 use Rattle.octet_host.proofs.lemmas.Rows.{each_more, first_of, rest_of}
@@ -29,6 +30,7 @@ loop-follower-preserved c =
     let first : IsFirstAgain rerun (length threads) made = subst (λ n. IsFirstAgain rerun n made) start.thread_is c.in_ok-seat.ensures.first in record {
       rest = λ k none lt. subst (λ n. IsAtStart rerun n (slice_index_or left k none)) (omega (arith, long)) (rest_of (λ n f. IsAtStart rerun n f) (length threads) next i.rest k none lt);
       good = subst (All IsRepeated) (sym pushed) (All-push IsRepeated threads made i.good c.in_ok-seat.ensures.good);
+      share = subst (All (λ (it : Repeated). it.course.value ≡ c.args.course.now.value)) (sym pushed) (All-push (λ (it : Repeated). it.course.value ≡ c.args.course.now.value) threads made i.share c.in_ok-seat.ensures.share);
       first = subst (EachFirstAgain rerun) (sym pushed) (each_more (IsFirstAgain rerun) threads made i.first first);
       count = omega (arith, i.count, long, ap length next);
     }

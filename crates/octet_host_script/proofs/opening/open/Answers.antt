@@ -16,5 +16,6 @@ returns-clause-opens c =
       recorder = c.in_ok-recorder.recorder;
       spelled = subst (Spells c.args.text.now) (sym c.in_ok-recorder.ensures.opening) c.in_ok-script.ensures.ok;
       count = c.in_ok-seat_all.ensures.count ∙ (ap length items ∙ c.in_ok-recorder.ensures.tracks.0);
+      share = (c.in_ok-heap.heap.value, c.in_ok-seat_all.ensures.share);
       each = subst (λ recorder. EachFirst recorder c.in_ok-seat_all.field-0.items) c.in_ok-heap.ensures c.in_ok-seat_all.ensures.first;
     }

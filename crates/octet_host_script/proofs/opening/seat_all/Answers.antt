@@ -1,6 +1,7 @@
 use Rattle.std.proofs.Common.{rules, ◌≡◌, refl, [], ◌∷◌, ◌++◌, All, length, length-append, slice_index_or, ap, sym, subst, arith, suc}
 use Rattle.std.proofs.lemmas.List.Elements.{All-push}
 use Rattle.octet_recorder.specs.Tracks.{IsNew, number_of}
+use Rattle.octet_host_script.specs.declared.recorded.Recorded.{Recorded}
 use Rattle.octet_host_script.specs.Opened.{EachFirst, IsFirstOf}
 use Rattle.octet_host_script.specs.Threads.{IsRecorded}
 use Rattle.octet_host_script.proofs.First.{first_of_new, rests_of_new}
@@ -38,6 +39,7 @@ loop-track-preserved c =
     let first : IsFirstOf recorder (length threads) made = subst (λ n. IsFirstOf recorder n made) number c.in_ok-seat.ensures.first in record {
       rest = λ k none lt. subst (λ n. IsNew recorder n (slice_index_or left k none)) (omega (arith, long)) (rest_of (λ n t. IsNew recorder n t) (length threads) next i.rest k none lt);
       good = subst (All IsRecorded) (sym pushed) (All-push IsRecorded threads made i.good c.in_ok-seat.ensures.good);
+      share = subst (All (λ (it : Recorded). it.heap.value ≡ c.args.heap.now.value)) (sym pushed) (All-push (λ (it : Recorded). it.heap.value ≡ c.args.heap.now.value) threads made i.share c.in_ok-seat.ensures.share);
       first = subst (EachFirst recorder) (sym pushed) (each_more (IsFirstOf recorder) threads made i.first first);
       count = omega (arith, i.count, long, ap length next);
     }

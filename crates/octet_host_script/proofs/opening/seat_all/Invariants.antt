@@ -10,5 +10,6 @@ invariant-loop-track l = record {
   rest : (k : ℕ) (none : Track) → k < length l.track-iterator.rest.items → IsNew l.heap.value.recorder (length l.threads.items + k) (slice_index_or l.track-iterator.rest.items k none);
   good : All IsRecorded l.threads.items;
   first : EachFirst l.heap.value.recorder l.threads.items;
+  share : All (λ it. it.heap.value ≡ l.heap.value) l.threads.items;
   count : length l.threads.items + length l.track-iterator.rest.items ≡ length l.fn.tracks.items;
 }

@@ -9,7 +9,7 @@ pub returns-clause-good : goal.returns-clause-good
 returns-clause-good c = good_long c.args.threads.items (record { values = c.in_ok-values.values }) c.in_ok-values.ensures.closed
 
 pub returns-clause-closes : goal.returns-clause-closes
-returns-clause-closes c = closes_long c.args.threads.items (record { values = c.in_ok-values.values }) c.in_ok-values.ensures.as_one c.in_ok-values.ensures.closed
+returns-clause-closes c = closes_long c.args.threads.items (record { values = c.in_ok-values.values }) c.in_ok-values.ensures.as_one c.in_ok-values.ensures.closed c.in_ok-values.ensures.theirs
 
 pub returns-in_err-values-clause-refused : goal.returns-in_err-values-clause-refused
 returns-in_err-values-clause-refused c =

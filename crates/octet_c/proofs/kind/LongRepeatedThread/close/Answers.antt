@@ -9,7 +9,7 @@ pub returns-clause-good : goal.returns-clause-good
 returns-clause-good c = good_again c.args.threads.items c.in_ok-again.again c.in_ok-again.ensures.closed
 
 pub returns-clause-closes : goal.returns-clause-closes
-returns-clause-closes c = closes_again c.args.threads.items c.in_ok-again.again c.in_ok-again.ensures.as_one c.in_ok-again.ensures.closed
+returns-clause-closes c = closes_again c.args.threads.items c.in_ok-again.again c.in_ok-again.ensures.as_one c.in_ok-again.ensures.closed c.in_ok-again.ensures.theirs
 
 pub returns-in_err-again-clause-refused : goal.returns-in_err-again-clause-refused
 returns-in_err-again-clause-refused c =

@@ -9,7 +9,7 @@ pub returns-clause-good : goal.returns-clause-good
 returns-clause-good c = good_recorded c.args.threads.items c.in_ok-kept.kept c.in_ok-kept.ensures.keeps
 
 pub returns-clause-closes : goal.returns-clause-closes
-returns-clause-closes c = closes_recorded c.args.threads.items c.in_ok-kept.kept c.in_ok-kept.ensures.as_one c.in_ok-kept.ensures.keeps
+returns-clause-closes c = closes_recorded c.args.threads.items c.in_ok-kept.kept c.in_ok-kept.ensures.as_one c.in_ok-kept.ensures.keeps c.in_ok-kept.ensures.theirs
 
 pub returns-in_err-kept-clause-refused : goal.returns-in_err-kept-clause-refused
 returns-in_err-kept-clause-refused c =
