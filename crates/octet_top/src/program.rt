@@ -78,8 +78,8 @@ pub fn serve<R: Threads + Wait + Sync, D: Desk, G: HeapGate>(
     ensures outcomes { FindsOutcomes (texts words.now) (D.state desk.old) (D.state desk.new) result }
 
     // Status 0 of `always` comes only where the claim holds of every run. Status 14 comes with a
-    // faithful recording of one of which it does not hold, or with none, where the script's fuel is said
-    // to be short for it.
+    // faithful recording of one of which it does not hold, or with none, where the script's fuel is not
+    // enough for it.
     ensures always { ShowsAlways (texts words.now) (D.state desk.old) (D.state desk.new) result }
     ensures otherwise { RefutesAlways (texts words.now) (D.state desk.old) (D.state desk.new) result }
 
