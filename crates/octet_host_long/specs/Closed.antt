@@ -3,7 +3,7 @@ use Rattle.std.specs.Prelude.{◌≡◌, ℕ, List, [], ◌∷◌, length}
 use Rattle.octet_follow.specs.Calls.{starts_in, followers_in, ClosesTo}
 use Rattle.octet_follow.specs.Repeats.{RepeatsRecording, KeepsToRecording}
 use Rattle.octet_heap.specs.Models.{heap_model}
-use Rattle.octet_long.specs.Recordings.{IsRecorded}
+use Rattle.octet_stream.specs.Recordings.{IsRecorded}
 use Rattle.octet_stream.specs.declared.long_follower.LongFollower.{LongFollower}
 use Rattle.octet_stream.specs.declared.long_run.LongRun.{LongRun}
 use Rattle.octet_stream.specs.declared.track.Track.{Track}

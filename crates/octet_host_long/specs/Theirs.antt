@@ -2,7 +2,7 @@
 use Rattle.std.specs.Prelude.{◌≡◌, ℕ, All, List, map}
 use Rattle.octet_follow.specs.Calls.{starts_in, ClosesTo}
 use Rattle.octet_heap.specs.Models.{heap_model}
-use Rattle.octet_long.specs.Recordings.{IsRecorded}
+use Rattle.octet_stream.specs.Recordings.{IsRecorded}
 use Rattle.octet_stream.specs.Followers.{followers_of}
 use Rattle.octet_stream.specs.Runs.{journals_of}
 use Rattle.octet_host_long.specs.declared.following.ClosedAgain.{ClosedAgain}

@@ -4,12 +4,15 @@ mod Blocks
 mod Digests
 mod Fed
 mod Flushed
+mod Followed
 mod HandingOn
 mod Held
 mod Joining
 mod Keeping
 mod Pairs
+mod Programs
 mod Reasons
+mod Recorded
 mod Sent
 mod Standing
 mod Stillness

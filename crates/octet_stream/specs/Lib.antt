@@ -1,3 +1,5 @@
+pub mod Recordings
+pub mod Followed
 pub mod Items
 pub mod Tracks
 pub mod Accesses

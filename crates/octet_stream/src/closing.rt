@@ -1,13 +1,12 @@
 //! What a long run leaves, once all its threads are still.
 ghost use Rattle.std.specs.Prelude.{◌≡◌, length, map, IfOk};
 ghost use Rattle.octet_heap.specs.Models.{heap_model};
-ghost use Rattle.octet_long.specs.Recordings.{IsRecorded};
+ghost use Rattle.octet_stream.specs.Recordings.{IsRecorded};
 ghost use Rattle.octet_stream.specs.Runs.{journals_of, EachRests};
 
 use crate::long_run::LongRun;
 use crate::track::Track;
 use octet_heap::Marker;
-use octet_long::close;
 use octet_model::{List, OutOfMemory};
 use std::alloc::Global;
 
@@ -31,6 +30,6 @@ impl LongRun {
         ensures { IfOk result (λ values. IsRecorded (heap_model self.heap).starts (journals_of tracks) values) }
     {
         let LongRun { heap, .. } = self;
-        close(heap, alloc, all_markers(alloc, tracks.into_vec())?)
+        heap.close_markers(alloc, all_markers(alloc, tracks.into_vec())?)
     }
 }

@@ -1,5 +1,7 @@
 //! The laws of what is handed on and received, each the contract of a function that does nothing else.
+ghost use Rattle.octet_stream.specs.Followed.{FollowersBegin, FollowersRepeat};
 ghost use Rattle.octet_stream.specs.Laws.{MarksJoin, FedIsTold, DivergenceIsReal};
+ghost use Rattle.octet_stream.specs.Recordings.{ClosedIsRecorded};
 ghost use Rattle.octet_stream.specs.Rights.{RightStands, ReadyHoldsRight};
 
 /// The marks that are handed on block by block are those of the whole journal, with its gaps.
@@ -24,4 +26,16 @@ pub fn divergence_is_real()
 pub fn right_stands()
     ensures access { RightStands }
     ensures poll { ReadyHoldsRight }
+{}
+
+/// Whatever seats a heap closes, of markers or of workers, their journals are recorded.
+pub fn closed_is_recorded()
+    ensures { ClosedIsRecorded }
+{}
+
+/// A run that was recorded here, followed by the marks of its log: threads that demand what they did then have the
+/// recorded journals, with every value, and leave the final values. While they go on they have first events of them.
+pub fn followers_repeat()
+    ensures ends { FollowersRepeat }
+    ensures begins { FollowersBegin }
 {}

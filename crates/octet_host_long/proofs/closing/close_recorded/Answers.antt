@@ -1,6 +1,6 @@
 use Rattle.std.proofs.Common.{◌≡◌, ◌∙◌, List, sym, subst}
 use Rattle.octet_heap.specs.Models.{heap_model}
-use Rattle.octet_long.specs.Recordings.{IsRecorded}
+use Rattle.octet_stream.specs.Recordings.{IsRecorded}
 use Rattle.octet_stream.specs.declared.track.Track.{Track}
 use Rattle.octet_stream.specs.Runs.{journals_of}
 use Rattle.octet_host.proofs.lemmas.Sealing.{all_share}

@@ -17,8 +17,8 @@ use Rattle.octet_heap.specs.declared.marker.Marker.{Marker}
 use Rattle.octet_heap.specs.Markers.{marker_seats}
 use Rattle.octet_heap.specs.Models.{marker_journals}
 use Rattle.octet_recorder.proofs.lemmas.Programs.{program_fits_with}
-use Rattle.octet_long.specs.Recordings.{IsPlanOf, IsRecorded, ClosedIsRecorded}
-use Rattle.octet_long.proofs.Programs.{HavePrograms, run_has_programs}
+use Rattle.octet_stream.specs.Recordings.{IsPlanOf, IsRecorded, ClosedIsRecorded}
+use Rattle.octet_stream.proofs.Programs.{HavePrograms, run_has_programs}
 
 -- the programs of journals
 abbrev programs : (journals : Journals) → HavePrograms journals → List (List Command)

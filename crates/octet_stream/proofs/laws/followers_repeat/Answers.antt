@@ -1,5 +1,5 @@
-use Rattle.octet_long.proofs.Followed.{followers_repeat, followers_begin}
-use Rattle.octet_long.proofs.laws.followers_repeat.Goals as goal
+use Rattle.octet_stream.proofs.Followed.{followers_repeat, followers_begin}
+use Rattle.octet_stream.proofs.laws.followers_repeat.Goals as goal
 
 pub returns-clause-ends : goal.returns-clause-ends
 returns-clause-ends c = followers_repeat

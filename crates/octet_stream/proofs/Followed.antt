@@ -1,7 +1,7 @@
 -- What is recorded here is a recording of all threads that demand it, so followers repeat it.
 use Rattle.octet_model.specs.Journals.{log_of}
 use Rattle.octet_follow.proofs.lemmas.Histories.{history_is_recording}
-use Rattle.octet_long.specs.Followed.{FollowersRepeat, FollowersBegin}
+use Rattle.octet_stream.specs.Followed.{FollowersRepeat, FollowersBegin}
 
 pub followers_repeat : FollowersRepeat
 followers_repeat starts journals last recorded threads each followers heap repeats followed =

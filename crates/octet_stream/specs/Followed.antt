@@ -7,7 +7,7 @@ use Rattle.octet_follow.specs.Calls.{journals_in}
 use Rattle.octet_follow.specs.Histories.{AllDemanded, RepeatsHistory}
 use Rattle.octet_follow.specs.Recordings.{Threads, Begins}
 use Rattle.octet_follow.specs.Repeats.{AllHaveBegun, AllHaveFollowed, KeepsToRecording}
-use Rattle.octet_long.specs.Recordings.{IsRecorded}
+use Rattle.octet_stream.specs.Recordings.{IsRecorded}
 
 -- a run is recorded, and its threads demand what its journals have. Followers of its log that have come to their ends,
 -- and whose course keeps what it promises, have these journals, and leave these last values

@@ -1,6 +1,0 @@
-pub mod lemmas
-mod Programs
-mod Recorded
-mod Followed
-mod Tracks
-mod TracksAtEnds

@@ -1,4 +1,0 @@
-pub mod Recordings
-pub mod Pieces
-pub mod Followed
-pub mod Tracks
