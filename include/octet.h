@@ -7,8 +7,9 @@
  *
  *   1. A handle, an `octet_session`, `octet_stream`, `octet_record` or `octet_turns`, is zeroed before its first use.
  *   2. From then on only these calls write to it. It may be moved: then its old place is not used, or zeroed.
- *   3. No pointer is null, also where it points to nothing, as `out` with no room does: any address of yours will do. Each points
- *      to as much as is said beside it, and no two to the same memory.
+ *   3. No pointer is null, also where it points to nothing: any address of yours will do. Only the `out` of `octet_script`,
+ *      `octet_log`, `octet_values`, `octet_head` and `octet_take` may be, and has no room then. Each pointer points to as much as
+ *      is said beside it, and no two to the same memory.
  *   4. A handle is given to one call at a time. Different sessions and streams may be in calls at once.
  *   5. A handle goes to another thread by what orders memory: a lock, a thread's start or end, an atomic.
  *   6. No call is made from a signal handler, or in a child after `fork`. */
@@ -149,7 +150,7 @@ int32_t octet_close(octet_session *sessions, size_t count, octet_record *record)
 
 /* What the record has: the text of the script, the bytes of the log with the text's digest, the objects' values at
  * the end. That of a long run has values alone, and a window has none. Each call copies as much as there is room for;
- * `length` is how much there is. To be told the length alone, give no room: `octet_script(&record, &byte, 0, &length)`. */
+ * `length` is how much there is. `octet_script(&record, NULL, 0, &length)` tells the length alone. */
 int32_t octet_script(octet_record *record, uint8_t *out, size_t room, size_t *length);
 int32_t octet_log(octet_record *record, uint8_t *out, size_t room, size_t *length);
 int32_t octet_values(octet_record *record, uint64_t *out, size_t room, size_t *length);
@@ -270,6 +271,102 @@ int32_t octet_schedule(octet_turns *turns, uint8_t way, uint64_t seed, uint32_t 
  * where it cannot go on. One that was picked 64 times in a row is picked again only where no other is ready. With
  * any status but OCTET_READY nothing changes. */
 int32_t octet_pick(octet_turns *turns, const uint8_t *ready, size_t threads, uint8_t *thread);
+
+/* Made of the calls above, and by the header alone. The first are what these names mean in your program: the same calls, of
+ * which `out` may be null. */
+static inline int32_t octet_script_or_length(octet_record *record, uint8_t *out, size_t room, size_t *length) {
+    uint8_t none = 0;
+    return octet_script(record, out ? out : &none, out ? room : 0, length);
+}
+
+static inline int32_t octet_log_or_length(octet_record *record, uint8_t *out, size_t room, size_t *length) {
+    uint8_t none = 0;
+    return octet_log(record, out ? out : &none, out ? room : 0, length);
+}
+
+static inline int32_t octet_values_or_length(octet_record *record, uint64_t *out, size_t room, size_t *length) {
+    uint64_t none = 0;
+    return octet_values(record, out ? out : &none, out ? room : 0, length);
+}
+
+static inline int32_t octet_head_or_length(const uint64_t *starts, size_t objects, uint8_t threads, const uint8_t *declared,
+                                           size_t declared_length, uint8_t *out, size_t room, size_t *length) {
+    uint8_t none = 0;
+    return octet_head(starts, objects, threads, declared, declared_length, out ? out : &none, out ? room : 0, length);
+}
+
+static inline int32_t octet_take_or_length(octet_stream *stream, uint8_t *out, size_t room, size_t *length) {
+    uint8_t none = 0;
+    return octet_take(stream, out ? out : &none, out ? room : 0, length);
+}
+
+#define octet_script octet_script_or_length
+#define octet_log octet_log_or_length
+#define octet_values octet_values_or_length
+#define octet_head octet_head_or_length
+#define octet_take octet_take_or_length
+
+/* For handles that lie apart, as each in what a program has of its thread: the calls that take an array of handles, by an array
+ * of pointers to them. They answer as the call of the same name does. */
+
+enum { OCTET_GATHERED = 17 }; /* one more than a run has threads: the library refuses so many */
+
+static inline size_t octet_gather(struct octet_handle *const *from, size_t count, struct octet_handle *to) {
+    if (count > OCTET_GATHERED) count = OCTET_GATHERED;
+    for (size_t i = 0; i < count; i++) to[i] = *from[i], from[i]->at = NULL;
+    return count;
+}
+
+static inline void octet_spread(const struct octet_handle *from, size_t gathered, struct octet_handle *const *to) {
+    for (size_t i = 0; i < gathered; i++) *to[i] = from[i];
+}
+
+static inline int32_t octet_open_each(const uint8_t *text, size_t length, octet_session *const *sessions, size_t count) {
+    octet_session all[OCTET_GATHERED];
+    size_t gathered = octet_gather(sessions, count, all);
+    int32_t status = octet_open(text, length, all, gathered);
+    octet_spread(all, gathered, sessions);
+    return status;
+}
+
+static inline int32_t octet_follow_each(const uint8_t *script, size_t length, const uint8_t *log, size_t log_length,
+                                        octet_session *const *sessions, size_t count) {
+    octet_session all[OCTET_GATHERED];
+    size_t gathered = octet_gather(sessions, count, all);
+    int32_t status = octet_follow(script, length, log, log_length, all, gathered);
+    octet_spread(all, gathered, sessions);
+    return status;
+}
+
+static inline int32_t octet_open_long_each(const uint64_t *starts, size_t objects, octet_session *const *sessions, size_t count,
+                                           octet_stream *const *streams, size_t stream_count) {
+    octet_session all[OCTET_GATHERED];
+    octet_stream each[OCTET_GATHERED];
+    size_t gathered = octet_gather(sessions, count, all), beside = octet_gather(streams, stream_count, each);
+    int32_t status = octet_open_long(starts, objects, all, gathered, each, beside);
+    octet_spread(all, gathered, sessions);
+    octet_spread(each, beside, streams);
+    return status;
+}
+
+static inline int32_t octet_follow_long_each(const uint64_t *starts, size_t objects, const uint8_t *declared, size_t declared_length,
+                                             uint16_t last, octet_session *const *sessions, size_t count,
+                                             octet_stream *const *streams, size_t stream_count) {
+    octet_session all[OCTET_GATHERED];
+    octet_stream each[OCTET_GATHERED];
+    size_t gathered = octet_gather(sessions, count, all), beside = octet_gather(streams, stream_count, each);
+    int32_t status = octet_follow_long(starts, objects, declared, declared_length, last, all, gathered, each, beside);
+    octet_spread(all, gathered, sessions);
+    octet_spread(each, beside, streams);
+    return status;
+}
+
+static inline int32_t octet_close_each(octet_session *const *sessions, size_t count, octet_record *record) {
+    octet_session all[OCTET_GATHERED];
+    size_t gathered = octet_gather(sessions, count, all);
+    for (size_t i = gathered; i < count; i++) octet_free(sessions[i]);
+    return octet_close(all, gathered, record);
+}
 
 #ifdef __cplusplus
 }

@@ -102,9 +102,8 @@ static FILE *opened(const char *stem, const char *ending, const char *how) {
 }
 
 static void save(octet_record *record, part bytes_of, const char *stem, const char *ending) {
-    uint8_t none = 0;
     size_t length = 0;
-    if (bytes_of(record, &none, 0, &length) != OCTET_READY) fail("no record");
+    if (bytes_of(record, NULL, 0, &length) != OCTET_READY) fail("no record");
     uint8_t *bytes = (uint8_t *)malloc(length);
     if (!bytes || bytes_of(record, bytes, length, &length) != OCTET_READY) fail("no memory");
     FILE *file = opened(stem, ending, "wb");

@@ -72,8 +72,7 @@ static int run(struct threads *all, int32_t opened, int asks_again, octet_record
 }
 
 static uint8_t *bytes_of(octet_record *record, int32_t (*part)(octet_record *, uint8_t *, size_t, size_t *), size_t *length) {
-    uint8_t none = 0;
-    int32_t status = part(record, &none, 0, length);
+    int32_t status = part(record, NULL, 0, length);
     uint8_t *bytes = (uint8_t *)malloc(*length);
     if (status != OCTET_READY || !bytes) fail("no bytes", status);
     part(record, bytes, *length, length);

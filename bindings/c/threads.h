@@ -244,14 +244,21 @@ static inline int32_t thread_notify_one(struct thread *t, uint16_t condition) {
 
 /* A run. */
 
-/* Gives the threads their sessions. */
-static inline int32_t threads_take(struct threads *all, int32_t status, octet_session *sessions, int count, enum threads_order order) {
-    if (status != OCTET_READY) return status;
+/* Where each thread has its session, of 1 to 16 threads. */
+static inline int32_t threads_sessions(struct threads *all, int count, octet_session **sessions) {
+    if (count < 1 || count > THREADS_MOST) return OCTET_BAD_SIZE;
     memset(all, 0, sizeof *all);
+    for (int i = 0; i < count; i++) sessions[i] = &all->each[i].session;
+    return OCTET_READY;
+}
+
+/* Makes the threads ready to run, once they have their sessions. */
+static inline int32_t threads_take(struct threads *all, int32_t status, int count, enum threads_order order) {
+    if (status != OCTET_READY) return status;
     all->order = order, all->count = count;
     pthread_mutex_init(&all->mutex, NULL);
     for (int i = 0; i < count; i++) {
-        all->each[i].session = sessions[i], all->each[i].all = all, all->each[i].number = i;
+        all->each[i].all = all, all->each[i].number = i;
         pthread_cond_init(&all->each[i].turned, NULL);
     }
     return status;
@@ -259,10 +266,10 @@ static inline int32_t threads_take(struct threads *all, int32_t status, octet_se
 
 /* Opens a heap as the text declares it, for 1 to 16 threads, which run as they do. */
 static inline int32_t threads_open(struct threads *all, const char *text, int count) {
-    octet_session sessions[THREADS_MOST] = {{0}};
-    if (count < 1 || count > THREADS_MOST) return OCTET_BAD_SIZE;
-    int32_t status = octet_open((const uint8_t *)text, strlen(text), sessions, (size_t)count);
-    return threads_take(all, status, sessions, count, THREADS_FREELY);
+    octet_session *sessions[THREADS_MOST];
+    int32_t status = threads_sessions(all, count, sessions);
+    if (status == OCTET_READY) status = octet_open_each((const uint8_t *)text, strlen(text), sessions, (size_t)count);
+    return threads_take(all, status, count, THREADS_FREELY);
 }
 
 /* The same, by the schedule of this seed. */
@@ -282,10 +289,10 @@ static inline int32_t threads_open_by(struct threads *all, const char *text, int
 /* Opens a recording, to run its threads again. */
 static inline int32_t threads_follow(struct threads *all, const uint8_t *script, size_t length, const uint8_t *log,
                                      size_t log_length, int count) {
-    octet_session sessions[THREADS_MOST] = {{0}};
-    if (count < 1 || count > THREADS_MOST) return OCTET_BAD_SIZE;
-    int32_t status = octet_follow(script, length, log, log_length, sessions, (size_t)count);
-    return threads_take(all, status, sessions, count, THREADS_AGAIN);
+    octet_session *sessions[THREADS_MOST];
+    int32_t status = threads_sessions(all, count, sessions);
+    if (status == OCTET_READY) status = octet_follow_each(script, length, log, log_length, sessions, (size_t)count);
+    return threads_take(all, status, count, THREADS_AGAIN);
 }
 
 static inline void *thread_begin(void *argument) {
@@ -309,7 +316,7 @@ static inline void *thread_begin(void *argument) {
 /* Runs all threads to their ends, each with what is given, and puts the record of their run behind the handle. Each thread's status
  * stays in `each`. Where no thread can be started, the answer is OCTET_NO_MEMORY. */
 static inline int32_t threads_run(struct threads *all, void (*work)(struct thread *), void *given, octet_record *record) {
-    octet_session sessions[THREADS_MOST] = {{0}};
+    octet_session *sessions[THREADS_MOST];
     int started = 0;
     for (int i = 0; i < all->count; i++) {
         struct thread *t = &all->each[i];
@@ -327,10 +334,10 @@ static inline int32_t threads_run(struct threads *all, void (*work)(struct threa
         pthread_mutex_unlock(&all->mutex);
     }
     for (int i = 0; i < started; i++) pthread_join(all->each[i].thread, NULL);
-    for (int i = 0; i < all->count; i++) sessions[i] = all->each[i].session, pthread_cond_destroy(&all->each[i].turned);
+    for (int i = 0; i < all->count; i++) sessions[i] = &all->each[i].session, pthread_cond_destroy(&all->each[i].turned);
     pthread_mutex_destroy(&all->mutex);
     octet_free(&all->turns);
-    int32_t status = octet_close(sessions, (size_t)all->count, record);
+    int32_t status = octet_close_each(sessions, (size_t)all->count, record);
     return started < all->count ? OCTET_NO_MEMORY : status;
 }
 
