@@ -8,6 +8,7 @@ import importlib.machinery
 import importlib.util
 import os
 import pathlib
+import pty
 import re
 import shutil
 import signal
@@ -276,6 +277,80 @@ def signals():
     return None
 
 
+# Stands in for the program: tells what it was asked in a file, and answers as if the script had 50,000 moments.
+SEARCHING = r"""echo "$@" >>"${0%/*}/calls"
+for most; do :; done
+case $most in *[!0-9]* | ?) most=10000000 ;; esac
+echo "by $most"
+[ "$most" -lt 50000 ] && exit 13
+[ "$1" = always ] && exit 14
+exit 0"""
+# Words, the numbers of moments that the program is asked for where nobody watches and where somebody does, and what is said then.
+SEARCHES = [
+    (["outcomes", "S"], [""], ["10000", "100000"], (0, ["by 100000"]), [10000]),
+    (["outcomes", "S", "0049999"], ["0049999"], ["0049999"], (13, ["by 0049999"]), []),
+    (["outcomes", "S", "400000"], ["400000"], ["40000", "400000"], (0, ["by 400000"]), [40000]),
+    (["outcomes", "S", "2147483648"], ["2147483648"], ["2147483"], (0, ["by 2147483"]), []),
+    (["outcomes", "S", "2147483649"], ["2147483649"], ["2147483649"], (0, ["by 2147483649"]), []),
+    (["always", "S", "L"], [""], ["10000", "100000"], (14, ["by 100000"]), [10000]),
+    (["always", "S", "L", "400000"], ["400000"], ["40000", "400000"], (14, ["by 400000"]), [40000]),
+    (["always", "S", "L", "x", "7"], [""], ["10000", "100000"], (14, ["by 100000"]), [10000]),
+    (["always", "S", "L", "x", "7", "0400000"], ["0400000"], ["40000", "0400000"], (14, ["by 0400000"]), [40000]),
+    (["run", "S", "L"], [""], [""], (0, ["by 10000000"]), []),
+]
+
+
+def watched(words, folder, **how):
+    """A call whose standard error is a terminal."""
+    ours, theirs = pty.openpty()
+    try:
+        found = by_itself(words, folder, stderr=theirs, **how)[:2]
+        os.write(theirs, b".")
+        told = b""
+        while not told.endswith(b"."):
+            told += os.read(ours, 4096)
+        return *found, told[:-1].replace(b"\r\n", b"\n")
+    finally:
+        os.close(ours)
+        os.close(theirs)
+
+
+def progress():
+    """On a terminal a long search says how far it is; elsewhere the program is called once."""
+    with tempfile.TemporaryDirectory() as folder:
+        tree = Tree(pathlib.Path(folder, "tree"), SEARCHING)
+        aside = pathlib.Path(folder, "aside")
+        aside.mkdir()
+        calls = tree.program.parent / "calls"
+
+        def asked(words):
+            found = calls.read_text().splitlines()
+            calls.unlink()
+            whole = words[: 2 if words[0] == "outcomes" else 5 if len(words) > 4 else 3]
+            return [line.removeprefix(" ".join(whole)).strip() for line in found]
+
+        def row(words, alone, parts, answer, told):
+            status, said = answer
+            once = by_itself([tree.launcher, *words], folder)[2:], asked(words)
+            found = watched([tree.launcher, *words], folder, env={**OTHERS, "TMPDIR": str(aside)})
+            more = lines(*(f"more than {number} moments" for number in told))
+            return first(
+                differs(f"{words}", once, ((), alone)),
+                differs(f"{words} on a terminal", (found, asked(words)), ((status, text(*said), more), parts)),
+            )
+
+        problem = first(*(row(*each) for each in SEARCHES), differs("files", list(aside.iterdir()), []))
+        with open("/dev/full", "wb") as full:
+            status, _, told = watched([tree.launcher, "outcomes", "S", "10000000"], folder, stdout=full)
+        refused = lines("more than 10000 moments", "standard output took not all of the answer")
+        none = watched([tree.launcher, "outcomes", "S", "10000000"], folder, env={**OTHERS, "TMPDIR": "/none"})
+        return first(
+            problem,
+            differs("no room for the answer", (status, told), (6, refused)),
+            differs("no room aside", none, (0, text("by 10000000"), b"")),
+        )
+
+
 def is_there(number):
     try:
         return pathlib.Path(f"/proc/{number}/stat").read_text().split()[2] != "Z"
@@ -519,6 +594,7 @@ TESTS = {
     "bin/octet: what may not be read or written": permissions,
     "bin/octet: the program's statuses and its input": statuses,
     "bin/octet: signals": signals,
+    "bin/octet: how far a search is": progress,
     "bin/octet: when it builds": builds,
     "bin/octet: what it finds without a build": finds,
     "bin/octet: try": tries,
