@@ -184,15 +184,15 @@ def glossary():
 
 
 def code_of_the_pages():
-    """The code of a crate's page stands in the crates, to the letter, so that it is proved."""
-    sources = [path.read_text() for path in CRATES.glob("*/src/**/*.rt")]
+    """The code of a page stands to the letter in the crates, so that it is proved, or in an example, which a test runs."""
+    sources = [path.read_text() for path in [*CRATES.glob("*/src/**/*.rt"), *TOP.glob("bindings/rust/examples/*.rs")]]
     printed = 0
-    for path in pages():
+    for path in [*documents(), *pages()]:
         for block in RUST.findall(path.read_text()):
             printed += 1
             if not any(block in source for source in sources):
-                return f"{path.relative_to(TOP)}: {block!r:.200} stands in no crate"
-    return differs("how many pieces of code", printed >= 15, True)
+                return f"{path.relative_to(TOP)}: {block!r:.200} stands in no crate or example"
+    return differs("how many pieces of code", printed >= 18, True)
 
 
 def callers():

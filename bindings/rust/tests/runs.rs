@@ -3,7 +3,7 @@ use octet::{Builder, Error, Heap, Recording, Run, Schedule, Session};
 use std::error::Error as _;
 use std::path::PathBuf;
 use std::sync::atomic::{AtomicU64, Ordering::SeqCst};
-use std::sync::mpsc;
+use std::sync::{Mutex, mpsc};
 use std::thread;
 use std::time::Duration;
 
@@ -59,6 +59,33 @@ fn another_program_diverges() {
         threads.spawn(|_| Ok(()));
     });
     assert!(matches!(shorter, Err(Error::Diverged { thread: 1, accesses: 0, place: None })), "{shorter:?}");
+}
+
+// The second thread reads what the first one wrote before.
+#[test]
+fn who_waits_for_one_that_has_left_says_so() {
+    let told = &Mutex::new(None);
+    let run = |heap: Builder, amount: u64| {
+        let (written, is_written) = mpsc::channel();
+        heap.run(|threads| {
+            threads.spawn(move |session| {
+                session.store(session.object("balance")?, amount)?;
+                written.send(()).unwrap();
+                Ok(())
+            });
+            threads.spawn(move |session| {
+                session.blocked(|| is_written.recv().is_ok())?;
+                let read = session.load(session.object("balance")?);
+                *told.lock().unwrap() = read.as_ref().err().map(ToString::to_string);
+                read.map(|_| ())
+            });
+        })
+    };
+    let first = run(bank(), 7).unwrap();
+    assert_eq!(told.lock().unwrap().take(), None);
+    let other = run(bank().rerun(&first), 8).unwrap_err();
+    assert!(matches!(other, Error::Diverged { thread: 0, accesses: 0, .. }), "{other}");
+    assert_eq!(told.lock().unwrap().as_deref(), Some("thread 1 would wait for one that has left its recording"));
 }
 
 #[test]

@@ -1,6 +1,7 @@
 //! What is told of a run that went wrong: which thread, where, and what to do.
 use octet::{Absence, Builder, Cause, Error, Failure, Heap, Recording, Schedule, Session, explore};
 use std::path::PathBuf;
+use std::process::Command;
 use std::sync::mpsc;
 use std::thread;
 use std::time::{Duration, Instant};
@@ -64,12 +65,19 @@ fn add_beside_a_loop(schedule: Schedule) -> Result<(), Error> {
 #[test]
 fn a_failure_beside_a_loop_is_shrunk_soon_and_always_to_the_same() {
     let shrunk = || {
-        let failures = (0..15).filter_map(|seed| explore([seed], add_beside_a_loop).err());
-        failures.map(|failure| failure.schedule().to_string()).collect::<Vec<_>>()
+        let timed = |seed| {
+            let started = Instant::now();
+            let failure = explore([seed], add_beside_a_loop).err()?;
+            Some((failure.schedule().to_string(), started.elapsed()))
+        };
+        (0..15).filter_map(timed).unzip::<_, _, Vec<_>, Vec<_>>()
     };
-    let first = shrunk();
+    let ((first, times), (second, other_times)) = (shrunk(), shrunk());
     assert!(first.len() > 2, "{first:?}");
-    assert_eq!(shrunk(), first);
+    assert_eq!(second, first);
+    // A busy machine may hold up one of both.
+    let mut shorter = times.iter().zip(&other_times).map(|(one, other)| one.min(other));
+    assert!(shorter.all(|time| *time < Duration::from_secs(3)), "{times:?} {other_times:?}");
     // None of them lets the loop go round for long.
     let longest = |text: &String| text.split(' ').filter_map(|word| word.split_once('*')?.1.parse::<usize>().ok()).max();
     assert!(first.iter().filter_map(longest).all(|most| most <= 64), "{first:?}");
@@ -142,6 +150,21 @@ fn a_thread_that_gives_up_keeps_no_other_one_waiting_and_its_run_is_kept() {
     let script = Recording::load(&stem).unwrap().script().to_string();
     let threads: Vec<_> = script.split("thread\n").skip(1).collect();
     assert!(threads[1].contains("bump x") && threads[2].contains("read r1 y"), "{script}");
+}
+
+// The test below runs itself in a process of its own.
+#[test]
+fn a_run_that_is_not_kept_says_why() {
+    const INSIDE: &str = "OCTET_TEST_NOT_KEPT";
+    if std::env::var_os(INSIDE).is_some() {
+        let heap = Heap::builder().object("x", 0).keep_failing("/none/such");
+        heap.run(|threads| threads.spawn(|session| session.object("y").map(|_| ()))).unwrap_err();
+        return;
+    }
+    let mut inside = Command::new(std::env::current_exe().unwrap());
+    inside.args(["--exact", "a_run_that_is_not_kept_says_why", "--nocapture"]).env(INSIDE, "");
+    let told = String::from_utf8(inside.output().unwrap().stderr).unwrap();
+    assert!(told.contains("octet: the run that failed is not kept: ") && told.contains("No such file"), "{told}");
 }
 
 #[test]
