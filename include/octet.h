@@ -24,7 +24,8 @@ extern "C" {
 #endif
 
 /* One pointer. What it holds is freed by `octet_close`, by `octet_free`, or where a call puts another thing there. Each
- * call writes to its handle: threads are quicker whose sessions do not lie side by side, as on their own stacks. */
+ * call writes to its handle: threads are quicker whose sessions do not lie side by side, as on their own stacks. For these are
+ * the calls whose names end with `_each`. */
 typedef struct octet_handle {
     void *at;
 } octet_session, octet_stream, octet_record, octet_turns;

@@ -43,7 +43,9 @@ static void add(void) {
     uint64_t out = 0;
     for (uint64_t number = 0; number < 2; number++) {
         EXPECT(octet_start(sessions[number]), OCTET_READY);
-        EXPECT(octet_update(sessions[number], OCTET_ADD, 0, number + 1, 0, &out), OCTET_READY);
+        int32_t status = octet_update(sessions[number], OCTET_ADD, 0, number + 1, 0, &out);
+        while (status == OCTET_PENDING) status = octet_poll(sessions[number], &out);
+        EXPECT(status, OCTET_READY);
         EXPECT(out, 5 + number);
         EXPECT(octet_end(sessions[number], &out), OCTET_READY);
     }
