@@ -95,7 +95,6 @@ enum octet_status {
     OCTET_BAD_MARKS = -25,       /* the bytes are no marks file */
     OCTET_OTHER_RUN = -26,       /* the marks file is of another run */
     OCTET_NO_NOTES = -30,        /* the record has no accesses that were noted */
-    OCTET_NOT_THERE = -31,       /* the record is not of a run that came just to the window */
     /* Of schedules: */
     OCTET_NO_WAY = -27,          /* the way is none of octet_way */
     OCTET_NO_SCHEDULE = -28      /* the handle is empty */
@@ -198,26 +197,20 @@ int32_t octet_feed(octet_stream *stream, const uint8_t *bytes, size_t length, ui
  * OCTET_BAD_MARKS, once, where the file is refused at the place `at`, and the thread's recording ends there. */
 int32_t octet_feed_end(octet_stream *stream, uint64_t *at);
 
-/* A window has the last accesses of a long run as a script and its log. The run is made again twice by
- * `octet_follow_long`: whole, with `last`, and then up to the window, by the bytes that `octet_cut` gives. With any
- * status but OCTET_READY the next three calls leave all handles as they are, but that after OCTET_NO_MEMORY
- * `octet_search` may have freed the notes.
+/* A window has the last accesses of a long run as a script and its log. The run is made again once by
+ * `octet_follow_long`, whole, with `last`. With any status but OCTET_READY the next two calls leave all handles as they
+ * are, but that after OCTET_NO_MEMORY `octet_search` may have freed the notes.
  *
- * Begins a search, by the record of the first of these runs. Its notes go to the search, its values stay. A search is
- * a stream: feed it the whole marks file by `octet_feed`, which takes all bytes, and then `octet_feed_end` finds the
- * window. It finds none after OCTET_BAD_MARKS or OCTET_NO_MEMORY, nor after OCTET_OTHER_RUN: the threads cannot have
- * been made again by this file. */
+ * Begins a search, by the record of that run. Its notes go to the search, its values stay. A search is a stream: feed
+ * it the whole marks file by `octet_feed`, which takes all bytes, and then `octet_feed_end` finds the window. It finds
+ * none after OCTET_BAD_MARKS or OCTET_NO_MEMORY, nor after OCTET_OTHER_RUN: the threads cannot have been made again by
+ * this file. */
 int32_t octet_search(octet_record *record, octet_stream *search);
 
-/* Puts a stream behind the handle `cut`. It is fed the marks file by `octet_feed`, and gives it up to the window by
- * `octet_take`, of which OCTET_PENDING says that it wants more of the file. `search` has found the window. Threads
- * that are made again by these bytes have OCTET_OVER there. */
-int32_t octet_cut(octet_stream *search, octet_stream *cut);
-
-/* Puts a record with the window's script and log behind the handle `window`. `record` is that of the run up to there.
- * OCTET_NOT_THERE: its threads have not come just to the window. OCTET_TOO_LONG: make a window of fewer accesses.
- * OCTET_OTHER_RUN: the accesses and the marks do not make a run. */
-int32_t octet_window(octet_stream *search, octet_record *record, octet_record *window);
+/* Puts a record with the window's script and log behind the handle `window`, once `search` has found it. An object has
+ * at first the value that its first access found, or 0 where that is a write. OCTET_TOO_LONG: make a window of fewer
+ * accesses. OCTET_OTHER_RUN: the accesses and the marks do not make a run. */
+int32_t octet_window(octet_stream *search, octet_record *window);
 
 /* What to do about a status, in a few words. */
 static inline const char *octet_status_text(int32_t status) {
@@ -255,7 +248,6 @@ static inline const char *octet_status_text(int32_t status) {
     case OCTET_BAD_MARKS: return "the bytes are no marks file";
     case OCTET_OTHER_RUN: return "the marks file is of another run";
     case OCTET_NO_NOTES: return "the record has no accesses that were noted";
-    case OCTET_NOT_THERE: return "the record is not of a run that came just to the window";
     case OCTET_NO_WAY: return "the way is none of octet_way";
     case OCTET_NO_SCHEDULE: return "the handle has no schedule";
     default: return "no status of octet.h";

@@ -201,27 +201,6 @@ static void again_by_half(void) {
     values_of(&record, found);
 }
 
-/* The file up to what the search has found. */
-static struct bytes front_of(octet_stream *search) {
-    static uint8_t piece[65536];
-    struct bytes front = {NULL, 0, 0};
-    octet_stream cut = {0};
-    uint64_t taken = 0;
-    size_t length = 7;
-    EXPECT(octet_cut(search, &cut), OCTET_READY);
-    EXPECT(octet_take(&cut, piece, sizeof piece, &length), OCTET_PENDING);
-    for (size_t fed = 0; fed < file.length; fed += taken) {
-        EXPECT(octet_feed(&cut, file.at + fed, file.length - fed < 999 ? file.length - fed : 999, &taken), OCTET_READY);
-        int32_t status = octet_take(&cut, piece, fed ? sizeof piece : 0, &length);
-        if (!fed) EXPECT(status, OCTET_NO_ROOM), status = octet_take(&cut, piece, sizeof piece, &length);
-        for (; status == OCTET_READY; status = octet_take(&cut, piece, sizeof piece, &length)) add(&front, piece, length);
-        EXPECT(status, OCTET_PENDING);
-    }
-    EXPECT(octet_feed_end(&cut, &taken), OCTET_OTHER_KIND);
-    octet_free(&cut);
-    return front;
-}
-
 static void keep(const char *stem, const char *ending, const uint8_t *bytes, size_t length) {
     char name[4096];
     if (!stem) return;
@@ -230,32 +209,27 @@ static void keep(const char *stem, const char *ending, const uint8_t *bytes, siz
     if (!to || fwrite(bytes, 1, length, to) != length || fclose(to)) exit(64);
 }
 
-/* Its last accesses: it is made again whole, and then up to there. */
+/* Its last accesses: it is made again whole. */
 static void window(const char *stem) {
     static uint8_t text[1 << 20], bytes[1 << 20];
     struct worker workers[THREADS];
-    octet_record whole = made_again(workers, file.at, file.length, LAST, OCTET_READY), there, made = {0};
+    octet_record whole = made_again(workers, file.at, file.length, LAST, OCTET_READY), made = {0};
     octet_stream search = {0}, none = {0};
     uint64_t place = 0, value = 0;
     size_t length = 7, log_length = 7, accesses = 0;
     EXPECT(octet_search(&none, &search), OCTET_NO_RECORD);
     EXPECT(octet_search(&whole, &search), OCTET_READY);
     EXPECT(octet_search(&whole, &none), OCTET_NO_NOTES);
-    EXPECT(octet_cut(&none, &made), OCTET_NO_STREAM);
-    EXPECT(octet_cut(&search, &none), OCTET_OTHER_KIND);
-    EXPECT(octet_window(&none, &whole, &made), OCTET_NO_STREAM);
-    EXPECT(octet_window(&search, &whole, &made), OCTET_OTHER_KIND);
+    EXPECT(octet_window(&none, &made), OCTET_NO_STREAM);
+    EXPECT(octet_window(&whole, &made), OCTET_OTHER_KIND);
+    EXPECT(octet_window(&search, &made), OCTET_OTHER_KIND);
     EXPECT(octet_feed(&search, file.at, file.length, &place), OCTET_READY);
     EXPECT(place, file.length);
     EXPECT(octet_feed_end(&search, &place), OCTET_READY);
     EXPECT(octet_feed(&search, file.at, 1, &place), OCTET_OTHER_KIND);
     EXPECT(octet_feed_end(&search, &place), OCTET_OTHER_KIND);
-    struct bytes front = front_of(&search);
-    there = made_again(workers, front.at, front.length, 0, OCTET_OVER);
-    EXPECT(octet_window(&search, &none, &made), OCTET_NO_RECORD);
-    EXPECT(octet_window(&search, &whole, &made), OCTET_NOT_THERE);
     EXPECT(made.at == NULL && none.at == NULL, 1);
-    EXPECT(octet_window(&search, &there, &made), OCTET_READY);
+    EXPECT(octet_window(&search, &made), OCTET_READY);
     EXPECT(octet_script(&made, text, sizeof text - 1, &length), OCTET_READY);
     EXPECT(octet_log(&made, bytes, sizeof bytes, &log_length), OCTET_READY);
     EXPECT(length < sizeof text && log_length <= sizeof bytes, 1);
@@ -264,8 +238,7 @@ static void window(const char *stem) {
     EXPECT(length, 0);
     for (const char *at = (const char *)text; (at = strstr(at, " o")); at++) accesses++;
     EXPECT(accesses > OBJECTS && accesses <= OBJECTS + THREADS * LAST, 1);
-    free(front.at);
-    octet_free(&whole), octet_free(&there), octet_free(&made), octet_free(&search);
+    octet_free(&whole), octet_free(&made), octet_free(&search);
 }
 
 /* Feeds a thread as much of the file as it has room for. */

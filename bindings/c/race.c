@@ -30,12 +30,11 @@ static const uint64_t MOST_ACCESSES = (uint64_t)1 << 42, MOST_BETWEEN = 1000000,
 /* Odd numbers far from each other spread bits. The low bits of a product tell little, and are left aside. */
 static const uint64_t SPREAD = 0x9E3779B97F4A7C15u, STEP = 0xD1342543DE82EF95u, LOW = 1u << 20;
 
-/* What a thread is fed: the file, or the file up to a window. So many of these bytes were fed. */
+/* What a thread is fed. So many of these bytes were. */
 struct source {
     uint8_t bytes[ROOM];
     size_t length, fed;
     FILE *file;
-    octet_stream cut;
     bool is_through;
 };
 
@@ -206,19 +205,9 @@ static bool take_some(struct thread *t) {
 
 /* Puts what comes next before the thread. Tells whether there is anything. */
 static bool refill(struct source *s) {
-    for (;;) {
-        uint64_t taken = 0;
-        s->length = s->fed = 0;
-        if (s->cut.at) {
-            int32_t status = octet_take(&s->cut, s->bytes, sizeof s->bytes, &s->length);
-            if (status == OCTET_READY) return true;
-            if (status != OCTET_PENDING) expect(status, "octet_take", 0);
-        }
-        size_t length = read_some(s->file, s->bytes);
-        if (!s->cut.at) s->length = length;
-        if (length == 0 || !s->cut.at) return length > 0;
-        expect(octet_feed(&s->cut, s->bytes, length, &taken), "octet_feed", 0);
-    }
+    s->fed = 0;
+    s->length = read_some(s->file, s->bytes);
+    return s->length > 0;
 }
 
 /* Feeds a thread the next bytes, or says that there are no more. */
@@ -237,8 +226,8 @@ static bool feed_some(struct thread *t) {
     return taken > 0;
 }
 
-/* Makes the run again by the file, or up to what a search has found. Each thread notes so many of its last accesses. */
-static void make_again(uint16_t last, octet_stream *search, octet_record *record) {
+/* Makes the run again by the file. Each thread notes so many of its last accesses. */
+static void make_again(uint16_t last, octet_record *record) {
     octet_session sessions[THREADS] = {{0}};
     octet_stream streams[THREADS] = {{0}};
     const uint8_t *bytes = (const uint8_t *)declared;
@@ -248,13 +237,9 @@ static void make_again(uint16_t last, octet_stream *search, octet_record *record
         struct source *s = &threads[i].source;
         s->file = opened(name, "rb");
         s->length = s->fed = 0, s->is_through = false;
-        if (search) expect(octet_cut(search, &s->cut), "octet_cut", 0);
     }
     run_all(sessions, streams, feed_some);
-    for (int i = 0; i < THREADS; i++) {
-        fclose(threads[i].source.file);
-        octet_free(&threads[i].source.cut);
-    }
+    for (int i = 0; i < THREADS; i++) fclose(threads[i].source.file);
     expect(octet_close(sessions, THREADS, record), "octet_close", 0);
 }
 
@@ -299,40 +284,55 @@ static void find(octet_record *whole, octet_stream *search) {
     expect(octet_feed_end(search, &place), "octet_feed_end", place);
 }
 
-/* Writes a text of a record: a script has at most 1 MiB, and a log 64 MiB. */
-static void keep(const char *path, octet_record *record, int32_t (*copy)(octet_record *, uint8_t *, size_t, size_t *)) {
+/* Writes a text of a record, and gives it: a script has at most 1 MiB, and a log 64 MiB. */
+static uint8_t *keep(const char *path, octet_record *record, int32_t (*copy)(octet_record *, uint8_t *, size_t, size_t *),
+                     size_t *length) {
     uint8_t none;
-    size_t length = 0;
-    expect(copy(record, &none, 0, &length), "a copy", 0);
-    uint8_t *bytes = malloc(length);
+    expect(copy(record, &none, 0, length), "a copy", 0);
+    uint8_t *bytes = malloc(*length);
     if (!bytes) fail(NO_MEMORY, "no memory");
-    expect(copy(record, bytes, length, &length), "a copy", 0);
+    expect(copy(record, bytes, *length, length), "a copy", 0);
     FILE *file = opened(path, "wb");
-    add(file, path, bytes, length);
+    add(file, path, bytes, *length);
     finish(file, path);
-    free(bytes);
+    return bytes;
+}
+
+/* How many accesses each thread of a script has. */
+static void count_accesses(const uint8_t *text, size_t length, uint64_t *counts) {
+    int thread = -1;
+    for (size_t at = 0; at < length; at++) {
+        const char *line = (const char *)text + at;
+        const uint8_t *end = memchr(text + at, '\n', length - at);
+        size_t size = end ? (size_t)(end - text) - at : length - at;
+        if (size == 6 && !memcmp(line, "thread", 6)) counts[++thread] = 0;
+        else if (thread >= 0 && size > 5) counts[thread] += !memcmp(line, "read ", 5) || !memcmp(line, "write", 5) || !memcmp(line, "bump ", 5);
+        at += size;
+    }
 }
 
 /* A window that a script has no room for begins later, with half of the accesses. */
 static void write_window(uint64_t last, const char *script, const char *log) {
-    octet_record whole = {0}, front = {0}, window = {0};
+    octet_record whole = {0}, window = {0};
     octet_stream search = {0};
-    uint64_t upto[THREADS];
+    uint64_t counts[THREADS];
+    size_t length = 0;
     for (int32_t status = OCTET_TOO_LONG; status != OCTET_READY; last -= last / 2) {
-        make_again((uint16_t)last, NULL, &whole);
-        for (int i = 0; i < THREADS; i++) upto[i] = threads[i].made;
+        make_again((uint16_t)last, &whole);
         find(&whole, &search);
-        make_again(0, &search, &front);
-        status = octet_window(&search, &front, &window);
+        status = octet_window(&search, &window);
         if (status != OCTET_TOO_LONG || last == 1) expect(status, "octet_window", 0);
-        octet_free(&whole), octet_free(&front), octet_free(&search);
+        octet_free(&whole), octet_free(&search);
     }
-    keep(script, &window, octet_script);
-    keep(log, &window, octet_log);
+    uint8_t *text = keep(script, &window, octet_script, &length);
+    count_accesses(text, length, counts);
+    free(text);
+    free(keep(log, &window, octet_log, &length));
     octet_free(&window);
     for (int i = 0; i < THREADS; i++) {
-        if (threads[i].made == upto[i]) printf("thread %d: none of its accesses\n", i);
-        else printf("thread %d: its accesses %" PRIu64 " to %" PRIu64 "\n", i, threads[i].made, upto[i] - 1);
+        uint64_t made = threads[i].made;
+        if (counts[i] == 0) printf("thread %d: none of its accesses\n", i);
+        else printf("thread %d: its accesses %" PRIu64 " to %" PRIu64 "\n", i, made - counts[i], made - 1);
     }
 }
 
@@ -367,7 +367,7 @@ int main(int count, char **words) {
     for (uint64_t i = 0; i < OBJECTS; i++) starts[i] = i;
     if (is_window) write_window(last, words[7], words[8]);
     else if (is_record) record_run(&record);
-    else make_again(0, NULL, &record);
+    else make_again(0, &record);
     if (!is_window) say_all(&record);
     if (fflush(stdout)) fail(NOT_WRITTEN, "what came of it cannot be said");
     return 0;

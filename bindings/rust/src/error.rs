@@ -286,8 +286,7 @@ pub(crate) fn checked(status: i32, thread: usize) -> Result<(), Error> {
         raw::TOO_LONG => Error::TooLong,
         raw::HALTED => Error::Halted { thread },
         raw::UNORDERED => Error::Unordered,
-        // The second run of a window has not come to it.
-        raw::NOT_WHOLE | raw::NOT_THERE => Error::NotWhole,
+        raw::NOT_WHOLE => Error::NotWhole,
         raw::OTHER_RUN => Error::OtherRecording,
         other => Error::Status(other),
     })

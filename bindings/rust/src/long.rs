@@ -242,7 +242,7 @@ impl LongBuilder {
     /// let heap = Heap::builder().object("x", 0);
     /// heap.clone().record(&file).run(threads)?;
     /// let window = heap.rerun(&file).window(2).run(threads)?;
-    /// assert!(window.script().contains("object x 6\n"));
+    /// assert!(window.script().contains("object x 0\nthread\nset r0 7\nwrite x r0\n"));
     /// # std::fs::remove_file(&file).expect("the file is there");
     /// # Ok::<(), Error>(())
     /// ```
@@ -250,18 +250,13 @@ impl LongBuilder {
         Window::new(self, last.into())
     }
 
-    // Runs the threads again by the file, or by another one, while each notes so many last accesses.
-    pub(crate) fn rerun_noting<'a, T, E>(
-        &self,
-        path: &Path,
-        last: u16,
-        spawn: impl FnOnce(&mut Threads<'a, T, E>),
-    ) -> Result<Left, E>
+    // Runs the threads again by the file, while each notes so many last accesses.
+    pub(crate) fn rerun_noting<'a, T, E>(&self, last: u16, spawn: impl FnOnce(&mut Threads<'a, T, E>)) -> Result<Left, E>
     where
         T: Send,
         E: From<Error> + Send,
     {
-        let again = LongBuilder { heap: self.heap.clone(), way: Way::Rerun, path: path.to_path_buf(), last: Some(last) };
+        let again = LongBuilder { heap: self.heap.clone(), way: Way::Rerun, path: self.path.clone(), last: Some(last) };
         again.ended(spawn).map(|(_, left)| left)
     }
 

@@ -3,13 +3,12 @@ use crate::Error;
 use crate::error::checked;
 use crate::program::NotesFile;
 use crate::raw::{self, Handle};
-use std::fs::{self, File};
+use std::fs::File;
 use std::io::{Read, Write};
 use std::os::unix::fs::FileExt;
 use std::path::{Path, PathBuf};
-use std::sync::atomic::{AtomicU64, Ordering};
+use std::thread;
 use std::time::Duration;
-use std::{env, process, thread};
 
 /// How long one rests where there is nothing to do.
 const REST: Duration = Duration::from_micros(200);
@@ -221,46 +220,4 @@ pub(crate) fn feed_all(search: &mut Handle, path: &Path) -> Result<(), Error> {
     let mut place = 0;
     pieces(path, |piece| fed(search.feed(piece, &mut place), path, place))?;
     fed(search.feed_end(&mut place), path, place)
-}
-
-/// A marks file up to the last accesses that a search has found. It is gone with this.
-pub(crate) struct Front {
-    path: PathBuf,
-}
-
-impl Front {
-    /// Of this file.
-    pub(crate) fn cut(search: &mut Handle, path: &Path) -> Result<Front, Error> {
-        static FRONTS: AtomicU64 = AtomicU64::new(0);
-        let name = format!("octet-front-{}-{}.octm", process::id(), FRONTS.fetch_add(1, Ordering::Relaxed));
-        let front = Front { path: env::temp_dir().join(name) };
-        let mut to = File::create_new(&front.path).map_err(named(&front.path))?;
-        let (mut cut, status) = search.cut();
-        checked(status, 0)?;
-        let mut block = vec![0; PIECE];
-        pieces(path, |piece| {
-            let (mut place, mut length) = (0, 0);
-            fed(cut.feed(piece, &mut place), path, place)?;
-            loop {
-                match cut.take(&mut block, &mut length) {
-                    raw::READY => to.write_all(&block[..length]).map_err(named(&front.path))?,
-                    raw::NO_ROOM => block.resize(length, 0),
-                    raw::PENDING => return Ok(()),
-                    status => return fed(status, path, place),
-                }
-            }
-        })?;
-        Ok(front)
-    }
-
-    pub(crate) fn path(&self) -> &Path {
-        &self.path
-    }
-}
-
-impl Drop for Front {
-    fn drop(&mut self) {
-        // What cannot be removed stays where temporary files are.
-        let _ = fs::remove_file(&self.path);
-    }
 }

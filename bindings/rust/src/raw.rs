@@ -26,7 +26,6 @@ pub(crate) const NO_ROOM: i32 = -24;
 pub(crate) const BAD_MARKS: i32 = -25;
 pub(crate) const OTHER_RUN: i32 = -26;
 pub(crate) const TWO_RUNS: i32 = -29;
-pub(crate) const NOT_THERE: i32 = -31;
 pub(crate) const OUT_OF_ORDER: i32 = -32;
 
 /// What a session is asked for.
@@ -130,8 +129,7 @@ unsafe extern "C" {
     fn octet_feed(stream: *mut Handle, bytes: *const u8, length: usize, taken: *mut u64) -> i32;
     fn octet_feed_end(stream: *mut Handle, at: *mut u64) -> i32;
     fn octet_search(record: *mut Handle, search: *mut Handle) -> i32;
-    fn octet_cut(search: *mut Handle, cut: *mut Handle) -> i32;
-    fn octet_window(search: *mut Handle, record: *mut Handle, window: *mut Handle) -> i32;
+    fn octet_window(search: *mut Handle, window: *mut Handle) -> i32;
     fn octet_schedule(turns: *mut Handle, way: u8, seed: u64, most: u32) -> i32;
     fn octet_pick(turns: *mut Handle, ready: *const u8, threads: usize, thread: *mut u8) -> i32;
 }
@@ -297,19 +295,11 @@ impl Handle {
         (search, status)
     }
 
-    /// `octet_cut` by this search: the stream, and the status.
-    pub(crate) fn cut(&mut self) -> (Handle, i32) {
-        let mut cut = Handle::empty();
-        // SAFETY: as in `search`.
-        let status = unsafe { octet_cut(self, &raw mut cut) };
-        (cut, status)
-    }
-
-    /// `octet_window` by this search and the record of the run up to there: the window, and the status.
-    pub(crate) fn window(&mut self, record: &mut Handle) -> (Handle, i32) {
+    /// `octet_window` by this search: the window, and the status.
+    pub(crate) fn window(&mut self) -> (Handle, i32) {
         let mut window = Handle::empty();
-        // SAFETY: both handles are borrowed for the call, and the third is this function's own.
-        let status = unsafe { octet_window(self, record, &raw mut window) };
+        // SAFETY: as in `search`.
+        let status = unsafe { octet_window(self, &raw mut window) };
         (window, status)
     }
 

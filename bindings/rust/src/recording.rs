@@ -1,6 +1,7 @@
 //! What is kept of a run.
 use crate::error::checked;
 use crate::raw::Handle;
+use crate::session::Noted;
 use crate::{Error, Place, sha256};
 use std::ops::Range;
 use std::path::{Path, PathBuf};
@@ -83,6 +84,19 @@ fn read(path: PathBuf) -> Result<Vec<u8>, Error> {
 fn text_of(places: &[Vec<Place>]) -> String {
     let with_place = |text: String, place: &Place| text + &place.to_string() + "\n";
     places.iter().fold(String::new(), |text, thread| thread.iter().fold(text + "thread\n", with_place))
+}
+
+// How many accesses each thread of a script has.
+fn accesses_of(script: &str) -> Vec<usize> {
+    let mut counts = Vec::new();
+    for line in script.lines() {
+        match (line.split(' ').next(), counts.last_mut()) {
+            (Some("thread"), _) => counts.push(0),
+            (Some("read" | "write" | "bump"), Some(count)) => *count += 1,
+            _ => {}
+        }
+    }
+    counts
 }
 
 fn places_of(text: &str) -> Vec<Vec<Place>> {
@@ -243,5 +257,12 @@ impl Recording {
         checked(status, 0)?;
         let script = String::from_utf8(script).map_err(|_| Error::NoRecording)?;
         Ok(Recording { script, log, values: Some(values), places })
+    }
+
+    /// Of threads that have made more accesses than the script has: these are the last ones.
+    pub(crate) fn of_last(record: Handle, noted: Vec<Noted>) -> Result<Recording, Error> {
+        let recording = Recording::of(record, Vec::new())?;
+        let places = accesses_of(&recording.script).into_iter().zip(noted).map(|(many, noted)| noted.last(many)).collect();
+        Ok(Recording { places, ..recording })
     }
 }

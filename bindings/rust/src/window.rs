@@ -1,7 +1,7 @@
 //! The last accesses of a run of any length.
 use crate::error::checked;
 use crate::heap::within;
-use crate::marks_file::{Front, feed_all};
+use crate::marks_file::feed_all;
 use crate::{Error, LongBuilder, Recording, Threads};
 
 /// How many accesses of each thread a window has: its last ones. `last` makes it.
@@ -32,10 +32,10 @@ pub fn last(accesses: u16) -> Last {
 }
 
 /// The last accesses of a run of any length, which `run` makes a recording of: so many of each thread, or fewer where what came
-/// before what does not allow for them. The threads run twice: to their ends, and then up to these accesses.
+/// before what does not allow for them. The threads run once more, to their ends.
 ///
-/// The recording begins with the values that the objects have there. It has the objects that are accessed, by their names, and
-/// where each access stands in the program. Threads cannot be run again by it, since they would have to begin in the middle.
+/// The recording has the objects that are accessed, by their names, and where each access stands in the program. An object begins
+/// with the value that its first access finds there, or with 0 where that is a write. Threads cannot be run again by it, since they would have to begin in the middle.
 ///
 /// ```
 /// use octet::{Error, Heap, Threads, Window, last};
@@ -69,7 +69,7 @@ impl Window {
         Window { long, last }
     }
 
-    /// Runs the threads twice, and makes a recording of the window.
+    /// Runs the threads, and makes a recording of the window.
     ///
     /// ```
     /// use octet::{Error, Heap, Threads};
@@ -88,12 +88,11 @@ impl Window {
     ///
     /// # Errors
     /// Those of `LongBuilder::run`, and of a file that is damaged. `BadSize` where no accesses are wanted. `TooLong` where the
-    /// accesses need more than a script holds: ask for fewer. `NotWhole` and `OtherRecording` where the threads did not make the
-    /// same accesses twice.
+    /// accesses need more than a script holds: ask for fewer. `OtherRecording` where the threads did not make the accesses of the file.
     ///
     /// # Panics
     /// Where a thread does.
-    pub fn run<'a, T: Send>(self, spawn: impl Fn(&mut Threads<'a, T, Error>)) -> Result<Recording, Error> {
+    pub fn run<'a, T: Send>(self, spawn: impl FnOnce(&mut Threads<'a, T, Error>)) -> Result<Recording, Error> {
         self.try_run(spawn)
     }
 
@@ -125,23 +124,19 @@ impl Window {
     ///
     /// # Panics
     /// Where a thread does.
-    pub fn try_run<'a, T, E>(self, spawn: impl Fn(&mut Threads<'a, T, E>)) -> Result<Recording, E>
+    pub fn try_run<'a, T, E>(self, spawn: impl FnOnce(&mut Threads<'a, T, E>)) -> Result<Recording, E>
     where
         T: Send,
         E: From<Error> + Send,
     {
         let Window { long, last: Last(last) } = self;
         within("accesses of each thread", last.into(), 1, u16::MAX.into())?;
-        let mut whole = long.rerun_noting(long.path(), last, &spawn)?;
-        let (mut search, status) = whole.record.search();
+        let mut left = long.rerun_noting(last, spawn)?;
+        let (mut search, status) = left.record.search();
         checked(status, 0)?;
         feed_all(&mut search, long.path())?;
-        let front = Front::cut(&mut search, long.path())?;
-        let mut there = long.rerun_noting(front.path(), 0, &spawn)?;
-        let (window, status) = search.window(&mut there.record);
+        let (window, status) = search.window();
         checked(status, 0)?;
-        let both = whole.noted.into_iter().zip(there.noted);
-        let places = both.map(|(whole, there)| whole.after(there.made)).collect();
-        Ok(Recording::of(window, places)?.with_names(&long.names()))
+        Ok(Recording::of_last(window, left.noted)?.with_names(&long.names()))
     }
 }

@@ -7,8 +7,8 @@ use Rattle.octet_host_script.specs.declared.fault.OpenFault.{OpenFault}
 use Rattle.octet_host_script.specs.declared.fault.OpenFault.TheVariants as opening
 use Rattle.octet_c.specs.declared.status.Fault.{Fault}
 use Rattle.std.specs.Prelude.{ℤ}
-use Rattle.octet_c.specs.declared.status.Fault.TheVariants.{OutOfMemory, BadText, OtherSessions, TooLong, BadLog, Misfit, Unordered, BadSize, OtherKind, NoNotes, NotThere, OtherRun}
-use Rattle.octet_c.specs.declared.status.TheConstants.{NO_MEMORY, BAD_TEXT, OTHER_SESSIONS, OUT_OF_ORDER, STILL_RUNNING, TOO_LONG, BAD_LOG, MISFIT, UNORDERED, NOT_WHOLE, BAD_SIZE, TWO_RUNS, OTHER_KIND, NO_NOTES, NOT_THERE, OTHER_RUN}
+use Rattle.octet_c.specs.declared.status.Fault.TheVariants.{OutOfMemory, BadText, OtherSessions, TooLong, BadLog, Misfit, Unordered, BadSize, OtherKind, NoNotes, OtherRun}
+use Rattle.octet_c.specs.declared.status.TheConstants.{NO_MEMORY, BAD_TEXT, OTHER_SESSIONS, OUT_OF_ORDER, STILL_RUNNING, TOO_LONG, BAD_LOG, MISFIT, UNORDERED, NOT_WHOLE, BAD_SIZE, TWO_RUNS, OTHER_KIND, NO_NOTES, OTHER_RUN}
 
 -- that of a text that is to declare a heap
 abbrev pub open_fault : OpenFault → Fault
@@ -36,7 +36,6 @@ fault_status Unordered = UNORDERED
 fault_status BadSize = BAD_SIZE
 fault_status OtherKind = OTHER_KIND
 fault_status NoNotes = NO_NOTES
-fault_status NotThere = NOT_THERE
 fault_status OtherRun = OTHER_RUN
 
 -- that of a run that is not ended

@@ -20,7 +20,6 @@ IsLeftOf it = (course : LongCourse) × (again : ClosedAgain) × IsClosedAgain co
 abbrev pub IsOnTheWay : Window → Type 0
 IsOnTheWay (window.Search search) = (1 ≤ length search.made) × (length search.made ≤ MAX_THREADS)
 IsOnTheWay (window.Found found) = (1 ≤ length found.parts) × (length found.parts ≤ MAX_THREADS)
-IsOnTheWay (window.Cut stream) = Unit {0}
 IsOnTheWay (window.Made texts) = Unit {0}
 
 -- what a handle may stand for

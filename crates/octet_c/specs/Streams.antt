@@ -5,25 +5,19 @@ use Rattle.octet_blocks.specs.declared.fault.FeedFault.TheVariants as feed
 use Rattle.octet_blocks.specs.declared.fault.GatherFault.{GatherFault}
 use Rattle.octet_blocks.specs.declared.fault.GatherFault.TheVariants as gather
 use Rattle.octet_blocks.specs.Reading.{waiting_items, taken, Feeds, HasFault, HasTaken, LacksRoom}
-use Rattle.octet_cut.specs.declared.fault.CutFault.{CutFault}
-use Rattle.octet_cut.specs.declared.fault.CutFault.TheVariants as cut
-use Rattle.octet_cut.specs.declared.fault.SearchFault.{SearchFault}
-use Rattle.octet_cut.specs.declared.fault.SearchFault.TheVariants as search
-use Rattle.octet_cut.specs.declared.found.Found.{Found}
-use Rattle.octet_cut.specs.declared.search.Search.{Search}
-use Rattle.octet_cut.specs.Files.{StandsAt}
-use Rattle.octet_cut.specs.Searches.{fed_by, HasSearched, SearchesOn, IsSameSearch, HasSearchFault, FindsIn, HasFindFault}
+use Rattle.octet_tail.specs.declared.fault.SearchFault.{SearchFault}
+use Rattle.octet_tail.specs.declared.fault.SearchFault.TheVariants as search
+use Rattle.octet_tail.specs.declared.found.Found.{Found}
+use Rattle.octet_tail.specs.declared.search.Search.{Search}
+use Rattle.octet_tail.specs.Searches.{fed_by, HasSearched, SearchesOn, IsSameSearch, HasSearchFault, FindsIn, HasFindFault}
 use Rattle.octet_marks.specs.declared.piece.Piece.{Piece}
 use Rattle.octet_marks.specs.declared.piece.Piece.TheVariants as pieces
-use Rattle.octet_marks.specs.Files.{Unread, fed_with}
 use Rattle.octet_marks.specs.Reading.{piece_bytes}
 use Rattle.octet_host.specs.Copies.{copied}
-use Rattle.octet_host_long.specs.declared.cut_stream.CutStream.{CutStream}
 use Rattle.octet_host_long.specs.declared.inlet.Inlet.{Inlet}
 use Rattle.octet_host_long.specs.declared.outlet.Outlet.{Outlet}
 use Rattle.octet_host_long.specs.declared.outlet.Taken.{Taken}
 use Rattle.octet_host_long.specs.declared.outlet.Taken.TheVariants as took
-use Rattle.octet_host_long.specs.Cutting.{TakesCut}
 use Rattle.octet_host_long.specs.Opened.{head_with}
 use Rattle.octet_host_long.specs.Streams.{head_of, TakesFrom}
 use Rattle.octet_c.specs.declared.held.Held.{Held}
@@ -57,28 +51,10 @@ pub record Takes (it : Outlet) (said : ℤ) (room out : List ℕ) (before size :
   pub takes : TakesFrom it room given out that
   pub fits : FitsTaken given said before size
 
--- what a stream comes to that gives a file up to a window, in the words of C
-abbrev pub FitsCut : Result Taken CutFault → ℤ → ℕ → ℕ → Type 0
-FitsCut (Ok (took.Copied long)) said before size = (said ≡ status.READY) × (size ≡ long)
-FitsCut (Ok (took.NoRoom long)) said before size = (said ≡ status.NO_ROOM) × (size ≡ long)
-FitsCut (Ok took.Waits) said before size = (said ≡ status.PENDING) × (size ≡ before)
-FitsCut (Ok took.Ended) said before size = (said ≡ status.OVER) × (size ≡ before)
-FitsCut (Err cut.OutOfMemory) said before size = (said ≡ status.NO_MEMORY) × (size ≡ before)
-FitsCut (Err fault) said before size = (said ≡ status.BAD_MARKS) × (size ≡ before)
-
--- it is asked for what comes next
-pub record TakesOfCut (it : CutStream) (said : ℤ) (room out : List ℕ) (before size : ℕ) (that : CutStream) : Type 0 where
-  pub given : Result Taken CutFault
-  pub cuts : that.cutter.cuts ≡ it.cutter.cuts
-  pub takes : TakesCut it room given out that
-  pub fits : FitsCut given said before size
-
 -- the stream behind a handle is asked so, if one is there that gives. Else nothing has changed
 abbrev pub TakesHeld : Option Held → ℤ → List ℕ → List ℕ → ℕ → ℕ → Option Held → Type 0
 TakesHeld (Some (held.Outlet it)) said room out before size (Some (held.Outlet that)) = Takes it said room out before size that
 TakesHeld (Some (held.Outlet it)) said room out before size _ = ⊥
-TakesHeld (Some (held.Window (window.Cut it))) said room out before size (Some (held.Window (window.Cut that))) = TakesOfCut it said room out before size that
-TakesHeld (Some (held.Window (window.Cut it))) said room out before size _ = ⊥
 TakesHeld it said room out before size that = (said ≡ said_of_lack status.NO_STREAM it) × (that ≡ it) × (out ≡ room) × (size ≡ before)
 
 -- why bytes are not taken, in the words of C. The place of the file that is refused is told
@@ -119,18 +95,10 @@ pub record FeedsSearch (bytes : List ℕ) (it : Search) (said : ℤ) (before now
   pub searches : SearchesOn (fed_by bytes given) it that
   pub fits : FitsSearched bytes that given said before now
 
--- a stream that gives a file up to a window is fed these bytes, or none of them
-pub record FeedsCut (bytes : List ℕ) (it : CutStream) (said : ℤ) (before now : ℕ) (that : CutStream) : Type 0 where
-  pub of : (that.cutter.cuts ≡ it.cutter.cuts) × (that.held ≡ it.held)
-  pub fed : ((said ≡ status.READY) × (now ≡ length bytes) × ((file : Unread) → StandsAt file it.cutter → StandsAt (fed_with bytes file) that.cutter))
-      ⊎ ((said ≡ status.NO_MEMORY) × (now ≡ before) × ((file : Unread) → StandsAt file it.cutter → StandsAt file that.cutter))
-
 -- what comes of the last accesses is fed so, if it is to be. Else nothing has changed
 abbrev pub FeedsWindow : List ℕ → Window → ℤ → ℕ → ℕ → Window → Type 0
 FeedsWindow bytes (window.Search it) said before now (window.Search that) = FeedsSearch bytes it said before now that
 FeedsWindow bytes (window.Search it) said before now _ = ⊥
-FeedsWindow bytes (window.Cut it) said before now (window.Cut that) = FeedsCut bytes it said before now that
-FeedsWindow bytes (window.Cut it) said before now _ = ⊥
 FeedsWindow bytes it said before now that = (said ≡ status.OTHER_KIND) × (that ≡ it) × (now ≡ before)
 
 -- a search finds the last accesses, by all whole pieces that it was fed

@@ -6,10 +6,10 @@ ghost use Rattle.octet_c.specs.Faults.{open_fault, follow_fault, fault_status, c
 ghost use Rattle.octet_c.specs.Statuses.{status_of};
 ghost use Rattle.octet_c.specs.Windows.{window_fault};
 
-use octet_cut::WindowFault;
 use octet_host::{CloseFault, Misuse};
 use octet_host_script::{FollowFault, OpenFault};
 use octet_model::OutOfMemory;
+use octet_tail::WindowFault;
 use octet_window::Refusal;
 use std::alloc::{AllocError, AllocFailed};
 
@@ -35,8 +35,6 @@ pub enum Fault {
     OtherKind,
     /// The record has no accesses that were noted.
     NoNotes,
-    /// The record is not of a run that came just to the window.
-    NotThere,
     /// What was fed is not the marks file of the run.
     OtherRun,
 }
@@ -101,7 +99,7 @@ impl From<WindowFault> for Fault {
             WindowFault::Refused { refusal } => match refusal {
                 Refusal::ManyObjects { .. } | Refusal::ManyLines { .. } => Fault::TooLong,
                 Refusal::OutOfMemory => Fault::OutOfMemory,
-                Refusal::NoObject { .. } | Refusal::NoHistory => Fault::OtherRun,
+                Refusal::NoHistory => Fault::OtherRun,
             },
         }
     }
@@ -183,8 +181,6 @@ pub const TWO_RUNS: i32 = -29;
 
 pub const NO_NOTES: i32 = -30;
 
-pub const NOT_THERE: i32 = -31;
-
 /// The status of a call that the state of its thread does not allow.
 pub(crate) fn status_of(misuse: Misuse) -> i32
     ensures { result ≡ status_of misuse }
@@ -215,7 +211,6 @@ impl Fault {
             Fault::BadSize => BAD_SIZE,
             Fault::OtherKind => OTHER_KIND,
             Fault::NoNotes => NO_NOTES,
-            Fault::NotThere => NOT_THERE,
             Fault::OtherRun => OTHER_RUN,
         }
     }

@@ -5,7 +5,7 @@ ghost use Rattle.octet_marks.specs.Reading.{piece_bytes};
 ghost use Rattle.octet_host_long.specs.Opened.{head_with};
 ghost use Rattle.octet_c.specs.Long.{IsSize};
 ghost use Rattle.octet_c.specs.Sessions.{IsOnTheWay};
-ghost use Rattle.octet_c.specs.Streams.{FitsCut, FitsTaken, FitsFault, FitsSearchFault, FeedsCut, FeedsSearch, FeedsWindow, FindsWindow, TakesHeld, FeedsInlet, FeedsHeld, EndsInlet, EndsHeld, HeadCopied};
+ghost use Rattle.octet_c.specs.Streams.{FitsTaken, FitsFault, FitsSearchFault, FeedsSearch, FeedsWindow, FindsWindow, TakesHeld, FeedsInlet, FeedsHeld, EndsInlet, EndsHeld, HeadCopied};
 
 use crate::handle::Handle;
 use crate::held::Held;
@@ -16,11 +16,11 @@ use crate::status::{
 };
 use crate::window::Window;
 use octet_blocks::{FeedFault, GatherFault};
-use octet_cut::{CutFault, Search, SearchFault};
 use octet_host::copy_out;
-use octet_host_long::{CutStream, Inlet, Taken, head_of};
+use octet_host_long::{Inlet, Taken, head_of};
 use octet_marks::head;
 use octet_model::OutOfMemory;
+use octet_tail::{Search, SearchFault};
 use std::alloc::Global;
 
 // The bytes that a marks file begins with.
@@ -81,28 +81,8 @@ fn taken(taken: Result<Taken, GatherFault>, length: &mut usize) -> i32
     }
 }
 
-// What a stream comes to that gives a file up to a window.
-fn taken_of_cut(taken: Result<Taken, CutFault>, length: &mut usize) -> i32
-    ensures { FitsCut taken result length.old length.new }
-{
-    match taken {
-        Ok(Taken::Copied { length: copied }) => {
-            *length = copied;
-            READY
-        }
-        Ok(Taken::NoRoom { length: needed }) => {
-            *length = needed;
-            NO_ROOM
-        }
-        Ok(Taken::Waits) => PENDING,
-        Ok(Taken::Ended) => OVER,
-        Err(CutFault::Refused { .. } | CutFault::Unwritten) => BAD_MARKS,
-        Err(CutFault::OutOfMemory) => NO_MEMORY,
-    }
-}
-
 /// Copies the next block of the thread, or its end, and says how long it is: 0 where it was copied, 1 where nothing is whole
-/// yet, 2 where the thread's end was taken before. Of a file up to a window it copies what the next piece has.
+/// yet, 2 where the thread's end was taken before.
 #[unsafe(no_mangle)]
 pub extern "C" fn octet_take(
     alloc: Global,
@@ -117,7 +97,6 @@ pub extern "C" fn octet_take(
         Some(mut held) => {
             let status = match &mut *held {
                 Held::Outlet(outlet) => taken(outlet.take(alloc, out), length),
-                Held::Window(Window::Cut(cut)) => taken_of_cut(cut.take(alloc, out), length),
                 _ => OTHER_KIND,
             };
             stream.put(held);
@@ -194,19 +173,6 @@ fn searched(alloc: Global, search: &mut Search, bytes: &[u8], taken: &mut u64) -
     }
 }
 
-// Feeds what gives a file up to a window. All bytes are taken, or none.
-fn fed_to_cut(alloc: Global, cut: &mut CutStream, bytes: &[u8], taken: &mut u64) -> i32
-    ensures { FeedsCut bytes.now cut.old result taken.old taken.new cut.new }
-{
-    match cut.feed(alloc, bytes) {
-        Ok(()) => {
-            *taken = bytes.len() as u64;
-            READY
-        }
-        Err(_) => NO_MEMORY,
-    }
-}
-
 // What comes of the last accesses is fed, if it is to be.
 fn fed_to_window(alloc: Global, window: &mut Window, bytes: &[u8], taken: &mut u64) -> i32
     requires { IsOnTheWay window.old }
@@ -215,7 +181,6 @@ fn fed_to_window(alloc: Global, window: &mut Window, bytes: &[u8], taken: &mut u
 {
     match window {
         Window::Search(search) => searched(alloc, search, bytes, taken),
-        Window::Cut(cut) => fed_to_cut(alloc, cut, bytes, taken),
         Window::Found(_) | Window::Made(_) => OTHER_KIND,
     }
 }
@@ -240,7 +205,7 @@ fn found(alloc: Global, window: &mut Window, at: &mut u64) -> i32
 }
 
 /// Feeds the thread the next bytes of a marks file, and says how many were taken: none where the thread has no room yet.
-/// Where the file is refused, `taken` is the place. So is a search fed, and a stream that gives the file up to a window.
+/// Where the file is refused, `taken` is the place. So is a search fed.
 #[unsafe(no_mangle)]
 pub extern "C" fn octet_feed(
     alloc: Global,

@@ -1,16 +1,14 @@
 //! The calls by which the last accesses of a run of any length become a script.
-ghost use Rattle.std.specs.Prelude.{◌≡◌, ◌≤◌, length, IfOk};
-ghost use Rattle.octet_model.specs.declared.limits.TheConstants.{MAX_THREADS};
+ghost use Rattle.std.specs.Prelude.{◌≡◌, IfOk};
 ghost use Rattle.octet_c.specs.Sessions.{IsHeld, IsLeftOf};
-ghost use Rattle.octet_c.specs.Windows.{BeginsSearch, SearchesFor, SearchesBy, BeginsCut, CutsBy, Windows, BeginsWindow, WindowsBy, PutsMade};
+ghost use Rattle.octet_c.specs.Windows.{BeginsSearch, SearchesFor, SearchesBy, BeginsWindow, WindowsBy, PutsMade};
 
 use crate::handle::Handle;
 use crate::held::Held;
 use crate::status::{Fault, NO_MEMORY, NO_RECORD, NO_STREAM, READY};
-use octet_cut::{Found, Search};
-use octet_host_long::{ClosedAgain, CutStream};
+use octet_host_long::ClosedAgain;
 use octet_model::MAX_THREADS;
-use octet_tail::Texts;
+use octet_tail::{Found, Search, Texts};
 use std::alloc::Global;
 
 /// The last accesses of a run on their way to a script.
@@ -18,7 +16,6 @@ use std::alloc::Global;
 pub enum Window {
     Search(Search),
     Found(Found),
-    Cut(CutStream),
     Made(Texts),
 }
 
@@ -89,89 +86,34 @@ pub extern "C" fn octet_search(alloc: Global, kept: &mut Handle, search: &mut Ha
     }
 }
 
-// The stream that gives a marks file up to what is held, if it is found.
-fn cut_of(alloc: Global, held: &Held) -> Result<Held, Fault>
-    ensures cuts { BeginsCut held.now result }
+// The script of what was found, and its log, if something is.
+fn window_of(alloc: Global, held: &Held) -> Result<Held, Fault>
+    requires { IsHeld held.now }
+    ensures windows { BeginsWindow held.now result }
     ensures good { IfOk result IsHeld }
 {
     let Held::Window(Window::Found(found)) = held else {
         return Err(Fault::OtherKind);
     };
-    match found.cutter(alloc) {
-        Ok(cutter) => Ok(Held::Window(Window::Cut(CutStream::new(cutter)))),
-        Err(_) => Err(Fault::OutOfMemory),
-    }
-}
-
-/// Puts a stream behind the handle `cut`, which is fed the marks file and gives it up to the last accesses that `search` has
-/// found; what it held is freed.
-#[unsafe(no_mangle)]
-pub extern "C" fn octet_cut(alloc: Global, search: &mut Handle, cut: &mut Handle) -> i32
-    ensures keeps { search.new.held ≡ search.old.held }
-    ensures cuts { CutsBy search.old.held cut.old result cut.new }
-{
-    match search.take(alloc) {
-        None => NO_STREAM,
-        Some(held) => {
-            let made = cut_of(alloc, &held);
-            search.put(held);
-            put_made(alloc, cut, made)
-        }
-    }
-}
-
-// The script of what was found, and its log, by what the run up to there has left.
-fn window_of(alloc: Global, found: &Found, again: &ClosedAgain) -> Result<Held, Fault>
-    requires some { 1 ≤ length found.now.parts }
-    requires few { length found.now.parts ≤ MAX_THREADS }
-    ensures windows { Windows found.now again.now result }
-    ensures good { IfOk result IsHeld }
-{
-    if !found.is_reached(again.made.as_slice()) {
-        return Err(Fault::NotThere);
-    }
-    match found.window(alloc, again.values.as_slice()) {
+    match found.window(alloc) {
         Ok(texts) => Ok(Held::Window(Window::Made(texts))),
         Err(fault) => Err(Fault::from(fault)),
     }
 }
 
-// The same by what is held, if both are what they have to be.
-fn window_by(alloc: Global, search: &Held, left: &Held) -> Result<Held, Fault>
-    requires { IsHeld search.now }
-    ensures windows { BeginsWindow search.now left.now result }
-    ensures good { IfOk result IsHeld }
-{
-    let Held::Window(Window::Found(found)) = search else {
-        return Err(Fault::OtherKind);
-    };
-    let Held::Again(again) = left else {
-        return Err(Fault::OtherKind);
-    };
-    window_of(alloc, found, again)
-}
-
 /// Puts the script of the last accesses that `search` has found, with its log, behind the handle `window`; what it held is
-/// freed. `kept` is what the run up to there has left.
+/// freed.
 #[unsafe(no_mangle)]
-pub extern "C" fn octet_window(
-    alloc: Global,
-    search: &mut Handle,
-    kept: &mut Handle,
-    window: &mut Handle,
-) -> i32
-    ensures keeps { (search.new.held ≡ search.old.held) × (kept.new.held ≡ kept.old.held) }
-    ensures windows { WindowsBy search.old.held kept.old.held window.old result window.new }
+pub extern "C" fn octet_window(alloc: Global, search: &mut Handle, window: &mut Handle) -> i32
+    ensures keeps { search.new.held ≡ search.old.held }
+    ensures windows { WindowsBy search.old.held window.old result window.new }
 {
-    let Some(found) = search.take(alloc) else {
-        return NO_STREAM;
-    };
-    let Some(again) = kept.take(alloc) else {
-        search.put(found);
-        return NO_RECORD;
-    };
-    let made = window_by(alloc, &found, &again);
-    kept.put(again);
-    search.put(found);
-    put_made(alloc, window, made)
+    match search.take(alloc) {
+        None => NO_STREAM,
+        Some(held) => {
+            let made = window_of(alloc, &held);
+            search.put(held);
+            put_made(alloc, window, made)
+        }
+    }
 }

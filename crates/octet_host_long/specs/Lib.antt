@@ -4,5 +4,4 @@ pub mod Streams
 pub mod Opened
 pub mod Closed
 pub mod HandedBack
-pub mod Cutting
 pub mod Theirs

@@ -3,7 +3,6 @@
 #![tactic(auto)]
 
 mod closing;
-mod cut_stream;
 mod following;
 mod inlet;
 mod opening;
@@ -12,7 +11,6 @@ mod recorded;
 mod repeated;
 
 pub use closing::close_recorded;
-pub use cut_stream::CutStream;
 pub use following::{ClosedAgain, close_repeated, follow, head_of};
 pub use inlet::Inlet;
 pub use opening::{ROOM, open};

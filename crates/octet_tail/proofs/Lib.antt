@@ -3,3 +3,7 @@ pub mod Finding
 pub mod Merged
 pub mod Tailing
 pub mod Asking
+pub mod Counted
+pub mod Noted
+pub mod Windowed
+pub mod Searching

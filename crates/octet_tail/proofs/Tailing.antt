@@ -1,29 +1,18 @@
 -- A tail as its thread goes on.
-use Rattle.std.proofs.Common.{◌≡◌, ◌≤◌, inl, inr, ℕ, List, [], ◌∷◌, ◌++◌, length, refl, sym, ap, ◌∙◌, arith, append_assoc, append-nil}
+use Rattle.std.proofs.Common.{◌≡◌, ◌≤◌, inl, inr, ℕ, List, [], ◌∷◌, ◌++◌, length, sym, ap, ◌∙◌, arith, append_assoc, append-nil}
 use Rattle.std.specs.Vec.{vec_capacity}
-use Rattle.octet_digest.specs.Digests.{bits_of, digest_after, digest_of, digest_with}
 use Rattle.octet_model.specs.declared.event.Event.{Event}
-use Rattle.octet_tail.specs.declared.tail.Last.{Last}
 use Rattle.octet_tail.specs.declared.tail.Tail.{Tail}
 use Rattle.octet_tail.specs.Tails.{kept_in, room_of, IsLast, IsTail}
 
-digest_on : (d : ℕ) (earlier later : List Event) → digest_after d (earlier ++ later) ≡ digest_after (digest_after d earlier) later
-digest_on d [] later = refl
-digest_on d (e ∷ earlier) later = digest_on (digest_with e d) earlier later
-
--- the digest of those that were let go, and of more
-digest_more : (d : ℕ) (gone more : List Event) → d ≡ digest_of gone → digest_after d more ≡ digest_of (gone ++ more)
-digest_more d gone more is = ap (λ (n : ℕ). digest_after n more) is ∙ sym (digest_on 0 gone more)
-
 -- the older ones are let go
 pub turned : (accesses : List Event) (tail next : Tail) → IsTail accesses tail → vec_capacity tail.newer ≤ length tail.newer.items → next.older ≡ tail.newer → next.newer.items ≡ []
-    → vec_capacity next.newer ≡ vec_capacity tail.older → bits_of next.gone ≡ digest_after (bits_of tail.gone) tail.older.items → IsTail accesses next
-turned accesses tail next is full older none room digest = record {
+    → vec_capacity next.newer ≡ vec_capacity tail.older → IsTail accesses next
+turned accesses tail next is full older none room = record {
   gone = is.gone ++ tail.older.items;
   all = is.all ∙ (sym (append_assoc is.gone tail.older.items tail.newer.items)
       ∙ ap (λ (l : List Event). (is.gone ++ tail.older.items) ++ l) (sym (append-nil tail.newer.items) ∙ (ap (λ (l : List Event). tail.newer.items ++ l) (sym none) ∙ ap (λ (l : List Event). l ++ next.newer.items) (sym same))));
   enough = inr (omega (arith, full, capacity, ap (λ (l : List Event). length l) same));
-  digest = digest ∙ digest_more (bits_of tail.gone) is.gone tail.older.items is.digest;
   rooms = room ∙ (sym is.rooms ∙ sym capacity);
   some = omega (arith, is.some, is.rooms, capacity);
 }
@@ -35,13 +24,12 @@ turned accesses tail next is full older none room digest = record {
     capacity = ap (λ v. vec_capacity v) older
 
 -- one more is noted
-pub noted : (accesses : List Event) (tail next : Tail) (access : Event) → IsTail accesses tail → next.older ≡ tail.older → next.gone ≡ tail.gone
+pub noted : (accesses : List Event) (tail next : Tail) (access : Event) → IsTail accesses tail → next.older ≡ tail.older
     → next.newer.items ≡ tail.newer.items ++ access ∷ [] → vec_capacity next.newer ≡ vec_capacity tail.newer → IsTail (accesses ++ access ∷ []) next
-noted accesses tail next access is older gone newer room = record {
+noted accesses tail next access is older newer room = record {
   gone = is.gone;
   all = ap (λ (l : List Event). l ++ access ∷ []) is.all ∙ (append_assoc is.gone (kept_in tail) (access ∷ []) ∙ ap (λ (l : List Event). is.gone ++ l) more);
   enough = elim is.enough [ inl none ↦ inl none | inr full ↦ inr (omega (arith, full, capacity, ap (λ (l : List Event). length l) same)) ];
-  digest = ap (λ d. bits_of d) gone ∙ is.digest;
   rooms = room ∙ (is.rooms ∙ sym capacity);
   some = omega (arith, is.some, capacity);
 }
@@ -56,11 +44,10 @@ noted accesses tail next access is older gone newer room = record {
     more = append_assoc tail.older.items tail.newer.items (access ∷ []) ∙ (ap (λ (l : List Event). tail.older.items ++ l) (sym newer) ∙ ap (λ (l : List Event). l ++ next.newer.items) (sym same))
 
 -- those that are kept are cut in two
-pub cut : (accesses : List Event) (many : ℕ) (tail : Tail) (kept before later : List Event) (last : Last) → IsTail accesses tail → kept ≡ kept_in tail → before ++ later ≡ kept
-    → length later ≡ many → last.accesses ≡ later → last.digest ≡ digest_after (bits_of tail.gone) before → IsLast accesses many last
-cut accesses many tail kept before later last is all halves count accesses_are digest = record {
+pub cut : (accesses : List Event) (many : ℕ) (tail : Tail) (kept before last : List Event) → IsTail accesses tail → kept ≡ kept_in tail → before ++ last ≡ kept
+    → length last ≡ many → IsLast accesses many last
+cut accesses many tail kept before last is all halves count = record {
   earlier = is.gone ++ before;
-  all = is.all ∙ (ap (λ (l : List Event). is.gone ++ l) (sym all ∙ (sym halves ∙ ap (λ (l : List Event). before ++ l) (sym accesses_are))) ∙ sym (append_assoc is.gone before last.accesses));
-  count = ap (λ (l : List Event). length l) accesses_are ∙ count;
-  digest = digest ∙ digest_more (bits_of tail.gone) is.gone before is.digest;
+  all = is.all ∙ (ap (λ (l : List Event). is.gone ++ l) (sym all ∙ sym halves) ∙ sym (append_assoc is.gone before last));
+  count = count;
 }

@@ -3,3 +3,10 @@ pub mod Fronts
 pub mod Places
 pub mod Merging
 pub mod Texts
+pub mod Faults
+pub mod Marks
+pub mod Between
+pub mod Noting
+pub mod Parts
+pub mod Windows
+pub mod Searches

@@ -20,7 +20,7 @@ pub enum Untaken {
 
 /// A front, and the marks after it, in the order in which they were given.
 #[derive(Debug, Drop)]
-pub struct Found {
+pub struct LeastFront {
     pub front: Front,
     pub marks: List<Placed>,
 }
@@ -135,14 +135,14 @@ impl FrontFinder {
     /// The least front that has the first accesses of each thread, so many as are asked for, and is closed under the marks
     /// that were given: what a mark waited for is before the front where the mark is, and so are the draws up to the last
     /// one. And the marks after it.
-    pub fn find(self, alloc: Global) -> Result<Found, OutOfMemory>
+    pub fn find(self, alloc: Global) -> Result<LeastFront, OutOfMemory>
         ensures front { IfOk result (λ found. (marks : List Placed) → IsFinder marks self → IsLeastFront (asked_of self) marks found.front) }
         ensures marks { IfOk result (λ found. (marks : List Placed) → IsFinder marks self → found.marks ≡ after found.front marks) }
     {
         let mut finder = self;
         finder.settle(alloc)?;
         let FrontFinder { needs, kept, .. } = finder;
-        Ok(Found {
+        Ok(LeastFront {
             front: Front {
                 made: List::from_vec(needs.made),
                 draws: needs.draws,

@@ -1,10 +1,8 @@
 //! The last accesses of one thread.
 ghost use Rattle.std.specs.Prelude.{◌≡◌, ◌∷◌, ◌<◌, ◌≤◌, [], ◌++◌, List, length, IfOk, vec_capacity, vec_len};
-ghost use Rattle.octet_digest.specs.Digests.{bits_of, digest_after};
 ghost use Rattle.octet_model.specs.declared.event.Event.{Event};
 ghost use Rattle.octet_tail.specs.Tails.{kept_in, room_of, IsLast, IsTail};
 
-use octet_digest::Digest;
 use octet_model::{Event, List, OutOfMemory};
 use std::alloc::Global;
 use std::mem;
@@ -15,8 +13,6 @@ pub struct Tail {
     // The accesses before the newer ones. Where any were let go, there are as many as there is room for.
     pub(crate) older: Vec<Event>,
     pub(crate) newer: Vec<Event>,
-    // The digest of the accesses that were let go.
-    pub(crate) gone: Digest,
 }
 
 /// What a thread has made: how many accesses, and the last ones of them, if they were noted.
@@ -24,41 +20,6 @@ pub struct Tail {
 pub struct Made {
     pub accesses: u64,
     pub tail: Option<Tail>,
-}
-
-/// The last accesses of a thread.
-#[derive(Debug, Drop)]
-pub struct Last {
-    /// The digest of all accesses before them.
-    pub digest: u64,
-    pub accesses: List<Event>,
-}
-
-// The digest after one more event.
-fn digest_with(digest: Digest, event: Event) -> Digest
-    ensures { bits_of result ≡ digest_after (bits_of digest) (event ∷ []) }
-{
-    match event {
-        Event::Read { object, value } => digest.read(object, value),
-        Event::Write { object, value } => digest.write(object, value),
-        Event::Update {
-            object,
-            before,
-            after,
-        } => digest.update(object, before, after),
-        Event::Marked { .. } => digest,
-    }
-}
-
-// The digest after these events.
-fn digest_after(digest: Digest, events: &[Event]) -> Digest
-    ensures { bits_of result ≡ digest_after (bits_of digest) events.now }
-{
-    let mut digest = digest;
-    for event in events {
-        digest = digest_with(digest, *event);
-    }
-    digest
 }
 
 impl Tail {
@@ -71,7 +32,6 @@ impl Tail {
         Ok(Tail {
             older: Vec::with_capacity(alloc, room)?,
             newer: Vec::with_capacity(alloc, room)?,
-            gone: Digest::new(),
         })
     }
 
@@ -81,9 +41,7 @@ impl Tail {
         ensures none { self.new.newer.items ≡ [] }
         ensures empty { vec_len self.new.newer ≡ 0 }
         ensures room { vec_capacity self.new.newer ≡ vec_capacity self.old.older }
-        ensures gone { bits_of self.new.gone ≡ digest_after (bits_of self.old.gone) self.old.older.items }
     {
-        self.gone = digest_after(self.gone, self.older.as_slice());
         self.older.clear();
         mem::swap(&mut self.older, &mut self.newer);
     }
@@ -124,16 +82,13 @@ impl Tail {
         Ok(kept)
     }
 
-    /// The last accesses, so many of those that are kept, and the digest of all before them.
-    pub fn last(&self, alloc: Global, many: usize) -> Result<Last, OutOfMemory>
+    /// The last accesses, so many of those that are kept.
+    pub fn last(&self, alloc: Global, many: usize) -> Result<List<Event>, OutOfMemory>
         requires { many ≤ length (kept_in self.now) }
         ensures { IfOk result (λ last. (accesses : List Event) → IsTail accesses self.now → IsLast accesses many last) }
     {
         let kept = self.kept(alloc)?;
-        let (before, last) = kept.as_slice().split_at(kept.len() - many);
-        Ok(Last {
-            digest: digest_after(self.gone, before).bits(),
-            accesses: List::from_vec(Vec::from_slice(alloc, last)?),
-        })
+        let (_before, last) = kept.as_slice().split_at(kept.len() - many);
+        Ok(List::from_vec(Vec::from_slice(alloc, last)?))
     }
 }

@@ -6,19 +6,16 @@ use Rattle.std.proofs.lemmas.Option.{get_or_from_slice_get, slice_get-get_or, sl
 use Rattle.octet_model.specs.declared.event.Mark.TheVariants.{Join, Draw, Fence}
 use Rattle.octet_model.specs.declared.event.Event.{Event}
 use Rattle.octet_model.specs.declared.event.Event.TheVariants.{Read, Write, Update, Marked}
-use Rattle.octet_model.specs.Machine.{Journals, journal_of, no_events, PlainState, starting_state, Operation, Behavior, is_enabled, event_made, heap_after, draws_after, appended, performed, after, IsFront}
+use Rattle.octet_model.specs.Machine.{Journals, journal_of, PlainState, starting_state, Operation, Behavior, is_enabled, event_made, heap_after, draws_after, appended, performed, after, IsFront}
 use Rattle.octet_model.specs.HappensBefore.{IsOrdered}
 use Rattle.octet_model.specs.Plays.{operation_of, next_in, by_journals, state_after_play, lowest_play, IsOneHistory}
 use Rattle.octet_model.proofs.lemmas.Steps.{at, count, same_journal, other_journal, as_many, Makes, makes_from, what_it_makes, by_front, made_there}
 use Rattle.octet_model.proofs.lemmas.Fronts.{stays, no_journal, front_on, after_on, front_leads_on}
 use Rattle.octet_model.proofs.lemmas.Plays.{all_finished}
 use Rattle.octet_window.specs.declared.notes.Note.{Note}
-use Rattle.octet_window.specs.declared.refusal.Refusal.{Refusal}
-use Rattle.octet_window.specs.declared.refusal.Refusal.TheVariants.{NoObject, ManyObjects, ManyLines, NoHistory, OutOfMemory}
 use Rattle.octet_window.specs.Noting.{events_of}
-use Rattle.octet_window.specs.Ordering.{accesses_in}
 use Rattle.octet_window.specs.Histories.{noted, may_be_made, ComesTo, HasHistory, HasNoHistory}
-use Rattle.octet_window.specs.Playing.{no_note, notes_of, event_next, AllMade, HaveAll, HaveMade, IsEventRefusal, IsPlayRefusal, MayGoOn, NoneGoesOn}
+use Rattle.octet_window.specs.Courses.{no_note, notes_of, event_next, AllMade, MayGoOn, NoneGoesOn}
 use Rattle.octet_window.proofs.Rest.{front_off, next_event, same_journals}
 use Rattle.octet_window.proofs.Steps.{take_step}
 
@@ -26,7 +23,7 @@ use Rattle.octet_window.proofs.Steps.{take_step}
 take_at : {X : Type 0} (xs : List X) (k : ℕ) (x : X) → slice_get xs k ≡ Some x → take (k + 1) xs ≡ take k xs ++ x ∷ []
 take_at xs k x is = take_step xs k x (slice_get_within xs k x is) ∙ ap (λ y. take k xs ++ y ∷ []) (get_or_from_slice_get xs k x x is)
 
-zeros : {X : Type 0} (threads : List X) (t : ℕ) → ◌≡◌ {A = ℕ} (get_or (map (λ x. 0) threads) t 0) 0
+pub zeros : {X : Type 0} (threads : List X) (t : ℕ) → ◌≡◌ {A = ℕ} (get_or (map (λ x. 0) threads) t 0) 0
 zeros [] t = refl
 zeros (x ∷ threads) zero = refl
 zeros (x ∷ threads) (suc t) = zeros threads t
@@ -176,13 +173,7 @@ noted_next threads made t lt =
     ∙ (slice_get-map (λ (note : Note). note.event) (notes_of threads t) k
     ∙ ap (λ (o : Option Note). option_map (λ (note : Note). note.event) o) (slice_get-get_or (notes_of threads t) k no_note lt))
 
--- nothing of what is noted is made, and all of it
-pub none_made_yet : (threads : List (List Note)) (made : List ℕ) (journals : Journals) → made ≡ map (λ notes. 0) threads → journals ≡ no_events threads → HaveMade threads made journals
-none_made_yet threads made journals none no_journals t =
-    ap accesses_in (ap (λ (js : Journals). journal_of js t) no_journals ∙ no_journal threads t)
-    ∙ ap (λ (n : ℕ). accesses_in (events_of (take n (notes_of threads t)))) (sym (ap (λ (m : List ℕ). get_or m t 0) none ∙ zeros threads t))
-
-enough : (threads : List (List Note)) (made : List ℕ) → AllMade threads made → (t : ℕ) → length (notes_of threads t) ≤ get_or made t 0
+pub enough : (threads : List (List Note)) (made : List ℕ) → AllMade threads made → (t : ℕ) → length (notes_of threads t) ≤ get_or made t 0
 enough threads made all t = elim (cases_lt t (length threads)) [
   | inl lt ↦ all t lt
   | inr past ↦ omega (arith, none threads t past)
@@ -192,10 +183,6 @@ enough threads made all t = elim (cases_lt t (length threads)) [
     none [] u past = refl
     none (notes ∷ threads) zero past = absurd (omega (arith, past))
     none (notes ∷ threads) (suc u) past = none threads u (omega (arith, past))
-
-pub have_all : (threads : List (List Note)) (made : List ℕ) (journals : Journals) → HaveMade threads made journals → AllMade threads made → HaveAll threads journals
-have_all threads made journals have all t =
-    have t ∙ ap (λ (l : List Note). accesses_in (events_of l)) (take_all (get_or made t 0) (notes_of threads t) (enough threads made all t))
 
 module _ (starts : List ℕ) (threads : List (List Note)) (made : List ℕ) (draws : ℕ) (heap : List ℕ) (c : ComesTo starts (noted threads) made draws heap) where
   pub history_at_end : AllMade threads made → HasHistory starts (noted threads)
@@ -221,16 +208,9 @@ module _ (starts : List ℕ) (threads : List (List Note)) (made : List ℕ) (dra
     within : t < length (noted threads)
     within = omega (arith, inside, length-map threads events_of)
 
-    -- where its value is another one there, what is noted has no one history
-    none_with_value : (event_made (operation_of e) heap ≡ e → ⊥) → HasNoHistory starts (noted threads)
-    none_with_value other last number h = other (has_value starts (noted threads) made draws heap c last number h t k e within is_k at_k may)
-
-    pub event_refusal : (why : Refusal) → IsEventRefusal heap e why → IsPlayRefusal starts threads why
-    event_refusal NoHistory is = none_with_value is
-    event_refusal OutOfMemory is = tt
-    event_refusal (NoObject object) is = absurd is
-    event_refusal (ManyObjects objects) is = absurd is
-    event_refusal (ManyLines lines) is = absurd is
+    -- in one history it has its value there
+    pub value_in : (last : List ℕ) (number : ℕ) → IsOneHistory starts (noted threads) last number → event_made (operation_of e) heap ≡ e
+    value_in last number h = has_value starts (noted threads) made draws heap c last number h t k e within is_k at_k may
 
     pub noted_on : t < length made → event_made (operation_of e) heap ≡ e → ComesTo starts (noted threads) (slice_set made t (k + 1)) (draws_after (operation_of e) draws) (heap_after (operation_of e) heap)
     noted_on there value = comes_on starts (noted threads) made draws heap c t k e within is_k at_k may there value

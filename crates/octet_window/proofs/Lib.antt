@@ -9,5 +9,8 @@ pub mod Recorded
 pub mod Names
 pub mod Beginning
 pub mod Steps
+pub mod Values
+pub mod Courses
+pub mod Played
 pub mod Valid
 pub mod Windows

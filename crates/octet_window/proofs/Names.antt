@@ -7,7 +7,7 @@ use Rattle.std.proofs.lemmas.Fmt.{decimal_injective, decimal_by_steps, length-de
 use Rattle.std.proofs.lemmas.List.{append_cancel_left}
 use Rattle.std.proofs.lemmas.List.Folds.{list_all-append}
 use Rattle.octet_model.specs.Name.{is_name_start, is_name_byte, IsName}
-use Rattle.octet_window.specs.Objects.{name_of}
+use Rattle.octet_window.specs.Windows.{name_of}
 
 both : (a b : Bool) → a ≡ true → b ≡ true → (a && b) ≡ true
 both true b p q = q

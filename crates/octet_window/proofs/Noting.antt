@@ -1,7 +1,6 @@
 -- Notes, and the programs that they make.
-use Rattle.std.proofs.Common.{◌≡◌, ℕ, zero, suc, ◌+◌, ◌^◌, ◌<◌, ◌==◌, if◌then◌else◌, Bool, true, false, List, [], ◌∷◌, ◌++◌, length, map, drop, get_or, refl, sym, ap, ◌∙◌, subst, arith}
+use Rattle.std.proofs.Common.{◌≡◌, ℕ, suc, ◌+◌, ◌^◌, ◌<◌, Bool, List, [], ◌∷◌, ◌++◌, length, map, drop, get_or, refl, sym, ap, ◌∙◌, subst, arith}
 use Rattle.std.proofs.Math.Seq.{drop-cons}
-use Rattle.std.proofs.lemmas.Bool.{eq-eqb}
 use Rattle.std.proofs.lemmas.List.{append_assoc}
 use Rattle.octet_model.specs.declared.command.Command.{Command}
 use Rattle.octet_model.specs.declared.event.Event.{Event}
@@ -10,7 +9,7 @@ use Rattle.octet_model.specs.Thread.{added}
 use Rattle.octet_model.specs.Totals.{difference}
 use Rattle.octet_recorder.specs.Programs.{region_lines, read_lines, write_lines, bump_lines, IsProgramOf}
 use Rattle.octet_window.specs.declared.notes.Note.{Note}
-use Rattle.octet_window.specs.Noting.{events_of, lines_of, program_of, IsEventIn, AreIn, AreOf, has}
+use Rattle.octet_window.specs.Noting.{events_of, lines_of, program_of, IsEventIn, AreIn, AreOf}
 use Rattle.octet_window.specs.Ordering.{accesses_in}
 
 pub are_in_more : (n : ℕ) (notes : List Note) (note : Note) → AreIn n notes → IsEventIn n note.event → AreIn n (notes ++ note ∷ [])
@@ -56,13 +55,3 @@ mapped_more f xs ys k d y lt is of =
 
 pub of_step : (objects : List ℕ) (notes : List Note) (k : ℕ) (d : Note) → k < length notes → AreOf objects (drop k notes) → AreOf objects (drop (k + 1) notes)
 of_step objects notes k d lt are = let both = subst (AreOf objects) (drop_step notes k d lt) are in both.1
-
-either : (b c : Bool) → c ≡ true → (if b then true else c) ≡ true
-either true c is = refl
-either false c is = is
-
--- a list has each of its objects
-pub has_at : (objects : List ℕ) (k : ℕ) → k < length objects → has objects (get_or objects k 0) ≡ true
-has_at [] k lt = absurd (omega (arith, lt))
-has_at (first ∷ objects) zero lt = ap (λ (b : Bool). if b then true else has objects first) (eq-eqb first first refl)
-has_at (first ∷ objects) (suc k) lt = either (first == get_or objects k 0) (has objects (get_or objects k 0)) (has_at objects k (omega (arith, lt)))

@@ -1,4 +1,4 @@
--- Events with the places of their objects: they have a history from the objects' values just where the events had one.
+-- Events with the places of their objects have a history from the objects' values where the events had one.
 use Rattle.std.proofs.Common.{◌≡◌, ℕ, zero, suc, ◌<◌, inl, inr, Bool, true, false, ◌||◌, ◌&&◌, ◌==◌, nat_lt, nat_le, if◌then◌else◌, List, [], ◌∷◌, ◌++◌, length, map, Option, Some, None, option_map, IsTrue, slice_get, slice_index, slice_set, refl, sym, ap, ◌∙◌, subst, arith, length-set}
 use Rattle.std.proofs.lemmas.Bool.{cases_eq, eqb-true}
 use Rattle.std.proofs.lemmas.List.{get_or-set_same, get_or-set_other, length-map, map-append}
@@ -15,7 +15,6 @@ use Rattle.octet_model.proofs.lemmas.Steps.{at, count, same_journal, other_journ
 use Rattle.octet_model.proofs.lemmas.Fronts.{no_journal}
 use Rattle.octet_model.proofs.lemmas.Plays.{lowest_makes_all}
 use Rattle.octet_window.specs.Noting.{has, place_of, renamed}
-use Rattle.octet_window.specs.Histories.{HasHistory}
 use Rattle.octet_window.proofs.Rest.{next_event, same_journals}
 
 -- different objects have different places
@@ -74,49 +73,10 @@ module _ (objects : List ℕ) where
   AreOfThese [] = Unit {0}
   AreOfThese (event ∷ journal) = IsOf event × AreOfThese journal
 
-  of_more : (journal : List Event) (e : Event) → AreOfThese journal → IsOf e → AreOfThese (journal ++ e ∷ [])
-  of_more [] e are is = (is, tt)
-  of_more (x ∷ journal) e are is = (are.0, of_more journal e are.1 is)
-
   of_at : (journal : List Event) (k : ℕ) (e : Event) → AreOfThese journal → slice_get journal k ≡ Some e → IsOf e
   of_at [] k e are at_k = absurd cc
   of_at (x ∷ journal) zero e are at_k = let same : x ≡ e = cc in subst IsOf same are.0
   of_at (x ∷ journal) (suc k) e are at_k = of_at journal k e are.1 at_k
-
-  -- events with the places of their objects tell the events
-  renamed_one : (e f : Event) → IsOf e → IsOf f → renamed objects e ≡ renamed objects f → e ≡ f
-  renamed_one (Read o v) (Read p w) is_e is_f same =
-      let place : place_of objects o ≡ place_of objects p = cc in
-      let value : v ≡ w = cc in
-      let one = places_one objects o p (is_e o refl) (is_f p refl) place in
-      λ i. Read (one i) (value i)
-  renamed_one (Write o v) (Write p w) is_e is_f same =
-      let place : place_of objects o ≡ place_of objects p = cc in
-      let value : v ≡ w = cc in
-      let one = places_one objects o p (is_e o refl) (is_f p refl) place in
-      λ i. Write (one i) (value i)
-  renamed_one (Update o v v') (Update p w w') is_e is_f same =
-      let place : place_of objects o ≡ place_of objects p = cc in
-      let value : v ≡ w = cc in
-      let value' : v' ≡ w' = cc in
-      let one = places_one objects o p (is_e o refl) (is_f p refl) place in
-      λ i. Update (one i) (value i) (value' i)
-  renamed_one (Marked m) (Marked n) is_e is_f same = same
-  renamed_one (Read o v) f is_e is_f same = absurd cc
-  renamed_one (Write o v) f is_e is_f same = absurd cc
-  renamed_one (Update o v v') f is_e is_f same = absurd cc
-  renamed_one (Marked m) f is_e is_f same = absurd cc
-
-  all_one : (a b : List Event) → AreOfThese a → AreOfThese b → map (renamed objects) a ≡ map (renamed objects) b → a ≡ b
-  all_one [] [] are_a are_b same = refl
-  all_one [] (f ∷ b) are_a are_b same = absurd cc
-  all_one (e ∷ a) [] are_a are_b same = absurd cc
-  all_one (e ∷ a) (f ∷ b) are_a are_b same =
-      let here : renamed objects e ≡ renamed objects f = cc in
-      let rest : map (renamed objects) a ≡ map (renamed objects) b = cc in
-      let one = renamed_one e f are_a.0 are_b.0 here in
-      let more = all_one a b are_a.1 are_b.1 rest in
-      λ i. one i ∷ more i
 
   -- the operation that makes an event with its place
   made_there : (heap places : List ℕ) (e : Event) → IsOf e → SameValues objects heap places → event_made (operation_of (renamed objects e)) places ≡ renamed objects (event_made (operation_of e) heap)
@@ -124,12 +84,6 @@ module _ (objects : List ℕ) where
   made_there heap places (Write o v) is s = refl
   made_there heap places (Update o v w) is s = ap (λ (value : ℕ). Update (place_of objects o) value w) (s.each o (is o refl))
   made_there heap places (Marked m) is s = refl
-
-  made_of : (heap : List ℕ) (e : Event) → IsOf e → IsOf (event_made (operation_of e) heap)
-  made_of heap (Read o v) is = is
-  made_of heap (Write o v) is = is
-  made_of heap (Update o v w) is = is
-  made_of heap (Marked m) is = is
 
   heap_there : (heap places : List ℕ) (e : Event) → IsOf e → SameValues objects heap places → SameValues objects (heap_after (operation_of e) heap) (heap_after (operation_of (renamed objects e)) places)
   heap_there heap places (Read o v) is s = s
@@ -161,7 +115,6 @@ module _ (objects : List ℕ) where
     draws : y.draws ≡ x.draws
     many : length y.journals ≡ length x.journals
     each : (u : ℕ) → journal_of y.journals u ≡ map (renamed objects) (journal_of x.journals u)
-    known : (u : ℕ) → AreOfThese (journal_of x.journals u)
 
   count_there : (x y : PlainState) → Beside x y → (u : ℕ) → count y.journals u ≡ count x.journals u
   count_there x y b u = ap (λ (j : List Event). length j) (b.each u) ∙ length-map (journal_of x.journals u) (renamed objects)
@@ -182,11 +135,6 @@ module _ (objects : List ℕ) where
     each = λ u. elim (cases_eq u t) [
       | inr apart ↦ other_journal y.journals t u e2 apart ∙ (b.each u ∙ ap (λ (j : List Event). map (renamed objects) j) (sym (other_journal x.journals t u e1 apart)))
       | inl same ↦ subst (λ (v : ℕ). journal_of (appended y.journals t e2) v ≡ map (renamed objects) (journal_of (appended x.journals t e1) v)) (sym same) here
-    ];
-    known = λ u. elim (cases_eq u t) [
-      | inr apart ↦ subst AreOfThese (sym (other_journal x.journals t u e1 apart)) (b.known u)
-      | inl same ↦ subst (λ (v : ℕ). AreOfThese (journal_of (appended x.journals t e1) v)) (sym same)
-          (subst AreOfThese (sym (same_journal x.journals t e1 within)) (of_more (journal_of x.journals t) e1 (b.known t) (made_of x.heap e is)))
     ];
   }
     where
@@ -238,16 +186,10 @@ module _ (objects : List ℕ) where
         (performed_there x y t n.0 m.1.within (of_at (journal_of js t) (count x.journals t) n.0 (of t) n.1) b) in
         subst (λ (z : PlainState). Beside z (step W y t)) (sym m.1.stepped) (subst (λ (z : PlainState). Beside (performed x t m.0) z) (sym w.stepped) next)
 
-    -- the plays of both are the same, and end beside each other
+    -- a play of the events is one with the places, and ends beside it
     there : (order : List ℕ) (x y : PlainState) → Beside x y → IsFront V x order → IsFront W y order × Beside (after V x order) (after W y order)
     there [] x y b f = (tt, b)
     there (t ∷ order) x y b f = let r = there order (step V x t) (step W y t) (step_there x y b t f.0) f.1 in ((may_there x y b t ∙ f.0, r.0), r.1)
-
-    back : (order : List ℕ) (x y : PlainState) → Beside x y → IsFront W y order → IsFront V x order × Beside (after V x order) (after W y order)
-    back [] x y b f = (tt, b)
-    back (t ∷ order) x y b f =
-        let may : IsTrue (may_step V x t) = sym (may_there x y b t) ∙ f.0 in
-        let r = back order (step V x t) (step W y t) (step_there x y b t may) f.1 in ((may, r.0), r.1)
 
     mark_there : (p : Place) (m : Mark) → event_at js p ≡ Some (Marked m) → event_at ks p ≡ Some (Marked m)
     mark_there p m is = at_place p.thread p.event ∙ ap (λ (z : Option Event). option_map (renamed objects) z) is
@@ -325,7 +267,6 @@ module _ (objects : List ℕ) where
         draws = refl;
         many = length-map ks (λ (j : List Event). []) ∙ (as_long ∙ sym (length-map js (λ (j : List Event). [])));
         each = λ u. no_journal ks u ∙ ap (λ (j : List Event). map (renamed objects) j) (sym (no_journal js u));
-        known = λ u. subst AreOfThese (sym (no_journal js u)) tt;
       }
 
       makes_there : (play : List ℕ) → MakesAll values js play → MakesAll starts ks play
@@ -346,19 +287,3 @@ module _ (objects : List ℕ) where
           let low = lowest_makes_all starts ks (lowest_play values js) ordered (makes_there (lowest_play values js) h.makes_all) in
           let end = state_after_play starts ks (lowest_play starts ks) in
           (end.heap, end.draws, record { makes_all = low.0; gives = refl; counts = refl; ordered = ordered })
-
-      -- and a history with the places is one of the events
-      pub history_back : HasHistory starts ks → HasHistory values js
-      history_back has_one =
-          let play = has_one.0 in
-          let all = has_one.1 in
-          let x = state_after_play values js play in
-          let r = back play (starting_state values js) (starting_state starts ks) begins all.is_play in (
-            play,
-            record {
-              is_play = r.0;
-              makes = same_journals x.journals js (sym r.1.many ∙ (ap (λ (l : Journals). length l) all.makes ∙ as_long))
-                  (λ u. all_one (journal_of x.journals u) (journal_of js u) (r.1.known u) (of u)
-                  (sym (r.1.each u) ∙ (ap (λ (l : Journals). journal_of l u) all.makes ∙ places u)));
-            },
-          )

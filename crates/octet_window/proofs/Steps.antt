@@ -1,18 +1,20 @@
--- Threads that make what is noted of them.
-use Rattle.std.proofs.Common.{◌≡◌, ℕ, zero, suc, ◌+◌, ◌<◌, inl, inr, List, [], ◌∷◌, ◌++◌, length, take, get_or, slice_set, Some, None, refl, sym, ap, ◌∙◌, subst, arith, append-nil}
+-- Threads that make what is noted of them, step by step.
+use Rattle.std.proofs.Common.{◌≡◌, ◌≢◌, ℕ, zero, suc, ◌+◌, ◌<◌, ◌==◌, if◌then◌else◌, Bool, true, false, List, [], ◌∷◌, ◌++◌, length, take, get_or, Some, None, refl, sym, ap, ◌∙◌, arith, append-nil}
 use Rattle.std.proofs.Math.Seq.{take-suc}
-use Rattle.std.proofs.lemmas.Bool.{cases_eq}
-use Rattle.std.proofs.lemmas.List.{get_or-set_same, get_or-set_other, map-append}
+use Rattle.std.proofs.lemmas.Bool.{eq-eqb, eqb-true}
+use Rattle.std.proofs.lemmas.List.{map-append}
 use Rattle.octet_model.specs.declared.event.Event.{Event}
 use Rattle.octet_model.specs.declared.event.Event.TheVariants.{Read, Write, Update, Marked}
 use Rattle.octet_model.specs.HappensBefore.{object_of}
 use Rattle.octet_model.specs.Machine.{journal_of, heap_after}
 use Rattle.octet_model.specs.Plays.{operation_of}
+use Rattle.octet_window.specs.declared.course.Step.{Step}
 use Rattle.octet_window.specs.declared.notes.Note.{Note}
-use Rattle.octet_window.specs.Noting.{events_of, IsEventIn, AreIn}
+use Rattle.octet_window.specs.Courses.{events_by, notes_of, AreSteps}
+use Rattle.octet_window.specs.Noting.{events_of, IsEventIn, AllIn, AreIn}
 use Rattle.octet_window.specs.Ordering.{Parts, MakesAccess, accesses_in}
-use Rattle.octet_window.specs.Playing.{notes_of, AddsEvent, AllIn, HaveMade}
-use Rattle.octet_window.proofs.Accessing.{accesses_join, one_access}
+use Rattle.octet_window.specs.Playing.{AddsEvent}
+use Rattle.octet_window.proofs.Accessing.{one_access}
 
 pub object_in : (n object : ℕ) (e : Event) → IsEventIn n e → object_of e ≡ Some object → object < n
 object_in n object (Read o value) is of = let same : o ≡ object = cc in omega (arith, is, same)
@@ -64,29 +66,34 @@ adds_mark t e run none = record {
 pub take_step : {X : Type 0} (xs : List X) (k : ℕ) (d : X) → k < length xs → take (k + 1) xs ≡ take k xs ++ get_or xs k d ∷ []
 take_step xs k d lt = let next : k + 1 ≡ suc k = omega arith in ap (λ (n : ℕ). take n xs) next ∙ take-suc xs k d lt
 
-more_events : (notes : List Note) (k : ℕ) (d : Note) → k < length notes
-    → accesses_in (events_of (take (k + 1) notes)) ≡ accesses_in (events_of (take k notes)) ++ accesses_in ((get_or notes k d).event ∷ [])
+pub more_events : (notes : List Note) (k : ℕ) (d : Note) → k < length notes → events_of (take (k + 1) notes) ≡ events_of (take k notes) ++ (get_or notes k d).event ∷ []
 more_events notes k d lt =
-    ap (λ (l : List Note). accesses_in (events_of l)) (take_step notes k d lt)
-    ∙ (ap accesses_in (map-append (λ (note : Note). note.event) (take k notes) (get_or notes k d ∷ [])) ∙ accesses_join (events_of (take k notes)) ((get_or notes k d).event ∷ []))
-
--- one more event of a thread is counted
-pub made_more : (threads : List (List Note)) (made : List ℕ) (run next : Parts) (t k : ℕ) (e : Event) (d : Note) → HaveMade threads made run.journals → t < length made
-    → get_or made t 0 ≡ k → k < length (notes_of threads t) → e ≡ (get_or (notes_of threads t) k d).event → AddsEvent t e run next → HaveMade threads (slice_set made t (k + 1)) next.journals
-made_more threads made run next t k e d have inside at lt is adds u = elim (cases_eq u t) [
-  | inr apart ↦ adds.others u apart ∙ (have u ∙ ap (λ (n : ℕ). accesses_in (events_of (take n (notes_of threads u)))) (sym (get_or-set_other made t u (k + 1) 0 apart)))
-  | inl same ↦ subst (λ (v : ℕ). accesses_in (journal_of next.journals v) ≡ accesses_in (events_of (take (get_or (slice_set made t (k + 1)) v 0) (notes_of threads v)))) (sym same) here
-]
-  where
-    here : accesses_in (journal_of next.journals t) ≡ accesses_in (events_of (take (get_or (slice_set made t (k + 1)) t 0) (notes_of threads t)))
-    here =
-        adds.own ∙ (ap (λ (l : List Event). l ++ accesses_in (e ∷ [])) (have t ∙ ap (λ (n : ℕ). accesses_in (events_of (take n (notes_of threads t)))) at)
-        ∙ (ap (λ (x : Event). accesses_in (events_of (take k (notes_of threads t))) ++ accesses_in (x ∷ [])) is
-        ∙ (sym (more_events (notes_of threads t) k d lt)
-        ∙ ap (λ (n : ℕ). accesses_in (events_of (take n (notes_of threads t)))) (sym (get_or-set_same made t (k + 1) 0 inside)))))
+    ap events_of (take_step notes k d lt) ∙ map-append (λ (note : Note). note.event) (take k notes) (get_or notes k d ∷ [])
 
 -- an item of a list that is there, whatever stands for one that is not
 pub read_is : (xs : List ℕ) (i x : ℕ) → i < length xs → x ≡ get_or xs i x → get_or xs i 0 ≡ x
 read_is [] i x lt is = absurd (omega (arith, lt))
 read_is (y ∷ xs) zero x lt is = sym is
 read_is (y ∷ xs) (suc i) x lt is = read_is xs i x (omega (arith, lt)) is
+
+-- the events of a thread with one step more
+if_more : {X : Type 0} (b : Bool) (x e : X) (l : List X) → (if b then x ∷ (l ++ e ∷ []) else l ++ e ∷ []) ≡ (if b then x ∷ l else l) ++ e ∷ []
+if_more true x e l = refl
+if_more false x e l = refl
+
+pub own_step : (steps : List Step) (t : ℕ) (e : Event) → events_by t (steps ++ record { thread = t; event = e } ∷ []) ≡ events_by t steps ++ e ∷ []
+own_step [] t e = ap (λ (b : Bool). if b then e ∷ [] else []) (eq-eqb t t refl)
+own_step (step ∷ steps) t e =
+    ap (λ (l : List Event). if step.thread == t then step.event ∷ l else l) (own_step steps t e) ∙ if_more (step.thread == t) step.event e (events_by t steps)
+
+pub other_step : (steps : List Step) (t u : ℕ) (e : Event) → (u ≢ t) → events_by u (steps ++ record { thread = t; event = e } ∷ []) ≡ events_by u steps
+other_step [] t u e apart = go (t == u) refl
+  where
+    go : (b : Bool) → (t == u) ≡ b → (if b then e ∷ [] else []) ≡ []
+    go true is = absurd (apart (sym (eqb-true t u is)))
+    go false is = refl
+other_step (step ∷ steps) t u e apart = ap (λ (l : List Event). if step.thread == u then step.event ∷ l else l) (other_step steps t u e apart)
+
+pub steps_more : (steps : List Step) (n m : ℕ) (step : Step) → AreSteps n m steps → step.thread < m → IsEventIn n step.event → AreSteps n m (steps ++ step ∷ [])
+steps_more [] n m step are there inside = (there, inside, tt)
+steps_more (first ∷ steps) n m step are there inside = (are.0, are.1, steps_more steps n m step are.2 there inside)

@@ -12,11 +12,10 @@ use Rattle.octet_model.specs.Script.{are_distinct, is_thread, is_script}
 use Rattle.octet_recorder.proofs.lemmas.Programs.{program_valid}
 use Rattle.octet_window.specs.declared.notes.Note.{Note}
 use Rattle.octet_window.specs.declared.notes.Notes.{Notes}
-use Rattle.octet_window.specs.Noting.{has, with_object, touched_by, touched_in, notes_in, program_of, events_of, AreIn, AreOf}
-use Rattle.octet_window.specs.Objects.{name_of}
-use Rattle.octet_window.specs.Playing.{AllIn, AllOf}
+use Rattle.octet_window.specs.Noting.{has, with_object, touched_by, touched_in, notes_in, program_of, events_of, AllIn, AreIn, AreOf}
+use Rattle.octet_window.specs.Playing.{AllOf}
 use Rattle.octet_window.specs.Ordering.{accesses_in}
-use Rattle.octet_window.specs.Windows.{AreDifferent, AreThreads}
+use Rattle.octet_window.specs.Windows.{name_of, AreDifferent, AreThreads}
 use Rattle.octet_window.proofs.Names.{names_differ}
 use Rattle.octet_window.proofs.Noting.{program_is, drop_step}
 

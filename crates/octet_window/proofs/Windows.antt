@@ -14,16 +14,17 @@ use Rattle.octet_recorder.specs.Programs.{IsProgramOf}
 use Rattle.octet_window.specs.declared.notes.Note.{Note}
 use Rattle.octet_window.specs.declared.notes.Notes.{Notes}
 use Rattle.octet_window.specs.declared.refusal.Refusal.{Refusal}
-use Rattle.octet_window.specs.declared.refusal.Refusal.TheVariants.{NoObject, ManyObjects, ManyLines, NoHistory, OutOfMemory}
-use Rattle.octet_window.specs.Noting.{events_of, notes_in, program_of, renamed, renamed_note, AreIn, AreOf}
-use Rattle.octet_window.specs.Histories.{noted, HasHistory, HasNoHistory}
-use Rattle.octet_window.specs.Objects.{name_of, HaveValues}
+use Rattle.octet_window.specs.declared.refusal.Refusal.TheVariants.{ManyObjects, ManyLines, NoHistory, OutOfMemory}
+use Rattle.octet_window.specs.Courses.{notes_of}
+use Rattle.octet_window.specs.Noting.{events_of, notes_in, program_of, renamed, renamed_note, touched_in, AllIn, AreIn, AreOf}
+use Rattle.octet_window.specs.Histories.{noted, HasNoHistory}
 use Rattle.octet_window.specs.Ordering.{Parts, accesses_in}
-use Rattle.octet_window.specs.Playing.{notes_of, all_renamed, AllIn, AllOf, HaveAll, IsPlayRefusal}
+use Rattle.octet_window.specs.Playing.{all_renamed, AllOf, HaveAll, IsPlayRefusal}
 use Rattle.octet_window.specs.Recorded.{HasPrograms, Makes}
-use Rattle.octet_window.specs.Windows.{all_noted, most_lines, noted_by, IsRefused, IsScriptWith, MakesNoted}
+use Rattle.octet_window.specs.Windows.{all_noted, most_lines, name_of, noted_by, HasNoValues, IsRefused, IsScriptWith, MakesNoted}
 use Rattle.octet_window.proofs.Noting.{program_is, of_accesses}
-use Rattle.octet_window.proofs.Renaming.{AreOfThese, history_there, history_back}
+use Rattle.octet_window.proofs.Renaming.{AreOfThese, history_there}
+use Rattle.octet_window.proofs.Valid.{touched_of}
 
 program_at : (threads : List (List Note)) (t : ℕ) → get_or (map program_of threads) t [] ≡ program_of (notes_of threads t)
 program_at [] t = refl
@@ -40,16 +41,16 @@ most_of [] t = omega arith
 most_of (program ∷ programs) zero = le-max_left (length program) (most_lines programs)
 most_of (program ∷ programs) (suc t) = let m = most_of programs t in omega (arith, m, le-max_right (length program) (most_lines programs))
 
-pub many_objects : (values objects : List ℕ) (programs : List (List Command)) (script : Script) → IsScriptWith values objects programs script → length script.objects ≡ length objects
-many_objects values objects programs script is =
+pub many_objects : (objects : List ℕ) (programs : List (List Command)) (script : Script) → IsScriptWith objects programs script → length script.objects ≡ length objects
+many_objects objects programs script is =
     sym (length-map script.objects (λ (object : Object). object.name)) ∙ (ap (λ (l : List (List ℕ)). length l) is.names ∙ length-map objects name_of)
 
-pub has_programs : (values objects : List ℕ) (threads : List (List Note)) (script : Script) (run : Parts) → IsScriptWith values objects (map program_of threads) script → AllIn (length objects) threads
-    → run.starts ≡ starting_heap script → length run.journals ≡ length threads → HaveAll threads run.journals → HasPrograms script run
-has_programs values objects threads script run is all starts many have = record {
-  starts = sym starts;
+pub has_programs : (objects : List ℕ) (threads : List (List Note)) (script : Script) (run : Parts) → IsScriptWith objects (map program_of threads) script → AllIn (length objects) threads
+    → starting_heap script ≡ run.starts → length run.journals ≡ length threads → HaveAll threads run.journals → HasPrograms script run
+has_programs objects threads script run is all starts many have = record {
+  starts = starts;
   many = ap (λ (l : List (List Command)). length l) is.threads ∙ (length-map threads program_of ∙ sym many);
-  each = λ t lt. subst (λ (n : ℕ). IsProgramOf n (commands_of script t) (journal_of run.journals t)) (sym (many_objects values objects (map program_of threads) script is))
+  each = λ t lt. subst (λ (n : ℕ). IsProgramOf n (commands_of script t) (journal_of run.journals t)) (sym (many_objects objects (map program_of threads) script is))
       (of_accesses (length objects) (commands_of script t) (journal_of run.journals t)
       (subst (λ (l : List Event). IsProgramOf (length objects) (commands_of script t) l) (sym (have t))
       (subst (λ (p : List Command). IsProgramOf (length objects) p (accesses_in (events_of (notes_of threads t)))) (sym (commands t)) (program_is (length objects) (notes_of threads t) (in_at (length objects) threads t all)))));
@@ -105,25 +106,16 @@ as_many_noted : (objects : List ℕ) (threads : List Notes) → length (noted (a
 as_many_noted objects [] = refl
 as_many_noted objects (notes ∷ threads) = ap (λ (n : ℕ). suc n) (as_many_noted objects threads)
 
-module _ (values objects : List ℕ) (threads : List Notes) (have : HaveValues values objects) (all : AllOf objects threads) where
-  abbrev js : Journals
-  js = all_noted threads
+-- where no values give what is noted a history with the places of the objects, none give what is noted one
+none_there : (objects : List ℕ) (threads : List Notes) → AllOf objects threads
+    → ((starts : List ℕ) → length starts ≡ length objects → HasNoHistory starts (noted (all_renamed objects threads))) → HasNoValues objects threads
+none_there objects threads all none values have last draws h =
+    let r = history_there objects (all_noted threads) (noted (all_renamed objects threads)) (as_many_noted objects threads) (all_places objects threads) (all_known objects threads all) values have last draws h in
+    none (map (slice_index values) objects) (length-map objects (slice_index values)) r.0 r.1 r.2
 
-  abbrev ks : Journals
-  ks = noted (all_renamed objects threads)
-
-  pub window_history : HasHistory (map (slice_index values) objects) ks → HasHistory values js
-  window_history has_one = history_back objects js ks (as_many_noted objects threads) (all_places objects threads) (all_known objects threads all) values have has_one
-
-  window_has_none : HasNoHistory (map (slice_index values) objects) ks → HasNoHistory values js
-  window_has_none none last draws h =
-      let r = history_there objects js ks (as_many_noted objects threads) (all_places objects threads) (all_known objects threads all) values have last draws h in
-      none r.0 r.1 r.2
-
-  -- why there is no window, where the threads do not make what is noted
-  pub play_refusal : (e : Refusal) → IsPlayRefusal (map (slice_index values) objects) (all_renamed objects threads) e → IsRefused values threads e
-  play_refusal NoHistory is = window_has_none is
-  play_refusal OutOfMemory is = tt
-  play_refusal (NoObject object) is = absurd is
-  play_refusal (ManyObjects count) is = absurd is
-  play_refusal (ManyLines lines) is = absurd is
+-- why there is no window, where the threads do not make what is noted
+pub play_refusal : (threads : List Notes) (e : Refusal) → IsPlayRefusal (length (touched_in [] threads)) (all_renamed (touched_in [] threads) threads) e → IsRefused threads e
+play_refusal threads NoHistory is = none_there (touched_in [] threads) threads (touched_of threads) is
+play_refusal threads OutOfMemory is = tt
+play_refusal threads (ManyObjects count) is = absurd is
+play_refusal threads (ManyLines lines) is = absurd is

@@ -3,7 +3,8 @@ pub mod Tables
 pub mod Ordering
 pub mod Noting
 pub mod Recorded
-pub mod Objects
 pub mod Histories
+pub mod Values
+pub mod Courses
 pub mod Playing
 pub mod Windows

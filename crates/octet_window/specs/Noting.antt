@@ -53,6 +53,11 @@ abbrev pub AreIn : ℕ → List Note → Type 0
 AreIn objects [] = Unit {0}
 AreIn objects (note ∷ notes) = IsEventIn objects note.event × AreIn objects notes
 
+-- and of each thread
+abbrev pub AllIn : ℕ → List (List Note) → Type 0
+AllIn objects [] = Unit {0}
+AllIn objects (notes ∷ threads) = AreIn objects notes × AllIn objects threads
+
 -- the test whether the object is one of these
 abbrev pub has : List ℕ → ℕ → Bool
 has [] object = false

@@ -1,9 +1,10 @@
 //! A window is closed.
 ghost use Rattle.std.specs.Prelude.{◌≡◌, ◌*◌, ◌<◌, ◌≤◌, length, map, IfOk, IfErr};
 ghost use Rattle.octet_model.specs.declared.limits.TheConstants.{MAX_THREADS};
-ghost use Rattle.octet_model.specs.Orders.{IsFaithful};
-ghost use Rattle.octet_window.specs.Histories.{HasHistory};
-ghost use Rattle.octet_window.specs.Windows.{all_noted, IsRefused, IsWindowOf, MakesNoted};
+ghost use Rattle.octet_model.specs.Orders.{starting_heap, IsFaithful};
+ghost use Rattle.octet_window.specs.Histories.{noted, HasHistory};
+ghost use Rattle.octet_window.specs.Playing.{all_renamed};
+ghost use Rattle.octet_window.specs.Windows.{IsRefused, IsWindowOf, MakesNoted};
 
 use crate::notes::Notes;
 use crate::playing::play_notes;
@@ -23,20 +24,21 @@ pub struct Window {
     pub outcome: Outcome,
 }
 
-/// The window of a run that begins at a front. The objects have these values there, and this is noted of each thread
-/// from there on, in order. The script has the objects that the threads access and their accesses as lines, and with
-/// its log and its outcome it is a faithful recording, by which the threads make just the accesses that are noted,
-/// with the same values. The log has joins where conflicting accesses need them, and no mark else. Refused where the
-/// script would be too large, or where what is noted has no one history, by the marks and from these values on. Where
-/// there is a window, some order of what is noted meets each mark's wait and has the value of each access.
-pub fn close(alloc: Global, values: &[u64], threads: &[Notes]) -> Result<Window, Refusal>
+/// The window of a run that begins at a front, from where on this is noted of each thread, in order. The script has the
+/// objects that the threads access and their accesses as lines, and with its log and its outcome it is a faithful
+/// recording, by which the threads make just the accesses that are noted, with the same values. An object begins with the
+/// value that its first access shows, or with 0 where that writes it. The log has joins where conflicting accesses need
+/// them, and no mark else. Refused where the script would be too large, or where what is noted has no one history, by the
+/// marks, whatever the objects' values are at the front. Where there is a window, some order of what is noted meets each
+/// mark's wait and has the value of each access.
+pub fn close(alloc: Global, threads: &[Notes]) -> Result<Window, Refusal>
     requires some { 1 ≤ length threads.now }
     requires few { length threads.now ≤ MAX_THREADS }
     ensures faithful { IfOk result (λ w. IsFaithful w.script w.log.threads w.outcome) }
-    ensures script { IfOk result (λ w. IsWindowOf values.now threads.now w.objects w.script) }
+    ensures script { IfOk result (λ w. IsWindowOf threads.now w.objects w.script) }
     ensures accesses { IfOk result (λ w. MakesNoted threads.now w.objects w.script w.log.threads) }
-    ensures history { IfOk result (λ w. HasHistory values.now (all_noted threads.now)) }
-    ensures refused { IfErr result (IsRefused values.now threads.now) }
+    ensures history { IfOk result (λ w. HasHistory (starting_heap w.script) (noted (all_renamed w.objects threads.now))) }
+    ensures refused { IfErr result (IsRefused threads.now) }
 {
     let objects = touched_in(alloc, threads)?;
     if objects.len() > MAX_OBJECTS {
@@ -50,9 +52,8 @@ pub fn close(alloc: Global, values: &[u64], threads: &[Notes]) -> Result<Window,
     if lines > MAX_FUEL as usize / threads.len() {
         return Err(Refusal::ManyLines { lines });
     }
-    let script = script_of(alloc, values, &objects, programs, lines)?;
-    let starts = script.starting_heap(alloc)?;
-    let run = play_notes(alloc, &starts, &notes)?;
+    let run = play_notes(alloc, objects.len(), &notes)?;
+    let script = script_of(alloc, run.starts.as_slice(), &objects, programs, lines)?;
     let Recorded { log, outcome } = run.finish(alloc, &script)?;
     Ok(Window {
         objects: List::from_vec(objects),

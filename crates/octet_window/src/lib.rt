@@ -2,6 +2,7 @@
 #![tactic(auto)]
 
 mod closing;
+mod course;
 mod finishing;
 mod front;
 pub mod laws;
@@ -12,6 +13,7 @@ mod ordered;
 mod playing;
 mod refusal;
 mod scripts;
+mod shown;
 mod table;
 mod touching;
 

@@ -9,17 +9,14 @@ use thiserror::Error;
 /// Why there is no window. Out of memory alone may come at any time.
 #[derive(Debug, Drop, Error)]
 pub enum Refusal {
-    /// A thread accesses an object that has no value at the front.
-    #[error("no object {object}")]
-    NoObject { object: u16 },
     /// The threads access more objects than a script may have.
     #[error("{objects} objects")]
     ManyObjects { objects: usize },
     /// A thread needs so many lines, which is more than all threads of a script may have together.
     #[error("{lines} lines of a thread")]
     ManyLines { lines: usize },
-    /// What is noted has no one history, by its marks and from these values: no order of it has them all, or two
-    /// accesses that conflict are not ordered by the marks.
+    /// What is noted has no one history by its marks, whatever values the objects have at first: no order of it has its
+    /// values, or two accesses that conflict are not ordered by the marks.
     #[error("the threads do not make what is noted")]
     NoHistory,
     #[error("out of memory")]

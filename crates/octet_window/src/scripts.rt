@@ -1,15 +1,14 @@
 //! The script of a window.
-ghost use Rattle.std.specs.Prelude.{◌≡◌, ◌*◌, ◌<◌, ◌≤◌, length, map, IfOk, IfErr};
+ghost use Rattle.std.specs.Prelude.{◌≡◌, ◌*◌, ◌<◌, ◌≤◌, length, map, IfOk};
 ghost use Rattle.octet_model.specs.declared.limits.TheConstants.{MAX_FUEL, MAX_OBJECTS, MAX_THREADS};
-ghost use Rattle.octet_window.specs.Noting.{program_of};
-ghost use Rattle.octet_window.specs.Objects.{HaveValues, IsRefusedObject};
-ghost use Rattle.octet_window.specs.Playing.{all_renamed, AllIn, AllOf};
+ghost use Rattle.octet_model.specs.Orders.{starting_heap};
+ghost use Rattle.octet_window.specs.Noting.{program_of, AllIn};
+ghost use Rattle.octet_window.specs.Playing.{all_renamed, AllOf};
 ghost use Rattle.octet_window.specs.Windows.{most_lines, AreDifferent, AreThreads, IsScriptWith};
 
 use crate::lines::program_of;
 use crate::notes::{Note, Notes};
 use crate::objects::objects_of;
-use crate::refusal::Refusal;
 use crate::touching::renamed_notes;
 use octet_model::{Command, List, OutOfMemory, Script};
 use std::alloc::Global;
@@ -73,26 +72,26 @@ fn fuel_for(threads: usize, lines: usize) -> u32
     lines as u32
 }
 
-/// The script with these objects of a run and these programs, of which none has more lines than this.
+/// The script with these objects of a run, which have these values, and these programs, of which none has more lines than this.
 pub(crate) fn script_of(
     alloc: Global,
-    values: &[u64],
+    starts: &[u64],
     objects: &[u16],
     programs: List<List<Command>>,
     lines: usize,
-) -> Result<Script, Refusal>
+) -> Result<Script, OutOfMemory>
     requires few { length objects.now ≤ MAX_OBJECTS }
+    requires starts { length starts.now ≡ length objects.now }
     requires different { AreDifferent objects.now }
     requires threads { AreThreads (length objects.now) programs }
     requires some { 1 ≤ length programs }
     requires most { length programs ≤ MAX_THREADS }
     requires lines { lines ≡ most_lines programs }
     requires fuel { length programs * lines ≤ MAX_FUEL }
-    ensures script { IfOk result (IsScriptWith values.now objects.now programs) }
-    ensures there { IfOk result (λ script. HaveValues values.now objects.now) }
-    ensures refused { IfErr result (IsRefusedObject values.now objects.now) }
+    ensures script { IfOk result (IsScriptWith objects.now programs) }
+    ensures starts { IfOk result (λ script. starting_heap script ≡ starts.now) }
 {
-    let objects = objects_of(alloc, values, objects)?;
+    let objects = objects_of(alloc, starts, objects)?;
     let fuel = fuel_for(programs.len(), lines);
     Ok(Script {
         fuel,

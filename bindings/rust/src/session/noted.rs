@@ -13,7 +13,7 @@ pub(crate) enum Keeps {
     Checks(Arc<Ledger>),
     /// Where each of them stands.
     Each,
-    /// Their number, and where the last ones stand, so many.
+    /// Where the last ones stand, so many.
     Last(u16),
 }
 
@@ -29,22 +29,19 @@ pub(super) enum Places {
 #[derive(Debug)]
 pub(super) struct LastPlaces {
     room: usize,
-    made: u64,
     places: VecDeque<Caller>,
 }
 
-/// How many accesses a thread has made, and where they stand, or the last ones of them.
+/// Where the accesses of a thread stand, or the last ones of them.
 #[derive(Debug, Default)]
 pub(crate) struct Noted {
-    pub(crate) made: u64,
     pub(crate) places: Vec<Place>,
 }
 
 impl Noted {
-    /// Where the accesses stand that come after so many.
-    pub(crate) fn after(mut self, made: u64) -> Vec<Place> {
-        let wanted = usize::try_from(self.made.saturating_sub(made)).unwrap_or(usize::MAX);
-        self.places.split_off(self.places.len().saturating_sub(wanted))
+    /// Where the last accesses stand, so many.
+    pub(crate) fn last(mut self, many: usize) -> Vec<Place> {
+        self.places.split_off(self.places.len().saturating_sub(many))
     }
 }
 
@@ -53,7 +50,7 @@ impl Places {
         match keeps {
             Keeps::Checks(ledger) => Places::Checks(Box::new(Checks::new(ledger, thread))),
             Keeps::Each => Places::Each(Vec::new()),
-            Keeps::Last(room) => Places::Last(Box::new(LastPlaces { room: (*room).into(), made: 0, places: VecDeque::new() })),
+            Keeps::Last(room) => Places::Last(Box::new(LastPlaces { room: (*room).into(), places: VecDeque::new() })),
         }
     }
 
@@ -85,15 +82,14 @@ impl Places {
     pub(super) fn noted(self) -> Noted {
         match self {
             Places::Nothing | Places::Checks(_) => Noted::default(),
-            Places::Each(places) => Noted { made: places.len() as u64, places: places.into_iter().map(Place::from).collect() },
-            Places::Last(last) => Noted { made: last.made, places: last.places.into_iter().map(Place::from).collect() },
+            Places::Each(places) => Noted { places: places.into_iter().map(Place::from).collect() },
+            Places::Last(last) => Noted { places: last.places.into_iter().map(Place::from).collect() },
         }
     }
 }
 
 impl LastPlaces {
     fn note(&mut self, caller: Caller) {
-        self.made += 1;
         if self.room == 0 {
             return;
         }

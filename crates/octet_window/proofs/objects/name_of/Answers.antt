@@ -1,5 +1,5 @@
 use Rattle.std.proofs.Common.{◌≡◌, rules}
-use Rattle.octet_window.specs.Objects.{name_of}
+use Rattle.octet_window.specs.Windows.{name_of}
 use Rattle.octet_window.proofs.Names.{name_is_name}
 use Rattle.octet_window.proofs.objects.name_of.Goals as goal
 

@@ -1,8 +1,8 @@
 use Rattle.std.proofs.Common.{◌≡◌, ◌<◌, ◌+◌, ◌++◌, List, length, map, drop, sym, ap, ◌∙◌, subst, arith}
 use Rattle.octet_window.specs.declared.notes.Note.{Note}
 use Rattle.octet_window.specs.declared.notes.Notes.{Notes}
-use Rattle.octet_window.specs.Noting.{notes_in, renamed_note}
-use Rattle.octet_window.specs.Playing.{all_renamed, AllIn}
+use Rattle.octet_window.specs.Noting.{notes_in, renamed_note, AllIn}
+use Rattle.octet_window.specs.Playing.{all_renamed}
 use Rattle.octet_window.proofs.Noting.{mapped_more}
 use Rattle.octet_window.proofs.Valid.{all_in_more, all_of_step}
 use Rattle.octet_window.proofs.scripts.all_renamed.Goals as goal

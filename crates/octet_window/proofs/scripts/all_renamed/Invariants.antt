@@ -1,5 +1,6 @@
 use Rattle.std.proofs.Common.{◌≡◌, ◌++◌, drop, length}
-use Rattle.octet_window.specs.Playing.{all_renamed, AllIn, AllOf}
+use Rattle.octet_window.specs.Noting.{AllIn}
+use Rattle.octet_window.specs.Playing.{all_renamed, AllOf}
 use Rattle.octet_window.proofs.scripts.all_renamed.Given as goal
 
 abbrev pub invariant-loop-thread : goal.invariant-loop-thread

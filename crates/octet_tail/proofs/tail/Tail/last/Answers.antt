@@ -1,6 +1,7 @@
-use Rattle.std.proofs.Common.{◌≡◌, ◌∙◌, ◌++◌, ◌-◌, List, length, take, drop, ap, arith}
+use Rattle.std.proofs.Common.{◌≡◌, ◌∙◌, ◌++◌, ◌-◌, List, length, take, drop, sym, ap, subst, arith}
 use Rattle.std.proofs.lemmas.List.{take-append-drop}
 use Rattle.octet_model.specs.declared.event.Event.{Event}
+use Rattle.octet_tail.specs.Tails.{IsLast}
 use Rattle.octet_tail.proofs.Tailing.{cut}
 use Rattle.octet_tail.proofs.tail.Tail.last.Goals as goal
 
@@ -12,8 +13,7 @@ returns c = λ accesses is.
     let slice : c.as_slice.result.now ≡ kept = c.as_slice.ensures.value in
     let front : c.split_at.result.0.now ≡ take mid kept = c.split_at.ensures.front ∙ ap (λ (l : List Event). take mid l) slice in
     let back : c.split_at.result.1.now ≡ drop mid kept = c.split_at.ensures.back ∙ ap (λ (l : List Event). drop mid l) slice in
-    cut accesses c.args.many c.args.self.now kept c.split_at.result.0.now c.split_at.result.1.now (record { digest = c.bits.result; accesses = c.from_vec.result }) is all
+    let given : c.from_vec.result ≡ c.split_at.result.1.now = c.from_vec.ensures ∙ c.in_ok-from_slice.ensures.items in
+    subst (IsLast accesses c.args.many) (sym given) (cut accesses c.args.many c.args.self.now kept c.split_at.result.0.now c.split_at.result.1.now is all
     (ap (λ (l : List Event). l ++ c.split_at.result.1.now) front ∙ (ap (λ (l : List Event). take mid kept ++ l) back ∙ take-append-drop mid kept))
-    (omega (arith, c.split_at.ensures.back_len, c.len.ensures, c.requires, ap (λ (l : List Event). length l) slice, ap (λ (l : List Event). length l) all, c.as_slice.ensures.len))
-    (c.from_vec.ensures ∙ c.in_ok-from_slice.ensures.items)
-    (c.bits.ensures ∙ c.digest_after.ensures)
+    (omega (arith, c.split_at.ensures.back_len, c.len.ensures, c.requires, ap (λ (l : List Event). length l) slice, ap (λ (l : List Event). length l) all, c.as_slice.ensures.len)))

@@ -11,7 +11,7 @@ returns c = record {
   tail = λ accesses is.
       let turn = c.turn.ensures in
       let old = c.args.self.now in (
-        turned accesses old c.turn.new.self is (search rules) turn.older turn.none turn.room turn.gone,
+        turned accesses old c.turn.new.self is (search rules) turn.older turn.none turn.room,
         omega (arith, turn.empty, turn.room, is.some),
         ap (λ v. vec_capacity v) turn.older ∙ is.rooms,
       );

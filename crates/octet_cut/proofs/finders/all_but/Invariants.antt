@@ -1,6 +1,0 @@
-use Rattle.std.proofs.Common.{◌≡◌, ◌++◌, drop}
-use Rattle.octet_cut.specs.Fronts.{all_but}
-use Rattle.octet_cut.proofs.finders.all_but.Given as goal
-
-abbrev pub invariant-loop-many : goal.invariant-loop-many
-invariant-loop-many l = l.asked.items ++ all_but l.last (drop l.many-index l.made) ≡ all_but l.last l.made

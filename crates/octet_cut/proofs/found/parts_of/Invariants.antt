@@ -1,9 +1,0 @@
-use Rattle.std.proofs.Common.{◌≡◌, length}
-use Rattle.octet_cut.proofs.Searching.{AreFirstParts}
-use Rattle.octet_cut.proofs.found.parts_of.Given as goal
-
-abbrev pub invariant-loop-thread : goal.invariant-loop-thread
-invariant-loop-thread l = record {
-  parts : AreFirstParts l.fronts l.last l.made l.thread l.parts;
-  count : length l.parts ≡ l.thread;
-}
