@@ -56,7 +56,9 @@ fn examples_run_on_one_processor() {
     let tests = env::current_exe().unwrap();
     let examples = tests.parent().and_then(Path::parent).unwrap().join("examples");
     let here = folder("one-processor");
-    for (name, file) in [("bank", Some("bank")), ("deposits", None), ("lock", None), ("queue", None), ("stack", None)] {
+    let named =
+        [("bank", Some("bank")), ("deposits", None), ("lock", None), ("long", Some("long")), ("queue", None), ("stack", None)];
+    for (name, file) in named {
         let example = examples.join(name);
         // Where only some tests are built, the examples may be missing.
         if !example.is_file() {
