@@ -85,6 +85,7 @@ static void begin_main(void)
     t->away = 1;
     t->state = RESTING;
     arena_number = 0;
+    t->task = (int)syscall(SYS_gettid);
     pass_key(t);
     files_begin();
     come_back(t);

@@ -20,7 +20,7 @@ static bool recorded_cut[THREADS], cut[THREADS];
 
 /* How long a thread is waited for that makes no call; when the user is told of a wait that has no limit; and how long no thread goes
  * on until it is taken that none can. */
-enum { SECONDS_FOR_OTHERS = 3, SECONDS_UNTIL_TOLD = 10, SECONDS_STUCK = 30 };
+enum { SECONDS_FOR_OTHERS = 3, SECONDS_COMPUTING = 1, SECONDS_UNTIL_TOLD = 10, SECONDS_STUCK = 30 };
 
 static _Noreturn void stand_still(void)
 {
@@ -147,11 +147,32 @@ static uint64_t made_by(const struct thread *t)
     return __atomic_load_n(&t->made, __ATOMIC_ACQUIRE);
 }
 
-/* In a second run: whether the thread has made all that was recorded, and stands where it stood. */
+double processor_of(const struct thread *t)
+{
+    enum { OF_THREAD = 6 };
+    struct timespec used = {0, 0};
+    syscall(SYS_clock_gettime, (long)(clockid_t)(~(unsigned)t->task << 3 | OF_THREAD), &used);
+    return (double)used.tv_sec + (double)used.tv_nsec / 1e9;
+}
+
+/* A thread may have slept, or not have begun, when the recording ended, and compute for good in a second run, where it waits for
+ * nothing. It is known by the processor time that it has used since it made its last call, since on a busy machine it may get none. */
+static bool computes(int i)
+{
+    static double since[THREADS];
+    double used = processor_of(&threads[i]);
+    if (threads[i].inside || since[i] == 0)
+        since[i] = used;
+    return used - since[i] > SECONDS_COMPUTING;
+}
+
+/* In a second run: whether the thread has made all that was recorded, and stands where it stood, or makes no call. */
 static bool has_come(int i)
 {
+    if (made_by(&threads[i]) < recorded_calls[i])
+        return false;
     int state = state_of(&threads[i]);
-    return made_by(&threads[i]) >= recorded_calls[i] && (recorded_cut[i] || (state != RUNNING && state != PARKING));
+    return recorded_cut[i] || (state != RUNNING && state != PARKING) || (state == RUNNING && computes(i));
 }
 
 /* Each thread waits for nothing but marks, so this has no limit of time; but where it is not known what was recorded. */

@@ -37,29 +37,59 @@ static _Noreturn void left_recording(struct thread *t, int32_t status, int how, 
  * a range as many as it has objects, before the program touches it: at the second the first is shown. So a thread keeps its turn
  * until it is in a call again, or rests. Who waits for marks gives it up: so the thread whose access is the earliest that is not made
  * gets it, and goes on. */
+/* The turn is the number of the thread that has it, and one more; or 0. */
 static volatile int turn, waiting;
 enum { MOST_CALLS_IN_TURN = 256 };
 
+/* After so much of its own processor time without a call a thread has made its access, and only computes: perhaps for good. */
+#define COMPUTES 0.02
+
+static bool has_turn(const struct thread *t)
+{
+    return turn == t->number + 1;
+}
+
+/* How a thread that waits has seen the one that has the turn. */
+struct sight {
+    int holder;
+    uint64_t calls;
+    double processor;
+};
+
+static bool only_computes(struct sight *seen, int holder)
+{
+    struct thread *t = &threads[holder - 1];
+    struct sight now = {holder, *(volatile uint64_t *)&t->calls, processor_of(t)};
+    if (!t->inside && now.holder == seen->holder && now.calls == seen->calls)
+        return now.processor - seen->processor > COMPUTES;
+    *seen = now;
+    return false;
+}
+
 static void take_turn(struct thread *t)
 {
-    int free = 0;
-    if (t->has_turn)
+    enum { SPINS = 210 };
+    struct sight seen = {0};
+    if (has_turn(t))
         return;
     __atomic_fetch_add(&waiting, 1, __ATOMIC_SEQ_CST);
-    for (unsigned tries = 0; !__atomic_compare_exchange_n(&turn, &free, 1, false, __ATOMIC_ACQUIRE, __ATOMIC_RELAXED); tries++) {
+    for (unsigned tries = 0;; tries++) {
+        int holder = 0;
+        if (__atomic_compare_exchange_n(&turn, &holder, t->number + 1, false, __ATOMIC_SEQ_CST, __ATOMIC_SEQ_CST))
+            break;
+        if (tries > SPINS && only_computes(&seen, holder))
+            __atomic_compare_exchange_n(&turn, &holder, 0, false, __ATOMIC_SEQ_CST, __ATOMIC_SEQ_CST);
+        if (is_closing())
+            park(t);
         pause_short(tries);
-        free = 0;
     }
     __atomic_fetch_sub(&waiting, 1, __ATOMIC_SEQ_CST);
-    t->has_turn = true;
 }
 
 void give_turn(struct thread *t)
 {
-    if (!t->has_turn)
-        return;
-    t->has_turn = false;
-    __atomic_store_n(&turn, 0, __ATOMIC_RELEASE);
+    int holder = t->number + 1;
+    __atomic_compare_exchange_n(&turn, &holder, 0, false, __ATOMIC_SEQ_CST, __ATOMIC_SEQ_CST);
 }
 
 static void keep_turn(struct thread *t)

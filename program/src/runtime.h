@@ -43,7 +43,7 @@ struct thread {
     uintptr_t stack_low, stack_size;
     int number;
     int state;
-    bool has_turn;
+    int task;            /* its number for the system */
     volatile bool inside; /* in a call of the library, or about to make one */
     int away;            /* how many calls that may wait it is in */
     octet_session session;
@@ -174,6 +174,8 @@ static inline bool is_closing(void)
 {
     return closing != 0;
 }
+/* Seconds of processor time that the thread has used, or 0. */
+HIDDEN double processor_of(const struct thread *t);
 HIDDEN void ends_begin(void);
 HIDDEN void end_run(const char *cause, int number);
 HIDDEN void end_by_signal(void);

@@ -66,6 +66,7 @@ static void *begin_thread(void *given)
 {
     struct thread *t = given;
     arena_number = t->number;
+    t->task = (int)syscall(SYS_gettid);
     pthread_setspecific(key, t);
     signals_of_thread(t->number);
     come_back(t);
