@@ -157,13 +157,16 @@ double processor_of(const struct thread *t)
 
 /* A thread may have slept, or not have begun, when the recording ended, and compute for good in a second run, where it waits for
  * nothing. It is known by the processor time that it has used since it made its last call, since on a busy machine it may get none. */
-static bool computes(int i)
+static bool computes(int i, double most)
 {
     static double since[THREADS];
+    static uint64_t seen[THREADS];
     double used = processor_of(&threads[i]);
-    if (threads[i].inside || since[i] == 0)
+    uint64_t calls = *(volatile uint64_t *)&threads[i].calls;
+    if (threads[i].inside || since[i] == 0 || calls != seen[i])
         since[i] = used;
-    return used - since[i] > SECONDS_COMPUTING;
+    seen[i] = calls;
+    return used - since[i] > most;
 }
 
 /* In a second run: whether the thread has made all that was recorded, and stands where it stood, or makes no call. */
@@ -172,7 +175,7 @@ static bool has_come(int i)
     if (made_by(&threads[i]) < recorded_calls[i])
         return false;
     int state = state_of(&threads[i]);
-    return recorded_cut[i] || (state != RUNNING && state != PARKING) || (state == RUNNING && computes(i));
+    return recorded_cut[i] || (state != RUNNING && state != PARKING) || (state == RUNNING && computes(i, SECONDS_COMPUTING));
 }
 
 /* Each thread waits for nothing but marks, so this has no limit of time; but where it is not known what was recorded. */
@@ -349,7 +352,8 @@ void end_run(const char *cause, int number)
     arena_number = number < 0 ? 0 : number;
 }
 
-/* Whether no thread goes on: each stands still or rests, or waits for marks and has made no call since the last look. */
+/* Whether no thread goes on: each stands still or rests, or waits for marks and has made no call since the last look. Where a recording
+ * was cut, a thread that computes without a call for long is not waited for. */
 static bool all_stand(void)
 {
     static uint64_t calls_before, waits_before[THREADS];
@@ -359,7 +363,8 @@ static bool all_stand(void)
         struct thread *t = &threads[i];
         uint64_t waits = *(volatile uint64_t *)&t->waits;
         calls += *(volatile uint64_t *)&t->calls;
-        works = works || (state_of(t) == RUNNING && waits == waits_before[i]);
+        bool is_left = !recording_is_whole && computes(i, SECONDS_STUCK);
+        works = works || (state_of(t) == RUNNING && waits == waits_before[i] && !is_left);
         waits_before[i] = waits;
     }
     works = works || calls != calls_before;
