@@ -167,6 +167,11 @@ void octet_free(octet_session *handle);
 int32_t octet_open_long(const uint64_t *starts, size_t objects, octet_session *sessions, size_t count,
                         octet_stream *streams, size_t stream_count);
 
+/* The starting values of the objects that a text declares, which is as for `octet_open`. Copies as many as there is room for;
+ * `length` is how many there are. So a long run opens by a text, too: by these values, with the text as what `octet_head` and
+ * `octet_follow_long` call `declared`. */
+int32_t octet_starts(const uint8_t *text, size_t text_length, uint64_t *out, size_t room, size_t *length);
+
 /* What a marks file begins with. `declared` is whatever tells your run from others, as its words: a file of other
  * bytes is another run's. Copies as much as there is room for; `length` is how much there is. */
 int32_t octet_head(const uint64_t *starts, size_t objects, uint8_t threads, const uint8_t *declared,

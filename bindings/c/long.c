@@ -18,8 +18,9 @@ struct bytes {
 };
 
 static int wrong;
-static const uint64_t STARTS[OBJECTS] = {5, 6, 7, 8};
-static const uint8_t DECLARED[] = "two threads";
+static const uint8_t DECLARED[] = "fuel 1\nobject a 5\nobject b 6\nobject c 7\nobject d 8\nthread\nthread\n";
+enum { DECLARED_LENGTH = sizeof DECLARED - 1 };
+static uint64_t STARTS[OBJECTS]; /* as declared */
 static struct bytes file;
 
 static void check(int line, const char *call, uint64_t found, uint64_t wanted) {
@@ -135,11 +136,21 @@ static void values_of(octet_record *record, uint64_t *values) {
     octet_free(record);
 }
 
+static void declare(void) {
+    size_t length = 7;
+    EXPECT(octet_starts(DECLARED, 3, STARTS, OBJECTS, &length), OCTET_BAD_TEXT);
+    EXPECT(length, 7);
+    EXPECT(octet_starts(DECLARED, DECLARED_LENGTH, STARTS, 1, &length), OCTET_READY);
+    EXPECT(STARTS[0] == 5 && STARTS[1] == 0 && length == OBJECTS, 1);
+    EXPECT(octet_starts(DECLARED, DECLARED_LENGTH, STARTS, OBJECTS, &length), OCTET_READY);
+    EXPECT(STARTS[1] == 6 && STARTS[3] == 8 && length == OBJECTS, 1);
+}
+
 static void begin_file(void) {
     static uint8_t head[256];
     size_t length = 0, again = 0;
-    EXPECT(octet_head(STARTS, OBJECTS, THREADS, DECLARED, sizeof DECLARED, head, 0, &length), OCTET_READY);
-    EXPECT(octet_head(STARTS, OBJECTS, THREADS, DECLARED, sizeof DECLARED, head, sizeof head, &again), OCTET_READY);
+    EXPECT(octet_head(STARTS, OBJECTS, THREADS, DECLARED, DECLARED_LENGTH, head, 0, &length), OCTET_READY);
+    EXPECT(octet_head(STARTS, OBJECTS, THREADS, DECLARED, DECLARED_LENGTH, head, sizeof head, &again), OCTET_READY);
     EXPECT(again, length);
     EXPECT(memcmp(head, "OCTM", 4), 0);
     add(&file, head, length);
@@ -173,7 +184,7 @@ static octet_record made_again(struct worker *workers, const uint8_t *bytes, siz
     octet_session sessions[THREADS] = {{0}, {0}};
     octet_stream streams[THREADS] = {{0}, {0}};
     octet_record record = {0};
-    EXPECT(octet_follow_long(STARTS, OBJECTS, DECLARED, sizeof DECLARED, last, sessions, THREADS, streams, THREADS), OCTET_READY);
+    EXPECT(octet_follow_long(STARTS, OBJECTS, DECLARED, DECLARED_LENGTH, last, sessions, THREADS, streams, THREADS), OCTET_READY);
     start_all(workers, sessions, ACCESSES);
     feed_all(streams, bytes, length);
     join_all(workers, sessions);
@@ -254,7 +265,7 @@ static void leave_the_recording(void) {
     octet_session sessions[THREADS] = {{0}, {0}};
     octet_stream streams[THREADS] = {{0}, {0}};
     struct worker workers[THREADS];
-    EXPECT(octet_follow_long(STARTS, OBJECTS, DECLARED, sizeof DECLARED, 0, sessions, THREADS, streams, THREADS), OCTET_READY);
+    EXPECT(octet_follow_long(STARTS, OBJECTS, DECLARED, DECLARED_LENGTH, 0, sessions, THREADS, streams, THREADS), OCTET_READY);
     start_all(workers, sessions, 9);
     feed_some(&streams[0]), feed_some(&streams[1]);
     join_all(workers, sessions);
@@ -353,8 +364,8 @@ static void at_feed(void) {
     EXPECT(octet_feed(&t[0], file.at, 200, &out), OCTET_READY);
     EXPECT(out, 200);
     EXPECT(octet_feed(&t[0], file.at + 200, 1, &out), OCTET_OTHER_RUN);
-    EXPECT(octet_feed(&t[1], DECLARED, sizeof DECLARED, &out), OCTET_READY);
-    EXPECT(octet_feed(&t[1], DECLARED, sizeof DECLARED, &out), OCTET_BAD_MARKS);
+    EXPECT(octet_feed(&t[1], DECLARED, 12, &out), OCTET_READY);
+    EXPECT(octet_feed(&t[1], DECLARED, 12, &out), OCTET_BAD_MARKS);
     EXPECT(out, 0);
     EXPECT(octet_feed_end(&t[1], &out), OCTET_BAD_MARKS);
     EXPECT(octet_feed_end(&t[1], &out), OCTET_READY);
@@ -400,6 +411,7 @@ static void at_close(void) {
 int main(int count, char **words) {
     static struct worker workers[THREADS];
     uint64_t values[OBJECTS] = {0};
+    declare();
     record(workers, values);
     again(workers, values);
     again_by_half();

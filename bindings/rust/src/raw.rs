@@ -104,6 +104,8 @@ unsafe extern "C" {
         streams: *mut Handle,
         stream_count: usize,
     ) -> i32;
+    #[expect(dead_code, reason = "a heap of Rust has its objects without a text")]
+    fn octet_starts(text: *const u8, text_length: usize, out: *mut u64, room: usize, length: *mut usize) -> i32;
     fn octet_head(
         starts: *const u64,
         objects: usize,

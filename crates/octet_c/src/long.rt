@@ -2,14 +2,18 @@
 ghost use Rattle.octet_c.specs.declared.status.TheConstants.{READY};
 ghost use Rattle.std.specs.Prelude.{◌≡◌, ◌≢◌, ◌↔◌, All, length, map, true, IfOk, IfErr};
 ghost use Rattle.octet_c.specs.declared.status.Fault.TheVariants.{OutOfMemory};
+ghost use Rattle.octet_c.specs.Keeping.{AreStarts, CopiesStarts};
 ghost use Rattle.octet_c.specs.Long.{IsSize, Refuses, RefusesLong, OpensLong, FollowsLong, AreOpened, AreFollowing, Holds};
+ghost use Rattle.octet_c.specs.Opened.{RefusesToOpen};
 ghost use Rattle.octet_c.specs.Sessions.{IsHeld};
 
 use crate::handing::{Boxes, put_all};
 use crate::handle::Handle;
 use crate::kind::Behind;
-use crate::status::Fault;
+use crate::status::{Fault, READY};
+use octet_host::copy_out;
 use octet_host_long::{follow, open};
+use octet_host_script::declared;
 use octet_model::MAX_THREADS;
 use octet_rule::MAX_OBJECTS_OF_HEAP;
 use std::alloc::Global;
@@ -103,6 +107,35 @@ fn put_both(
     let (threads, ends) = boxes;
     put_all(alloc, sessions, threads);
     put_all(alloc, streams, ends)
+}
+
+// The starting values of the objects that the text declares.
+fn starts_of(alloc: Global, text: &[u8]) -> Result<Vec<u64>, Fault>
+    ensures starts { IfOk result (λ starts. AreStarts text.now starts.items) }
+    ensures refused { IfErr result (RefusesToOpen text.now) }
+{
+    let script = declared(alloc, text)?;
+    Ok(script.starting_heap(alloc)?)
+}
+
+/// Copies as many starting values of the objects that a text declares as there is room for, and says how many there are. With
+/// them and the text as what was declared a run of any length opens as the text says.
+#[unsafe(no_mangle)]
+pub extern "C" fn octet_starts(
+    alloc: Global,
+    text: &[u8],
+    out: &mut [u64],
+    length: &mut usize,
+) -> i32
+    ensures { CopiesStarts text.now result out.old out.new length.old length.new }
+{
+    match starts_of(alloc, text) {
+        Ok(starts) => {
+            *length = copy_out(starts.as_slice(), out);
+            READY
+        }
+        Err(fault) => fault.status(),
+    }
 }
 
 /// Opens a run of any length over objects with these starting values, and puts a session and its stream behind the handles,

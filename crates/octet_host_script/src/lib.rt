@@ -14,6 +14,6 @@ pub use closing::close_recorded;
 pub use fault::{FollowFault, OpenFault};
 pub use following::{close_repeated, follow};
 pub use kept::Kept;
-pub use opening::open;
+pub use opening::{declared, open};
 pub use recorded::{Heap, Recorded};
 pub use repeated::{Course, Repeated};

@@ -2,6 +2,7 @@
 ghost use Rattle.std.specs.Prelude.{◌≡◌, All, length, IfOk, IfErr};
 ghost use Rattle.std.specs.Arc.{arc_value};
 ghost use Rattle.octet_recorder.specs.Tracks.{objects_in, threads_in, lines_in, number_of, IsTrackOf, EachNew};
+ghost use Rattle.octet_script.specs.Spelling.{Spells};
 ghost use Rattle.octet_session.specs.Recording.{track_standing, TrackRests};
 ghost use Rattle.octet_host_script.specs.Opened.{EachFirst, IsFirst, IsFirstOf, Opens};
 ghost use Rattle.octet_host_script.specs.Refusals.{RefusesToOpen};
@@ -90,6 +91,17 @@ fn seat_all(
     Ok(threads)
 }
 
+/// The script by which a text declares a heap.
+pub fn declared(alloc: Global, text: &[u8]) -> Result<Script, OpenFault>
+    ensures spelled { IfOk result (λ script. Spells text.now script) }
+    ensures refused { IfErr result (RefusesToOpen text.now) }
+{
+    if text.len() > MAX_SCRIPT_FILE as usize {
+        return Err(OpenFault::BadText);
+    }
+    Ok(parse(alloc, text)?)
+}
+
 /// The threads of a heap as the text declares it, off: its `fuel`, its objects with their starting values, and a thread
 /// for each of its threads, whose commands are left aside.
 pub fn open(alloc: Global, text: &[u8]) -> Result<Vec<Recorded>, OpenFault>
@@ -97,10 +109,7 @@ pub fn open(alloc: Global, text: &[u8]) -> Result<Vec<Recorded>, OpenFault>
     ensures opens { IfOk result (λ threads. Opens text.now threads.items) }
     ensures refused { IfErr result (RefusesToOpen text.now) }
 {
-    if text.len() > MAX_SCRIPT_FILE as usize {
-        return Err(OpenFault::BadText);
-    }
-    let script = parse(alloc, text)?;
+    let script = declared(alloc, text)?;
     let objects = objects_of(&script);
     let (recorder, tracks) = Recorder::new(alloc, script)?;
     let tracks = tracks.into_vec();
