@@ -1,5 +1,5 @@
 -- The commands' answers, each by what was read.
-use Rattle.std.specs.Prelude.{ℕ, true, false, ◌≡◌, ◌≢◌, ◌≤◌, ◌<◌, ◌⊎◌, ◌++◌, List, [], length, map, codes, Option, None, Some, Result, Ok, Err}
+use Rattle.std.specs.Prelude.{ℕ, ◌≡◌, ◌≢◌, ◌≤◌, ◌<◌, ◌⊎◌, ◌++◌, List, [], length, map, codes, Option, None, Some, Result, Ok, Err}
 use Rattle.std.specs.Char.{digit_value}
 use Rattle.sha2.specs.Sha256.{sha256}
 use Rattle.octet_base.specs.Desk.{Contents}
@@ -49,7 +49,8 @@ use Rattle.octet_commands.specs.declared.request.Quarry.TheVariants.{OtherEnd, A
 use Rattle.octet_commands.specs.Marks.{FileAnswers}
 use Rattle.octet_commands.specs.TraceTexts.{trace_text}
 use Rattle.octet_commands.specs.Profile.{profile_text}
-use Rattle.octet_commands.specs.Outcomes.{none_other, otherwise_text, past_fuel, Fails, Holds, OutcomesAnswers, Refutes}
+use Rattle.octet_outcomes.specs.declared.outcomes.Seen.{Seen}
+use Rattle.octet_commands.specs.Outcomes.{always_said, cut_said, otherwise_text, past_fuel, Fails, Holds, OutcomesAnswers, Refutes}
 use Rattle.octet_commands.specs.Slices.{SliceSays, StopSays}
 use Rattle.octet_commands.specs.Inputs.{IsScriptRead, IsLogRead, IsScriptChosen, IsPairRead}
 
@@ -220,8 +221,8 @@ pub record IsWitness (claim : Claim) (log_name : List ℕ) (source : Source) (wa
 -- the answer of `always`: the claim holds of every run, or not all was seen, or there is a run of which it does not hold
 abbrev pub AlwaysAnswers : Claim → List ℕ → Source × Option ℕ → Answer → Type 0
 AlwaysAnswers claim log_name (source, wanted) answer =
-    (Holds source.script claim wanted × (answer ≡ none_other true))
-    ⊎ ((answer ≡ none_other false)
+    (Holds source.script claim wanted × (answer ≡ always_said))
+    ⊎ (((seen : Seen) × (answer ≡ cut_said seen))
     ⊎ (Fails source.script claim wanted × (IsWitness claim log_name source wanted answer ⊎ (answer ≡ past_fuel))))
 
 -- the answer that refuses what was read, or the command's answer by what was read
@@ -239,7 +240,7 @@ RequestAnswers (Convert script log out) contents answer = Answering (IsPairRead 
 RequestAnswers (Run way script log) contents answer = Answering (IsScriptRead script contents) (RunAnswers way log) answer
 RequestAnswers (Gen number script log) contents answer = IsGeneration number script log answer
 RequestAnswers (Hunt quarry script log tries) contents answer = Answering (IsScriptChosen script (named_by quarry) contents) (HuntAnswers quarry log tries) answer
-RequestAnswers (Outcomes script most) contents answer = Answering (IsScriptRead script contents) (λ source. OutcomesAnswers source.script) answer
+RequestAnswers (Outcomes script most) contents answer = Answering (IsScriptRead script contents) (λ source. OutcomesAnswers source.script most) answer
 RequestAnswers (Always claim script log most) contents answer = Answering (IsScriptChosen script (claimed_of claim) contents) (AlwaysAnswers claim log) answer
 
 -- the answers to a request, or the one to words that are no command

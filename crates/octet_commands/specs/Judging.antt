@@ -20,7 +20,7 @@ abbrev pub IsJudgedBy : Type 0 → Type 0 → (Recorded → Type 0) → Judged �
 IsJudgedBy Holding Failing Refuting Always = Holding
 IsJudgedBy Holding Failing Refuting (Otherwise None) = Failing
 IsJudgedBy Holding Failing Refuting (Otherwise (Some find)) = Failing × Refuting find.recorded
-IsJudgedBy Holding Failing Refuting Unsure = Unit {0}
+IsJudgedBy Holding Failing Refuting (Unsure seen) = Unit {0}
 
 -- the same of a claim, with the object that was chosen
 abbrev pub IsJudged : Script → Claim → Option ℕ → Judged → Type 0

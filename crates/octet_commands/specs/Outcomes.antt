@@ -9,6 +9,8 @@ use Rattle.octet_model.specs.declared.script.Script.{Script}
 use Rattle.octet_model.specs.Orders.{is_done, IsFaithful}
 use Rattle.octet_model.specs.Texts.{object_lines, outcome_text}
 use Rattle.octet_hunt.specs.Hunts.{EndsOtherwise}
+use Rattle.octet_outcomes.specs.declared.outcomes.Seen.{Seen}
+use Rattle.octet_outcomes.specs.declared.outcomes.Seen.TheVariants.{Whole, Most, Memory}
 use Rattle.octet_outcomes.specs.Moments.{Moment}
 use Rattle.octet_outcomes.specs.Runs.{AreAllOutcomes, IsOutcome, IsReached}
 use Rattle.octet_outcomes.specs.Stuck.{IsStuck, LeadsToEnd}
@@ -41,13 +43,15 @@ pub record SomeIsStuck (script : Script) : Type 0 where
 abbrev pub CanAlwaysEnd : Script → Type 0
 CanAlwaysEnd script = (m : Moment) → IsReached script m → LeadsToEnd script m
 
--- these heaps are told, with so many stuck moments. A whole search tells each heap of every interleaving,
--- and where it finds no stuck moment, every interleaving can go on until all threads are done
-pub record IsExplored (script : Script) (told : List Told) (stuck : ℕ) (whole : Bool) : Type 0 where
+-- these heaps are told, with so many moments, and stuck ones. A whole search tells each heap of every interleaving,
+-- and where it finds no stuck moment, every interleaving can go on until all threads are done.
+-- One that is cut off has found more moments than were asked for, or memory was refused
+pub record IsExplored (script : Script) (most : ℕ) (told : List Told) (moments stuck : ℕ) (seen : Seen) : Type 0 where
   pub each : All (IsTold script) told
-  pub all : whole ≡ true → AreAllOutcomes script (map (λ t. t.heap) told)
+  pub all : seen ≡ Whole → AreAllOutcomes script (map (λ t. t.heap) told)
+  pub cut : seen ≡ Most → most < moments
   pub some_stuck : 0 < stuck → SomeIsStuck script
-  pub none_stuck : whole ≡ true → stuck ≡ 0 → CanAlwaysEnd script
+  pub none_stuck : seen ≡ Whole → stuck ≡ 0 → CanAlwaysEnd script
 
 -- the line that stands before a heap, by whether the script's fuel is enough for it
 abbrev pub told_line : Bool → List ℕ
@@ -63,18 +67,20 @@ abbrev pub search_text : Script → List Told → ℕ → ℕ → List ℕ
 search_text script told moments stuck = flat_map (told_text script) told ++ codes "moments " ++ decimal moments ++ codes "\nstuck " ++ decimal stuck ++ codes "\n"
 
 -- the line of a search that was cut off
-abbrev pub not_all_line : List ℕ
-not_all_line = codes "not all was seen\n"
+abbrev pub cut_line : Seen → List ℕ
+cut_line Memory = codes "not all was seen for want of memory\n"
+cut_line _ = codes "not all was seen\n"
 
 -- the answer that says what a search has found, and whether that is all
-abbrev pub search_said : List ℕ → Bool → Answer
-search_said text true = says Done text
-search_said text false = says NotAll (text ++ not_all_line)
+abbrev pub search_said : List ℕ → Seen → Answer
+search_said text Whole = says Done text
+search_said text Most = says NotAll (text ++ cut_line Most)
+search_said text Memory = says NotAll (text ++ cut_line Memory)
 
 -- the answer of `outcomes`
-abbrev pub OutcomesAnswers : Script → Answer → Type 0
-OutcomesAnswers script answer =
-    (told : List Told) × (moments stuck : ℕ) × (whole : Bool) × IsExplored script told stuck whole × (answer ≡ search_said (search_text script told moments stuck) whole)
+abbrev pub OutcomesAnswers : Script → ℕ → Answer → Type 0
+OutcomesAnswers script most answer =
+    (told : List Told) × (moments stuck : ℕ) × (seen : Seen) × IsExplored script most told moments stuck seen × (answer ≡ search_said (search_text script told moments stuck) seen)
 
 -- every run whose threads are all done leaves the number in the object
 abbrev pub AlwaysLeaves : Script → ℕ → ℕ → Type 0
@@ -110,10 +116,13 @@ Refutes script (Leaves name number) (Some object) recorded = EndsOtherwise scrip
 Refutes script (Leaves name number) None recorded = ⊥
 Refutes script CanEnd wanted recorded = IsUnfinished script recorded
 
--- the answer where no run was found of which a claim does not hold: that it always holds, if all was seen
-abbrev pub none_other : Bool → Answer
-none_other true = says Done (codes "always\n")
-none_other false = says NotAll not_all_line
+-- the answer where all was seen, and a claim holds of it
+abbrev pub always_said : Answer
+always_said = says Done (codes "always\n")
+
+-- the answer where not all was seen, and no run was found of which a claim does not hold
+abbrev pub cut_said : Seen → Answer
+cut_said seen = says NotAll (cut_line seen)
 
 -- the text of a run of which a claim does not hold: how often its threads are preempted, and its outcome
 abbrev pub otherwise_text : Script → ℕ → Outcome → List ℕ

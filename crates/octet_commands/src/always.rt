@@ -2,20 +2,21 @@
 ghost use Rattle.std.specs.Prelude.{ℕ, true, false, ◌≡◌, ◌<◌, Ok, get_or, length, IfOk, IfSome};
 ghost use Rattle.std.specs.List.{All};
 ghost use Rattle.octet_hunt.specs.Hunts.{EndsOtherwise};
-ghost use Rattle.octet_commands.specs.Answer.{answer_of};
+ghost use Rattle.octet_commands.specs.Answer.{answer_of, says};
 ghost use Rattle.octet_commands.specs.Commands.{AlwaysAnswers, IsWitness};
 ghost use Rattle.octet_commands.specs.Inputs.{IsChosen};
 ghost use Rattle.octet_commands.specs.Judging.{IsJudged, IsJudgedBy, OneLeavesOther};
-ghost use Rattle.octet_commands.specs.Outcomes.{none_other, otherwise_text, past_fuel, AlwaysLeaves, CanAlwaysEnd, IsUnfinished, LeavesOther, Refutes, SomeIsStuck};
+ghost use Rattle.octet_commands.specs.Outcomes.{otherwise_text, AlwaysLeaves, CanAlwaysEnd, IsUnfinished, LeavesOther, Refutes, SomeIsStuck};
 ghost use Rattle.octet_commands.specs.Request.{claimed_of, shown_claim};
 
+use crate::convert::write_log;
 use crate::inputs::Source;
+use crate::outcomes::cut_line;
 use crate::reply::{Reply, Status};
 use crate::request::Claim;
 use octet_hunt::{Aim, Find, are_done, find_by, record_by};
-use octet_log::{digest, encode_v2};
 use octet_model::{OutOfMemory, Script, outcome_text};
-use octet_outcomes::{Ending, explore};
+use octet_outcomes::{Ending, Seen, explore};
 use std::alloc::Global;
 
 /// What is known of a claim about every run.
@@ -27,7 +28,7 @@ pub(crate) enum Judged {
     /// enough.
     Otherwise { find: Option<Find> },
     /// Not all was seen.
-    Unsure,
+    Unsure { seen: Seen },
 }
 
 /// Whether the claim holds of every run of the script is said, where all was seen. Else the log of a
@@ -44,9 +45,11 @@ pub(crate) fn always(
     ensures { IfOk result (λ reply. AlwaysAnswers (shown_claim claim.entry) log_name.now (source.now, wanted) (answer_of reply)) }
 {
     match judge(alloc, &source.script, wanted, claim, most)? {
-        Judged::Always => say_none(alloc, true),
-        Judged::Unsure => say_none(alloc, false),
-        Judged::Otherwise { find: None } => say_past_fuel(alloc),
+        Judged::Always => say(alloc, Status::Done, b"always\n"),
+        Judged::Unsure { seen } => say(alloc, Status::NotAll, cut_line(seen)),
+        Judged::Otherwise { find: None } => {
+            say(alloc, Status::Otherwise, b"otherwise past the fuel\n")
+        }
         Judged::Otherwise { find: Some(find) } => {
             say_otherwise(alloc, source, wanted, claim, &find, log_name)
         }
@@ -90,10 +93,10 @@ fn judge_leaves(
         let find = find_run(alloc, script, object, number, endings)?;
         return Ok(Judged::Otherwise { find });
     }
-    if found.is_whole {
-        return Ok(Judged::Always);
+    match found.seen {
+        Seen::Whole => Ok(Judged::Always),
+        seen => Ok(Judged::Unsure { seen }),
     }
-    Ok(Judged::Unsure)
 }
 
 // Whether every run can go on until all its threads are done.
@@ -105,10 +108,10 @@ fn judge_can_end(alloc: Global, script: &Script, most: u64) -> Result<Judged, Ou
         let find = unfinished_run(alloc, script, found.way.as_slice())?;
         return Ok(Judged::Otherwise { find });
     }
-    if found.is_whole {
-        return Ok(Judged::Always);
+    match found.seen {
+        Seen::Whole => Ok(Judged::Always),
+        seen => Ok(Judged::Unsure { seen }),
     }
-    Ok(Judged::Unsure)
 }
 
 fn value_at(heap: &[u64], object: u16) -> u64
@@ -166,22 +169,11 @@ fn unfinished_run(alloc: Global, script: &Script, way: &[u8]) -> Result<Option<F
     Ok(Some(find))
 }
 
-fn say_none(alloc: Global, is_whole: bool) -> Result<Reply, OutOfMemory>
-    ensures { IfOk result (λ reply. answer_of reply ≡ none_other is_whole) }
+fn say(alloc: Global, status: Status, line: &[u8]) -> Result<Reply, OutOfMemory>
+    ensures { IfOk result (λ reply. answer_of reply ≡ says status line.now) }
 {
-    if is_whole {
-        let line = Vec::from_slice(alloc, b"always\n")?;
-        return Ok(Reply::saying(alloc, Status::Done, line));
-    }
-    let line = Vec::from_slice(alloc, b"not all was seen\n")?;
-    Ok(Reply::saying(alloc, Status::NotAll, line))
-}
-
-fn say_past_fuel(alloc: Global) -> Result<Reply, OutOfMemory>
-    ensures { IfOk result (λ reply. answer_of reply ≡ past_fuel) }
-{
-    let line = Vec::from_slice(alloc, b"otherwise past the fuel\n")?;
-    Ok(Reply::saying(alloc, Status::Otherwise, line))
+    let line = Vec::from_slice(alloc, line)?;
+    Ok(Reply::saying(alloc, status, line))
 }
 
 fn say_otherwise(
@@ -196,9 +188,8 @@ fn say_otherwise(
     ensures { IfOk result (λ reply. IsWitness (shown_claim claim.entry) log_name.now source.now wanted (answer_of reply)) }
 {
     let text = otherwise_text(alloc, source, wanted, claim, find)?;
-    let digest = digest(source.text.as_slice());
-    let bytes = encode_v2(alloc, &find.recorded.log, &digest)?;
-    Reply::reporting(alloc, Status::Otherwise, log_name, bytes, text)
+    let log = &find.recorded.log;
+    write_log(alloc, source, log, Status::Otherwise, log_name, text)
 }
 
 fn otherwise_text(

@@ -6,12 +6,12 @@ ghost use Rattle.octet_commands.specs.Commands.{aim_of, found_said, none_found, 
 ghost use Rattle.octet_commands.specs.Inputs.{IsChosen};
 ghost use Rattle.octet_commands.specs.Request.{named_by, shown_quarry};
 
+use crate::convert::write_log;
 use crate::inputs::Source;
 use crate::regions::cycle_text;
 use crate::reply::{Reply, Status};
 use crate::request::Quarry;
 use octet_hunt::{Aim, Find};
-use octet_log::{digest, encode_v2};
 use octet_model::{OutOfMemory, outcome_text};
 use std::alloc::Global;
 
@@ -67,9 +67,8 @@ fn say_find(
     ensures { IfOk result (λ reply. IsFind (shown_quarry quarry.entry) log_name.now tries source.now wanted (answer_of reply)) }
 {
     let text = find_text(alloc, source, wanted, quarry, find)?;
-    let digest = digest(source.text.as_slice());
-    let bytes = encode_v2(alloc, &find.recorded.log, &digest)?;
-    Reply::writing(alloc, log_name, bytes, text)
+    let log = &find.recorded.log;
+    write_log(alloc, source, log, Status::Done, log_name, text)
 }
 
 fn find_text(

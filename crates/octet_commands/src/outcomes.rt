@@ -3,12 +3,12 @@ ghost use Rattle.std.specs.Prelude.{◌≡◌, ◌++◌, true, length, map as li
 ghost use Rattle.std.specs.List.{All, flat_map};
 ghost use Rattle.octet_outcomes.specs.Endings.{heap_of, IsEnding};
 ghost use Rattle.octet_commands.specs.Answer.{answer_of};
-ghost use Rattle.octet_commands.specs.Outcomes.{search_said, search_text, told_line, told_text, IsRecorded, IsTold, OutcomesAnswers};
+ghost use Rattle.octet_commands.specs.Outcomes.{cut_line, search_said, search_text, told_line, told_text, IsRecorded, IsTold, OutcomesAnswers};
 
 use crate::reply::{Reply, Status};
 use octet_hunt::{are_done, record_by};
 use octet_model::{List, OutOfMemory, Script, push_object_lines};
-use octet_outcomes::{Ending, Outcomes, explore};
+use octet_outcomes::{Ending, Outcomes, Seen, explore};
 use std::alloc::Global;
 
 /// A final heap, and whether a run by the script's own fuel was made that ends with it.
@@ -20,22 +20,32 @@ pub struct Told {
 
 /// All final heaps are said, or as many as were found, and how many moments lead to none.
 pub(crate) fn outcomes(alloc: Global, script: &Script, most: u64) -> Result<Reply, OutOfMemory>
-    ensures { IfOk result (λ reply. OutcomesAnswers script.now (answer_of reply)) }
+    ensures { IfOk result (λ reply. OutcomesAnswers script.now most (answer_of reply)) }
 {
     let found = explore(alloc, script, most as usize)?;
     let told = told_of(alloc, script, found.endings.as_slice())?;
     let text = search_text(alloc, script, told.as_slice(), &found)?;
-    say_search(alloc, text, found.is_whole)
+    say_search(alloc, text, found.seen)
 }
 
-fn say_search(alloc: Global, text: Vec<u8>, is_whole: bool) -> Result<Reply, OutOfMemory>
-    ensures { IfOk result (λ reply. answer_of reply ≡ search_said text.items is_whole) }
+/// The line of a search that was cut off.
+pub(crate) fn cut_line(seen: Seen) -> &'static [u8]
+    ensures { result.now ≡ cut_line seen }
 {
-    if is_whole {
+    match seen {
+        Seen::Memory => b"not all was seen for want of memory\n",
+        _ => b"not all was seen\n",
+    }
+}
+
+fn say_search(alloc: Global, text: Vec<u8>, seen: Seen) -> Result<Reply, OutOfMemory>
+    ensures { IfOk result (λ reply. answer_of reply ≡ search_said text.items seen) }
+{
+    if seen == Seen::Whole {
         return Ok(Reply::saying(alloc, Status::Done, text));
     }
     let mut text = text;
-    text.extend_from_slice(b"not all was seen\n")?;
+    text.extend_from_slice(cut_line(seen))?;
     Ok(Reply::saying(alloc, Status::NotAll, text))
 }
 

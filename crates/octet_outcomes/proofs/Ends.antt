@@ -21,7 +21,7 @@ pub record AreFinal (script : Script) (moments : List Moment) (many : ℕ) (heap
   pub ends : All (IsEnd script moments) places
   pub listed : IsListed script moments many heaps
 
-pub final_done : (script : Script) (moments : List Moment) (before after : RowsState) (place found : ℕ) (heap places more : List ℕ) → place < length moments → AllDone script (get_or moments place no_moment)
+pub final_done : (script : Script) (moments : List Moment) (before after : RowsState ℕ) (place found : ℕ) (heap places more : List ℕ) → place < length moments → AllDone script (get_or moments place no_moment)
     → heap ≡ heap_at moments place → Keeps before heap found after
     → (length after.rows ≤ length places → more ≡ places) → (length places < length after.rows → more ≡ places ++ place ∷ [])
     → AreFinal script moments place before.rows places → AreFinal script moments (suc place) after.rows more
@@ -88,6 +88,6 @@ is_ending script ending m led done is = record {
 }
 
 -- the same, with how wide the heaps are
-pub record AreKept (script : Script) (moments : List Moment) (objects many : ℕ) (heaps : RowsState) (places : List ℕ) : Type 0 where
+pub record AreKept (script : Script) (moments : List Moment) (objects many : ℕ) (heaps : RowsState ℕ) (places : List ℕ) : Type 0 where
   pub width : heaps.width ≡ objects
   pub final : AreFinal script moments many heaps.rows places

@@ -1,5 +1,5 @@
 -- Moments that rows name.
-use Rattle.std.proofs.Common.{◌≡◌, ℕ, suc, ◌<◌, ◌≤◌, List, [], ◌∷◌, ◌++◌, length, map, set, get_or, All, refl, sym, ap, ap₂, subst, ◌∙◌, inl, inr, arith, length-append, Option, Some, None}
+use Rattle.std.proofs.Common.{◌≡◌, ℕ, suc, ◌<◌, ◌≤◌, List, [], ◌∷◌, ◌++◌, length, map, set, get_or, All, refl, sym, ap, ap₂, subst, ◌∙◌, inl, inr, arith, length-append, Option, Some, None, Result, Ok, Err, OnErr}
 use Rattle.std.proofs.lemmas.List.{length-map, get_or_append_left, map-append, map-set, get_or-map}
 use Rattle.std.proofs.lemmas.List.Elements.{All-append}
 use Rattle.octet_interp.specs.declared.program.Stand.{Stand}
@@ -68,6 +68,19 @@ module _ (stands after : List Stand) (heaps heaps_after : List (List ℕ)) (stan
         is = ap (moment_of after heaps_after) named ∙ same;
         grows = subst (λ (m : Moment). Grows (map (moment_of stands heaps) rows) m (map (moment_of after heaps_after) rows_after)) same (moments_grow rows rows_after (numbered row heap_number at stand_number) all gr);
       }
+
+pub on_err : {T E : Type 0} (result : Result T E) (P : Type 0) → P → OnErr result P
+on_err (Ok value) P p = tt
+on_err (Err error) P p = p
+
+-- moments of the same rows are the same
+pub same_moments : (threads objects more_threads more_objects : ℕ) (moments more : List Moment) (before : MomentsState) → record { threads = threads; objects = objects; moments = moments } ≡ before
+    → more_threads ≡ threads → more_objects ≡ objects → more ≡ moments → record { threads = more_threads; objects = more_objects; moments = more } ≡ before
+same_moments threads objects more_threads more_objects moments more before view ts os is =
+    ap₂ (λ (t o : ℕ). state t o more) ts os ∙ ap (state threads objects) is ∙ view
+  where
+    state : ℕ → ℕ → List Moment → MomentsState
+    state threads objects moments = record { threads = threads; objects = objects; moments = moments }
 
 -- what a row names
 module _ (stands : List Stand) (heaps : List (List ℕ)) where

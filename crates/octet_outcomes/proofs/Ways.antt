@@ -1,5 +1,7 @@
 -- The steps of a search lead to its moments.
-use Rattle.std.proofs.Common.{◌≡◌, ℕ, zero, suc, ◌+◌, ◌<◌, ◌≤◌, List, [], ◌∷◌, ◌++◌, length, set, get_or, refl, sym, ap, ap₂, map, subst, ◌∙◌, inl, inr, arith, length-append, Option, Some, None, IfSome, true, below_more}
+use Rattle.std.proofs.Common.{◌≡◌, ℕ, zero, suc, ◌+◌, ◌<◌, ◌≤◌, List, [], ◌∷◌, ◌++◌, length, set, get_or, refl, sym, ap, ap₂, map, subst, ◌∙◌, inl, inr, arith, length-append, length-take-le, take, get_or-take, Option, Some, None, IfSome, Result, Ok, Err, IfOk, true, below_more}
+use Rattle.octet_model.specs.declared.list.OutOfMemory.{OutOfMemory}
+use Rattle.std.proofs.lemmas.List.{get_or_append_left}
 use Rattle.std.proofs.lemmas.Bool.{eq-eqb}
 use Rattle.octet_model.specs.declared.command.Command.{Command}
 use Rattle.octet_model.specs.declared.script.Script.{Script}
@@ -26,14 +28,33 @@ at_end [] x d (suc n) is = absurd (omega arith)
 at_end (y ∷ ys) x d zero is = absurd (omega arith)
 at_end (y ∷ ys) x d (suc n) is = at_end ys x d n (omega arith)
 
--- one more moment, and the step that made it
-module _ (script : Script) (before after : List Moment) (m : Moment) (steps more : List Step) (place thread : ℕ)
-    (of : AreFound script before steps) (there : place < length before) (lt : thread < length script.threads)
-    (leads : Leads script after (get_or before place no_moment) thread (length before))
-    (grown : after ≡ before ++ m ∷ []) (longer : more ≡ steps ++ record { from = place; thread = thread } ∷ []) where
-  abbrev step : Step
-  step = record { from = place; thread = thread }
+-- steps of which the first so many are as before lead to the same moments
+pub found_noted : (script : Script) (moments : List Moment) (many : ℕ) (steps noted rest : List Step) → many ≡ length moments → AreFound script moments steps → noted ≡ take many steps ++ rest → AreFound script moments noted
+found_noted script moments many steps noted rest all of is =
+    let kept : length (take many steps) ≡ many = length-take-le many steps (omega (arith, all, of.len)) in
+    record {
+      len = omega (arith, ap length is, length-append (take many steps) rest, kept, all);
+      some = of.some;
+      first = of.first;
+      made = λ k some below.
+          let same : get_or noted k no_step ≡ get_or steps k no_step =
+          ap (λ (ss : List Step). get_or ss k no_step) is ∙ get_or_append_left (take many steps) rest no_step k (omega (arith, kept, below, all)) ∙ get_or-take many steps k no_step (omega (arith, below, all)) in
+          subst (λ (s : Step). IsStep script moments k s) (sym same) (of.made k some below);
+    }
 
+-- the step that is noted for the next moment
+pub noted_next : (count many : ℕ) (steps noted : List Step) (step : Step) → many ≡ count → count ≤ length steps → noted ≡ take many steps ++ step ∷ [] → (get_or noted count no_step ≡ step) × (count < length noted)
+noted_next count many steps noted step all few is =
+    let kept : length (take many steps) ≡ count = length-take-le many steps (omega (arith, all, few)) ∙ all in (
+      ap (λ (ss : List Step). get_or ss count no_step) is ∙ at_end (take many steps) step no_step count kept,
+      omega (arith, ap length is, length-append (take many steps) (step ∷ []), kept),
+    )
+
+-- one more moment, which the step that was noted leads to
+module _ (script : Script) (before after : List Moment) (m : Moment) (noted : List Step) (place thread : ℕ)
+    (of : AreFound script before noted) (there : place < length before) (lt : thread < length script.threads)
+    (leads : Leads script after (get_or before place no_moment) thread (length before))
+    (grown : after ≡ before ++ m ∷ []) (next : get_or noted (length before) no_step ≡ record { from = place; thread = thread }) (room : length before < length noted) where
   lengths : length after ≡ length before + 1
   lengths = omega (arith, ap length grown, length-append before (m ∷ []))
 
@@ -43,63 +64,58 @@ module _ (script : Script) (before after : List Moment) (m : Moment) (steps more
   at_place : (k : ℕ) → k < length before → get_or before k no_moment ≡ get_or after k no_moment
   at_place k below = sym (extends.1 k below)
 
-  earlier_step : (k : ℕ) → k < length before → 0 < k → IsStep script after k (get_or more k no_step)
+  earlier_step : (k : ℕ) → k < length before → 0 < k → IsStep script after k (get_or noted k no_step)
   earlier_step k below some =
       let s = of.made k some below in
-      let old : Step = get_or steps k no_step in
-      let same : get_or more k no_step ≡ old = grow_at steps more step k no_step (omega (arith, of.len)) (inr longer) in
-      let is : IsStep script after k old = record {
+      let old : Step = get_or noted k no_step in
+      record {
         earlier = s.earlier;
         thread = s.thread;
         leads = subst (λ (n : Moment). Leads script after n old.thread k) (at_place old.from (omega (arith, s.earlier, below))) (leads_more script before after (get_or before old.from no_moment) old.thread k extends s.leads);
-      } in
-      subst (λ (t : Step). IsStep script after k t) (sym same) is
+      }
 
-  new_step : IsStep script after (length before) (get_or more (length before) no_step)
+  new_step : IsStep script after (length before) (get_or noted (length before) no_step)
   new_step =
-      let same : get_or more (length before) no_step ≡ step = ap (λ (ss : List Step). get_or ss (length before) no_step) longer ∙ at_end steps step no_step (length before) of.len in
-      let is : IsStep script after (length before) step = record {
+      let is : IsStep script after (length before) (record { from = place; thread = thread }) = record {
         earlier = there;
         thread = lt;
         leads = subst (λ (n : Moment). Leads script after n thread (length before)) (at_place place there) leads;
       } in
-      subst (λ (t : Step). IsStep script after (length before) t) (sym same) is
+      subst (λ (t : Step). IsStep script after (length before) t) (sym next) is
 
-  pub found_more : AreFound script after more
+  pub found_more : AreFound script after noted
   found_more = record {
-    len = omega (arith, lengths, ap length longer, length-append steps (step ∷ []), of.len);
+    len = omega (arith, lengths, room);
     some = omega (arith, lengths);
     first = extends.1 0 of.some ∙ of.first;
-    made = λ k some below. below_more (λ (n : ℕ). 0 < n → IsStep script after n (get_or more n no_step)) (length before) earlier_step (λ _. new_step) k (omega (arith, lengths, below)) some;
+    made = λ k some below. below_more (λ (n : ℕ). 0 < n → IsStep script after n (get_or noted n no_step)) (length before) earlier_step (λ _. new_step) k (omega (arith, lengths, below)) some;
   }
 
 -- what one access of a thread adds
-pub record Followed (script : Script) (before after : MomentsState) (m : Moment) (thread : ℕ) (found : Option ℕ) (more : List Step) : Type 0 where
+pub record Followed (script : Script) (before after : MomentsState) (m : Moment) (thread : ℕ) (found : Option ℕ) (noted : List Step) : Type 0 where
   pub moments : AreMomentsOf script after
-  pub ways : AreFound script after.moments more
+  pub ways : AreFound script after.moments noted
   pub extends : Extends before.moments after.moments
   pub edge : IsEdge script after.moments m thread (elim found [ None ↦ 0 | Some place ↦ suc place ])
 
-module _ (script : Script) (before after : MomentsState) (place thread : ℕ) (steps more : List Step)
-    (moments : AreMomentsOf script before) (of : AreFound script before.moments steps) (there : place < length before.moments) (lt : thread < length script.threads)
-    (same : length after.moments ≤ length steps → more ≡ steps) (longer : length steps < length after.moments → more ≡ steps ++ record { from = place; thread = thread } ∷ []) where
+module _ (script : Script) (before after : MomentsState) (place thread : ℕ) (noted : List Step)
+    (moments : AreMomentsOf script before) (of : AreFound script before.moments noted) (there : place < length before.moments) (lt : thread < length script.threads)
+    (next : get_or noted (length before.moments) no_step ≡ record { from = place; thread = thread }) (room : length before.moments < length noted) where
   abbrev here : Moment
   here = get_or before.moments place no_moment
 
   -- the thread makes no access
-  stays : next_moment script here thread ≡ None → after ≡ before → Followed script before after here thread None more
-  stays none e =
-      let s : more ≡ steps = same (omega (arith, ap (λ (t : MomentsState). length t.moments) e, of.len)) in
-      record {
-        moments = subst (λ (t : MomentsState). AreMomentsOf script t) (sym e) moments;
-        ways = subst (λ (ss : List Step). AreFound script after.moments ss) (sym s) (subst (λ (t : MomentsState). AreFound script t.moments steps) (sym e) of);
-        extends = subst (λ (t : MomentsState). Extends before.moments t.moments) (sym e) (omega arith, λ k below. refl);
-        edge = record { none = λ _. none; right = λ p no. absurd (omega (arith, no)) };
-      }
+  stays : next_moment script here thread ≡ None → after ≡ before → Followed script before after here thread None noted
+  stays none e = record {
+    moments = subst (λ (t : MomentsState). AreMomentsOf script t) (sym e) moments;
+    ways = subst (λ (t : MomentsState). AreFound script t.moments noted) (sym e) of;
+    extends = subst (λ (t : MomentsState). Extends before.moments t.moments) (sym e) (omega arith, λ k below. refl);
+    edge = record { none = λ _. none; right = λ p no. absurd (omega (arith, no)) };
+  }
 
   -- it leads to a moment that was there, or to a new one
-  adds : (next kept : Moment) (found : ℕ) → next_moment script here thread ≡ Some next → AreAlike script next kept → AddsMoment before kept found after → Followed script before after here thread (Some found) more
-  adds next kept found is like a = record {
+  adds : (next_one kept : Moment) (found : ℕ) → next_moment script here thread ≡ Some next_one → AreAlike script next_one kept → AddsMoment before kept found after → Followed script before after here thread (Some found) noted
+  adds next_one kept found is like a = record {
     moments = record { threads = a.same_threads ∙ moments.threads; objects = a.same_objects ∙ moments.objects };
     ways = go a.grows;
     extends = extends_by before.moments after.moments kept a.grows;
@@ -107,26 +123,24 @@ module _ (script : Script) (before after : MomentsState) (place thread : ℕ) (s
   }
     where
       leads : Leads script after.moments (get_or before.moments place no_moment) thread found
-      leads = record { there = a.there; after = next; next = is; like = like_same script next kept (get_or after.moments found no_moment) (sym a.is) like }
+      leads = record { there = a.there; after = next_one; next = is; like = like_same script next_one kept (get_or after.moments found no_moment) (sym a.is) like }
 
-      go : Grows before.moments kept after.moments → AreFound script after.moments more
-      go (inl e) =
-          let s : more ≡ steps = same (omega (arith, ap length e, of.len)) in
-          subst (λ (ss : List Step). AreFound script after.moments ss) (sym s) (subst (λ (ms : List Moment). AreFound script ms steps) (sym e) of)
+      go : Grows before.moments kept after.moments → AreFound script after.moments noted
+      go (inl e) = subst (λ (ms : List Moment). AreFound script ms noted) (sym e) of
       go (inr e) =
           let len : length after.moments ≡ length before.moments + 1 = omega (arith, ap length e, length-append before.moments (kept ∷ [])) in
           let at : get_or after.moments (length before.moments) no_moment ≡ kept = ap (λ (ms : List Moment). get_or ms (length before.moments) no_moment) e ∙ at_end before.moments kept no_moment (length before.moments) refl in
-          found_more script before.moments after.moments kept steps more place thread of there lt
-          (record { there = omega (arith, len); after = next; next = is; like = like_same script next kept (get_or after.moments (length before.moments) no_moment) (sym at) like }) e
-          (longer (omega (arith, len, of.len)))
+          found_more script before.moments after.moments kept noted place thread of there lt
+          (record { there = omega (arith, len); after = next_one; next = is; like = like_same script next_one kept (get_or after.moments (length before.moments) no_moment) (sym at) like }) e
+          next room
 
-  pub followed : (found : Option ℕ) (commands : List Command) → commands ≡ commands_of script thread → FindsNext commands script.fuel before here thread found after → Followed script before after here thread found more
+  pub followed : (found : Option ℕ) (commands : List Command) → commands ≡ commands_of script thread → FindsNext commands script.fuel before here thread found after → Followed script before after here thread found noted
   followed found commands is finds =
       go (access_at (commands_of script thread) (stand_in here thread)) found refl (subst (λ (cs : List Command). FindsNext cs script.fuel before here thread found after) is finds)
     where
       go : (o : Option Demand) (found : Option ℕ) → access_at (commands_of script thread) (stand_in here thread) ≡ o
           → Finds (commands_of script thread) script.fuel before here thread (heap_after o here.heap) (stand_after (commands_of script thread) script.fuel (stand_in here thread) here.heap o) found after
-          → Followed script before after here thread found more
+          → Followed script before after here thread found noted
       go None None at e = stays (ap (λ (o : Option Demand). moved here thread (heap_after o here.heap) (stand_after (commands_of script thread) script.fuel (stand_in here thread) here.heap o)) at) e
       go (Some demand) (Some found) at a =
           adds (accessed script here thread demand) (record { stands = set here.stands thread a.kept; heap = heap_past demand here.heap }) found (next_accessed script here thread demand at)
@@ -159,9 +173,14 @@ way_on script moments place taken picks end is run =
     record { end = r.end; follows = (is.thread, (is.leads.after, is.leads.next, r.follows)); like = like_trans script end run.end r.end run.like r.like }
 
 -- an edge with the number of what was found
-pub numbered_edge : (script : Script) (moments : List Moment) (m : Moment) (thread number : ℕ) (found : Option ℕ) → IsNumberOf found number → IsEdge script moments m thread (elim found [ None ↦ 0 | Some place ↦ suc place ]) → IsEdge script moments m thread number
+numbered_edge : (script : Script) (moments : List Moment) (m : Moment) (thread number : ℕ) (found : Option ℕ) → IsNumberOf found number → IsEdge script moments m thread (elim found [ None ↦ 0 | Some place ↦ suc place ]) → IsEdge script moments m thread number
 numbered_edge script moments m thread number None is edge = subst (λ (n : ℕ). IsEdge script moments m thread n) (sym is) edge
 numbered_edge script moments m thread number (Some place) is edge = subst (λ (n : ℕ). IsEdge script moments m thread n) (sym is) edge
+
+pub numbered : (script : Script) (moments : List Moment) (m : Moment) (thread : ℕ) (found : Option ℕ) (result : Result ℕ OutOfMemory) → IfOk result (IsNumberOf found)
+    → IsEdge script moments m thread (elim found [ None ↦ 0 | Some place ↦ suc place ]) → IfOk result (IsEdge script moments m thread)
+numbered script moments m thread found (Ok number) is edge = numbered_edge script moments m thread number found is edge
+numbered script moments m thread found (Err none) is edge = tt
 
 -- what is said of each item is said of one more at the end
 pub pushed : {A : Type 0} (xs more : List A) (n : ℕ) (x d : A) (P : ℕ → A → Type 0) → length xs ≡ n → more ≡ xs ++ x ∷ [] → P n x → ((k : ℕ) → k < n → P k (get_or xs k d)) → (k : ℕ) → k < suc n → P k (get_or more k d)

@@ -18,9 +18,9 @@ pub record IsStep (script : Script) (moments : List Moment) (place : ℕ) (step 
 abbrev pub no_step : Step
 no_step = record { from = 0; thread = 0 }
 
--- the first moment was there at first, and each other one was found by its step
+-- the first moment was there at first, and each other one was found by its step. Further steps say nothing
 pub record AreFound (script : Script) (moments : List Moment) (steps : List Step) : Type 0 where
-  pub len : length steps ≡ length moments
+  pub len : length moments ≤ length steps
   pub some : 0 < length moments
   pub first : get_or moments 0 no_moment ≡ first_moment script
   pub made : (place : ℕ) → 0 < place → place < length moments → IsStep script moments place (get_or steps place no_step)

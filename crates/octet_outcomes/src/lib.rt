@@ -2,7 +2,6 @@
 #![tactic(auto)]
 
 mod closers;
-mod edges;
 mod endings;
 mod guide;
 mod hash;
@@ -16,8 +15,9 @@ mod search;
 mod slots;
 mod stands;
 mod stuck;
+mod table;
 mod tree;
 mod waiting;
 
 pub use endings::Ending;
-pub use outcomes::{Outcomes, explore};
+pub use outcomes::{Outcomes, Seen, explore};

@@ -1,6 +1,6 @@
 //! Moments of a run, each kept once, and named by its place.
 ghost use Rattle.octet_interp.specs.Demands.{IsPossible};
-ghost use Rattle.std.specs.Prelude.{◌≡◌, ℕ, List, true, suc, All, ◌+◌, ◌<◌, ◌≤◌, length, get_or, map, [], ◌∷◌, ◌++◌, Some, None, IfOk, OnOk, slice_index, slice_set};
+ghost use Rattle.std.specs.Prelude.{◌≡◌, ℕ, List, true, suc, All, ◌+◌, ◌<◌, ◌≤◌, length, get_or, map, [], ◌∷◌, ◌++◌, Some, None, IfOk, OnErr, OnOk, slice_index, slice_set};
 ghost use Rattle.octet_model.specs.declared.limits.TheConstants.{MAX_FUEL};
 ghost use Rattle.octet_interp.specs.Standing.{access_at};
 ghost use Rattle.octet_outcomes.specs.Ahead.{FindsNext, MayStandAlike};
@@ -19,8 +19,8 @@ use std::marker::Model;
 #[derive(Drop)]
 pub(crate) struct Moments {
     stands: Stands,
-    heaps: Rows,
-    rows: Rows,
+    heaps: Rows<u64>,
+    rows: Rows<u32>,
 }
 
 impl Model for Moments {
@@ -75,18 +75,18 @@ fn access(guide: &Guide, stand: &Stand, heap: &mut [u64], fuel: u32) -> Option<S
     Some(guide.past(stand, value, fuel))
 }
 
-fn copy_into(copy: &mut Vec<u64>, words: &[u64]) -> Result<(), OutOfMemory>
-    ensures { OnOk result (copy.new.items ≡ words.now) }
+fn copy_into<N: Copy>(copy: &mut Vec<N>, numbers: &[N]) -> Result<(), OutOfMemory>
+    ensures { OnOk result (copy.new.items ≡ numbers.now) }
 {
     copy.clear();
-    copy.extend_from_slice(words)?;
+    copy.extend_from_slice(numbers)?;
     Ok(())
 }
 
 /// Room for a row and a heap, which is used again.
 #[derive(Drop)]
 pub(crate) struct Scratch {
-    row: Vec<u64>,
+    row: Vec<u32>,
     heap: Vec<u64>,
 }
 
@@ -102,13 +102,13 @@ impl Scratch {
 // Names the moment in which a thread of a row stands elsewhere, on this heap. Writes over the row.
 fn name_moment(
     stands: &mut Stands,
-    heaps: &mut Rows,
-    rows: &mut Rows,
-    row: &mut [u64],
+    heaps: &mut Rows<u64>,
+    rows: &mut Rows<u32>,
+    row: &mut [u32],
     thread: usize,
     stand: Stand,
     heap: &[u64],
-) -> Result<usize, OutOfMemory>
+) -> Result<u32, OutOfMemory>
     requires named { All (IsRowOf (length stands.old) (length heaps.old.rows)) rows.old.rows }
     requires row { IsRowOf (length stands.old) (length heaps.old.rows) row.old }
     requires width { length row.old ≡ rows.old.width }
@@ -117,12 +117,13 @@ fn name_moment(
     ensures named { All (IsRowOf (length stands.new) (length heaps.new.rows)) rows.new.rows }
     ensures width { rows.new.width ≡ rows.old.width }
     ensures objects { heaps.new.width ≡ heaps.old.width }
+    ensures same { OnErr result (map (moment_of stands.new heaps.new.rows) rows.new.rows ≡ map (moment_of stands.old heaps.old.rows) rows.old.rows) }
     ensures names { IfOk result (λ place. Names stands.old heaps.old.rows rows.old.rows (record { stands = slice_set (moment_of stands.old heaps.old.rows row.old).stands thread stand; heap = heap.now }) place stands.new heaps.new.rows rows.new.rows) }
 {
     let stand_number = stands.add(stand)?;
     let heap_number = heaps.add(heap)?;
-    row[0] = heap_number as u64;
-    row[thread + 1] = stand_number as u64;
+    row[0] = heap_number;
+    row[thread + 1] = stand_number;
     let place = rows.add(row)?;
     Ok(place)
 }
@@ -131,11 +132,11 @@ fn name_moment(
 fn first_row(
     alloc: Global,
     stands: &mut Stands,
-    heaps: &mut Rows,
+    heaps: &mut Rows<u64>,
     guides: &[Guide],
     fuel: u32,
     heap: &[u64],
-) -> Result<Vec<u64>, OutOfMemory>
+) -> Result<Vec<u32>, OutOfMemory>
     requires few { fuel ≤ MAX_FUEL }
     requires objects { length heap.now ≡ heaps.old.width }
     ensures objects { heaps.new.width ≡ heaps.old.width }
@@ -145,16 +146,16 @@ fn first_row(
 {
     let mut row = Vec::new(alloc);
     let heap_number = heaps.add(heap)?;
-    row.push(heap_number as u64)?;
+    row.push(heap_number)?;
     for guide in guides {
         let number = stands.add(guide.start(fuel))?;
-        row.push(number as u64)?;
+        row.push(number)?;
     }
     Ok(row)
 }
 
 // A number of a row.
-fn number_at(row: &[u64], at: usize) -> usize
+fn number_at(row: &[u32], at: usize) -> usize
     requires { at < length row.now }
     ensures { result ≡ slice_index row.now at }
 {
@@ -200,13 +201,14 @@ impl Moments {
         place: usize,
         thread: usize,
         scratch: &mut Scratch,
-    ) -> Result<Option<usize>, OutOfMemory>
+    ) -> Result<Option<u32>, OutOfMemory>
         requires there { place < length self.old.moments }
         requires thread { thread < self.old.threads }
         requires objects { guide.now.objects ≡ self.old.objects }
         requires some { 0 < fuel }
         requires few { fuel ≤ MAX_FUEL }
-        ensures { IfOk result (λ found. FindsNext guide.now.commands fuel self.old (get_or self.old.moments place no_moment) thread found self.new) }
+        ensures found { IfOk result (λ found. FindsNext guide.now.commands fuel self.old (get_or self.old.moments place no_moment) thread found self.new) }
+        ensures err { OnErr result (self.new ≡ self.old) }
     {
         copy_into(&mut scratch.row, self.rows.row(place))?;
         let stand = self.stands.stand(number_at(&scratch.row, thread + 1));
@@ -238,7 +240,7 @@ impl Moments {
 
     /// Makes room to find the moments by.
     pub(crate) fn widen(&mut self, alloc: Global) -> Result<(), OutOfMemory>
-        ensures { OnOk result (self.new ≡ self.old) }
+        ensures { self.new ≡ self.old }
     {
         self.stands.widen(alloc)?;
         self.heaps.widen(alloc)?;

@@ -1,59 +1,36 @@
-//! Rows of words, each of which is kept once, and named by its place.
-ghost use Rattle.std.specs.Prelude.{◌≡◌, ◌+◌, ◌*◌, ◌<◌, ◌≤◌, true, length, get_or, slice_range, [], IfOk, OnErr, OnOk};
+//! Rows of numbers, each of which is kept once, and named by its place.
+ghost use Rattle.std.specs.Prelude.{◌≡◌, ◌<◌, length, get_or, [], IfOk, OnErr};
 ghost use Rattle.octet_outcomes.specs.Rows.{IsFoundAt, Keeps};
-ghost use Rattle.octet_outcomes.specs.declared.slots.Found.TheVariants.{At};
 
-use crate::hash::hash_of;
-use crate::slots::{Found, MOST_PLACES, Slots};
+use crate::hash::{Number, hash_of};
+use crate::slots::{Found, Slots, place_of};
+use crate::table::Table;
 use octet_model::OutOfMemory;
 use std::alloc::Global;
 use std::marker::Model;
 
-/// Rows of equally many words, in the order in which they came.
+/// Rows of equally many numbers, in the order in which they came.
 #[derive(Drop)]
-pub(crate) struct Rows {
-    width: usize,
-    count: usize,
-    words: Vec<u64>,
+pub(crate) struct Rows<N> {
+    table: Table<N>,
     slots: Slots,
 }
 
-impl Model for Rows {
-    ghost use Rattle.std.specs.Prelude.{◌≡◌, ◌*◌, length};
-    ghost use Rattle.octet_outcomes.specs.Rows.{RowsState, rows_in};
+impl<N> Model for Rows<N> {
+    ghost use Rattle.octet_outcomes.specs.Rows.{RowsState};
 
-    ghost Value = { RowsState };
+    ghost Value = { RowsState N };
 
-    ghost view = { λ r. record { width = r.width; rows = rows_in r.width r.count r.words.items } };
-
-    ghost invariant = { λ r. length r.words.items ≡ r.count * r.width };
+    ghost view = { λ r. r.table };
 }
 
-fn are_equal(row: &[u64], other: &[u64]) -> bool
-    ensures { result ≡ true → row.now ≡ other.now }
-{
-    row == other
-}
-
-// The row at a place among words, by their width.
-fn row_among(words: &[u64], width: usize, place: usize) -> &[u64]
-    requires { place * width + width ≤ length words.now }
-    ensures len { length result.now ≡ width }
-    ensures part { result.now ≡ slice_range words.now (place * width) (place * width + width) }
-{
-    let from = place * width;
-    &words[from..from + width]
-}
-
-impl Rows {
+impl<N: Number> Rows<N> {
     /// No rows yet, of this width.
-    pub(crate) fn new(alloc: Global, width: usize) -> Result<Rows, OutOfMemory>
+    pub(crate) fn new(alloc: Global, width: usize) -> Result<Rows<N>, OutOfMemory>
         ensures { IfOk result (λ rows. rows ≡ record { width = width; rows = [] }) }
     {
         Ok(Rows {
-            width,
-            count: 0,
-            words: Vec::new(alloc),
+            table: Table::new(alloc, width),
             slots: Slots::new(alloc)?,
         })
     }
@@ -62,27 +39,27 @@ impl Rows {
     pub(crate) fn len(&self) -> usize
         ensures { result ≡ length self.now.rows }
     {
-        self.count
+        self.table.len()
     }
 
-    /// How many words each row has.
+    /// How many numbers each row has.
     pub(crate) fn width(&self) -> usize
         ensures { result ≡ self.now.width }
     {
-        self.width
+        self.table.width()
     }
 
     /// The row at a place.
-    pub(crate) fn row(&self, place: usize) -> &[u64]
+    pub(crate) fn row(&self, place: usize) -> &[N]
         requires { place < length self.now.rows }
         ensures row { result.now ≡ get_or self.now.rows place [] }
         ensures len { length result.now ≡ self.now.width }
     {
-        row_among(&self.words, self.width, place)
+        self.table.row(place)
     }
 
     // Where the row is, if it is found.
-    fn find(&self, row: &[u64]) -> Found
+    fn find(&self, row: &[N]) -> Found
         ensures { IsFoundAt self.now.rows row.now result }
     {
         let mut slot = self.slots.first(hash_of(row));
@@ -90,7 +67,9 @@ impl Rows {
             let Some(place) = self.slots.place(slot) else {
                 return Found::Free { slot };
             };
-            if place < self.count && are_equal(self.row(place), row) {
+            if (place as usize) < self.table.len()
+                && N::are_equal(self.table.row(place as usize), row)
+            {
                 return Found::At { place };
             }
             slot = self.slots.after(slot);
@@ -99,7 +78,7 @@ impl Rows {
     }
 
     /// Adds a row that is not found, and answers its place.
-    pub(crate) fn add(&mut self, row: &[u64]) -> Result<usize, OutOfMemory>
+    pub(crate) fn add(&mut self, row: &[N]) -> Result<u32, OutOfMemory>
         requires { length row.now ≡ self.old.width }
         ensures keeps { IfOk result (λ place. Keeps self.old row.now place self.new) }
         ensures err { OnErr result (self.new ≡ self.old) }
@@ -108,12 +87,8 @@ impl Rows {
         if let Found::At { place } = found {
             return Ok(place);
         }
-        if self.count >= MOST_PLACES {
-            return Err(OutOfMemory);
-        }
-        self.words.extend_from_slice(row)?;
-        let place = self.count;
-        self.count += 1;
+        let place = place_of(self.table.len())?;
+        self.table.add(row)?;
         self.slots.lead(found, place);
         Ok(place)
     }
@@ -122,11 +97,11 @@ impl Rows {
     pub(crate) fn widen(&mut self, alloc: Global) -> Result<(), OutOfMemory>
         ensures { self.new ≡ self.old }
     {
-        let Some(mut slots) = self.slots.wider(alloc, self.count)? else {
+        let Some(mut slots) = self.slots.wider(alloc, self.table.len())? else {
             return Ok(());
         };
-        for place in 0..self.count {
-            slots.put(hash_of(self.row(place)), place);
+        for place in 0..self.table.len() {
+            slots.put(hash_of(self.table.row(place)), place_of(place)?);
         }
         self.slots = slots;
         Ok(())

@@ -1,13 +1,13 @@
 //! The search through all moments of a script.
-ghost use Rattle.std.specs.Prelude.{◌≡◌, ◌<◌, ◌≤◌, suc, true, length, get_or, IfOk, IfSome, OnOk};
+ghost use Rattle.std.specs.Prelude.{◌≡◌, ◌<◌, ◌≤◌, suc, true, false, [], length, get_or, IfOk, IfSome, OnOk};
 ghost use Rattle.octet_outcomes.specs.Alone.{IsAlone};
 ghost use Rattle.octet_outcomes.specs.Moments.{no_moment, first_moment};
 ghost use Rattle.octet_outcomes.specs.Runs.{AreProgramsOf, IsLedTo};
 ghost use Rattle.octet_outcomes.specs.Searches.{is_followed, Extends, IsEdge, IsNumberOf, IsSearched, MayBeEdge};
 
-use crate::edges::Edges;
 use crate::guide::Guide;
 use crate::moments::{Moments, Scratch};
+use crate::table::Table;
 use crate::tree::Tree;
 use octet_model::{List, OutOfMemory, Script};
 use std::alloc::Global;
@@ -34,15 +34,13 @@ fn is_followed(only: Option<u8>, thread: u8) -> bool
 }
 
 // One more than a place, if there is one, and else 0.
-fn edge_of(found: Option<usize>) -> Result<u32, OutOfMemory>
+fn edge_of(found: Option<u32>) -> Result<u32, OutOfMemory>
     ensures { IfOk result (IsNumberOf found) }
 {
-    let Some(place) = found else {
-        return Ok(0);
-    };
-    match u32::try_from(place) {
-        Ok(number) if number < u32::MAX => Ok(number + 1),
-        _ => Err(OutOfMemory),
+    match found {
+        None => Ok(0),
+        Some(place) if place < u32::MAX => Ok(place + 1),
+        Some(_) => Err(OutOfMemory),
     }
 }
 
@@ -53,14 +51,18 @@ pub(crate) struct Searched {
     pub(crate) moments: Moments,
     pub(crate) tree: Tree,
     /// From each moment that was gone on from, in the order of their places.
-    pub(crate) edges: Edges,
+    pub(crate) edges: Table<u32>,
 }
 
 /// Goes through the moments of a script, in the order in which they are found, until there are
-/// more than so many.
-pub(crate) fn search(alloc: Global, script: &Script, most: usize) -> Result<Searched, OutOfMemory>
-    ensures searched { IfOk result (IsSearched script.now) }
-    ensures whole { IfOk result (λ found. length found.edges.rows < length found.moments.moments → most < length found.moments.moments) }
+/// more than so many, or memory is refused: then it says so.
+pub(crate) fn search(
+    alloc: Global,
+    script: &Script,
+    most: usize,
+) -> Result<(Searched, bool), OutOfMemory>
+    ensures searched { IfOk result (λ search. IsSearched script.now search.0) }
+    ensures whole { IfOk result (λ search. search.1 ≡ false → length search.0.edges.rows < length search.0.moments.moments → most < length search.0.moments.moments) }
 {
     let mut found = Searched::begin(alloc, script)?;
     let mut scratch = Scratch::new(alloc);
@@ -69,10 +71,15 @@ pub(crate) fn search(alloc: Global, script: &Script, most: usize) -> Result<Sear
         if place >= found.moments.len() || found.moments.len() > most {
             break;
         }
-        found.follow_all(script, place, &mut scratch, &mut row)?;
-        found.moments.widen(alloc)?;
+        let went_on = found.follow_all(script, place, &mut scratch, &mut row);
+        if went_on.is_err() {
+            return Ok((found, true));
+        }
+        if found.moments.widen(alloc).is_err() {
+            return Ok((found, true));
+        }
     }
-    Ok(found)
+    Ok((found, false))
 }
 
 impl Searched {
@@ -86,7 +93,7 @@ impl Searched {
         let moments = Moments::begin(alloc, &guides, script.fuel, &heap)?;
         let tree = Tree::new(alloc)?;
         let threads = script.thread_count();
-        let edges = Edges::new(alloc, threads as usize);
+        let edges = Table::new(alloc, threads as usize);
         Ok(Searched {
             guides,
             moments,
@@ -106,11 +113,12 @@ impl Searched {
         requires searched { IsSearched script.now self.old }
         requires there { place < length self.old.moments.moments }
         requires thread { thread < length script.now.threads }
-        ensures searched { OnOk result (IsSearched script.now self.new) }
-        ensures more { OnOk result (Extends self.old.moments.moments self.new.moments.moments) }
-        ensures edges { OnOk result (self.new.edges ≡ self.old.edges) }
+        ensures searched { IsSearched script.now self.new }
+        ensures more { Extends self.old.moments.moments self.new.moments.moments }
+        ensures edges { self.new.edges ≡ self.old.edges }
         ensures edge { IfOk result (IsEdge script.now self.new.moments.moments (get_or self.old.moments.moments place no_moment) thread) }
     {
+        self.tree.note(place, thread, self.moments.len())?;
         let found = self.moments.follow(
             &self.guides[thread as usize],
             script.fuel,
@@ -118,9 +126,7 @@ impl Searched {
             thread as usize,
             scratch,
         )?;
-        self.tree.note(place, thread, self.moments.len())?;
-        let edge = edge_of(found)?;
-        Ok(edge)
+        edge_of(found)
     }
 
     // The same of a thread that is followed; another one has no edge.
@@ -135,9 +141,9 @@ impl Searched {
         requires searched { IsSearched script.now self.old }
         requires there { place < length self.old.moments.moments }
         requires thread { thread < length script.now.threads }
-        ensures searched { OnOk result (IsSearched script.now self.new) }
-        ensures more { OnOk result (Extends self.old.moments.moments self.new.moments.moments) }
-        ensures edges { OnOk result (self.new.edges ≡ self.old.edges) }
+        ensures searched { IsSearched script.now self.new }
+        ensures more { Extends self.old.moments.moments self.new.moments.moments }
+        ensures edges { self.new.edges ≡ self.old.edges }
         ensures edge { IfOk result (MayBeEdge script.now self.new.moments.moments (get_or self.old.moments.moments place no_moment) only thread) }
     {
         if is_followed(only, thread) {
@@ -193,7 +199,7 @@ impl Searched {
         requires searched { IsSearched script.now self.old }
         requires next { place ≡ length self.old.edges.rows }
         requires there { place < length self.old.moments.moments }
-        ensures searched { OnOk result (IsSearched script.now self.new) }
+        ensures searched { IsSearched script.now self.new }
         ensures next { OnOk result (length self.new.edges.rows ≡ suc place) }
     {
         let only = self.alone(script, place);
@@ -204,6 +210,15 @@ impl Searched {
         }
         self.edges.add(row)?;
         Ok(())
+    }
+
+    /// The edge of a thread from the moment at a place: one more than the place of what follows, or 0.
+    pub(crate) fn edge_at(&self, place: usize, thread: u8) -> u32
+        requires place { place < length self.now.edges.rows }
+        requires thread { thread < self.now.edges.width }
+        ensures { result ≡ get_or (get_or self.now.edges.rows place []) thread 0 }
+    {
+        self.edges.row(place)[thread as usize]
     }
 
     /// The threads whose accesses lead to a moment like the one at a place of a script's search.

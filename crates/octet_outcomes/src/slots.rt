@@ -1,4 +1,6 @@
 //! Where to look for what is kept once. Nothing is promised of it: what is not found is only kept twice.
+ghost use Rattle.std.specs.Prelude.{◌≡◌, ◌<◌, IfOk};
+
 use octet_model::OutOfMemory;
 use std::alloc::Global;
 
@@ -8,13 +10,21 @@ const FIRST_SLOTS: usize = 64;
 /// No more slots are made than twice as many: a power of two.
 const MOST_SLOTS: usize = 0x8000_0000;
 
-/// No more places are kept.
-pub(crate) const MOST_PLACES: usize = 0xFFFF_FFFE;
+/// A place as a number of 32 bits, if it has one. The greatest of them is none.
+pub(crate) fn place_of(place: usize) -> Result<u32, OutOfMemory>
+    ensures is { IfOk result (λ number. number ≡ place) }
+    ensures few { IfOk result (λ number. number < u32.MAX) }
+{
+    match u32::try_from(place) {
+        Ok(number) if number < u32::MAX => Ok(number),
+        _ => Err(OutOfMemory),
+    }
+}
 
 /// Where something is, or the slot that is to lead to it.
 #[derive(Clone, Copy)]
 pub(crate) enum Found {
-    At { place: usize },
+    At { place: u32 },
     Free { slot: usize },
     Nowhere,
 }
@@ -53,24 +63,24 @@ impl Slots {
     }
 
     /// The place to which a slot leads, if it is not free.
-    pub(crate) fn place(&self, slot: usize) -> Option<usize> {
+    pub(crate) fn place(&self, slot: usize) -> Option<u32> {
         match self.entries.get(slot) {
-            Some(entry) if *entry > 0 => Some(*entry as usize - 1),
+            Some(entry) if *entry > 0 => Some(*entry - 1),
             _ => None,
         }
     }
 
     /// Lets a slot that was found free lead to a place.
-    pub(crate) fn lead(&mut self, found: Found, place: usize) {
+    pub(crate) fn lead(&mut self, found: Found, place: u32) {
         if let Found::Free { slot } = found {
-            if slot < self.entries.len() && place < MOST_PLACES {
-                self.entries[slot] = place as u32 + 1;
+            if slot < self.entries.len() {
+                self.entries[slot] = place.wrapping_add(1);
             }
         }
     }
 
     /// Lets the first free slot from where a hash leads lead to a place.
-    pub(crate) fn put(&mut self, hash: u64, place: usize) {
+    pub(crate) fn put(&mut self, hash: u64, place: u32) {
         let mut slot = self.first(hash);
         for _tried in 0..self.entries.len() {
             if self.place(slot).is_none() {

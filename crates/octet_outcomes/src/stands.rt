@@ -4,7 +4,7 @@ ghost use Rattle.octet_outcomes.specs.Moments.{no_stand};
 ghost use Rattle.octet_outcomes.specs.Stands.{IsStandFoundAt, KeepsStand};
 
 use crate::hash::{hash_of, stirred};
-use crate::slots::{Found, MOST_PLACES, Slots};
+use crate::slots::{Found, Slots, place_of};
 use octet_interp::Stand;
 use octet_model::OutOfMemory;
 use std::alloc::Global;
@@ -62,7 +62,9 @@ impl Stands {
             let Some(place) = self.slots.place(slot) else {
                 return Found::Free { slot };
             };
-            if place < self.items.len() && are_equal(&self.items[place], stand) {
+            if (place as usize) < self.items.len()
+                && are_equal(&self.items[place as usize], stand)
+            {
                 return Found::At { place };
             }
             slot = self.slots.after(slot);
@@ -71,7 +73,7 @@ impl Stands {
     }
 
     /// Adds a stand that is not found, and answers its place.
-    pub(crate) fn add(&mut self, stand: Stand) -> Result<usize, OutOfMemory>
+    pub(crate) fn add(&mut self, stand: Stand) -> Result<u32, OutOfMemory>
         ensures keeps { IfOk result (λ place. KeepsStand self.old stand place self.new) }
         ensures err { OnErr result (self.new ≡ self.old) }
     {
@@ -79,10 +81,7 @@ impl Stands {
         if let Found::At { place } = found {
             return Ok(place);
         }
-        if self.items.len() >= MOST_PLACES {
-            return Err(OutOfMemory);
-        }
-        let place = self.items.len();
+        let place = place_of(self.items.len())?;
         self.items.push(stand)?;
         self.slots.lead(found, place);
         Ok(place)
@@ -96,7 +95,7 @@ impl Stands {
             return Ok(());
         };
         for place in 0..self.items.len() {
-            slots.put(hash_of_stand(&self.items[place]), place);
+            slots.put(hash_of_stand(&self.items[place]), place_of(place)?);
         }
         self.slots = slots;
         Ok(())

@@ -1,5 +1,5 @@
 //! Moments from which no run comes to its end.
-ghost use Rattle.std.specs.Prelude.{◌≡◌, ◌<◌, ◌≤◌, suc, true, false, length, get_or, IfOk, OnOk};
+ghost use Rattle.std.specs.Prelude.{◌≡◌, ◌<◌, ◌≤◌, suc, true, false, length, get_or, IfOk};
 ghost use Rattle.octet_outcomes.specs.Moments.{no_moment, AllDone};
 ghost use Rattle.octet_outcomes.specs.Stuck.{left_in, AreApart, AreMarks, IsApart, IsCounted, IsSettled, IsWhole, LeadsToEnd};
 ghost use Rattle.octet_outcomes.specs.Searches.{IsSearched};
@@ -19,7 +19,7 @@ fn leads_to_marked(script: &Script, found: &Searched, place: usize, marks: &[boo
     ensures none { result ≡ false → IsApart script.now found.now marks.now place }
 {
     for thread in 0..script.thread_count() {
-        let edge = found.edges.edge(place, thread as usize);
+        let edge = found.edge_at(place, thread);
         if edge > 0 && marks[edge as usize - 1] {
             return true;
         }
@@ -56,13 +56,13 @@ fn look_ahead(
     requires searched { IsSearched script.now found.now }
     requires marks { AreMarks script.now found.now marks.old }
     requires there { place < length marks.old }
-    ensures { OnOk result (AreMarks script.now found.now marks.new) }
+    ensures { AreMarks script.now found.now marks.new }
 {
     if look(script, found, place, marks) || marks[place] {
         return waiting.call(place);
     }
     for thread in 0..script.thread_count() {
-        let edge = found.edges.edge(place, thread as usize);
+        let edge = found.edge_at(place, thread);
         if edge > 0 {
             waiting.wait(edge as usize - 1, place)?;
         }
@@ -80,7 +80,7 @@ fn look_back(
 ) -> Result<(), OutOfMemory>
     requires searched { IsSearched script.now found.now }
     requires marks { AreMarks script.now found.now marks.old }
-    ensures { OnOk result (AreMarks script.now found.now marks.new) }
+    ensures { AreMarks script.now found.now marks.new }
 {
     let mut number = waiting.first(place);
     for _seen in 0..waiting.len() {
@@ -105,7 +105,7 @@ fn go_back(
 ) -> Result<(), OutOfMemory>
     requires searched { IsSearched script.now found.now }
     requires marks { AreMarks script.now found.now marks.old }
-    ensures { OnOk result (AreMarks script.now found.now marks.new) }
+    ensures { AreMarks script.now found.now marks.new }
 {
     for _turn in 0..u64::MAX {
         let Some(place) = waiting.next_called() else {
@@ -169,21 +169,36 @@ fn add_all(script: &Script, found: &Searched, marks: &mut [bool])
     }
 }
 
-// Marks each moment from which a run can come to its end. The later a moment was found the nearer it
-// is to an end, so the last ones come first. Nothing is promised of what waits, so all are looked at
-// once more.
+// Marks moments from which a run can come to its end, as far as memory is given for what waits. The
+// later a moment was found the nearer it is to an end, so the last ones come first.
+fn mark_most(
+    alloc: Global,
+    script: &Script,
+    found: &Searched,
+    marks: &mut [bool],
+) -> Result<(), OutOfMemory>
+    requires searched { IsSearched script.now found.now }
+    requires marks { AreMarks script.now found.now marks.old }
+    ensures { AreMarks script.now found.now marks.new }
+{
+    let many = marks.len();
+    let mut waiting = Waiting::new(alloc, many)?;
+    for later in 0..many {
+        let place = many - 1 - later;
+        look_ahead(script, found, place, marks, &mut waiting)?;
+        go_back(script, found, marks, &mut waiting)?;
+    }
+    Ok(())
+}
+
+// Marks each moment from which a run can come to its end. Nothing is promised of what waits, so all
+// are looked at once more, and again where memory was refused for that.
 fn mark(alloc: Global, script: &Script, found: &Searched) -> Result<Vec<bool>, OutOfMemory>
     requires { IsSearched script.now found.now }
     ensures { IfOk result (λ marks. IsSettled script.now found.now marks.items) }
 {
     let mut marks = first_marks(alloc, script, found)?;
-    let many = marks.len();
-    let mut waiting = Waiting::new(alloc, many)?;
-    for later in 0..many {
-        let place = many - 1 - later;
-        look_ahead(script, found, place, &mut marks, &mut waiting)?;
-        go_back(script, found, &mut marks, &mut waiting)?;
-    }
+    let _refused = mark_most(alloc, script, found, &mut marks).is_err();
     add_all(script, found, &mut marks);
     Ok(marks)
 }

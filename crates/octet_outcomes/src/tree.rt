@@ -1,6 +1,7 @@
 //! The access by which each moment was found first.
-ghost use Rattle.std.specs.Prelude.{◌≡◌, ◌++◌, ◌∷◌, ◌≤◌, ◌<◌, [], length, IfOk, OnOk};
+ghost use Rattle.std.specs.Prelude.{◌≡◌, ◌++◌, ◌∷◌, ◌≤◌, [], length, take, IfOk, OnErr, OnOk};
 
+use crate::slots::place_of;
 use octet_model::OutOfMemory;
 use std::alloc::Global;
 
@@ -11,7 +12,8 @@ pub(crate) struct Step {
     pub(crate) thread: u8,
 }
 
-/// For each moment the access by which it was found. The first one, which has none, has any.
+/// For each moment the access by which it was found. The first one, which has none, has any. What
+/// comes after these says nothing.
 #[derive(Drop)]
 pub(crate) struct Tree {
     pub(crate) steps: Vec<Step>,
@@ -27,17 +29,14 @@ impl Tree {
         Ok(Tree { steps })
     }
 
-    /// Notes the access that made a new moment, if there are this many moments, and more than before.
+    /// Notes the access by which the next moment is found, if one is: after those of so many moments.
     pub(crate) fn note(&mut self, from: usize, thread: u8, many: usize) -> Result<(), OutOfMemory>
-        ensures same { many ≤ length self.old.steps.items → OnOk result (self.new.steps.items ≡ self.old.steps.items) }
-        ensures more { length self.old.steps.items < many → OnOk result (self.new.steps.items ≡ self.old.steps.items ++ (record { from = from; thread = thread }) ∷ []) }
+        requires { many ≤ length self.old.steps.items }
+        ensures ok { OnOk result (self.new.steps.items ≡ take many self.old.steps.items ++ (record { from = from; thread = thread }) ∷ []) }
+        ensures err { OnErr result (self.new.steps.items ≡ take many self.old.steps.items) }
     {
-        if many <= self.steps.len() {
-            return Ok(());
-        }
-        let Ok(from) = u32::try_from(from) else {
-            return Err(OutOfMemory);
-        };
+        self.steps.truncate(many);
+        let from = place_of(from)?;
         self.steps.push(Step { from, thread })?;
         Ok(())
     }

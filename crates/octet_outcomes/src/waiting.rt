@@ -1,5 +1,6 @@
 //! Moments that wait to know whether others lead to an end. Nothing is promised of them: each is
 //! looked at again when it is called.
+use crate::slots::place_of;
 use octet_model::OutOfMemory;
 use std::alloc::Global;
 
@@ -18,13 +19,6 @@ pub(crate) struct Waiting {
     firsts: Vec<u32>,
     waits: Vec<Wait>,
     called: Vec<u32>,
-}
-
-fn number_of(place: usize) -> Result<u32, OutOfMemory> {
-    match u32::try_from(place) {
-        Ok(number) => Ok(number),
-        Err(_) => Err(OutOfMemory),
-    }
 }
 
 impl Waiting {
@@ -62,10 +56,10 @@ impl Waiting {
     pub(crate) fn wait(&mut self, after: usize, place: usize) -> Result<(), OutOfMemory> {
         let next = self.first(after);
         self.waits.push(Wait {
-            place: number_of(place)?,
+            place: place_of(place)?,
             next,
         })?;
-        let number = number_of(self.waits.len())?;
+        let number = place_of(self.waits.len())?;
         if after < self.firsts.len() {
             self.firsts[after] = number;
         }
@@ -75,7 +69,7 @@ impl Waiting {
     /// Calls those that wait for a moment, if there are some.
     pub(crate) fn call(&mut self, place: usize) -> Result<(), OutOfMemory> {
         if self.first(place) != 0 {
-            self.called.push(number_of(place)?)?;
+            self.called.push(place_of(place)?)?;
         }
         Ok(())
     }

@@ -9,15 +9,17 @@ use Rattle.octet_model.specs.declared.outcome.Outcome.{Outcome}
 use Rattle.octet_model.specs.declared.outcome.Recorded.{Recorded}
 use Rattle.octet_model.specs.declared.script.Script.{Script}
 use Rattle.octet_model.specs.Orders.{is_done, IsFaithful}
+use Rattle.octet_outcomes.specs.declared.outcomes.Seen.{Seen}
+use Rattle.octet_outcomes.specs.declared.outcomes.Seen.TheVariants.{Memory}
 use Rattle.octet_outcomes.specs.Interleavings.{IsFinal}
 use Rattle.octet_commands.specs.declared.inputs.Source.{Source}
 use Rattle.octet_commands.specs.declared.outcomes.Told.{Told}
-use Rattle.octet_commands.specs.declared.reply.Status.TheVariants.{Done, Otherwise}
+use Rattle.octet_commands.specs.declared.reply.Status.TheVariants.{Done, NotAll, Otherwise}
 use Rattle.octet_commands.specs.declared.request.Request.TheVariants.{Outcomes, Always}
 use Rattle.octet_commands.specs.Answer.{code_of}
 use Rattle.octet_commands.specs.Commands.{second_bytes, IsLogFile}
 use Rattle.octet_commands.specs.Inputs.{IsScriptChosen, IsScriptRead}
-use Rattle.octet_commands.specs.Outcomes.{otherwise_text, past_fuel, search_text, CanAlwaysEnd, Fails, Holds, IsTold, Refutes, SomeIsStuck}
+use Rattle.octet_commands.specs.Outcomes.{cut_line, otherwise_text, past_fuel, search_text, CanAlwaysEnd, Fails, Holds, IsTold, Refutes, SomeIsStuck}
 use Rattle.octet_commands.specs.Request.{request_in, Claim, claimed_of}
 use Rattle.octet_commands.specs.declared.request.Claim.TheVariants.{Leaves}
 
@@ -45,6 +47,27 @@ abbrev pub FindsOutcomes : List (List ℕ) → DeskState → DeskState → ℕ �
 FindsOutcomes words before after code =
     (script_name : List ℕ) (most : ℕ) (contents contents' : Contents) → request_in words ≡ Some (Outcomes script_name most) → code ≡ code_of Done → before.contents ≡ Some contents → after.contents ≡ Some contents'
     → IsSearched script_name contents contents'
+
+-- a script was taken, and final heaps of its interleavings were said, and that these are not all:
+-- more moments were found than were asked for, or memory was refused
+pub record IsCutOff (script_name : List ℕ) (most : ℕ) (before after : Contents) : Type 0 where
+  pub source : Source
+  pub read : IsScriptRead script_name (Some before) (Ok source)
+  pub told : List Told
+  pub moments : ℕ
+  pub stuck : ℕ
+  pub seen : Seen
+  pub each : All (IsTold source.script) told
+  pub final : All (λ t. IsFinal source.script t.heap) told
+  pub some_stuck : 0 < stuck → SomeIsStuck source.script
+  pub cause : (most < moments) ⊎ (seen ≡ Memory)
+  pub contents : after.said ≡ before.said ++ (search_text source.script told moments stuck ++ cut_line seen)
+
+-- `outcomes` with the status 13 was cut off, where the desk tells its contents
+abbrev pub CutsOff : List (List ℕ) → DeskState → DeskState → ℕ → Type 0
+CutsOff words before after code =
+    (script_name : List ℕ) (most : ℕ) (contents contents' : Contents) → request_in words ≡ Some (Outcomes script_name most) → code ≡ code_of NotAll → before.contents ≡ Some contents → after.contents ≡ Some contents'
+    → IsCutOff script_name most contents contents'
 
 -- the claim, said of each recorded run whose threads are all done. That every run can end says nothing of those
 abbrev pub HoldsOfRecorded : Script → Claim → Option ℕ → Type 0

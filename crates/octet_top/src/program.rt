@@ -9,7 +9,7 @@ ghost use Rattle.octet_top.specs.Causes.{IsCause, IsDue, MayDiffer, NoneFailed};
 ghost use Rattle.octet_top.specs.Effects.{IsStatus, Leaves, CutsRun, KeepsOthers, KeepsFiles, CountsFailures, IsCompleted, IsWellMet};
 ghost use Rattle.octet_top.specs.Serving.{IsServed};
 ghost use Rattle.octet_top.specs.Headline.{RunsFaithfully};
-ghost use Rattle.octet_top.specs.Searches.{FindsOutcomes, RefutesAlways, ShowsAlways};
+ghost use Rattle.octet_top.specs.Searches.{CutsOff, FindsOutcomes, RefutesAlways, ShowsAlways};
 ghost use Rattle.octet_top.specs.Promises.{RunsAsPicked, RunsWithExactTotals, VerifiesOrdered, ReplaysOnThreads, FindsRegions, RepeatsRecordings, SlicesPasts, StopsAtFirst, TracesOrders, TracesMisfits, ConvertsLogs, GeneratesFaithfully, HuntsFaithfully};
 
 use crate::with_runtime::serve_request;
@@ -77,9 +77,13 @@ pub fn serve<R: Threads + Wait + Sync, D: Desk, G: HeapGate>(
     // each recorded run whose threads are all done. Where no moment is stuck, each leads to an end.
     ensures outcomes { FindsOutcomes (texts words.now) (D.state desk.old) (D.state desk.new) result }
 
+    // Status 13 of it comes with final heaps too. More moments were found than were asked for, or it
+    // is said that memory was refused.
+    ensures cut_off { CutsOff (texts words.now) (D.state desk.old) (D.state desk.new) result }
+
     // Status 0 of `always` comes only where the claim holds of every run. Status 14 comes with a
-    // faithful recording of one of which it does not hold, or with none, where the script's fuel is not
-    // enough for it.
+    // faithful recording of one of which it does not hold, or with none, where the script's fuel is said
+    // to be short.
     ensures always { ShowsAlways (texts words.now) (D.state desk.old) (D.state desk.new) result }
     ensures otherwise { RefutesAlways (texts words.now) (D.state desk.old) (D.state desk.new) result }
 

@@ -1,5 +1,5 @@
 -- What is known of the final heaps that a search has found.
-use Rattle.std.proofs.Common.{◌≡◌, ◌∙◌, ◌<◌, ℕ, true, All, List, [], ◌∷◌, length, length-set, get_or, map, Option, Some, None, IfSome, ap, sym, refl, subst}
+use Rattle.std.proofs.Common.{◌≡◌, ◌∙◌, ◌<◌, ℕ, All, List, [], ◌∷◌, length, length-set, get_or, map, Option, Some, None, IfSome, ap, sym, refl, subst}
 use Rattle.std.proofs.lemmas.List.{length-map}
 use Rattle.std.proofs.lemmas.List.Elements.{All-map}
 use Rattle.octet_model.specs.declared.object.Object.{Object}
@@ -10,6 +10,7 @@ use Rattle.octet_interp.specs.declared.demand.Demand.TheVariants as demand
 use Rattle.octet_interp.specs.Standing.{access_at}
 use Rattle.octet_outcomes.specs.declared.endings.Ending.{Ending}
 use Rattle.octet_outcomes.specs.declared.outcomes.Outcomes.{Outcomes}
+use Rattle.octet_outcomes.specs.declared.outcomes.Seen.TheVariants.{Whole, Most}
 use Rattle.octet_outcomes.specs.Endings.{IsEnding, heap_of, no_ending}
 use Rattle.octet_outcomes.specs.Stuck.{LeadsToStuck}
 use Rattle.octet_outcomes.specs.Moments.{Moment, heap_after, heap_past, first_moment, moved, next_moment, stand_after, stand_in}
@@ -59,11 +60,12 @@ pub told_width : (script : Script) (told : List Told) → All (IsTold script) to
 told_width script told each k default there = outcome_width script (get_or told k default).heap (each k default there).outcome
 
 -- what a search has found, as it is told
-pub explored_by : (script : Script) (found : Outcomes) (told : List Told) → All (IsTold script) told → map (λ t. t.heap) told ≡ map heap_of found.endings → (found.is_whole ≡ true → AreAllOutcomes script (map heap_of found.endings))
-    → (0 < found.stuck → LeadsToStuck script found.way) → (found.is_whole ≡ true → found.stuck ≡ 0 → CanAlwaysEnd script) → IsExplored script told found.stuck found.is_whole
-explored_by script found told each heaps all stuck free = record {
+pub explored_by : (script : Script) (most : ℕ) (found : Outcomes) (told : List Told) → All (IsTold script) told → map (λ t. t.heap) told ≡ map heap_of found.endings → (found.seen ≡ Whole → AreAllOutcomes script (map heap_of found.endings))
+    → (found.seen ≡ Most → most < found.moments) → (0 < found.stuck → LeadsToStuck script found.way) → (found.seen ≡ Whole → found.stuck ≡ 0 → CanAlwaysEnd script) → IsExplored script most told found.moments found.stuck found.seen
+explored_by script most found told each heaps all cut stuck free = record {
   each = each;
   all = λ whole. subst (AreAllOutcomes script) (sym heaps) (all whole);
+  cut = cut;
   some_stuck = λ some. (let way = stuck some in record { moment = way.last; reached = record { picks = found.way; follows = way.follows }; stuck = way.stuck });
   none_stuck = free;
 }

@@ -109,11 +109,11 @@ module _ (quarry : Quarry) (script log : List ℕ) (tries : ℕ) where
 -- all final heaps of a script, and a claim of them
 module _ (script : List ℕ) (most : ℕ) where
   pub outcomes_read : (before after : DeskState) (input : Source) (result : Result Reply Refused) → Ends (IsScriptRead script before.contents) before.take_faults (Ok input) after.take_faults → TakesOne script MAX_SCRIPT_FILE (WasRefused {T = Source} {E = Refused} (Ok input)) before after
-      → IsAnswered (OutcomesAnswers input.script) result → Replies (Some (Outcomes script most)) before (given_reply result) after
-  outcomes_read = one_read (Outcomes script most) script MAX_SCRIPT_FILE Source (IsScriptRead script) (λ source. OutcomesAnswers source.script) (λ short before after calls. calls) (λ contents answer answers. answers) (script_refused script)
+      → IsAnswered (OutcomesAnswers input.script most) result → Replies (Some (Outcomes script most)) before (given_reply result) after
+  outcomes_read = one_read (Outcomes script most) script MAX_SCRIPT_FILE Source (IsScriptRead script) (λ source. OutcomesAnswers source.script most) (λ short before after calls. calls) (λ contents answer answers. answers) (script_refused script)
 
   pub outcomes_stop : (before after : DeskState) (stop : Refused) → Ends (IsScriptRead script before.contents) before.take_faults (Err stop) after.take_faults → TakesOne script MAX_SCRIPT_FILE (WasRefused {T = Source} (Err stop)) before after → Replies (Some (Outcomes script most)) before (given_reply (Err stop)) after
-  outcomes_stop = one_stops (Outcomes script most) script MAX_SCRIPT_FILE Source (IsScriptRead script) (λ source. OutcomesAnswers source.script) (λ short before after calls. calls) (λ contents answer answers. answers) (script_refused script)
+  outcomes_stop = one_stops (Outcomes script most) script MAX_SCRIPT_FILE Source (IsScriptRead script) (λ source. OutcomesAnswers source.script most) (λ short before after calls. calls) (λ contents answer answers. answers) (script_refused script)
 
 module _ (claim : Claim) (script log : List ℕ) (most : ℕ) where
   pub always_read : (before after : DeskState) (input : Source × Option ℕ) (result : Result Reply Refused) → Ends (IsScriptChosen script (claimed_of claim) before.contents) before.take_faults (Ok input) after.take_faults

@@ -30,7 +30,10 @@ use Rattle.octet_commands.specs.declared.request.Quarry.TheVariants.{OtherEnd, A
 use Rattle.octet_commands.specs.Inputs.{IsTaken, IsScriptRead, IsLogRead, IsScriptChosen, IsPairRead}
 use Rattle.octet_commands.specs.Marks.{FileAnswers}
 use Rattle.octet_commands.specs.Commands.{Answers, RequestAnswers, TidyAnswers, ShowAnswers, OutcomeSays, WhereOrdered, PairSays, RunAnswers, AlwaysAnswers, none_found}
-use Rattle.octet_commands.specs.Outcomes.{none_other, past_fuel, search_said, search_text, OutcomesAnswers}
+use Rattle.octet_outcomes.specs.declared.outcomes.Seen.{Seen}
+use Rattle.octet_outcomes.specs.declared.outcomes.Seen.TheVariants.{Whole, Most}
+use Rattle.octet_outcomes.specs.declared.outcomes.Seen.TheVariants as extent
+use Rattle.octet_commands.specs.Outcomes.{always_said, cut_said, past_fuel, search_said, search_text, OutcomesAnswers}
 use Rattle.octet_model.specs.declared.script.Script.{Script}
 
 -- a status that comes with a refusal
@@ -80,7 +83,7 @@ taken_unread : (name : List ℕ) (limit : ℕ) (contents : Option Contents) (ans
 taken_unread name limit contents answer (inl (absent, is)) = unread answer _ is refl refl
 taken_unread name limit contents answer (inr (long, is)) = unread answer _ is refl refl
 
-script_unread : (name : List ℕ) (contents : Option Contents) (answer : Answer) → IsScriptRead name contents (Err answer) → IsUnread answer
+pub script_unread : (name : List ℕ) (contents : Option Contents) (answer : Answer) → IsScriptRead name contents (Err answer) → IsUnread answer
 script_unread name contents answer (inl taken) = taken_unread name MAX_SCRIPT_FILE contents answer taken
 script_unread name contents answer (inr (text, taken, (line, cause, refused, is))) = unread answer _ is refl refl
 
@@ -274,16 +277,17 @@ of_nothing : (outputs : List (List ℕ)) (answer : Answer) → IsDone [] answer 
 of_nothing outputs answer row none = record { names = inr none; own = inl row.status; plain = λ not_done other. none }
 
 -- what `outcomes` and `always` say
-outcomes_row : (script : Script) (answer : Answer) → OutcomesAnswers script answer → Row [] answer
-outcomes_row script answer (told, moments, stuck, whole, explored, is) = by whole is
+outcomes_row : (script : Script) (most : ℕ) (answer : Answer) → OutcomesAnswers script most answer → Row [] answer
+outcomes_row script most answer (told, moments, stuck, seen, explored, is) = by seen is
   where
-    by : (whole : Bool) → answer ≡ search_said (search_text script told moments stuck) whole → Row [] answer
-    by true is = of_done [] answer (done [] answer _ is refl refl)
-    by false is = of_refused [] answer (refuses answer _ is refl refl)
+    by : (seen : Seen) → answer ≡ search_said (search_text script told moments stuck) seen → Row [] answer
+    by Whole is = of_done [] answer (done [] answer _ is refl refl)
+    by Most is = of_refused [] answer (refuses answer _ is refl refl)
+    by extent.Memory is = of_refused [] answer (refuses answer _ is refl refl)
 
 always_row : (claim : Claim) (log : List ℕ) (chosen : Source × Option ℕ) (answer : Answer) → AlwaysAnswers claim log chosen answer → Row (log ∷ []) answer
-always_row claim log (source, wanted) answer (inl (holds, is)) = of_nothing (log ∷ []) answer (done [] answer (none_other true) is refl refl) (ap (λ (a : Answer). a.files) is)
-always_row claim log (source, wanted) answer (inr (inl is)) = of_refused (log ∷ []) answer (refuses answer (none_other false) is refl refl)
+always_row claim log (source, wanted) answer (inl (holds, is)) = of_nothing (log ∷ []) answer (done [] answer always_said is refl refl) (ap (λ (a : Answer). a.files) is)
+always_row claim log (source, wanted) answer (inr (inl (seen, is))) = of_refused (log ∷ []) answer (refuses answer (cut_said seen) is refl refl)
 always_row claim log (source, wanted) answer (inr (inr (fails, inl witness))) = record {
   names = inl (ap (λ (a : Answer). map (λ file. file.0) a.files) witness.is);
   own = inr (ap (λ (a : Answer). is_refusal a.status) witness.is);
@@ -317,7 +321,7 @@ request_row (Hunt quarry script log tries) contents answer (inl read) = of_refus
 request_row (Hunt quarry script log tries) contents answer (inr (chosen, read, inl find)) = of_done _ answer (done (log ∷ []) answer _ find.is refl refl)
 request_row (Hunt quarry script log tries) contents answer (inr (chosen, read, inr is)) = of_refused _ answer (refuses answer (none_found quarry tries) is (ap is_refusal (none_status quarry tries)) (none_files quarry tries))
 request_row (Outcomes script most) contents answer (inl read) = of_refused _ answer (script_refused script contents answer read)
-request_row (Outcomes script most) contents answer (inr (source, read, is)) = outcomes_row source.script answer is
+request_row (Outcomes script most) contents answer (inr (source, read, is)) = outcomes_row source.script most answer is
 request_row (Always claim script log most) contents answer (inl read) = of_refused _ answer (chosen_refused script (claimed_of claim) contents answer read)
 request_row (Always claim script log most) contents answer (inr (chosen, read, is)) = always_row claim log chosen answer is
 

@@ -1,6 +1,6 @@
 -- Where files are told, words have answers of one status alone.
 use Rattle.octet_model.specs.declared.limits.TheConstants.{MAX_LOG_FILE, MAX_SCRIPT_FILE}
-use Rattle.std.proofs.Common.{◌≡◌, ◌∙◌, ◌⊎◌, ◌<◌, ℕ, List, length, Option, None, Some, IsSomeAnd, Result, Ok, Err, inl, inr, ap, sym, refl, subst, arith, IsTrue, Bool, true, false}
+use Rattle.std.proofs.Common.{◌≡◌, ◌∙◌, ◌⊎◌, ◌<◌, ℕ, List, length, Option, None, Some, IsSomeAnd, Result, Ok, Err, inl, inr, ap, sym, refl, subst, arith, IsTrue}
 use Rattle.std.specs.FinMap.{get}
 use std.HLevel.{prop→path_p}
 use Rattle.std.proofs.Props.{props}
@@ -35,6 +35,8 @@ use Rattle.octet_commands.proofs.lemmas.Chains.{Stands, has_none, one_reading as
 use Rattle.octet_top.proofs.serving.Causes.{Ending, Whole, CutShort, Lacking, ended}
 use Rattle.octet_commands.proofs.lemmas.Rows.{PairRow, AllDone, NotOrdered, NotSerial, NotThere, ParallelRow, Replayed, Apart, has_event, tidy_row, show_row, pair_row, parallel_row, run_row, none_status}
 use Rattle.octet_commands.specs.Commands.{Answering, Answers, RequestAnswers, IsAnswer, TidyAnswers, ShowAnswers, Matching, PairReplays, PairAnswers, ParallelReplays, ParallelAnswers, Converts, ConvertAnswers, RunAnswers, HuntAnswers, AlwaysAnswers}
+use Rattle.octet_outcomes.specs.declared.outcomes.Seen.{Seen}
+use Rattle.octet_outcomes.specs.declared.outcomes.Seen.TheVariants as extent
 use Rattle.octet_commands.specs.Outcomes.{search_said, search_text, Fails, Holds, OutcomesAnswers}
 use Rattle.octet_commands.specs.declared.request.Claim.TheVariants.{Leaves, CanEnd}
 
@@ -263,12 +265,13 @@ hunt_status t quarry script log tries a b (inr (x, is, p)) (inr (y, is', q)) = b
 abbrev pub IsCutEither : Status → Status → Type 0
 IsCutEither status other = (status ≡ exit.NotAll) ⊎ (other ≡ exit.NotAll)
 
-search_status : (script : Script) (a : Answer) → OutcomesAnswers script a → (a.status ≡ exit.Done) ⊎ (a.status ≡ exit.NotAll)
-search_status script a (told, moments, stuck, whole, explored, is) = by whole is
+pub search_status : (script : Script) (most : ℕ) (a : Answer) → OutcomesAnswers script most a → (a.status ≡ exit.Done) ⊎ (a.status ≡ exit.NotAll)
+search_status script most a (told, moments, stuck, seen, explored, is) = by seen is
   where
-    by : (whole : Bool) → a ≡ search_said (search_text script told moments stuck) whole → (a.status ≡ exit.Done) ⊎ (a.status ≡ exit.NotAll)
-    by true is = inl (ap (λ (x : Answer). x.status) is)
-    by false is = inr (ap (λ (x : Answer). x.status) is)
+    by : (seen : Seen) → a ≡ search_said (search_text script told moments stuck) seen → (a.status ≡ exit.Done) ⊎ (a.status ≡ exit.NotAll)
+    by extent.Whole is = inl (ap (λ (x : Answer). x.status) is)
+    by extent.Most is = inr (ap (λ (x : Answer). x.status) is)
+    by extent.Memory is = inr (ap (λ (x : Answer). x.status) is)
 
 both_searched : (s s' : Status) → (s ≡ exit.Done) ⊎ (s ≡ exit.NotAll) → (s' ≡ exit.Done) ⊎ (s' ≡ exit.NotAll) → (s ≡ s') ⊎ IsCutEither s s'
 both_searched s s' (inl is) (inl is') = inl (is ∙ sym is')
@@ -279,7 +282,7 @@ outcomes_status : (t : Contents) (script : List ℕ) (most : ℕ) (a b : Answer)
 outcomes_status t script most a b (inl p) (inl q) = inl (ap (λ (x : Answer). x.status) ((script_single t script).same a b p q))
 outcomes_status t script most a b (inl p) (inr (y, is, q)) = absurd ((script_single t script).never y a is p)
 outcomes_status t script most a b (inr (x, is, p)) (inl q) = absurd ((script_single t script).never x b is q)
-outcomes_status t script most a b (inr (x, is, p)) (inr (y, is', q)) = both_searched a.status b.status (search_status x.script a p) (search_status y.script b q)
+outcomes_status t script most a b (inr (x, is, p)) (inr (y, is', q)) = both_searched a.status b.status (search_status x.script most a p) (search_status y.script most b q)
 
 -- the claim holds of all runs, not all was seen, or there is a run of which it does not hold
 abbrev pub IsTellingOf : Claim → Source × Option ℕ → Status → Type 0
@@ -288,7 +291,7 @@ IsTellingOf claim (source, wanted) status =
 
 pub always_status : (claim : Claim) (log : List ℕ) (chosen : Source × Option ℕ) (a : Answer) → AlwaysAnswers claim log chosen a → IsTellingOf claim chosen a.status
 always_status claim log (source, wanted) a (inl (holds, is)) = inl (ap (λ (x : Answer). x.status) is, holds)
-always_status claim log (source, wanted) a (inr (inl is)) = inr (inl (ap (λ (x : Answer). x.status) is))
+always_status claim log (source, wanted) a (inr (inl (seen, is))) = inr (inl (ap (λ (x : Answer). x.status) is))
 always_status claim log (source, wanted) a (inr (inr (fails, inl witness))) = inr (inr (ap (λ (x : Answer). x.status) witness.is, fails))
 always_status claim log (source, wanted) a (inr (inr (fails, inr is))) = inr (inr (ap (λ (x : Answer). x.status) is, fails))
 

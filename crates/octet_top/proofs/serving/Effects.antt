@@ -1,5 +1,5 @@
 -- From what is served to what the top call leaves.
-use Rattle.std.proofs.Common.{◌≡◌, ◌∙◌, ◌⊎◌, ℕ, List, [], ◌∷◌, map, take, Some, Ok, Err, arith, inl, inr, ap, sym, refl, subst, Option, None, Bool, true, false}
+use Rattle.std.proofs.Common.{◌≡◌, ◌∙◌, ◌⊎◌, ℕ, List, [], ◌∷◌, map, take, Some, Ok, Err, arith, inl, inr, ap, sym, refl, subst, Option, None}
 use Rattle.std.specs.FinMap.{get, insert}
 use Rattle.std.proofs.lemmas.List.{take_all}
 use Rattle.octet_base.specs.Desk.{Files, Contents, DeskState}
@@ -22,8 +22,7 @@ use Rattle.octet_top.proofs.serving.Causes.{Ending, Whole, CutShort, Lacking, Is
 use Rattle.octet_commands.proofs.lemmas.Rows.{AllDone, NotOrdered, NotSerial, NotThere, Replayed, Apart, HasItsEvent, JudgesRegions, Row, of_refused, is_refusal, answers_row, tidy_row, show_row, pair_row, parallel_row, run_row, none_status}
 use Rattle.octet_commands.specs.declared.marks.TheConstants.{TOO_MANY_BYTES}
 use Rattle.octet_commands.specs.Marks.{ReadsTo, fed, pieces_text, SaysRest, MarksAnswers}
-use Rattle.octet_commands.specs.Outcomes.{search_said, search_text}
-use Rattle.octet_top.proofs.serving.Due.{always_status, some_file, marks_once, script_single, log_single, script_chosen_single, pair_single, not_of_another, comes}
+use Rattle.octet_top.proofs.serving.Due.{always_status, search_status, some_file, marks_once, script_single, log_single, script_chosen_single, pair_single, not_of_another, comes}
 use Rattle.octet_top.proofs.writing.Left.{get-other}
 
 -- files of other names stay
@@ -185,11 +184,10 @@ met_done (Hunt quarry script log tries) contents answer (chosen, read) (inl refu
 met_done (Hunt quarry script log tries) contents answer (chosen, read) (inr (other, is, inl find)) = inl (ap (λ (a : Answer). a.status) find.is)
 met_done (Hunt quarry script log tries) contents answer (chosen, read) (inr (other, is, inr none)) = inr (exit.NotFound, refl, ap (λ (a : Answer). a.status) none ∙ none_status quarry tries)
 met_done (Outcomes script most) contents answer (source, read) (inl refused) = absurd ((script_single contents script).never source answer read refused)
-met_done (Outcomes script most) contents answer (source, read) (inr (other, is, (told, moments, stuck, whole, explored, said))) = by whole said
-  where
-    by : (whole : Bool) → answer ≡ search_said (search_text other.script told moments stuck) whole → IsMet (Outcomes script most) answer
-    by true said = inl (ap (λ (a : Answer). a.status) said)
-    by false said = inr (exit.NotAll, refl, ap (λ (a : Answer). a.status) said)
+met_done (Outcomes script most) contents answer (source, read) (inr (other, is, answers)) = elim (search_status other.script most answer answers) [
+  | inl done ↦ inl done
+  | inr cut ↦ inr (exit.NotAll, refl, cut)
+]
 met_done (Always claim script log most) contents answer (chosen, read) (inl refused) = absurd ((script_chosen_single contents script (claimed_of claim)).never chosen answer read refused)
 met_done (Always claim script log most) contents answer (chosen, read) (inr (other, is, answers)) = elim (always_status claim log other answer answers) [
   | inl (done, holds) ↦ inl done

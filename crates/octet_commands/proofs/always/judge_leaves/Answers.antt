@@ -14,8 +14,8 @@ returns-then-has_other c =
     (other_left script c.as_slice-endings.result.now c.args.object c.args.number (subst (λ (l : List Ending). All (IsEnding script) l) (sym c.as_slice-endings.ensures) c.in_ok-found.ensures.each) (c.has_other.ensures.some c.if-has_other.true))
     c.in_ok-find.ensures
 
-pub returns-then-found : goal.returns-then-found
-returns-then-found c =
+pub returns-in-Whole : goal.returns-in-Whole
+returns-in-Whole c =
     let script = c.args.script.now in
-    always_left script c.as_slice-endings.result.now c.args.object c.args.number (subst (λ (l : List Ending). AreAllOutcomes script (map heap_of l)) (sym c.as_slice-endings.ensures) (c.in_ok-found.ensures.all c.if-found.true))
+    always_left script c.as_slice-endings.result.now c.args.object c.args.number (subst (λ (l : List Ending). AreAllOutcomes script (map heap_of l)) (sym c.as_slice-endings.ensures) (c.in_ok-found.ensures.all c.in-Whole.is))
     (c.has_other.ensures.none c.if-has_other.false)

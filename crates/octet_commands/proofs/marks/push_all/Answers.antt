@@ -1,4 +1,4 @@
-use Rattle.std.proofs.Common.{◌≡◌, Bool, ◌++◌, [], ◌∷◌, Ok, subst}
+use Rattle.std.proofs.Common.{Bool, ◌++◌, [], ◌∷◌, Ok, subst}
 use Rattle.octet_marks.specs.Files.{unread_of}
 use Rattle.octet_commands.specs.Marks.{AddsNext}
 use Rattle.octet_commands.proofs.lemmas.Chains.{one_more, fewer_bytes, text_more}

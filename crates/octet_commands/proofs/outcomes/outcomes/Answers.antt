@@ -17,13 +17,13 @@ returns c =
     let found = c.in_ok-found.found in
     let told = c.in_ok-told.told in
     let heaps = c.in_ok-told.ensures.heaps ∙ ap (λ (l : List Ending). map heap_of l) c.as_slice.ensures in
-    IfOk-weaker c.say_search.result (λ reply. answer_of reply ≡ search_said c.in_ok-text.text.items found.is_whole) (λ reply. OutcomesAnswers script (answer_of reply))
+    IfOk-weaker c.say_search.result (λ reply. answer_of reply ≡ search_said c.in_ok-text.text.items found.seen) (λ reply. OutcomesAnswers script c.args.most (answer_of reply))
     (λ reply is. (
       told,
       found.moments,
       found.stuck,
-      found.is_whole,
-      explored_by script found told c.in_ok-told.ensures.each heaps c.in_ok-found.ensures.all c.in_ok-found.ensures.stuck c.in_ok-found.ensures.free,
-      is ∙ ap (λ (t : List ℕ). search_said t found.is_whole) (c.in_ok-text.ensures ∙ ap (λ (l : List Told). search_text script l found.moments found.stuck) c.as_slice-2.ensures),
+      found.seen,
+      explored_by script c.args.most found told c.in_ok-told.ensures.each heaps c.in_ok-found.ensures.all c.in_ok-found.ensures.most c.in_ok-found.ensures.stuck c.in_ok-found.ensures.free,
+      is ∙ ap (λ (t : List ℕ). search_said t found.seen) (c.in_ok-text.ensures ∙ ap (λ (l : List Told). search_text script l found.moments found.stuck) c.as_slice-2.ensures),
     ))
     c.say_search.ensures

@@ -13,18 +13,18 @@ loop-place-preserved c =
     let after : AreKept script ms objects (suc place) c.if-are_done.heaps c.if-are_done.places.items =
     elim c.if-are_done.branch [
       | then-are_done+in_ok-_row+in_ok-widen+in_ok-note_first w ↦
-          subst (λ (r : RowsState). AreKept script ms objects (suc place) r c.if-are_done.places.items) (sym (w.heaps-is ∙ w.in_ok-widen.ensures))
+          subst (λ (r : RowsState ℕ). AreKept script ms objects (suc place) r c.if-are_done.places.items) (sym (w.heaps-is ∙ w.in_ok-widen.ensures))
           (subst (λ (ps : List ℕ). AreKept script ms objects (suc place) w.add.new.self ps) (sym (ap (λ v. v.items) w.places-is))
           (record {
             width = w.in_ok-_row.ensures.keeps.same_width ∙ c.loop-place.invariant.width;
             final = final_done script ms c.loop-place.heaps w.add.new.self place w.in_ok-_row._row w.heap.result.now c.loop-place.places.items w.note_first.new.places.items (omega (arith, c.len-place-end.ensures, c.loop-place-test.true))
                 (c.are_done.ensures.0 w.if-are_done.true) w.heap.ensures.heap w.in_ok-_row.ensures.keeps
-                (λ few. w.in_ok-note_first.ensures.same (omega (arith, w.len.ensures, ap (λ (s : RowsState). length s.rows) w.in_ok-widen.ensures, few)))
-                (λ more. w.in_ok-note_first.ensures.more (omega (arith, w.len.ensures, ap (λ (s : RowsState). length s.rows) w.in_ok-widen.ensures, more)))
+                (λ few. w.in_ok-note_first.ensures.same (omega (arith, w.len.ensures, ap (λ (s : RowsState ℕ). length s.rows) w.in_ok-widen.ensures, few)))
+                (λ more. w.in_ok-note_first.ensures.more (omega (arith, w.len.ensures, ap (λ (s : RowsState ℕ). length s.rows) w.in_ok-widen.ensures, more)))
                 c.loop-place.invariant.final;
           }))
       | else-are_done w ↦
-          subst (λ (r : RowsState). AreKept script ms objects (suc place) r c.if-are_done.places.items) (sym w.heaps-is)
+          subst (λ (r : RowsState ℕ). AreKept script ms objects (suc place) r c.if-are_done.places.items) (sym w.heaps-is)
           (subst (λ (ps : List ℕ). AreKept script ms objects (suc place) c.loop-place.heaps ps) (sym (ap (λ v. v.items) w.places-is))
           (record {
             width = c.loop-place.invariant.width;

@@ -26,6 +26,7 @@ returns g c =
       traced_misfit = of_pair.traces_misfits words _ _ _ served;
       hunted = promise.hunts words _ _ _ served;
       outcomes = search.finds_outcomes words _ _ _ served;
+      cut_off = search.cuts_off words _ _ _ served;
       always = search.shows_always words _ _ _ served;
       otherwise = search.refutes_always words _ _ _ served;
       converted = promise.converts words _ _ _ served;

@@ -1,7 +1,7 @@
 use Rattle.std.proofs.Common.{◌≡◌, ℕ, ◌++◌, ◌∷◌, [], List, length, get_or, refl, sym, ap, ◌∙◌, subst, arith, length-append, add-one}
 use Rattle.octet_outcomes.specs.Rows.{RowsState}
 use Rattle.octet_outcomes.specs.Moments.{no_moment}
-use Rattle.octet_outcomes.specs.Searches.{AreLed}
+use Rattle.octet_outcomes.specs.Searches.{AreLed, IsSearched}
 use Rattle.octet_outcomes.proofs.Ways.{led_push, row_edges, row_more, RowTo}
 use Rattle.octet_outcomes.proofs.search.Searched.follow_all.Goals as goal
 
@@ -30,6 +30,11 @@ loop-thread-preserved c =
           i.there e.more e.edge c.in_ok-push.ensures.items i.row);
     }
 
+pub returns-in_err-add-clause-searched : goal.returns-in_err-add-clause-searched
+returns-in_err-add-clause-searched c =
+    let l = c.loop-thread.self in
+    subst (λ (e : RowsState ℕ). IsSearched c.args.script.now (record { guides = l.guides; moments = l.moments; tree = l.tree; edges = e })) (sym c.in_err-add.ensures.err) c.loop-thread.invariant.searched
+
 pub returns-clause-searched : goal.returns-clause-searched
 returns-clause-searched c =
     let script = c.args.script.now in
@@ -37,8 +42,8 @@ returns-clause-searched c =
     let i = c.loop-thread.invariant in
     let ms = c.loop-thread.self.moments.moments in
     let row = c.deref.result.now in
-    let added : c.add.new.self ≡ record { width = c.loop-thread.self.edges.width; rows = c.loop-thread.self.edges.rows ++ c.deref.result.now ∷ [] } = c.in_ok-add.ensures in
-    let next : c.args.place ≡ length c.loop-thread.self.edges.rows = c.requires.next ∙ ap (λ (e : RowsState). length e.rows) (sym i.same) in
+    let added : c.add.new.self ≡ record { width = c.loop-thread.self.edges.width; rows = c.loop-thread.self.edges.rows ++ c.deref.result.now ∷ [] } = c.in_ok-add.ensures.ok in
+    let next : c.args.place ≡ length c.loop-thread.self.edges.rows = c.requires.next ∙ ap (λ (e : RowsState ℕ). length e.rows) (sym i.same) in
     let all : c.loop-thread.thread ≡ length script.threads = omega (arith, c.thread_count-thread-end.ensures.count, c.loop-thread-test.false, c.loop-thread.auto.thread-end) in
     let to : RowTo script ms (get_or ms c.args.place no_moment) c.alone-only.result c.loop-thread.thread c.deref.result.now =
     subst (λ (r : List ℕ). RowTo script ms (get_or ms c.args.place no_moment) c.alone-only.result c.loop-thread.thread r) (sym c.deref.ensures.value) i.row in
@@ -46,9 +51,9 @@ returns-clause-searched c =
       programs = i.searched.programs;
       moments = i.searched.moments;
       ways = i.searched.ways;
-      width = ap (λ (e : RowsState). e.width) added ∙ i.searched.width;
-      led = subst (λ (rs : List (List ℕ)). AreLed script ms rs) (sym (ap (λ (e : RowsState). e.rows) added))
+      width = ap (λ (e : RowsState ℕ). e.width) added ∙ i.searched.width;
+      led = subst (λ (rs : List (List ℕ)). AreLed script ms rs) (sym (ap (λ (e : RowsState ℕ). e.rows) added))
           (led_push script ms c.loop-thread.self.edges.rows c.deref.result.now c.args.place next i.searched.led
           (row_edges script ms (get_or ms c.args.place no_moment) c.alone-only.result c.loop-thread.thread c.deref.result.now all c.alone-only.ensures.there to));
-      within = omega (arith, ap (λ (e : RowsState). length e.rows) added, length-append c.loop-thread.self.edges.rows (c.deref.result.now ∷ []), next, i.there);
+      within = omega (arith, ap (λ (e : RowsState ℕ). length e.rows) added, length-append c.loop-thread.self.edges.rows (c.deref.result.now ∷ []), next, i.there);
     }
