@@ -42,7 +42,7 @@ static volatile int turn, waiting;
 enum { MOST_CALLS_IN_TURN = 256 };
 
 /* After so much of its own processor time without a call a thread has made its access, and only computes: perhaps for good. */
-#define COMPUTES 0.02
+#define COMPUTES 0.2
 
 static bool has_turn(const struct thread *t)
 {
